@@ -1,0 +1,97 @@
+//! What a record says.
+
+ghost use Rattle.std.specs.Prelude.{◌≡◌};
+
+use bytes::Bytes;
+use cap_frame::Path;
+use std::marker::Model;
+
+/// References noted beside a frame, in the order of the descriptors that aren't none.
+#[derive(Debug, Drop)]
+pub struct References {
+    items: Vec<u64>,
+}
+
+impl Model for References {
+    ghost use Rattle.std.specs.Prelude.{List, ℕ};
+
+    ghost Value = { List ℕ };
+
+    ghost view = { λ references. references.items.items };
+}
+
+impl References {
+    /// The list of these. It takes no memory.
+    pub fn new(items: Vec<u64>) -> References
+        ensures { result ≡ items.items }
+    {
+        References { items }
+    }
+
+    pub fn as_slice(&self) -> &[u64]
+        ensures { result.now ≡ self.now }
+    {
+        &self.items
+    }
+}
+
+/// The results of a call: references, each with the path at which it stands.
+#[derive(Debug, Drop)]
+pub struct Results {
+    items: Vec<(u64, Path)>,
+}
+
+impl Model for Results {
+    ghost use Rattle.std.specs.Prelude.{List, ℕ};
+
+    ghost Value = { List (ℕ × List ℕ) };
+
+    ghost view = { λ results. results.items.items };
+}
+
+impl Results {
+    /// The list of these. It takes no memory.
+    pub fn new(items: Vec<(u64, Path)>) -> Results
+        ensures { result ≡ items.items }
+    {
+        Results { items }
+    }
+
+    pub fn as_slice(&self) -> &[(u64, Path)]
+        ensures { result.now ≡ self.now }
+    {
+        &self.items
+    }
+}
+
+/// What a record says. References and calls are the vat's own numbers.
+#[derive(Debug, Drop)]
+pub enum Body {
+    /// The vat hosts an object of its own under a reference.
+    Host { reference: u64, object: u64 },
+    /// The vat makes a call through a reference.
+    Make {
+        call: u64,
+        reference: u64,
+        interface: u64,
+        method: u16,
+    },
+    /// The vat gives a call to its own object.
+    Deliver { call: u64, object: u64 },
+    /// The results of a call.
+    Answer { call: u64, results: Results },
+    /// A frame went out on a connection.
+    Send {
+        connection: u32,
+        call: u64,
+        references: References,
+        frame: Bytes,
+    },
+    /// A frame came in on a connection.
+    Receive {
+        connection: u32,
+        call: u64,
+        references: References,
+        frame: Bytes,
+    },
+}

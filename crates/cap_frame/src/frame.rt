@@ -1,9 +1,68 @@
 //! Frames of the stream framing.
 
-use bytes::Bytes;
+ghost use Rattle.std.specs.Prelude.{◌≡◌, List, ℕ, length, IfOk, Ok};
+ghost use Rattle.cap_frame.specs.Segments.{word_at, segments_of, Spells};
 
-/// A frame, cut into its segments.
+use crate::frame_error::FrameError;
+use crate::table::{check, count_in, size_in, table_len_for, words_before};
+use byteorder::{ByteOrder, LittleEndian};
+use bytes::Bytes;
+use std::marker::Model;
+
+/// A frame: its segments, each a list of words of 8 bytes. Contracts see it as those lists. It keeps the bytes alone, and
+/// each call finds its place in them anew.
 #[derive(Debug, Drop)]
 pub struct Frame {
     bytes: Bytes,
+}
+
+impl Model for Frame {
+    ghost use Rattle.std.specs.Prelude.{◌≡◌, List, ℕ, Ok};
+    ghost use Rattle.cap_frame.specs.Segments.{content, segments_of};
+
+    ghost Value = { List (List ℕ) };
+
+    ghost view = { λ frame. content frame.bytes };
+
+    ghost invariant = { λ frame. segments_of frame.bytes ≡ Ok (content frame.bytes) };
+}
+
+impl Frame {
+    /// The frame that the bytes spell, all of the bytes, by the stream framing of the Cap'n Proto encoding specification
+    /// ("Serialization Over a Stream"). Else the first fault: [`FrameError::Short`] with fewer than 4 bytes,
+    /// [`FrameError::TooManySegments`], `Short` where the sizes, the padding or the segments don't fit,
+    /// [`FrameError::Trailing`], [`FrameError::NoRoot`]. The padding may hold anything. It takes no memory.
+    pub fn read(bytes: Bytes) -> Result<Frame, FrameError>
+        // Which segments, or which fault.
+        ensures exact { result ≡ segments_of bytes }
+        // What is read is spelled so.
+        ensures found { IfOk result (λ segments. Spells bytes segments) }
+        // What is spelled so is read, whatever the padding.
+        ensures only { (segments : List (List ℕ)) → Spells bytes segments → result ≡ Ok segments }
+    {
+        check(bytes.as_slice())?;
+        Ok(Frame { bytes })
+    }
+
+    /// How many segments there are, 1 to 512.
+    pub fn segments(&self) -> u32
+        ensures { result ≡ length self.now }
+    {
+        count_in(self.bytes.as_slice()) as u32
+    }
+
+    /// The word at a place of a segment, both counted from 0, or None where there is none.
+    pub fn word(&self, segment: u32, index: u64) -> Option<u64>
+        ensures { result ≡ word_at self.now segment index }
+    {
+        let bytes = self.bytes.as_slice();
+        let count = count_in(bytes);
+        let segment = u64::from(segment);
+        if segment >= count || index >= size_in(bytes, segment) {
+            return None;
+        }
+        let at = table_len_for(count) + 8 * (words_before(bytes, segment) + index);
+        let (_, rest) = bytes.split_at(at as usize);
+        Some(LittleEndian::read_u64(rest))
+    }
 }

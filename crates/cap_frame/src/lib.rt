@@ -1,8 +1,17 @@
 //! Frames of the Cap'n Proto stream framing, cut into segments, and the paths that later layers name.
+//!
+//! It stands on `bytes` and `byteorder`. What a frame is, is said in `specs/Segments.antt`; nothing here takes memory but
+//! [`Path::copy`].
 #![tactic(auto)]
 
 mod frame;
+mod frame_error;
 mod path;
+mod table;
 
 pub use frame::Frame;
+pub use frame_error::FrameError;
 pub use path::Path;
+
+#[cfg(test)]
+mod tests;

@@ -1,0 +1,16 @@
+//! Why bytes aren't a frame.
+
+ghost use Rattle.std.specs.Prelude.{◌≡◌};
+
+/// Why bytes aren't a frame: the first fault that is met.
+#[derive(Clone, Copy, Debug, PartialEq, Eq)]
+pub enum FrameError {
+    /// The count of segments, their sizes, the padding or a segment passes the end of the bytes.
+    Short,
+    /// More than 512 segments.
+    TooManySegments,
+    /// Bytes stand after the last segment.
+    Trailing,
+    /// The first segment has no words, so there is no root pointer.
+    NoRoot,
+}

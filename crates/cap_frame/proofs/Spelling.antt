@@ -232,6 +232,16 @@ IsBytes-from_each bytes h i =
       | inr le ↦ rw (get_or_past bytes i 0 le) (omega arith)
     ]
 
+-- a segment's words are fewer than four bytes can say
+pub sized : (bytes seen : List ℕ) → seen ≡ bytes → EachIndex seen (λ i. slice_index seen i < 256) → (s : ℕ) → length (get_or (content bytes) s []) < 2 ^ 32
+sized bytes seen same fits s =
+    let P : List ℕ → Type 0 = λ b. EachIndex b (λ i. slice_index b i < 256) in
+    let sizes_fit = numbers_fit 4 (count_of bytes) (drop 4 bytes) (IsBytes-drop 4 bytes (IsBytes-from_each bytes (subst P same fits))) in
+    elim (cases_lt s (count_of bytes)) [
+      | inl lt ↦ omega (arith, segment_size bytes s lt, sizes_fit s 0 (omega (arith, length-numbers 4 (count_of bytes) (drop 4 bytes), lt)))
+      | inr le ↦ rw (get_or_past (content bytes) s [] (omega (arith, length-content bytes, le))) (omega arith)
+    ]
+
 pub spelled_by : (bytes seen : List ℕ) → seen ≡ bytes → EachIndex seen (λ i. slice_index seen i < 256) → segments_of seen ≡ Ok (content seen) → Spells bytes (content bytes)
 spelled_by bytes seen same fits e =
     let P : List ℕ → Type 0 = λ b. Spells b (content b) in subst P same (spelled seen (content seen) (IsBytes-from_each seen fits) e)

@@ -1,6 +1,6 @@
 //! Frames of the stream framing.
 
-ghost use Rattle.std.specs.Prelude.{◌≡◌, List, ℕ, length, IfOk, Ok};
+ghost use Rattle.std.specs.Prelude.{◌≡◌, ◌<◌, ◌≤◌, ◌^◌, List, [], ℕ, length, slice_index_or, IfOk, Ok};
 ghost use Rattle.cap_frame.specs.Segments.{word_at, segments_of, Spells};
 
 use crate::frame_error::FrameError;
@@ -44,9 +44,11 @@ impl Frame {
         Ok(Frame { bytes })
     }
 
-    /// How many segments there are, 1 to 512.
+    /// How many segments there are, 1 to 512. Each has fewer than 2^32 words.
     pub fn segments(&self) -> u32
-        ensures { result ≡ length self.now }
+        ensures count { result ≡ length self.now }
+        ensures bound { result ≤ 512 }
+        ensures sized { (segment : ℕ) → length (slice_index_or self.now segment []) < 2 ^ 32 }
     {
         count_in(self.bytes.as_slice()) as u32
     }

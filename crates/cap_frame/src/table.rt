@@ -14,6 +14,7 @@ pub fn count_in(bytes: &[u8]) -> u64
     requires { 4 ≤ length bytes.now }
     ensures count { result ≡ count_of bytes.now }
     ensures bound { result ≤ 2 ^ 32 }
+    ensures bytes { EachIndex bytes.now (λ i. slice_index bytes.now i < 256) }
 {
     u64::from(LittleEndian::read_u32(bytes)) + 1
 }

@@ -1,0 +1,6 @@
+pub mod OtherKinds
+pub mod Running
+pub mod Loops
+pub mod Tables
+pub mod Prices
+pub mod Words

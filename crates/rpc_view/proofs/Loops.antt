@@ -1,9 +1,9 @@
 -- Reading numbers one after another, as a loop does.
-use Rattle.std.proofs.Common.{◌≡◌, ℕ, zero, suc, ◌+◌, ◌-◌, ◌<◌, ◌≤◌, List, [], ◌∷◌, ◌++◌, Result, Ok, Err, refl, sym, ap, ◌∙◌, append_assoc, arith}
+use Rattle.std.proofs.Common.{◌≡◌, ℕ, suc, ◌+◌, ◌-◌, ◌<◌, ◌≤◌, List, [], ◌++◌, Result, Ok, Err, refl, sym, ap, ◌∙◌, append_assoc, arith}
 use Rattle.std.proofs.lemmas.List.{append-nil}
 use Rattle.rpc_view.specs.declared.view_error.ViewError.{ViewError}
 use Rattle.rpc_view.specs.declared.view_error.ViewError.TheVariants as errors
-use Rattle.rpc_view.specs.Reading.{Reading, done, fault, visit, and_then, run, each, with_front, Fails}
+use Rattle.rpc_view.specs.Reading.{Reading, done, and_then, run, each, with_front, Fails}
 use Rattle.rpc_view.proofs.Running.{and_run, run_then}
 
 regroup : {A : Type 0} (front xs : List A) (rest : Result (List A × ℕ) ViewError) → with_front front (and_run rest (λ others. done (xs ++ others))) ≡ with_front (front ++ xs) rest

@@ -1,13 +1,12 @@
 -- What a pointer of one kind reads as where another is asked for.
-use Rattle.std.proofs.Common.{◌≡◌, ℕ, zero, suc, ◌+◌, ◌*◌, ◌%◌, Bool, true, false, cond, eqb, leb, List, length, Option, Some, None, refl}
-use Rattle.std.specs.Prelude.{nat_le, ◌&&◌, ◌==◌, slice_index}
+use Rattle.std.proofs.Common.{◌≡◌, ℕ, zero, suc, ◌+◌, Bool, true, false, cond, List, Option, Some, None, refl}
 use Rattle.rpc_view.specs.declared.pointer.Pointer.TheVariants as pointers
 use Rattle.rpc_view.specs.declared.view_error.ReadError.TheVariants.{WrongKind, OutOfSegment}
 use Rattle.rpc_view.specs.declared.view_error.Outside.TheVariants.{NotYet}
 use Rattle.rpc_view.specs.declared.view_error.ViewError.TheVariants as errors
-use Rattle.rpc_view.specs.Pointers.{extent, offset_bits, data_bits, pointer_bits}
-use Rattle.rpc_view.specs.Tree.{Tree, nothing, structure, bad_structure, composite, bad_list, pointee, structure_at, structure_there, elements_there, elements_behind}
-use Rattle.rpc_view.specs.Reading.{Reading, fault, structure_in, elements_in}
+use Rattle.rpc_view.specs.Pointers.{extent}
+use Rattle.rpc_view.specs.Tree.{Tree, composite, bad_list, pointee, structure_at, structure_there, elements_there, elements_behind}
+use Rattle.rpc_view.specs.Reading.{fault, structure_in, elements_in}
 use Rattle.rpc_view.specs.Fields.{fields_in}
 
 -- of two trees, either way

@@ -1,5 +1,5 @@
 -- What a reading costs, and a frame's message.
-use Rattle.std.proofs.Common.{◌≡◌, ℕ, zero, suc, ◌+◌, ◌-◌, ◌<◌, ◌≤◌, Bool, true, false, cond, ltb, List, [], length, Result, Ok, Err, refl, sym, ap, ◌∙◌, inl, inr, arith}
+use Rattle.std.proofs.Common.{◌≡◌, ℕ, ◌-◌, ◌<◌, ◌≤◌, Bool, true, false, cond, List, [], length, Result, Ok, Err, refl, sym, ◌∙◌, inl, inr, arith}
 use Rattle.std.specs.Prelude.{IfOk, nat_lt, slice_index_or}
 use Rattle.std.proofs.lemmas.Bool.{cases_lt, ltb-false, lt-ltb, le-ltb}
 use Rattle.rpc_view.specs.declared.limits.Limits.{Limits}
@@ -52,7 +52,7 @@ is_priced (visit cost rest) value words e =
       too_few = λ n lt. elim (cases_lt n cost) [
         | inl short ↦ rw (lt-ltb n cost short) refl
         | inr paid ↦ let k : n - cost < price rest = omega arith in rw (le-ltb n cost paid) (later.too_few (n - cost) k)
-      ]
+      ];
     }
 
 -- ---- frames of one segment
@@ -71,9 +71,12 @@ is_message segments limits first left r le same p = rw (one_segment segments lim
 pub has_price : (segments : List (List ℕ)) (limits : Limits) (r : Result RpcMessage ViewError) → length segments ≤ 1 → Answers (λ message. message) r (message_of segments limits) → IfOk r (λ message. (cost : ℕ) × (cost ≤ limits.words) × HasPrice segments limits.depth message cost)
 has_price segments limits (Ok message) le e =
     let reading = message_in (tree_at limits.depth (slice_index_or segments 0 []) 0) in
-    let p = is_priced reading message limits.words (sym (one_segment segments limits le) ∙ e) in
-    (price reading, p.affordable, record {
-      enough = λ n h. one_segment segments (record { words = n; depth = limits.depth }) le ∙ p.enough n h;
-      too_few = λ n h. one_segment segments (record { words = n; depth = limits.depth }) le ∙ p.too_few n h
-    })
+    let p = is_priced reading message limits.words (sym (one_segment segments limits le) ∙ e) in (
+      price reading,
+      p.affordable,
+      record {
+        enough = λ n h. one_segment segments (record { words = n; depth = limits.depth }) le ∙ p.enough n h;
+        too_few = λ n h. one_segment segments (record { words = n; depth = limits.depth }) le ∙ p.too_few n h;
+      },
+    )
 has_price segments limits (Err e) le h = tt

@@ -1,5 +1,5 @@
 -- One reading after another is paid for as they are.
-use Rattle.std.proofs.Common.{◌≡◌, ℕ, zero, suc, ◌+◌, ◌-◌, Bool, true, false, cond, ltb, List, [], ◌∷◌, ◌++◌, Result, Ok, Err, refl}
+use Rattle.std.proofs.Common.{◌≡◌, ℕ, ◌-◌, Bool, true, false, cond, Result, Ok, Err, refl}
 use Rattle.std.specs.Prelude.{nat_lt}
 use Rattle.rpc_view.specs.declared.view_error.ReadError.TheVariants.{TooMuch}
 use Rattle.rpc_view.specs.declared.view_error.ViewError.{ViewError}

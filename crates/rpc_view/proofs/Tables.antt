@@ -1,5 +1,5 @@
 -- A table's descriptors one after another, and the capabilities of a struct's pointers.
-use Rattle.std.proofs.Common.{◌≡◌, ℕ, zero, suc, ◌+◌, ◌-◌, ◌<◌, ◌≤◌, List, [], ◌∷◌, ◌++◌, length, take, Option, Some, None, Result, Ok, Err, refl, sym, ap, ◌∙◌, arith}
+use Rattle.std.proofs.Common.{◌≡◌, ℕ, zero, suc, ◌+◌, ◌-◌, ◌<◌, ◌≤◌, List, [], ◌∷◌, ◌++◌, length, take, Option, Some, None, Result, Ok, Err, refl, ap, ◌∙◌, arith}
 use Rattle.rpc_view.specs.declared.pointer.Pointer.TheVariants as pointers
 use Rattle.rpc_view.specs.declared.view_error.ReadError.TheVariants.{Reserved}
 use Rattle.rpc_view.specs.declared.view_error.Outside.TheVariants.{NotYet}
@@ -9,13 +9,13 @@ use Rattle.std.specs.Prelude.{slice_index}
 use Rattle.std.proofs.lemmas.List.{append-nil, length-append}
 use Rattle.std.proofs.Math.Seq.{take-append_seam}
 use Rattle.rpc_view.specs.Pointers.{extent, pointer_of}
-use Rattle.rpc_view.specs.Tree.{Tree, pointee, structure_at, structure_there, tree_at}
+use Rattle.rpc_view.specs.Tree.{pointee, structure_at, structure_there, tree_at}
 use Rattle.rpc_view.proofs.OtherKinds.{list_has_no_fields}
 use Rattle.std.proofs.lemmas.Bool.{lt-ltb}
 use Rattle.rpc_view.specs.declared.place.StructAt.{StructAt}
 use Rattle.rpc_view.specs.Places.{child_at}
 use Rattle.rpc_view.specs.Fields.{fields_in}
-use Rattle.rpc_view.specs.Reading.{Reading, Sections, done, fault, visit, and_then, run, each, with_front, structure_in, Fails}
+use Rattle.rpc_view.specs.Reading.{Reading, Sections, done, and_then, run, each, with_front, structure_in, Fails}
 use Rattle.rpc_view.proofs.Running.{and_run, run_then, fails_then}
 use Rattle.rpc_view.proofs.Loops.{goes_on, ends, is_done, fails_front}
 

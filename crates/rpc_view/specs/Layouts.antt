@@ -1,6 +1,6 @@
 -- The structs of rpc.capnp: where each field stands. A field that a struct is too short for reads as 0; a field with
 -- another default is stored as the exclusive or with it (encoding specification, "Default Values").
-use Rattle.std.specs.Prelude.{ℕ, ◌+◌, ◌*◌, ◌/◌, ◌%◌, ◌^◌, ◌==◌, Bool, not, List, slice_index}
+use Rattle.std.specs.Prelude.{ℕ, ◌*◌, ◌/◌, ◌%◌, ◌^◌, ◌==◌, Bool, not, List, slice_index}
 use Rattle.rpc_view.specs.Tree.{Tree}
 use Rattle.rpc_view.specs.Reading.{Sections}
 

@@ -1,7 +1,7 @@
 -- The message of a tree, by the layouts of rpc.capnp, as far as messages are read yet: Bootstrap, Call and Return with
 -- results. The data of a body is judged whole before its pointers are followed; pointers that a union doesn't select are
 -- not read.
-use Rattle.std.specs.Prelude.{◌≡◌, ℕ, ◌+◌, ◌-◌, ◌<◌, ◌≤◌, ◌==◌, ◌||◌, Bool, List, [], ◌∷◌, ◌++◌, length, slice_index_or, Result, Ok, Err, nat_lt, if◌then◌else◌}
+use Rattle.std.specs.Prelude.{◌≡◌, ℕ, ◌<◌, ◌≤◌, ◌==◌, ◌||◌, List, [], ◌∷◌, length, slice_index_or, Result, Ok, Err, nat_lt, if◌then◌else◌}
 use Rattle.cap_frame.specs.declared.frame_error.FrameError.{FrameError}
 use Rattle.cap_frame.specs.Segments.{segments_of}
 use Rattle.rpc_view.specs.declared.limits.Limits.{Limits}
@@ -39,8 +39,8 @@ unfoldable pub target_in : Tree → Reading Target
 target_in tree = do
   target ← structure_in tree
   if target_tag target == 0 then done (targets.Imported (target_imported target))
-    else (if target_tag target == 1 then promised_in (target_promised target)
-    else fault errors.BadTag)
+      else (if target_tag target == 1 then promised_in (target_promised target)
+      else fault errors.BadTag)
 
 -- ---- payloads
 
@@ -48,9 +48,9 @@ unfoldable pub descriptor_in : Tree → Reading Descriptor
 descriptor_in tree = do
   descriptor ← structure_in tree
   if descriptor_tag descriptor == 0 then done descriptors.NoCap
-    else (if descriptor_tag descriptor == 1 then done (descriptors.SenderHosted (descriptor_number descriptor))
-    else (if nat_lt (descriptor_tag descriptor) 6 then fault (errors.Outside NotYet)
-    else fault errors.BadTag))
+      else (if descriptor_tag descriptor == 1 then done (descriptors.SenderHosted (descriptor_number descriptor))
+      else (if nat_lt (descriptor_tag descriptor) 6 then fault (errors.Outside NotYet)
+      else fault errors.BadTag))
 
 -- the elements are read one by one, each with what it holds
 unfoldable pub descriptors_in : Elements → Reading (List Descriptor)
@@ -93,8 +93,8 @@ unfoldable pub call_in : Tree → Reading RpcMessage
 call_in tree = do
   call ← structure_in tree
   if nat_lt 2 (call_send_results_to call) then fault errors.BadTag
-    else (if nat_lt 0 (call_send_results_to call) || call_later call then fault (errors.Outside NotYet)
-    else called_in call)
+      else (if nat_lt 0 (call_send_results_to call) || call_later call then fault (errors.Outside NotYet)
+      else called_in call)
 
 -- what the pointer of a Return with results holds
 unfoldable pub returned_in : Sections → Reading RpcMessage
@@ -106,8 +106,8 @@ unfoldable pub return_in : Tree → Reading RpcMessage
 return_in tree = do
   answer ← structure_in tree
   if nat_lt 5 (return_tag answer) then fault errors.BadTag
-    else (if nat_lt 0 (return_tag answer) || return_later answer then fault (errors.Outside NotYet)
-    else returned_in answer)
+      else (if nat_lt 0 (return_tag answer) || return_later answer then fault (errors.Outside NotYet)
+      else returned_in answer)
 
 -- the body behind each tag; the tags of this profile end at 13
 unfoldable pub body_in : ℕ → Tree → Reading RpcMessage

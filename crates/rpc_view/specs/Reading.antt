@@ -1,5 +1,5 @@
 -- A reading of a tree: the costs of its visits in order, and how it ends.
-use Rattle.std.specs.Prelude.{◌≡◌, ℕ, zero, suc, ◌+◌, ◌-◌, List, [], ◌∷◌, ◌++◌, length, Result, Ok, Err, nat_lt, max, if◌then◌else◌}
+use Rattle.std.specs.Prelude.{◌≡◌, ℕ, zero, suc, ◌+◌, ◌-◌, List, [], ◌++◌, length, Result, Ok, Err, nat_lt, max, if◌then◌else◌}
 use Rattle.rpc_view.specs.declared.view_error.ReadError.TheVariants.{WrongKind, Reserved, TooMuch}
 use Rattle.rpc_view.specs.declared.view_error.Outside.TheVariants.{NotYet}
 use Rattle.rpc_view.specs.declared.view_error.ViewError.{ViewError}

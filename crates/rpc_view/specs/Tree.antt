@@ -32,9 +32,9 @@ elements_behind structure_of words size tag_at =
     let element_size = data_bits tag + pointer_bits tag in
     if tag % 4 == 0
     then (if nat_le (tag_at + 1 + size) (length words) && nat_le (offset_bits tag * element_size) size
-      then composite (offset_bits tag)
-        (λ i. if nat_lt i (offset_bits tag) then structure_of (tag_at + 1 + i * element_size) (data_bits tag) (pointer_bits tag) else nothing)
-      else bad_list OutOfSegment)
+    then composite (offset_bits tag)
+    (λ i. if nat_lt i (offset_bits tag) then structure_of (tag_at + 1 + i * element_size) (data_bits tag) (pointer_bits tag) else nothing)
+    else bad_list OutOfSegment)
     else bad_list WrongKind
 
 -- the composite list to which a pointer points, where its tag word is
@@ -58,9 +58,9 @@ unfoldable pub structure_at : ℕ → List ℕ → ℕ → ℕ → ℕ → Tree
 structure_at zero words start data_words pointer_count = bad_structure TooDeep
 structure_at (suc depth) words start data_words pointer_count =
     structure (take data_words (drop start words)) pointer_count
-      (λ n. if nat_lt n pointer_count
-        then pointee (structure_at depth words) words (start + data_words + n) (pointer_of (slice_index words (start + data_words + n)))
-        else nothing)
+    (λ n. if nat_lt n pointer_count
+    then pointee (structure_at depth words) words (start + data_words + n) (pointer_of (slice_index words (start + data_words + n)))
+    else nothing)
 
 -- the value at the pointer at a place, where so many structs may stand within one another
 abbrev pub tree_at : ℕ → List ℕ → ℕ → Tree

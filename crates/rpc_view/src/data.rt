@@ -8,6 +8,7 @@ use crate::place::StructAt;
 use crate::segment::Segment;
 
 const NUMBERS_16: u64 = 1 << 16;
+
 const NUMBERS_32: u64 = 1 << 32;
 
 /// A word of the section, counted from 0.

@@ -85,14 +85,7 @@ pub fn fields(
     let mut found = Vec::new(alloc);
     if PAYLOAD_CONTENT < payload.pointer_count {
         let at = payload.start + u64::from(payload.data_words) + u64::from(PAYLOAD_CONTENT);
-        add_fields(
-            segment,
-            at,
-            payload.below,
-            &mut path,
-            &mut found,
-            words,
-        )?;
+        add_fields(segment, at, payload.below, &mut path, &mut found, words)?;
     }
     Ok(Fields::new(found))
 }

@@ -22,7 +22,9 @@ pub enum Pointer {
 }
 
 const OFFSETS: u64 = 1 << 30;
+
 const BACKWARDS: u32 = 1 << 29;
+
 const SIZES: u64 = 1 << 16;
 
 /// Bits 2 to 31.

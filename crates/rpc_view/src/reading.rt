@@ -146,11 +146,7 @@ fn message(
 /// number that this profile doesn't list, `OutOfMemory`. The first one in the order of reading is answered: the Message and
 /// its tag, then the data of the body, then what its pointers hold, a capability table before the content, and each entry
 /// of a table with what it holds before the next one.
-pub fn read_message(
-    alloc: Global,
-    frame: &Frame,
-    limits: Limits,
-) -> Result<RpcMessage, ViewError>
+pub fn read_message(alloc: Global, frame: &Frame, limits: Limits) -> Result<RpcMessage, ViewError>
     // Which message, or which fault.
     ensures exact { Answers (λ message. message) result (message_of frame.now limits) }
     // More words never change a message, and with fewer than it costs it isn't read.

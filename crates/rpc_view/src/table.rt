@@ -29,11 +29,7 @@ fn descriptor(
     let descriptor = element_in(segment, table, index, words)?;
     match u16_of(segment, &descriptor, DESCRIPTOR_TAG) {
         0 => Ok(Descriptor::NoCap),
-        1 => Ok(Descriptor::SenderHosted(u32_of(
-            segment,
-            &descriptor,
-            DESCRIPTOR_NUMBER,
-        ))),
+        1 => Ok(Descriptor::SenderHosted(u32_of(segment, &descriptor, DESCRIPTOR_NUMBER))),
         2..=5 => Err(ViewError::Outside(Outside::NotYet)),
         _ => Err(ViewError::BadTag),
     }

@@ -7,7 +7,8 @@ ghost use Rattle.rpc_view.specs.Places.{child_at};
 use crate::data::{u16_of, u32_of};
 use crate::following::{list_in, struct_in};
 use crate::layouts::{
-    CALL_TARGET, PROMISED_QUESTION, PROMISED_TRANSFORM, TARGET_IMPORTED, TARGET_PROMISED, TARGET_TAG,
+    CALL_TARGET, PROMISED_QUESTION, PROMISED_TRANSFORM, TARGET_IMPORTED, TARGET_PROMISED,
+    TARGET_TAG,
 };
 use crate::message::Target;
 use crate::place::StructAt;

@@ -12,18 +12,18 @@ static BOOTSTRAP: [u8; 48] = [
 
 /// Call of question 1 to the answer of question 0, interface 0x1234, method 2.
 static CALL: [u8; 112] = [
-    0, 0, 0, 0, 13, 0, 0, 0, 0, 0, 0, 0, 1, 0, 1, 0, 2, 0, 0, 0, 0, 0, 0, 0, 0, 0, 0, 0, 3, 0, 3, 0,
-    1, 0, 0, 0, 2, 0, 0, 0, 0x34, 0x12, 0, 0, 0, 0, 0, 0, 0, 0, 0, 0, 0, 0, 0, 0, 8, 0, 0, 0, 1, 0,
-    1, 0, 0, 0, 0, 0, 0, 0, 0, 0, 0, 0, 0, 0, 0, 0, 0, 0, 0, 0, 0, 0, 1, 0, 0, 0, 0, 0, 0, 0, 1, 0,
-    1, 0, 0, 0, 0, 0, 0, 0, 0, 0, 0, 0, 0, 0, 0, 0, 0, 0,
+    0, 0, 0, 0, 13, 0, 0, 0, 0, 0, 0, 0, 1, 0, 1, 0, 2, 0, 0, 0, 0, 0, 0, 0, 0, 0, 0, 0, 3, 0, 3,
+    0, 1, 0, 0, 0, 2, 0, 0, 0, 0x34, 0x12, 0, 0, 0, 0, 0, 0, 0, 0, 0, 0, 0, 0, 0, 0, 8, 0, 0, 0, 1,
+    0, 1, 0, 0, 0, 0, 0, 0, 0, 0, 0, 0, 0, 0, 0, 0, 0, 0, 0, 0, 0, 0, 0, 1, 0, 0, 0, 0, 0, 0, 0, 1,
+    0, 1, 0, 0, 0, 0, 0, 0, 0, 0, 0, 0, 0, 0, 0, 0, 0, 0, 0,
 ];
 
 /// Return to question 0, whose results are the capability of the export 0.
 static RETURN_WITH_CAPABILITY: [u8; 96] = [
-    0, 0, 0, 0, 11, 0, 0, 0, 0, 0, 0, 0, 1, 0, 1, 0, 3, 0, 0, 0, 0, 0, 0, 0, 0, 0, 0, 0, 2, 0, 1, 0,
-    0, 0, 0, 0, 0, 0, 0, 0, 0, 0, 0, 0, 0, 0, 0, 0, 0, 0, 0, 0, 0, 0, 2, 0, 3, 0, 0, 0, 0, 0, 0, 0,
-    1, 0, 0, 0, 0x17, 0, 0, 0, 4, 0, 0, 0, 1, 0, 1, 0, 1, 0, 0, 0, 0, 0, 0, 0, 0, 0, 0, 0, 0, 0, 0,
-    0,
+    0, 0, 0, 0, 11, 0, 0, 0, 0, 0, 0, 0, 1, 0, 1, 0, 3, 0, 0, 0, 0, 0, 0, 0, 0, 0, 0, 0, 2, 0, 1,
+    0, 0, 0, 0, 0, 0, 0, 0, 0, 0, 0, 0, 0, 0, 0, 0, 0, 0, 0, 0, 0, 0, 0, 2, 0, 3, 0, 0, 0, 0, 0, 0,
+    0, 1, 0, 0, 0, 0x17, 0, 0, 0, 4, 0, 0, 0, 1, 0, 1, 0, 1, 0, 0, 0, 0, 0, 0, 0, 0, 0, 0, 0, 0, 0,
+    0, 0,
 ];
 
 /// Return to question 1 with no results.
@@ -45,14 +45,12 @@ static TWO_SEGMENTS: [u8; 56] = [
 ];
 
 /// A null root pointer.
-static NULL_ROOT: [u8; 16] = [
-    0, 0, 0, 0, 1, 0, 0, 0, 0, 0, 0, 0, 0, 0, 0, 0,
-];
+static NULL_ROOT: [u8; 16] = [0, 0, 0, 0, 1, 0, 0, 0, 0, 0, 0, 0, 0, 0, 0, 0];
 
 /// A Message with a tag that no message has.
 static TAG_14: [u8; 48] = [
-    0, 0, 0, 0, 5, 0, 0, 0, 0, 0, 0, 0, 1, 0, 1, 0, 14, 0, 0, 0, 0, 0, 0, 0, 0, 0, 0, 0, 1, 0, 1, 0,
-    0, 0, 0, 0, 0, 0, 0, 0, 0, 0, 0, 0, 0, 0, 0, 0,
+    0, 0, 0, 0, 5, 0, 0, 0, 0, 0, 0, 0, 1, 0, 1, 0, 14, 0, 0, 0, 0, 0, 0, 0, 0, 0, 0, 0, 1, 0, 1,
+    0, 0, 0, 0, 0, 0, 0, 0, 0, 0, 0, 0, 0, 0, 0, 0, 0,
 ];
 
 /// Return to question 1 with no results, whose call's capabilities are kept.
@@ -83,6 +81,20 @@ fn is_bootstrap(message: &RpcMessage, number: u32) -> bool {
     }
 }
 
+fn is_answer(target: &Target, number: u32) -> bool {
+    match target {
+        Target::Promised(question, path) => *question == number && path.as_slice().is_empty(),
+        Target::Imported(_) => false,
+    }
+}
+
+fn is_sender_hosted(descriptor: &Descriptor, number: u32) -> bool {
+    match descriptor {
+        Descriptor::SenderHosted(export) => *export == number,
+        Descriptor::NoCap => false,
+    }
+}
+
 #[test]
 fn a_bootstrap_within_limits(rt: HostRuntime) -> Result<(), Fail> {
     let frame = Frame::read(Bytes::from_static(&BOOTSTRAP))?;
@@ -103,18 +115,17 @@ fn a_call(rt: HostRuntime) -> Result<(), Fail> {
     match read(rt.alloc(), &CALL, Limits::default())? {
         RpcMessage::Call {
             question,
-            target: Target::Promised(answer, path),
+            target,
             interface,
             method,
             params,
         } => {
             assert_eq!(rt; question, 1);
-            assert_eq!(rt; answer, 0);
-            assert_eq!(rt; path.as_slice().len(), 0);
+            assert!(rt; is_answer(&target, 0));
             assert_eq!(rt; interface, 0x1234);
             assert_eq!(rt; method, 2);
-            assert_eq!(rt; params.descriptors.as_slice().len(), 0);
-            assert_eq!(rt; params.fields.as_slice().len(), 0);
+            assert!(rt; params.descriptors.as_slice().is_empty());
+            assert!(rt; params.fields.as_slice().is_empty());
         }
         other => assert!(rt; false, "{other:?}"),
     }
@@ -127,15 +138,17 @@ fn a_return_with_a_capability(rt: HostRuntime) -> Result<(), Fail> {
         RpcMessage::Return {
             answer,
             release_param_caps,
-            outcome: Outcome::Results(results),
+            outcome,
         } => {
+            let Outcome::Results(results) = outcome;
             assert_eq!(rt; answer, 0);
             assert!(rt; release_param_caps);
-            assert!(rt; matches!(results.descriptors.as_slice(), [Descriptor::SenderHosted(0)]));
-            match results.fields.as_slice() {
-                [(path, 0)] => assert_eq!(rt; path.as_slice().len(), 0),
-                other => assert!(rt; false, "{other:?}"),
-            }
+            assert_eq!(rt; results.descriptors.as_slice().len(), 1);
+            assert!(rt; is_sender_hosted(&results.descriptors.as_slice()[0], 0));
+            assert_eq!(rt; results.fields.as_slice().len(), 1);
+            let (path, index) = &results.fields.as_slice()[0];
+            assert!(rt; path.as_slice().is_empty());
+            assert_eq!(rt; *index, 0);
         }
         other => assert!(rt; false, "{other:?}"),
     }
@@ -144,24 +157,21 @@ fn a_return_with_a_capability(rt: HostRuntime) -> Result<(), Fail> {
 
 #[test]
 fn returns_of_nothing(rt: HostRuntime) -> Result<(), Fail> {
-    match read(rt.alloc(), &RETURN_OF_NOTHING, Limits::default())? {
-        RpcMessage::Return {
-            answer,
-            release_param_caps,
-            outcome: Outcome::Results(results),
-        } => {
-            assert_eq!(rt; answer, 1);
-            assert!(rt; release_param_caps);
-            assert_eq!(rt; results.descriptors.as_slice().len(), 0);
-            assert_eq!(rt; results.fields.as_slice().len(), 0);
+    for (bytes, released) in [(&RETURN_OF_NOTHING, true), (&KEEPS_PARAMS, false)] {
+        match read(rt.alloc(), bytes, Limits::default())? {
+            RpcMessage::Return {
+                answer,
+                release_param_caps,
+                outcome,
+            } => {
+                let Outcome::Results(results) = outcome;
+                assert_eq!(rt; answer, 1);
+                assert_eq!(rt; release_param_caps, released);
+                assert!(rt; results.descriptors.as_slice().is_empty());
+                assert!(rt; results.fields.as_slice().is_empty());
+            }
+            other => assert!(rt; false, "{other:?}"),
         }
-        other => assert!(rt; false, "{other:?}"),
-    }
-    match read(rt.alloc(), &KEEPS_PARAMS, Limits::default())? {
-        RpcMessage::Return {
-            release_param_caps, ..
-        } => assert!(rt; !release_param_caps),
-        other => assert!(rt; false, "{other:?}"),
     }
     Ok(())
 }

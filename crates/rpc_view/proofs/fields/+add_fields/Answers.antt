@@ -1,12 +1,9 @@
-use Rattle.std.proofs.Common.{◌≡◌, ◌+◌, ◌++◌, ◌∷◌, [], ℕ, List, refl, sym, inl, inr, Ok, vec_len, ◌∙◌, ap, arith}
+use Rattle.std.proofs.Common.{◌≡◌, ◌+◌, ◌++◌, ◌∷◌, [], ℕ, List, refl, inl, inr, Ok, vec_len, ◌∙◌, ap, arith}
 use Rattle.std.specs.Prelude.{slice_index}
 use Rattle.std.proofs.lemmas.Result.{err_from_is_err_and}
 use Rattle.rpc_view.specs.declared.pointer.Pointer.TheVariants as pointers
 use Rattle.rpc_view.specs.Pointers.{pointer_of}
-use Rattle.rpc_view.specs.Reading.{run, with_front}
-use Rattle.rpc_view.specs.Fields.{fields_in}
-use Rattle.rpc_view.specs.Tree.{tree_at}
-use Rattle.rpc_view.specs.Places.{child_at, sections_at}
+use Rattle.rpc_view.specs.Places.{sections_at}
 use Rattle.rpc_view.proofs.Tables.{null_adds, capability_adds, list_fails, far_fails, reserved_fails, struct_fails, struct_begins, field_ends, field_goes_on, field_done, popped}
 use Rattle.rpc_view.proofs.fields.+add_fields.Goals as goal
 
@@ -21,7 +18,7 @@ loop-number-init t c =
     let e : pointer_of (slice_index c.args.segment.now c.args.at) ≡ pointers.Struct c.in-Struct.offset c.in-Struct.data_words c.in-Struct.pointer_count = cc in
     record {
       so_far = struct_begins c.args.found.now.items c.args.path.now.items c.args.depth c.args.segment.now c.args.at c.args.words.now c.in-Struct.offset c.in-Struct.data_words c.in-Struct.pointer_count e (sections_at c.args.segment.now c.in_ok-content-in-Struct.content) c.pointed.new.words c.in_ok-content-in-Struct.ensures.value;
-      same_path = refl
+      same_path = refl;
     }
 
 pub add_fields-requires : goal.add_fields-requires
@@ -40,7 +37,7 @@ loop-number-preserved t c =
     let there : c.in_ok-content-in-Struct.content.start + c.from.result + c.from-in-loop-number.result ≡ c.in_ok-content-in-Struct.content.start + c.in_ok-content-in-Struct.content.data_words + c.loop-number.number = rw (c.from.ensures, c.from-in-loop-number.ensures) refl in
     record {
       so_far = field_goes_on c.args.path.now.items c.args.segment.now c.in_ok-content-in-Struct.content c.loop-number.found.items c.add_fields.new.found.items c.push-in-loop-number.new.self.items c.loop-number.number (c.in_ok-content-in-Struct.content.start + c.from.result + c.from-in-loop-number.result) c.loop-number.words c.add_fields.new.words _ c.loop-number-test.true same there c.in_ok-add_fields-in-Struct.ensures.value c.loop-number.invariant.so_far;
-      same_path = popped c.args.path.now.items c.add_fields.new.path.items c.pop.new.self.items c.loop-number.number (vec_len c.add_fields.new.path) (c.in_ok-add_fields-in-Struct.ensures.path ∙ same) c.pop.ensures.rest c.add_fields.new.path.ok.0
+      same_path = popped c.args.path.now.items c.add_fields.new.path.items c.pop.new.self.items c.loop-number.number (vec_len c.add_fields.new.path) (c.in_ok-add_fields-in-Struct.ensures.path ∙ same) c.pop.ensures.rest c.add_fields.new.path.ok.0;
     }
 
 pub returns-in-Null-clause-value : goal.returns-in-Null-clause-value

@@ -13,5 +13,5 @@ invariant-loop-number l =
     let each_field = each (λ n. fields_in (l.fn.path.items ++ n ∷ []) (child_at l.segment l.content n)) in
     record {
       so_far : with_front l.found.items (run (each_field l.number (l.content.pointer_count - l.number)) l.words) ≡ with_front l.fn.found.items (run (fields_in l.fn.path.items (tree_at l.fn.depth l.segment l.fn.at)) l.fn.words);
-      same_path : l.path.items ≡ l.fn.path.items
+      same_path : l.path.items ≡ l.fn.path.items;
     }

@@ -1,6 +1,5 @@
-use Rattle.std.proofs.Common.{◌≡◌, ◌++◌, [], ◌∷◌, ℕ}
 use Rattle.std.proofs.lemmas.Result.{err_from_is_err_and}
-use Rattle.rpc_view.specs.Reading.{run, each, Reading}
+use Rattle.rpc_view.specs.Reading.{run}
 use Rattle.rpc_view.specs.Message.{descriptor_in, descriptors_in}
 use Rattle.rpc_view.specs.Places.{element_at, elements_at}
 use Rattle.rpc_view.proofs.Loops.{is_done}

@@ -1,1 +1,5 @@
 pub mod Log
+pub mod Fits
+pub mod Spelling
+pub mod Reading
+pub mod Parsed

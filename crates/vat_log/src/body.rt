@@ -68,7 +68,10 @@ impl Results {
 #[derive(Debug, Drop)]
 pub enum Body {
     /// The vat hosts an object of its own under a reference.
-    Host { reference: u64, object: u64 },
+    Host {
+        reference: u64,
+        object: u64,
+    },
     /// The vat makes a call through a reference.
     Make {
         call: u64,
@@ -77,9 +80,15 @@ pub enum Body {
         method: u16,
     },
     /// The vat gives a call to its own object.
-    Deliver { call: u64, object: u64 },
+    Deliver {
+        call: u64,
+        object: u64,
+    },
     /// The results of a call.
-    Answer { call: u64, results: Results },
+    Answer {
+        call: u64,
+        results: Results,
+    },
     /// A frame went out on a connection.
     Send {
         connection: u32,

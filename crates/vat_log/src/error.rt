@@ -1,5 +1,10 @@
 //! What is wrong with a log.
 
+ghost use Rattle.std.specs.Prelude.{◌≡◌};
+ghost use Rattle.vat_log.specs.declared.error.LogError.TheVariants.{OutOfMemory};
+
+use std::alloc::{AllocError, AllocFailed};
+
 /// What is wrong with a log's bytes: the first fault from left to right. Offsets are in bytes from the log's begin.
 #[derive(Clone, Copy, Debug, PartialEq, Eq)]
 pub enum LogError {
@@ -13,5 +18,22 @@ pub enum LogError {
     ZeroNumber(u64),
     /// A record, a count or a frame is past its limit.
     TooLong,
+    /// A growth of memory was refused.
     OutOfMemory,
+}
+
+impl From<AllocError> for LogError {
+    ghost from_gives = { λ _ e. e ≡ OutOfMemory };
+
+    fn from(_e: AllocError) -> LogError {
+        LogError::OutOfMemory
+    }
+}
+
+impl<T: Drop> From<AllocFailed<T>> for LogError {
+    ghost from_gives = { λ _ e. e ≡ OutOfMemory };
+
+    fn from(_e: AllocFailed<T>) -> LogError {
+        LogError::OutOfMemory
+    }
 }

@@ -3,10 +3,21 @@
 
 mod body;
 mod error;
+mod fields;
+mod kind;
+mod laws;
+mod limits;
 mod log;
+mod passage;
+mod reading;
 mod record;
+mod writing;
 
 pub use body::{Body, References, Results};
 pub use error::LogError;
-pub use log::VatLog;
+pub use laws::one_spelling;
+pub use log::{VatLog, parse_log, write_log};
 pub use record::Record;
+
+#[cfg(test)]
+mod tests;

@@ -1,10 +1,21 @@
 //! Logs.
 
-ghost use Rattle.std.specs.Prelude.{◌≡◌, length, slice_get};
+ghost use Rattle.std.specs.Prelude.{◌≡◌, ◌<◌, ◌≤◌, ◌^◌, List, ℕ, Ok, true, nat_eq, length, slice_get, All, IfOk};
+ghost use Rattle.std.specs.List.{starts_with};
 ghost use Rattle.std.specs.Option.{option_copied};
+ghost use Rattle.vat_log.specs.Reading.{Gives, records_at, log_within, log_of};
+ghost use Rattle.vat_log.specs.Fits.{record_limit, LogFits, stored};
+ghost use Rattle.vat_log.specs.Log.{Log};
+ghost use Rattle.vat_log.specs.Spelling.{magic, log_bytes};
 
+use crate::error::LogError;
+use crate::fields::u32_at;
+use crate::kind::read_kind;
+use crate::limits::MAX_RECORDS;
 use crate::record::Record;
+use crate::writing::written;
 use bytes::Bytes;
+use std::alloc::Global;
 use std::marker::Model;
 
 /// The log of one vat, as it was parsed from its bytes.
@@ -20,10 +31,16 @@ impl Model for VatLog {
 
     ghost Value = { Log };
 
+    ghost use Rattle.vat_log.specs.Parsed.{IsParsed};
+
     ghost view = { λ log. record { vat = log.vat; records = log.records.items } };
+
+    ghost invariant = { λ log. IsParsed log.bytes (record { vat = log.vat; records = log.records.items }) };
 }
 
 impl VatLog {
+    ghost use Rattle.vat_log.specs.Parsed.{IsParsed};
+
     /// The vat whose log this is.
     pub fn vat(&self) -> u32
         ensures { result ≡ self.now.vat }
@@ -45,8 +62,97 @@ impl VatLog {
         self.records.get(index)
     }
 
-    /// The bytes that spell the log.
-    pub fn bytes(&self) -> &Bytes {
+    /// The bytes that the log was parsed from, which are the one spelling of it.
+    pub fn bytes(&self) -> &Bytes
+        ensures spelled { result.now ≡ log_bytes self.now }
+        ensures parsed { IsParsed result.now self.now }
+    {
         &self.bytes
     }
+}
+
+/// Whether the magic stands before all else.
+fn begins_log(bytes: &[u8]) -> bool
+    ensures test { result ≡ starts_with nat_eq bytes.now magic }
+    ensures octets { All (λ octet. octet < 2 ^ 8) bytes.now }
+    ensures long { result ≡ true → 8 ≤ length bytes.now }
+{
+    bytes.starts_with(b"VATLOG01")
+}
+
+fn records_of(
+    alloc: Global,
+    bytes: &Bytes,
+    begin: usize,
+    limit: usize,
+) -> Result<Vec<Record>, LogError>
+    requires octets { All (λ octet. octet < 2 ^ 8) bytes.now }
+    requires within { begin ≤ length bytes.now }
+    ensures { Gives (λ v. v.items) result (records_at bytes.now limit begin) }
+{
+    let mut records = Vec::new(alloc);
+    let mut at = begin;
+    while at < bytes.len() {
+        let kind = read_kind(bytes.as_slice(), at)?;
+        if records.len() >= limit {
+            return Err(LogError::TooLong);
+        }
+        let (event, after) = Record::read(alloc, kind, bytes, at + 1)?;
+        records.push(event)?;
+        at = after;
+    }
+    Ok(records)
+}
+
+/// The vat and the records that these bytes spell.
+#[tactic(auto, unfolding(crate::specs::Reading::log_within))]
+fn parts_of(alloc: Global, bytes: &Bytes, limit: usize) -> Result<(u32, Vec<Record>), LogError>
+    ensures gives { Gives (λ x. record { vat = x.0; records = x.1.items }) result (log_within limit bytes.now) }
+    ensures octets { All (λ octet. octet < 2 ^ 8) bytes.now }
+{
+    if !begins_log(bytes.as_slice()) {
+        return Err(LogError::BadMagic);
+    }
+    let (vat, after) = u32_at(bytes.as_slice(), 8)?;
+    let records = records_of(alloc, bytes, after, limit)?;
+    Ok((vat, records))
+}
+
+/// The log that these bytes spell.
+///
+/// # Errors
+///
+/// The first fault from the left: `BadMagic`, `Short`, `BadKind` and `ZeroNumber` with the offset of the field, `TooLong`
+/// at a record past 1,048,576 or at a frame above 67,108,864 bytes; or `OutOfMemory`, where a growth was refused.
+#[tactic(auto, unfolding(crate::specs::Fits::record_limit))]
+pub fn parse_log(alloc: Global, bytes: Bytes) -> Result<VatLog, LogError>
+    // Which log, or which fault.
+    ensures exact { Gives (λ log. log) result (log_of bytes) }
+    // What is read is spelled so.
+    ensures found { IfOk result (λ log. LogFits record_limit log × (bytes ≡ log_bytes log)) }
+    // What is spelled so is read, unless memory runs out.
+    ensures only { (log : Log) → LogFits record_limit log → bytes ≡ log_bytes log → Gives (λ read. read) result (Ok log) }
+{
+    let (vat, records) = parts_of(alloc, &bytes, MAX_RECORDS)?;
+    Ok(VatLog {
+        bytes,
+        vat,
+        records,
+    })
+}
+
+/// The log of this vat with these records, in their order.
+///
+/// # Errors
+///
+/// `TooLong` where there are more than 1,048,576 records; or `OutOfMemory`, where a growth was refused.
+#[tactic(auto, unfolding(crate::specs::Fits::record_limit))]
+pub fn write_log(alloc: Global, vat: u32, records: &[Record]) -> Result<VatLog, LogError>
+    ensures { Gives (λ log. log) result (stored (record { vat = vat; records = records.now })) }
+{
+    if records.len() > MAX_RECORDS {
+        return Err(LogError::TooLong);
+    }
+    let bytes = Bytes::from_vec(written(alloc, vat, records)?)?;
+    parse_log(alloc, bytes)
 }

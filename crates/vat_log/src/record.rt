@@ -1,8 +1,17 @@
 //! Records.
 
-ghost use Rattle.std.specs.Prelude.{◌≡◌};
+ghost use Rattle.std.specs.Prelude.{◌≡◌, ◌<◌, ◌≤◌, ◌^◌, ◌↔◌, length, All, IsTrue, IfOk, IfErr};
+ghost use Rattle.vat_log.specs.Fits.{count_limit, frame_limit, IsNumbered, IsCounted, RefusedFor};
+ghost use Rattle.vat_log.specs.Reading.{Gives, fields_at};
 
-use crate::body::Body;
+use crate::body::{Body, References, Results};
+use crate::error::LogError;
+use crate::kind::Kind;
+use crate::limits::{MAX_COUNT, MAX_FRAME};
+use crate::reading::body_of;
+use bytes::Bytes;
+use cap_frame::Path;
+use std::alloc::Global;
 use std::marker::Model;
 
 /// A record of a log: a body whose numbers and counts a log can hold.
@@ -16,14 +25,130 @@ impl Model for Record {
 
     ghost Value = { Body };
 
+    ghost use Rattle.vat_log.specs.Fits.{Fits};
+
     ghost view = { λ stored. stored.body };
+
+    ghost invariant = { λ stored. Fits stored.body };
 }
 
 impl Record {
+    ghost use Rattle.vat_log.specs.Fits.{Fits};
+
+    /// The record that says this. It takes no memory. A body that no log can hold is handed back.
+    ///
+    /// # Errors
+    ///
+    /// `ZeroNumber(0)` where a reference is 0, or a call that isn't noted beside a frame; else `TooLong` where a list
+    /// has more than 65,535 elements or a frame more than 67,108,864 bytes.
+    pub fn new(body: Body) -> Result<Record, (LogError, Body)>
+        ensures ok { IfOk result (λ stored. stored ≡ body) }
+        ensures fits { IfOk result (λ stored. Fits body) }
+        ensures err { IfErr result (λ refused. (refused.1 ≡ body) × RefusedFor refused.0 body) }
+    {
+        if !is_numbered(&body) {
+            return Err((LogError::ZeroNumber(0), body));
+        }
+        if !is_counted(&body) {
+            return Err((LogError::TooLong, body));
+        }
+        Ok(Record { body })
+    }
+
+    /// The record of this kind whose fields begin at this place, and the place after them.
+    pub(crate) fn read(
+        alloc: Global,
+        kind: Kind,
+        bytes: &Bytes,
+        at: usize,
+    ) -> Result<(Record, usize), LogError>
+        requires octets { All (λ octet. octet < 2 ^ 8) bytes.now }
+        requires within { at ≤ length bytes.now }
+        ensures gives { Gives (λ x. (x.0, x.1)) result (fields_at kind bytes.now at) }
+        ensures within { IfOk result (λ x. x.1 ≤ length bytes.now) }
+    {
+        let (body, after) = body_of(alloc, kind, bytes, at)?;
+        Ok((Record { body }, after))
+    }
+
     /// What the record says.
     pub fn body(&self) -> &Body
-        ensures { result.now ≡ self.now }
+        ensures value { result.now ≡ self.now }
+        ensures fits { Fits self.now }
     {
         &self.body
     }
+}
+
+/// Whether no reference is 0, and no call but one beside a frame.
+fn is_numbered(body: &Body) -> bool
+    ensures { IsTrue result ↔ IsNumbered body.now }
+{
+    match body {
+        Body::Host { reference, .. } => *reference != 0,
+        Body::Make {
+            call,
+            reference,
+            ..
+        } => *call != 0 && *reference != 0,
+        Body::Deliver { call, .. } => *call != 0,
+        Body::Answer { call, results } => *call != 0 && are_results_numbered(results),
+        Body::Send { references, .. } | Body::Receive { references, .. } => {
+            are_references_numbered(references)
+        }
+    }
+}
+
+fn are_references_numbered(references: &References) -> bool
+    ensures { IsTrue result ↔ All (λ reference. 0 < reference) references.now }
+{
+    references
+        .as_slice()
+        .iter()
+        .all(|reference| *reference != 0)
+}
+
+fn are_results_numbered(results: &Results) -> bool
+    ensures { IsTrue result ↔ All (λ answered. 0 < answered.0) results.now }
+{
+    results.as_slice().iter().all(|answered| answered.0 != 0)
+}
+
+/// Whether no list and no frame is past its limit.
+fn is_counted(body: &Body) -> bool
+    ensures { IsTrue result ↔ IsCounted body.now }
+{
+    match body {
+        Body::Host { .. } | Body::Make { .. } | Body::Deliver { .. } => true,
+        Body::Answer { results, .. } => are_results_counted(results),
+        Body::Send {
+            references,
+            frame,
+            ..
+        }
+        | Body::Receive {
+            references,
+            frame,
+            ..
+        } => is_passage_counted(references, frame),
+    }
+}
+
+fn is_passage_counted(references: &References, frame: &Bytes) -> bool
+    ensures { IsTrue result ↔ ((length references.now ≤ count_limit) × (length frame.now ≤ frame_limit)) }
+{
+    references.as_slice().len() <= MAX_COUNT && frame.len() <= MAX_FRAME
+}
+
+fn are_results_counted(results: &Results) -> bool
+    ensures { IsTrue result ↔ ((length results.now ≤ count_limit) × All (λ answered. length answered.1 ≤ count_limit) results.now) }
+{
+    let results = results.as_slice();
+    results.len() <= MAX_COUNT && results.iter().all(|answered| is_path_counted(&answered.1))
+}
+
+fn is_path_counted(path: &Path) -> bool
+    ensures { IsTrue result ↔ (length path.now ≤ count_limit) }
+{
+    path.as_slice().len() <= MAX_COUNT
 }

@@ -1,0 +1,199 @@
+-- The fields of each kind of record are spelled as they are read, and read as they are spelled.
+use Rattle.std.proofs.Common.{◌≡◌, ℕ, ◌+◌, ◌^◌, ◌<◌, ◌≤◌, List, ◌++◌, length, All, Result, Ok, refl, ap, subst, arith}
+use Rattle.vat_log.specs.declared.body.Body.{Body}
+use Rattle.vat_log.specs.declared.body.Body.TheVariants as body
+use Rattle.vat_log.specs.declared.error.LogError.{LogError}
+use Rattle.vat_log.specs.declared.kind.Kind.{Kind}
+use Rattle.vat_log.specs.declared.kind.Kind.TheVariants.{Host, Make, Deliver, Answer, Send, Receive}
+use Rattle.vat_log.specs.declared.passage.Passage.{Passage}
+use Rattle.vat_log.specs.Fits.{IsWide, Fits}
+use Rattle.vat_log.specs.Reading.{◌>>=◌, passage_at, host_at, make_at, deliver_at, answer_at, send_at, receive_at, fields_at}
+use Rattle.vat_log.specs.Spelling.{passage_bytes, kind_in, fields_bytes}
+use Rattle.vat_log.proofs.Spans.{IsBytes, ok_is, Spans, Spans-join, Spans-first, Spans-second, IsField, then_takes}
+use Rattle.vat_log.proofs.FieldLaws.{IsNumber, IsList, IsFrame, u16_field, u32_field, u64_field, nonzero_field, references_field, results_field, frame_field}
+
+-- what a record can say, with numbers of the width of their fields
+pub record FitsWide (said : Body) : Type 0 where
+  pub fits : Fits said
+  pub wide : IsWide said
+
+-- ---- fields that follow one another
+
+abbrev two_at : {A B C : Type 0} → (ℕ → Result (A × ℕ) LogError) → (ℕ → Result (B × ℕ) LogError) → (A → B → C) → ℕ → Result (C × ℕ) LogError
+two_at r r' make at = r at >>= λ a. r' a.1 >>= λ b. Ok (make a.0 b.0, b.1)
+
+abbrev four_at : {A B C D E : Type 0} → (ℕ → Result (A × ℕ) LogError) → (ℕ → Result (B × ℕ) LogError) → (ℕ → Result (C × ℕ) LogError) → (ℕ → Result (D × ℕ) LogError) → (A → B → C → D → E) → ℕ → Result (E × ℕ) LogError
+four_at ra rb rc rd make at = ra at >>= λ a. rb a.1 >>= λ b. rc b.1 >>= λ c. rd c.1 >>= λ d. Ok (make a.0 b.0 c.0 d.0, d.1)
+
+two_take : {A B C : Type 0} {bytes : List ℕ} {r : ℕ → Result (A × ℕ) LogError} {s : A → List ℕ} {F : A → Type 0} {r' : ℕ → Result (B × ℕ) LogError} {s' : B → List ℕ} {F' : B → Type 0}
+    → IsField A bytes r s F → IsField B bytes r' s' F'
+    → IsBytes bytes → (make : A → B → C) (at : ℕ) (x : C × ℕ) → at ≤ length bytes → two_at r r' make at ≡ Ok x
+    → (a : A) × (b : B) × Spans bytes at (s a ++ s' b) x.1 × F a × F' b × (make a b ≡ x.0)
+two_take {A} {B} {C} {bytes} {r} {s} {F} {r'} {s'} {F'} field field' fits make at x le e =
+    let p = then_takes bytes r s F field fits at (λ a. r' a.1 >>= λ b. Ok (make a.0 b.0, b.1)) x le e in
+    let q = then_takes bytes r' s' F' field' fits p.0.1 (λ b. Ok (make p.0.0 b.0, b.1)) x p.1.within p.3 in
+    let made : C × ℕ = (make p.0.0 q.0.0, q.0.1) in
+    let same : made ≡ x = ok_is made x q.3 in
+    (p.0.0, q.0.0, subst (λ (y : C × ℕ). Spans bytes at (s p.0.0 ++ s' q.0.0) y.1) same (Spans-join bytes at (s p.0.0) p.0.1 (s' q.0.0) q.0.1 p.1 q.1), p.2, q.2, ap (λ (y : C × ℕ). y.0) same)
+
+two_again : {A B C : Type 0} {bytes : List ℕ} {r : ℕ → Result (A × ℕ) LogError} {s : A → List ℕ} {F : A → Type 0} {r' : ℕ → Result (B × ℕ) LogError} {s' : B → List ℕ} {F' : B → Type 0}
+    → IsField A bytes r s F → IsField B bytes r' s' F'
+    → (make : A → B → C) (at : ℕ) (a : A) (b : B) (after : ℕ) → F a → F' b → Spans bytes at (s a ++ s' b) after → two_at r r' make at ≡ Ok (make a b, after)
+two_again {A} {B} {C} {bytes} {r} {s} {F} {r'} {s'} {F'} field field' make at a b after fa fb p =
+    rw (field.again at a (at + length (s a)) fa (Spans-first bytes at (s a) (s' b) after p), field'.again (at + length (s a)) b after fb (Spans-second bytes at (s a) (s' b) after p)) refl
+
+four_take : {A B C D E : Type 0} {bytes : List ℕ} {ra : ℕ → Result (A × ℕ) LogError} {sa : A → List ℕ} {FA : A → Type 0} {rb : ℕ → Result (B × ℕ) LogError} {sb : B → List ℕ} {FB : B → Type 0}
+    {rc : ℕ → Result (C × ℕ) LogError} {sc : C → List ℕ} {FC : C → Type 0} {rd : ℕ → Result (D × ℕ) LogError} {sd : D → List ℕ} {FD : D → Type 0}
+    → IsField A bytes ra sa FA → IsField B bytes rb sb FB → IsField C bytes rc sc FC → IsField D bytes rd sd FD
+    → IsBytes bytes → (make : A → B → C → D → E) (at : ℕ) (x : E × ℕ) → at ≤ length bytes
+    → four_at ra rb rc rd make at ≡ Ok x
+    → (a : A) × (b : B) × (c : C) × (d : D) × Spans bytes at (sa a ++ (sb b ++ (sc c ++ sd d))) x.1 × FA a × FB b × FC c × FD d × (make a b c d ≡ x.0)
+four_take {A} {B} {C} {D} {E} {bytes} {ra} {sa} {FA} {rb} {sb} {FB} {rc} {sc} {FC} {rd} {sd} {FD} fa fb fc fd fits make at x le e =
+    let p = then_takes bytes ra sa FA fa fits at (λ a. rb a.1 >>= λ b. rc b.1 >>= λ c. rd c.1 >>= λ d. Ok (make a.0 b.0 c.0 d.0, d.1)) x le e in
+    let q = then_takes bytes rb sb FB fb fits p.0.1 (λ b. rc b.1 >>= λ c. rd c.1 >>= λ d. Ok (make p.0.0 b.0 c.0 d.0, d.1)) x p.1.within p.3 in
+    let t = two_take fc fd fits (make p.0.0 q.0.0) q.0.1 x q.1.within q.3 in
+    let low = Spans-join bytes p.0.1 (sb q.0.0) q.0.1 (sc t.0 ++ sd t.1) x.1 q.1 t.2 in
+    (p.0.0, q.0.0, t.0, t.1, Spans-join bytes at (sa p.0.0) p.0.1 (sb q.0.0 ++ (sc t.0 ++ sd t.1)) x.1 p.1 low, p.2, q.2, t.3, t.4, t.5)
+
+four_again : {A B C D E : Type 0} {bytes : List ℕ} {ra : ℕ → Result (A × ℕ) LogError} {sa : A → List ℕ} {FA : A → Type 0} {rb : ℕ → Result (B × ℕ) LogError} {sb : B → List ℕ} {FB : B → Type 0}
+    {rc : ℕ → Result (C × ℕ) LogError} {sc : C → List ℕ} {FC : C → Type 0} {rd : ℕ → Result (D × ℕ) LogError} {sd : D → List ℕ} {FD : D → Type 0}
+    → IsField A bytes ra sa FA → IsField B bytes rb sb FB → IsField C bytes rc sc FC → IsField D bytes rd sd FD
+    → (make : A → B → C → D → E) (at : ℕ) (a : A) (b : B) (c : C) (d : D) (after : ℕ) → FA a → FB b → FC c → FD d → Spans bytes at (sa a ++ (sb b ++ (sc c ++ sd d))) after
+    → four_at ra rb rc rd make at ≡ Ok (make a b c d, after)
+four_again {A} {B} {C} {D} {E} {bytes} {ra} {sa} {FA} {rb} {sb} {FB} {rc} {sc} {FC} {rd} {sd} {FD} fa fb fc fd make at a b c d after ha hb hc hd p =
+    let b_at = at + length (sa a) in
+    let p1 = Spans-second bytes at (sa a) (sb b ++ (sc c ++ sd d)) after p in
+    let c_at = b_at + length (sb b) in
+    let p2 = Spans-second bytes b_at (sb b) (sc c ++ sd d) after p1 in
+    rw (fa.again at a b_at ha (Spans-first bytes at (sa a) (sb b ++ (sc c ++ sd d)) after p), fb.again b_at b c_at hb (Spans-first bytes b_at (sb b) (sc c ++ sd d) after p1)) (two_again fc fd (make a b) c_at c d after hc hd p2)
+
+-- ---- a frame with what is noted beside it
+
+pub record IsPassage (x : Passage) : Type 0 where
+  pub connection : x.connection < 2 ^ 32
+  pub call : x.call < 2 ^ 64
+  pub references : IsList IsNumber x.references
+  pub frame : IsFrame x.frame
+
+abbrev passage : ℕ → ℕ → List ℕ → List ℕ → Passage
+passage connection call references frame = record { connection = connection; call = call; references = references; frame = frame }
+
+abbrev passage_spelling : Passage → List ℕ
+passage_spelling x = passage_bytes x.connection x.call x.references x.frame
+
+passage_takes : (bytes : List ℕ) → IsBytes bytes → (at : ℕ) (x : Passage) (after : ℕ) → at ≤ length bytes → passage_at bytes at ≡ Ok (x, after) → Spans bytes at (passage_spelling x) after × IsPassage x
+unfolding passage_at
+passage_takes bytes fits at x after le e =
+    let t = four_take (u32_field bytes) (u64_field bytes) (references_field bytes) (frame_field bytes) fits passage at (x, after) le e in
+    subst (λ y. Spans bytes at (passage_spelling y) after × IsPassage y) t.9 (t.4, record { connection = t.5; call = t.6; references = t.7; frame = t.8 })
+
+passage_again : (bytes : List ℕ) (at : ℕ) (x : Passage) (after : ℕ) → IsPassage x → Spans bytes at (passage_spelling x) after → passage_at bytes at ≡ Ok (x, after)
+unfolding passage_at
+passage_again bytes at x after is p =
+    four_again (u32_field bytes) (u64_field bytes) (references_field bytes) (frame_field bytes) passage at x.connection x.call x.references x.frame after is.connection is.call is.references is.frame p
+
+passage_field : (bytes : List ℕ) → IsField Passage bytes (passage_at bytes) passage_spelling IsPassage
+passage_field bytes = record {
+  takes = λ fits at x after le e. passage_takes bytes fits at x after le e;
+  again = λ at x after is p. passage_again bytes at x after is p;
+}
+
+-- ---- each kind
+
+abbrev Taken : List ℕ → ℕ → ℕ → Kind → Body → Type 0
+Taken bytes at after kind said = Spans bytes at (fields_bytes said) after × FitsWide said × (kind_in said ≡ kind)
+
+host_takes : (bytes : List ℕ) → IsBytes bytes → (at : ℕ) (x : Body × ℕ) → at ≤ length bytes → host_at bytes at ≡ Ok x → Taken bytes at x.1 Host x.0
+unfolding host_at
+host_takes bytes fits at x le e =
+    let t = two_take (nonzero_field bytes) (u64_field bytes) fits (λ a b. body.Host a b) at x le e in
+    subst (Taken bytes at x.1 Host) t.5 (t.2, record { fits = record { numbered = t.3.0; counted = tt }; wide = (t.3.1, t.4) }, refl)
+
+make_takes : (bytes : List ℕ) → IsBytes bytes → (at : ℕ) (x : Body × ℕ) → at ≤ length bytes → make_at bytes at ≡ Ok x → Taken bytes at x.1 Make x.0
+unfolding make_at
+make_takes bytes fits at x le e =
+    let t = four_take (nonzero_field bytes) (nonzero_field bytes) (u64_field bytes) (u16_field bytes) fits (λ a b c d. body.Make a b c d) at x le e in
+    subst (Taken bytes at x.1 Make) t.9 (t.4, record { fits = record { numbered = (t.5.0, t.6.0); counted = tt }; wide = (t.5.1, t.6.1, t.7, t.8) }, refl)
+
+deliver_takes : (bytes : List ℕ) → IsBytes bytes → (at : ℕ) (x : Body × ℕ) → at ≤ length bytes → deliver_at bytes at ≡ Ok x → Taken bytes at x.1 Deliver x.0
+unfolding deliver_at
+deliver_takes bytes fits at x le e =
+    let t = two_take (nonzero_field bytes) (u64_field bytes) fits (λ a b. body.Deliver a b) at x le e in
+    subst (Taken bytes at x.1 Deliver) t.5 (t.2, record { fits = record { numbered = t.3.0; counted = tt }; wide = (t.3.1, t.4) }, refl)
+
+answer_takes : (bytes : List ℕ) → IsBytes bytes → (at : ℕ) (x : Body × ℕ) → at ≤ length bytes → answer_at bytes at ≡ Ok x → Taken bytes at x.1 Answer x.0
+unfolding answer_at
+answer_takes bytes fits at x le e =
+    let t = two_take (nonzero_field bytes) (results_field bytes) fits (λ a b. body.Answer a b) at x le e in
+    let results = t.4.1 in
+    subst (Taken bytes at x.1 Answer) t.5 (
+      t.2,
+      record {
+        fits = record { numbered = (t.3.0, λ k d lt. (results k d lt).0.0); counted = (omega (arith, t.4.0), λ k d lt. omega (arith, (results k d lt).1.0)) };
+        wide = (t.3.1, λ k d lt. ((results k d lt).0.1, (results k d lt).1.1));
+      },
+      refl,
+    )
+
+abbrev sent : Passage → Body
+sent x = body.Send x.connection x.call x.references x.frame
+
+abbrev received : Passage → Body
+received x = body.Receive x.connection x.call x.references x.frame
+
+passage_fits : (x : Passage) → IsPassage x → FitsWide (sent x) × FitsWide (received x)
+passage_fits x is =
+    let counted : (length x.references ≤ 65535) × (length x.frame ≤ 67108864) = (omega (arith, is.references.0), is.frame) in (
+      record { fits = record { numbered = λ k d lt. (is.references.1 k d lt).0; counted = counted }; wide = (is.connection, is.call, λ k d lt. (is.references.1 k d lt).1) },
+      record { fits = record { numbered = λ k d lt. (is.references.1 k d lt).0; counted = counted }; wide = (is.connection, is.call, λ k d lt. (is.references.1 k d lt).1) },
+    )
+
+send_takes : (bytes : List ℕ) → IsBytes bytes → (at : ℕ) (x : Body × ℕ) → at ≤ length bytes → send_at bytes at ≡ Ok x → Taken bytes at x.1 Send x.0
+unfolding send_at
+send_takes bytes fits at x le e =
+    let a = then_takes bytes (passage_at bytes) passage_spelling IsPassage (passage_field bytes) fits at (λ p. Ok (sent p.0, p.1)) x le e in
+    let made : Body × ℕ = (sent a.0.0, a.0.1) in
+    subst (λ (y : Body × ℕ). Taken bytes at y.1 Send y.0) (ok_is made x a.3) (a.1, (passage_fits a.0.0 a.2).0, refl)
+
+receive_takes : (bytes : List ℕ) → IsBytes bytes → (at : ℕ) (x : Body × ℕ) → at ≤ length bytes → receive_at bytes at ≡ Ok x → Taken bytes at x.1 Receive x.0
+unfolding receive_at
+receive_takes bytes fits at x le e =
+    let a = then_takes bytes (passage_at bytes) passage_spelling IsPassage (passage_field bytes) fits at (λ p. Ok (received p.0, p.1)) x le e in
+    let made : Body × ℕ = (received a.0.0, a.0.1) in
+    subst (λ (y : Body × ℕ). Taken bytes at y.1 Receive y.0) (ok_is made x a.3) (a.1, (passage_fits a.0.0 a.2).1, refl)
+
+-- what is read of a kind is a body of that kind, spelled so
+pub fields_take : (kind : Kind) (bytes : List ℕ) → IsBytes bytes → (at : ℕ) (x : Body × ℕ) → at ≤ length bytes → fields_at kind bytes at ≡ Ok x → Taken bytes at x.1 kind x.0
+fields_take Host bytes fits at x le e = host_takes bytes fits at x le e
+fields_take Make bytes fits at x le e = make_takes bytes fits at x le e
+fields_take Deliver bytes fits at x le e = deliver_takes bytes fits at x le e
+fields_take Answer bytes fits at x le e = answer_takes bytes fits at x le e
+fields_take Send bytes fits at x le e = send_takes bytes fits at x le e
+fields_take Receive bytes fits at x le e = receive_takes bytes fits at x le e
+
+-- ---- what is spelled so is read
+
+passage_is : (connection call : ℕ) (references frame : List ℕ) → All (λ reference. 0 < reference) references → (length references ≤ 65535) × (length frame ≤ 67108864)
+    → (connection < 2 ^ 32) × (call < 2 ^ 64) × All (λ reference. reference < 2 ^ 64) references → IsPassage (passage connection call references frame)
+passage_is connection call references frame numbered counted wide = record {
+  connection = wide.0;
+  call = wide.1;
+  references = (omega (arith, counted.0), λ k d lt. (numbered k d lt, wide.2 k d lt));
+  frame = counted.1;
+}
+
+pub fields_again : (said : Body) (bytes : List ℕ) (at after : ℕ) → FitsWide said → Spans bytes at (fields_bytes said) after → fields_at (kind_in said) bytes at ≡ Ok (said, after)
+unfolding host_at make_at deliver_at answer_at send_at receive_at
+fields_again (body.Host reference object) bytes at after is p =
+    two_again (nonzero_field bytes) (u64_field bytes) (λ a b. body.Host a b) at reference object after (is.fits.numbered, is.wide.0) is.wide.1 p
+fields_again (body.Make call reference interface method) bytes at after is p =
+    four_again (nonzero_field bytes) (nonzero_field bytes) (u64_field bytes) (u16_field bytes) (λ a b c d. body.Make a b c d) at call reference interface method after (is.fits.numbered.0, is.wide.0) (is.fits.numbered.1, is.wide.1) is.wide.2 is.wide.3 p
+fields_again (body.Deliver call object) bytes at after is p =
+    two_again (nonzero_field bytes) (u64_field bytes) (λ a b. body.Deliver a b) at call object after (is.fits.numbered, is.wide.0) is.wide.1 p
+fields_again (body.Answer call results) bytes at after is p =
+    two_again (nonzero_field bytes) (results_field bytes) (λ a b. body.Answer a b) at call results after (is.fits.numbered.0, is.wide.0)
+    (omega (arith, is.fits.counted.0), λ k d lt. ((is.fits.numbered.1 k d lt, (is.wide.1 k d lt).0), (omega (arith, is.fits.counted.1 k d lt), (is.wide.1 k d lt).1))) p
+fields_again (body.Send connection call references frame) bytes at after is p =
+    rw (passage_again bytes at (passage connection call references frame) after (passage_is connection call references frame is.fits.numbered is.fits.counted is.wide) p) refl
+fields_again (body.Receive connection call references frame) bytes at after is p =
+    rw (passage_again bytes at (passage connection call references frame) after (passage_is connection call references frame is.fits.numbered is.fits.counted is.wide) p) refl

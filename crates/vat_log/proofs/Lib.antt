@@ -1,0 +1,5 @@
+pub mod Loop
+pub mod Spans
+pub mod FieldLaws
+pub mod BodyLaws
+pub mod LogLaws

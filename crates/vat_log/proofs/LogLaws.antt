@@ -1,0 +1,172 @@
+-- The two laws of logs: what is read is spelled so, and what is spelled so is read.
+use Rattle.std.proofs.Common.{◌≡◌, ℕ, zero, suc, ◌+◌, ◌^◌, ◌<◌, ◌≤◌, Bool, true, false, cond, eqb, ltb, List, [], ◌∷◌, ◌++◌, length, get_or, drop, All, Option, Some, None, Ok, Err, refl, sym, ap, subst, ◌∙◌, add-one, arith, inl, inr, ◌⊎◌}
+use Rattle.std.specs.List.{flat_map, AllByRecursion, starts_with}
+use Rattle.std.specs.Int.{w32}
+use Rattle.std.proofs.lemmas.Bool.{eqb-true, ltb-true, ltb-false, lt-ltb, le-ltb}
+use Rattle.std.proofs.lemmas.Bool.Decides.{Decides-eqb}
+use Rattle.std.proofs.lemmas.List.{append-nil, drop_all}
+use Rattle.std.proofs.Math.Seq.{drop-cons}
+use Rattle.std.proofs.lemmas.List.Concat.{flat_map-cons}
+use Rattle.std.proofs.lemmas.List.Elements.{All-from_recursion, recursion_from_All}
+use Rattle.std.proofs.lemmas.Slice.Eq.{starts_is}
+use Rattle.vat_log.specs.declared.body.Body.{Body}
+use Rattle.vat_log.specs.declared.error.LogError.TheVariants.{BadMagic, TooLong}
+use Rattle.vat_log.specs.declared.kind.Kind.{Kind}
+use Rattle.vat_log.specs.declared.kind.Kind.TheVariants.{Host, Make, Deliver, Answer, Send, Receive}
+use Rattle.vat_log.specs.Fits.{LogFits}
+use Rattle.vat_log.specs.Log.{Log}
+use Rattle.vat_log.specs.Reading.{◌>>=◌, number_at, fields_at, kind_with, known, kind_at, records_at, log_within}
+use Rattle.vat_log.specs.Spelling.{magic, kind_byte, number_bytes, kind_in, fields_bytes, record_bytes, log_bytes}
+use Rattle.vat_log.proofs.Spans.{IsBytes, bind_ok, ok_is, Spans, Spans-nil, Spans-join, Spans-first, Spans-second, then_takes}
+use Rattle.vat_log.proofs.FieldLaws.{u32_field}
+use Rattle.vat_log.proofs.BodyLaws.{FitsWide, fields_take, fields_again}
+
+-- ---- kinds
+
+chosen : {A : Type 0} (b : Bool) (x y z : A) → cond b x y ≡ z → ((b ≡ true) × (x ≡ z)) ⊎ ((b ≡ false) × (y ≡ z))
+chosen true x y z e = inl (refl, e)
+chosen false x y z e = inr (refl, e)
+
+abbrev found : Kind → Option Kind
+found kind = Some kind
+
+kind_step : (byte code : ℕ) (k kind : Kind) (rest : Option Kind) → code ≡ kind_byte k → (rest ≡ found kind → byte ≡ kind_byte kind) → cond (eqb byte code) (found k) rest ≡ found kind → byte ≡ kind_byte kind
+kind_step byte code k kind rest is more e =
+    elim (chosen (eqb byte code) (found k) rest (found kind) e) [
+      | inl p ↦ let same : k ≡ kind = cc p.1 in eqb-true _ _ p.0 ∙ is ∙ ap kind_byte same
+      | inr p ↦ more p.1
+    ]
+
+kind_was : (byte : ℕ) (kind : Kind) → kind_with byte ≡ found kind → byte ≡ kind_byte kind
+unfolding kind_with
+kind_was byte kind e =
+    kind_step byte 1 Host kind _ refl (kind_step byte 5 Make kind _ refl (kind_step byte 7 Deliver kind _ refl (kind_step byte 8 Answer kind _ refl
+    (kind_step byte 10 Send kind _ refl (kind_step byte 11 Receive kind None refl (λ none. absurd cc)))))) e
+
+kind_is : (kind : Kind) → kind_with (kind_byte kind) ≡ found kind
+unfolding kind_with
+kind_is Host = refl
+kind_is Make = refl
+kind_is Deliver = refl
+kind_is Answer = refl
+kind_is Send = refl
+kind_is Receive = refl
+
+known_ok : (o : Option Kind) (at : ℕ) (kind : Kind) → known o at ≡ Ok kind → o ≡ found kind
+known_ok (Some k) at kind e = ap found (ok_is k kind e)
+known_ok None at kind e = absurd cc
+
+kind_takes : (bytes : List ℕ) (at : ℕ) (kind : Kind) → at < length bytes → kind_at bytes at ≡ Ok kind → Spans bytes at (kind_byte kind ∷ []) (at + 1)
+unfolding kind_at
+kind_takes bytes at kind lt e =
+    let byte : get_or bytes at 0 ≡ kind_byte kind = kind_was (get_or bytes at 0) kind (known_ok (kind_with (get_or bytes at 0)) at kind e) in
+    let cell : drop at bytes ≡ get_or bytes at 0 ∷ drop (at + 1) bytes = rw (add-one) (drop-cons bytes at 0 lt) in
+    record { parts = cell ∙ ap (λ b. b ∷ drop (at + 1) bytes) byte; places = refl; within = omega arith }
+
+kind_again : (bytes : List ℕ) (at : ℕ) (kind : Kind) (after : ℕ) → Spans bytes at (kind_byte kind ∷ []) after → (at < length bytes) × (kind_at bytes at ≡ Ok kind)
+unfolding kind_at
+kind_again bytes at kind after p =
+    let lt : at < length bytes = omega (arith, p.places, p.within) in
+    let cell : drop at bytes ≡ get_or bytes at 0 ∷ drop (suc at) bytes = drop-cons bytes at 0 lt in
+    let both : get_or bytes at 0 ∷ drop (suc at) bytes ≡ kind_byte kind ∷ drop after bytes = sym cell ∙ p.parts in
+    let byte : get_or bytes at 0 ≡ kind_byte kind = cc both in
+    (lt, rw (byte, kind_is kind) refl)
+
+-- ---- records
+
+record_takes : (bytes : List ℕ) → IsBytes bytes → (at : ℕ) (kind : Kind) (x : Body × ℕ) → at < length bytes → kind_at bytes at ≡ Ok kind → fields_at kind bytes (at + 1) ≡ Ok x → Spans bytes at (record_bytes x.0) x.1 × FitsWide x.0
+record_takes bytes fits at kind x lt k e =
+    let t = fields_take kind bytes fits (at + 1) x (omega arith) e in
+    let both = Spans-join bytes at (kind_byte kind ∷ []) (at + 1) (fields_bytes x.0) x.1 (kind_takes bytes at kind lt k) t.0 in
+    (subst (λ k. Spans bytes at (kind_byte k ∷ fields_bytes x.0) x.1) (sym t.2) both, t.1)
+
+abbrev Records : List ℕ → ℕ → ℕ → List Body → Type 0
+Records bytes at limit xs = Spans bytes at (flat_map record_bytes xs) (length bytes) × (length xs ≤ limit) × AllByRecursion FitsWide xs
+
+stops : (bytes : List ℕ) (at limit : ℕ) (xs : List Body) → at ≤ length bytes → length bytes ≤ at → [] ≡ xs → Records bytes at limit xs
+stops bytes at limit xs le past none =
+    let end : at ≡ length bytes = omega arith in
+    subst (Records bytes at limit) none (subst (Spans bytes at []) end (Spans-nil bytes at le), omega arith, tt)
+
+records_take : (limit : ℕ) (bytes : List ℕ) → IsBytes bytes → (at : ℕ) (xs : List Body) → at ≤ length bytes → records_at bytes limit at ≡ Ok xs → Records bytes at limit xs
+unfolding records_at
+records_take zero bytes fits at xs le e =
+    elim (chosen (ltb at (length bytes)) (kind_at bytes at >>= λ kind. Err TooLong) (Ok []) (Ok xs) e) [
+      | inl p ↦ let k = bind_ok (kind_at bytes at) (λ kind. Err TooLong) xs p.1 in absurd (cc k.2)
+      | inr p ↦ stops bytes at 0 xs le (ltb-false _ _ p.0) (ok_is [] xs p.1)
+    ]
+records_take (suc left) bytes fits at xs le e =
+    elim (chosen (ltb at (length bytes)) (kind_at bytes at >>= λ kind. fields_at kind bytes (at + 1) >>= λ first. records_at bytes left first.1 >>= λ others. Ok (first.0 ∷ others)) (Ok []) (Ok xs) e) [
+      | inl p ↦
+          let lt = ltb-true _ _ p.0 in
+          let k = bind_ok (kind_at bytes at) (λ kind. fields_at kind bytes (at + 1) >>= λ first. records_at bytes left first.1 >>= λ others. Ok (first.0 ∷ others)) xs p.1 in
+          let f = bind_ok (fields_at k.0 bytes (at + 1)) (λ first. records_at bytes left first.1 >>= λ others. Ok (first.0 ∷ others)) xs k.2 in
+          let o = bind_ok (records_at bytes left f.0.1) (λ others. Ok (f.0.0 ∷ others)) xs f.2 in
+          let one = record_takes bytes fits at k.0 f.0 lt k.1 f.1 in
+          let rest = records_take left bytes fits f.0.1 o.0 one.0.within o.1 in
+          let both = Spans-join bytes at (record_bytes f.0.0) f.0.1 (flat_map record_bytes o.0) (length bytes) one.0 rest.0 in
+          subst (Records bytes at (suc left)) {x = f.0.0 ∷ o.0} (ok_is (f.0.0 ∷ o.0) xs o.2) (rw flat_map-cons both, omega (arith, rest.1), (one.1, rest.2))
+      | inr p ↦ stops bytes at (suc left) xs le (ltb-false _ _ p.0) (ok_is [] xs p.1)
+    ]
+
+records_again : (xs : List Body) (limit : ℕ) (bytes : List ℕ) (at : ℕ) → length xs ≤ limit → AllByRecursion FitsWide xs → Spans bytes at (flat_map record_bytes xs) (length bytes) → records_at bytes limit at ≡ Ok xs
+unfolding records_at
+records_again [] zero bytes at le fit p = rw (le-ltb at (length bytes) (omega (arith, p.places))) refl
+records_again [] (suc left) bytes at le fit p = rw (le-ltb at (length bytes) (omega (arith, p.places))) refl
+records_again (x ∷ xs) zero bytes at le fit p = absurd (omega (arith, le))
+records_again (x ∷ xs) (suc left) bytes at le fit p =
+    let code = kind_byte (kind_in x) ∷ [] in
+    let all : Spans bytes at (record_bytes x ++ flat_map record_bytes xs) (length bytes) = rw flat_map-cons at p in
+    let one = Spans-first bytes at (record_bytes x) (flat_map record_bytes xs) (length bytes) all in
+    let after = at + length (record_bytes x) in
+    let rest = Spans-second bytes at (record_bytes x) (flat_map record_bytes xs) (length bytes) all in
+    let k = kind_again bytes at (kind_in x) (at + 1) (Spans-first bytes at code (fields_bytes x) after one) in
+    let f = fields_again x bytes (at + 1) after fit.0 (Spans-second bytes at code (fields_bytes x) after one) in
+    let o = records_again xs left bytes after (omega (arith, le)) fit.1 rest in
+    rw (lt-ltb at (length bytes) k.0, k.1, f, o) refl
+
+-- ---- logs
+
+begins : (bytes : List ℕ) → starts_with eqb bytes magic ≡ true → Spans bytes 0 magic 8
+begins bytes e =
+    let parts : bytes ≡ magic ++ drop 8 bytes = (starts_is Decides-eqb bytes magic (starts_with eqb bytes magic) refl).0 e in
+    record { parts = parts; places = refl; within = omega (arith, ap length parts) }
+
+begins_again : (bytes : List ℕ) (after : ℕ) → Spans bytes 0 magic after → starts_with eqb bytes magic ≡ true
+begins_again bytes after p = (starts_is Decides-eqb bytes magic (starts_with eqb bytes magic) refl).1 (drop after bytes) p.parts
+
+whole : (bytes text : List ℕ) → Spans bytes 0 text (length bytes) → bytes ≡ text
+whole bytes text p = p.parts ∙ ap (λ rest. text ++ rest) (drop_all (length bytes) bytes (omega arith)) ∙ append-nil text
+
+all_of_it : (bytes text : List ℕ) → bytes ≡ text → Spans bytes 0 text (length bytes)
+all_of_it bytes text e = record { parts = e ∙ sym (append-nil text) ∙ ap (λ rest. text ++ rest) (sym (drop_all (length bytes) bytes (omega arith))); places = omega (arith, ap length e); within = omega arith }
+
+pub log_takes : (limit : ℕ) (bytes : List ℕ) (log : Log) → IsBytes bytes → log_within limit bytes ≡ Ok log → (bytes ≡ log_bytes log) × LogFits limit log
+unfolding log_within
+log_takes limit bytes log fits e =
+    elim (chosen (starts_with eqb bytes magic) (number_at w32 bytes 8 >>= λ vat. records_at bytes limit vat.1 >>= λ records. Ok (record { vat = vat.0; records = records })) (Err BadMagic) (Ok log) e) [
+      | inl p ↦
+          let front = begins bytes p.0 in
+          let v = then_takes bytes (number_at w32 bytes) (number_bytes w32) (λ n. n < 2 ^ 32) (u32_field bytes) fits 8 (λ vat. records_at bytes limit vat.1 >>= λ records. Ok (record { vat = vat.0; records = records })) log front.within p.1 in
+          let r = bind_ok (records_at bytes limit v.0.1) (λ records. Ok (record { vat = v.0.0; records = records })) log v.3 in
+          let rest = records_take limit bytes fits v.0.1 r.0 v.1.within r.1 in
+          let made : Log = record { vat = v.0.0; records = r.0 } in
+          let tail = Spans-join bytes 8 (number_bytes w32 v.0.0) v.0.1 (flat_map record_bytes r.0) (length bytes) v.1 rest.0 in
+          let spelled = whole bytes (log_bytes made) (Spans-join bytes 0 magic 8 (number_bytes w32 v.0.0 ++ flat_map record_bytes r.0) (length bytes) front tail) in
+          let fit = All-from_recursion FitsWide r.0 rest.2 in
+          subst (λ (l : Log). (bytes ≡ log_bytes l) × LogFits limit l) (ok_is made log r.2) (spelled, record { vat = v.2; counted = rest.1; fit = λ k d lt. (fit k d lt).fits; wide = λ k d lt. (fit k d lt).wide })
+      | inr p ↦ absurd (cc p.1)
+    ]
+
+pub log_again : (limit : ℕ) (bytes : List ℕ) (log : Log) → LogFits limit log → bytes ≡ log_bytes log → log_within limit bytes ≡ Ok log
+unfolding log_within
+log_again limit bytes log fit e =
+    let vat = number_bytes w32 log.vat in
+    let records = flat_map record_bytes log.records in
+    let all = all_of_it bytes (magic ++ (vat ++ records)) e in
+    let front = Spans-first bytes 0 magic (vat ++ records) (length bytes) all in
+    let tail = Spans-second bytes 0 magic (vat ++ records) (length bytes) all in
+    let v = (u32_field bytes).again 8 log.vat (8 + length vat) fit.vat (Spans-first bytes 8 vat records (length bytes) tail) in
+    let both : All FitsWide log.records = λ k d lt. record { fits = fit.fit k d lt; wide = fit.wide k d lt } in
+    let r = records_again log.records limit bytes (8 + length vat) fit.counted (recursion_from_All FitsWide log.records both) (Spans-second bytes 8 vat records (length bytes) tail) in
+    rw (begins_again bytes 8 front, v, r) refl

@@ -1,0 +1,69 @@
+-- Which records a log can have.
+use Rattle.std.specs.Prelude.{◌≡◌, ℕ, ◌^◌, ◌<◌, ◌≤◌, length, Result, Ok, Err, nat_lt, if◌then◌else◌}
+use Rattle.std.specs.List.{All}
+use Rattle.vat_log.specs.declared.body.Body.{Body}
+use Rattle.vat_log.specs.declared.body.Body.TheVariants.{Host, Make, Deliver, Answer, Send, Receive}
+use Rattle.vat_log.specs.declared.error.LogError.{LogError}
+use Rattle.vat_log.specs.declared.error.LogError.TheVariants.{ZeroNumber, TooLong}
+use Rattle.vat_log.specs.Log.{Log}
+
+-- how many references, results or path elements a list may have
+abbrev pub count_limit : ℕ
+count_limit = 65535
+
+-- how many bytes a frame may have
+abbrev pub frame_limit : ℕ
+frame_limit = 67108864
+
+-- how many records a log may have
+unfoldable pub record_limit : ℕ
+record_limit = 1048576
+
+-- No reference is 0, and no call is 0 but the one noted beside a frame, where 0 stands for no call.
+abbrev pub IsNumbered : Body → Type 0
+IsNumbered (Host reference object) = 0 < reference
+IsNumbered (Make call reference interface method) = (0 < call) × (0 < reference)
+IsNumbered (Deliver call object) = 0 < call
+IsNumbered (Answer call results) = (0 < call) × All (λ answered. 0 < answered.0) results
+IsNumbered (Send connection call references frame) = All (λ reference. 0 < reference) references
+IsNumbered (Receive connection call references frame) = All (λ reference. 0 < reference) references
+
+-- No list is past the limit of its count, and no frame past that of its bytes.
+abbrev pub IsCounted : Body → Type 0
+IsCounted (Host reference object) = Unit {0}
+IsCounted (Make call reference interface method) = Unit {0}
+IsCounted (Deliver call object) = Unit {0}
+IsCounted (Answer call results) = (length results ≤ count_limit) × All (λ answered. length answered.1 ≤ count_limit) results
+IsCounted (Send connection call references frame) = (length references ≤ count_limit) × (length frame ≤ frame_limit)
+IsCounted (Receive connection call references frame) = (length references ≤ count_limit) × (length frame ≤ frame_limit)
+
+-- Each number is within the width of its field, as the types of the fields keep it.
+abbrev pub IsWide : Body → Type 0
+IsWide (Host reference object) = (reference < 2 ^ 64) × (object < 2 ^ 64)
+IsWide (Make call reference interface method) = (call < 2 ^ 64) × (reference < 2 ^ 64) × (interface < 2 ^ 64) × (method < 2 ^ 16)
+IsWide (Deliver call object) = (call < 2 ^ 64) × (object < 2 ^ 64)
+IsWide (Answer call results) = (call < 2 ^ 64) × All (λ answered. (answered.0 < 2 ^ 64) × All (λ field. field < 2 ^ 16) answered.1) results
+IsWide (Send connection call references frame) = (connection < 2 ^ 32) × (call < 2 ^ 64) × All (λ reference. reference < 2 ^ 64) references
+IsWide (Receive connection call references frame) = (connection < 2 ^ 32) × (call < 2 ^ 64) × All (λ reference. reference < 2 ^ 64) references
+
+-- what a record can say
+pub record Fits (body : Body) : Type 0 where
+  pub numbered : IsNumbered body
+  pub counted : IsCounted body
+
+-- Why a body is refused: a number that may not be 0 first, then a count.
+abbrev pub RefusedFor : LogError → Body → Type 0
+RefusedFor (ZeroNumber at) body = (at ≡ 0) × (IsNumbered body → ⊥)
+RefusedFor TooLong body = IsNumbered body × (IsCounted body → ⊥)
+RefusedFor _ body = ⊥
+
+-- what a log can say
+pub record LogFits (limit : ℕ) (log : Log) : Type 0 where
+  pub vat : log.vat < 2 ^ 32
+  pub counted : length log.records ≤ limit
+  pub fit : All Fits log.records
+  pub wide : All IsWide log.records
+
+-- What is written: the log that is handed in, unless it has too many records.
+abbrev pub stored : Log → Result Log LogError
+stored log = if nat_lt record_limit (length log.records) then Err TooLong else Ok log

@@ -1,0 +1,76 @@
+-- The one spelling of each log.
+use Rattle.std.specs.Prelude.{ℕ, List, [], ◌∷◌, ◌++◌, length}
+use Rattle.std.specs.List.{flat_map}
+use Rattle.std.specs.Int.{Width, w16, w32, w64, to_le_bytes}
+use Rattle.vat_log.specs.declared.body.Body.{Body}
+use Rattle.vat_log.specs.declared.body.Body.TheVariants as body
+use Rattle.vat_log.specs.declared.kind.Kind.{Kind}
+use Rattle.vat_log.specs.declared.kind.Kind.TheVariants.{Host, Make, Deliver, Answer, Send, Receive}
+use Rattle.vat_log.specs.Log.{Log}
+
+-- the bytes that begin each log: VATLOG01
+abbrev pub magic : List ℕ
+magic = 86 ∷ 65 ∷ 84 ∷ 76 ∷ 79 ∷ 71 ∷ 48 ∷ 49 ∷ []
+
+-- the byte that begins a record of this kind
+abbrev pub kind_byte : Kind → ℕ
+kind_byte Host = 1
+kind_byte Make = 5
+kind_byte Deliver = 7
+kind_byte Answer = 8
+kind_byte Send = 10
+kind_byte Receive = 11
+
+-- a number of this width, its lowest byte first
+unfoldable pub number_bytes : Width → ℕ → List ℕ
+number_bytes width n = to_le_bytes width n
+
+-- a list: how many there are in two bytes, then one after the other
+abbrev pub listed : {A : Type 0} → (A → List ℕ) → List A → List ℕ
+listed item xs = number_bytes w16 (length xs) ++ flat_map item xs
+
+-- a path: its pointer field numbers, of two bytes each
+abbrev pub path_bytes : List ℕ → List ℕ
+path_bytes fields = listed (number_bytes w16) fields
+
+-- a result: its reference, and the path at which it stands
+abbrev pub answered_bytes : ℕ × List ℕ → List ℕ
+answered_bytes answered = number_bytes w64 answered.0 ++ path_bytes answered.1
+
+-- references noted beside a frame
+abbrev pub references_bytes : List ℕ → List ℕ
+references_bytes references = listed (number_bytes w64) references
+
+-- a frame: how many bytes it has in four bytes, then those
+abbrev pub frame_bytes : List ℕ → List ℕ
+frame_bytes frame = number_bytes w32 (length frame) ++ frame
+
+-- a frame on a connection, with the call and the references that are noted beside it
+abbrev pub passage_bytes : ℕ → ℕ → List ℕ → List ℕ → List ℕ
+passage_bytes connection call references frame = number_bytes w32 connection ++ (number_bytes w64 call ++ (references_bytes references ++ frame_bytes frame))
+
+-- the kind of the record that says this
+abbrev pub kind_in : Body → Kind
+kind_in (body.Host reference object) = Host
+kind_in (body.Make call reference interface method) = Make
+kind_in (body.Deliver call object) = Deliver
+kind_in (body.Answer call results) = Answer
+kind_in (body.Send connection call references frame) = Send
+kind_in (body.Receive connection call references frame) = Receive
+
+-- its fields, one after the other
+abbrev pub fields_bytes : Body → List ℕ
+fields_bytes (body.Host reference object) = number_bytes w64 reference ++ number_bytes w64 object
+fields_bytes (body.Make call reference interface method) = number_bytes w64 call ++ (number_bytes w64 reference ++ (number_bytes w64 interface ++ number_bytes w16 method))
+fields_bytes (body.Deliver call object) = number_bytes w64 call ++ number_bytes w64 object
+fields_bytes (body.Answer call results) = number_bytes w64 call ++ listed answered_bytes results
+fields_bytes (body.Send connection call references frame) = passage_bytes connection call references frame
+fields_bytes (body.Receive connection call references frame) = passage_bytes connection call references frame
+
+-- a record: the byte of its kind, then its fields
+abbrev pub record_bytes : Body → List ℕ
+record_bytes body = kind_byte (kind_in body) ∷ fields_bytes body
+
+-- a log: the magic, the vat, and its records one after the other
+abbrev pub log_bytes : Log → List ℕ
+log_bytes log = magic ++ (number_bytes w32 log.vat ++ flat_map record_bytes log.records)

@@ -1,0 +1,137 @@
+//! Reading records.
+
+ghost use Rattle.std.specs.Prelude.{◌≡◌, ◌≤◌, length, IfOk};
+ghost use Rattle.std.specs.List.{starts_with};
+ghost use Rattle.vat_log.specs.Reading.{Gives, passage_at, host_at, make_at, deliver_at, answer_at, send_at, receive_at, fields_at};
+
+use crate::body::Body;
+use crate::error::LogError;
+use crate::fields::{frame_of, nonzero_of, references_of, results_of, u16_at, u32_at, u64_at};
+use crate::kind::Kind;
+use crate::passage::Passage;
+use bytes::Bytes;
+use std::alloc::Global;
+
+#[tactic(auto, unfolding(crate::specs::Reading::passage_at))]
+fn passage_of(alloc: Global, bytes: &Bytes, at: usize) -> Result<(Passage, usize), LogError>
+    requires { at ≤ length bytes.now }
+    ensures gives { Gives (λ x. (x.0, x.1)) result (passage_at bytes.now at) }
+    ensures within { IfOk result (λ x. x.1 ≤ length bytes.now) }
+{
+    let (connection, after) = u32_at(bytes.as_slice(), at)?;
+    let (call, after) = u64_at(bytes.as_slice(), after)?;
+    let (references, after) = references_of(alloc, bytes.as_slice(), after)?;
+    let (frame, after) = frame_of(bytes, after)?;
+    let passage = Passage {
+        connection,
+        call,
+        references,
+        frame,
+    };
+    Ok((passage, after))
+}
+
+#[tactic(auto, unfolding(crate::specs::Reading::host_at))]
+fn host_of(bytes: &[u8], at: usize) -> Result<(Body, usize), LogError>
+    requires { at ≤ length bytes.now }
+    ensures gives { Gives (λ x. (x.0, x.1)) result (host_at bytes.now at) }
+    ensures within { IfOk result (λ x. x.1 ≤ length bytes.now) }
+{
+    let (reference, after) = nonzero_of(bytes, at)?;
+    let (object, after) = u64_at(bytes, after)?;
+    Ok((Body::Host { reference, object }, after))
+}
+
+#[tactic(auto, unfolding(crate::specs::Reading::make_at))]
+fn make_of(bytes: &[u8], at: usize) -> Result<(Body, usize), LogError>
+    requires { at ≤ length bytes.now }
+    ensures gives { Gives (λ x. (x.0, x.1)) result (make_at bytes.now at) }
+    ensures within { IfOk result (λ x. x.1 ≤ length bytes.now) }
+{
+    let (call, after) = nonzero_of(bytes, at)?;
+    let (reference, after) = nonzero_of(bytes, after)?;
+    let (interface, after) = u64_at(bytes, after)?;
+    let (method, after) = u16_at(bytes, after)?;
+    let body = Body::Make {
+        call,
+        reference,
+        interface,
+        method,
+    };
+    Ok((body, after))
+}
+
+#[tactic(auto, unfolding(crate::specs::Reading::deliver_at))]
+fn deliver_of(bytes: &[u8], at: usize) -> Result<(Body, usize), LogError>
+    requires { at ≤ length bytes.now }
+    ensures gives { Gives (λ x. (x.0, x.1)) result (deliver_at bytes.now at) }
+    ensures within { IfOk result (λ x. x.1 ≤ length bytes.now) }
+{
+    let (call, after) = nonzero_of(bytes, at)?;
+    let (object, after) = u64_at(bytes, after)?;
+    Ok((Body::Deliver { call, object }, after))
+}
+
+#[tactic(auto, unfolding(crate::specs::Reading::answer_at))]
+fn answer_of(alloc: Global, bytes: &[u8], at: usize) -> Result<(Body, usize), LogError>
+    requires { at ≤ length bytes.now }
+    ensures gives { Gives (λ x. (x.0, x.1)) result (answer_at bytes.now at) }
+    ensures within { IfOk result (λ x. x.1 ≤ length bytes.now) }
+{
+    let (call, after) = nonzero_of(bytes, at)?;
+    let (results, after) = results_of(alloc, bytes, after)?;
+    Ok((Body::Answer { call, results }, after))
+}
+
+#[tactic(auto, unfolding(crate::specs::Reading::send_at))]
+fn send_of(alloc: Global, bytes: &Bytes, at: usize) -> Result<(Body, usize), LogError>
+    requires { at ≤ length bytes.now }
+    ensures gives { Gives (λ x. (x.0, x.1)) result (send_at bytes.now at) }
+    ensures within { IfOk result (λ x. x.1 ≤ length bytes.now) }
+{
+    let (passage, after) = passage_of(alloc, bytes, at)?;
+    let body = Body::Send {
+        connection: passage.connection,
+        call: passage.call,
+        references: passage.references,
+        frame: passage.frame,
+    };
+    Ok((body, after))
+}
+
+#[tactic(auto, unfolding(crate::specs::Reading::receive_at))]
+fn receive_of(alloc: Global, bytes: &Bytes, at: usize) -> Result<(Body, usize), LogError>
+    requires { at ≤ length bytes.now }
+    ensures gives { Gives (λ x. (x.0, x.1)) result (receive_at bytes.now at) }
+    ensures within { IfOk result (λ x. x.1 ≤ length bytes.now) }
+{
+    let (passage, after) = passage_of(alloc, bytes, at)?;
+    let body = Body::Receive {
+        connection: passage.connection,
+        call: passage.call,
+        references: passage.references,
+        frame: passage.frame,
+    };
+    Ok((body, after))
+}
+
+/// The fields of a record of this kind.
+pub(crate) fn body_of(
+    alloc: Global,
+    kind: Kind,
+    bytes: &Bytes,
+    at: usize,
+) -> Result<(Body, usize), LogError>
+    requires { at ≤ length bytes.now }
+    ensures gives { Gives (λ x. (x.0, x.1)) result (fields_at kind bytes.now at) }
+    ensures within { IfOk result (λ x. x.1 ≤ length bytes.now) }
+{
+    match kind {
+        Kind::Host => host_of(bytes.as_slice(), at),
+        Kind::Make => make_of(bytes.as_slice(), at),
+        Kind::Deliver => deliver_of(bytes.as_slice(), at),
+        Kind::Answer => answer_of(alloc, bytes.as_slice(), at),
+        Kind::Send => send_of(alloc, bytes, at),
+        Kind::Receive => receive_of(alloc, bytes, at),
+    }
+}

@@ -1,0 +1,215 @@
+use super::*;
+use bytes::Bytes;
+use cap_frame::Path;
+use std::alloc::{AllocError, Global};
+use std::test::*;
+
+/// The frame of a Bootstrap, question 0.
+const BOOTSTRAP: &[u8; 48] = b"\
+    \0\0\0\0\x05\0\0\0\0\0\0\0\x01\0\x01\0\x08\0\0\0\0\0\0\0\0\0\0\0\x01\0\x01\0\0\0\0\0\0\0\0\0\0\0\0\0\
+    \0\0\0\0";
+
+/// The frame of a Call, question 1, of answer 0.
+const CALL: &[u8; 112] = b"\
+    \0\0\0\0\x0d\0\0\0\0\0\0\0\x01\0\x01\0\x02\0\0\0\0\0\0\0\0\0\0\0\x03\0\x03\0\x01\0\0\0\x02\0\0\04\
+    \x12\0\0\0\0\0\0\0\0\0\0\0\0\0\0\x08\0\0\0\x01\0\x01\0\0\0\0\0\0\0\0\0\0\0\0\0\0\0\0\0\0\0\0\0\x01\0\
+    \0\0\0\0\0\0\x01\0\x01\0\0\0\0\0\0\0\0\0\0\0\0\0\0\0\0\0";
+
+/// The frame of a Return of answer 0, with senderHosted 0.
+const RETURN_OF_BOOTSTRAP: &[u8; 96] = b"\
+    \0\0\0\0\x0b\0\0\0\0\0\0\0\x01\0\x01\0\x03\0\0\0\0\0\0\0\0\0\0\0\x02\0\x01\0\0\0\0\0\0\0\0\0\0\0\0\0\
+    \0\0\0\0\0\0\0\0\0\0\x02\0\x03\0\0\0\0\0\0\0\x01\0\0\0\x17\0\0\0\x04\0\0\0\x01\0\x01\0\x01\0\0\0\0\0\
+    \0\0\0\0\0\0\0\0\0\0";
+
+/// The frame of a Return of answer 1.
+const RETURN_OF_CALL: &[u8; 56] = b"\
+    \0\0\0\0\x06\0\0\0\0\0\0\0\x01\0\x01\0\x03\0\0\0\0\0\0\0\0\0\0\0\x02\0\x01\0\x01\0\0\0\0\0\0\0\0\0\0\
+    \0\0\0\0\0\0\0\0\0\0\0\0\0";
+
+/// The log of vat 2 in pipelined_call.
+const SECOND_VAT: &[u8; 474] = b"\
+    VATLOG01\x02\0\0\0\x01\x01\0\0\0\0\0\0\0\x07\0\0\0\0\0\0\0\x0b\0\0\0\0\x01\0\0\0\0\0\0\0\0\00\0\0\0\
+    \0\0\0\0\x05\0\0\0\0\0\0\0\x01\0\x01\0\x08\0\0\0\0\0\0\0\0\0\0\0\x01\0\x01\0\0\0\0\0\0\0\0\0\0\0\0\0\
+    \0\0\0\0\x0b\0\0\0\0\x02\0\0\0\0\0\0\0\0\0p\0\0\0\0\0\0\0\x0d\0\0\0\0\0\0\0\x01\0\x01\0\x02\0\0\0\0\
+    \0\0\0\0\0\0\0\x03\0\x03\0\x01\0\0\0\x02\0\0\04\x12\0\0\0\0\0\0\0\0\0\0\0\0\0\0\x08\0\0\0\x01\0\x01\
+    \0\0\0\0\0\0\0\0\0\0\0\0\0\0\0\0\0\0\0\0\0\x01\0\0\0\0\0\0\0\x01\0\x01\0\0\0\0\0\0\0\0\0\0\0\0\0\0\0\
+    \0\0\x08\x01\0\0\0\0\0\0\0\x01\0\x01\0\0\0\0\0\0\0\0\0\x07\x02\0\0\0\0\0\0\0\x07\0\0\0\0\0\0\0\x0a\0\
+    \0\0\0\0\0\0\0\0\0\0\0\x01\0\x01\0\0\0\0\0\0\0\x60\0\0\0\0\0\0\0\x0b\0\0\0\0\0\0\0\x01\0\x01\0\x03\0\
+    \0\0\0\0\0\0\0\0\0\0\x02\0\x01\0\0\0\0\0\0\0\0\0\0\0\0\0\0\0\0\0\0\0\0\0\0\0\x02\0\x03\0\0\0\0\0\0\0\
+    \x01\0\0\0\x17\0\0\0\x04\0\0\0\x01\0\x01\0\x01\0\0\0\0\0\0\0\0\0\0\0\0\0\0\0\x08\x02\0\0\0\0\0\0\0\0\
+    \0\x0a\0\0\0\0\0\0\0\0\0\0\0\0\0\08\0\0\0\0\0\0\0\x06\0\0\0\0\0\0\0\x01\0\x01\0\x03\0\0\0\0\0\0\0\0\
+    \0\0\0\x02\0\x01\0\x01\0\0\0\0\0\0\0\0\0\0\0\0\0\0\0\0\0\0\0\0\0\0\0";
+
+/// The log of vat 1 in pipelined_call, whose third record is a FIELD.
+const FIRST_VAT: &[u8; 454] = b"\
+    VATLOG01\x01\0\0\0\x0a\0\0\0\0\x01\0\0\0\0\0\0\0\0\00\0\0\0\0\0\0\0\x05\0\0\0\0\0\0\0\x01\0\x01\0\
+    \x08\0\0\0\0\0\0\0\0\0\0\0\x01\0\x01\0\0\0\0\0\0\0\0\0\0\0\0\0\0\0\0\0\x06\x01\0\0\0\0\0\0\0\x01\0\0\
+    \0\0\0\0\0\0\0\x05\x02\0\0\0\0\0\0\0\x01\0\0\0\0\0\0\04\x12\0\0\0\0\0\0\x02\0\x0a\0\0\0\0\x02\0\0\0\
+    \0\0\0\0\0\0p\0\0\0\0\0\0\0\x0d\0\0\0\0\0\0\0\x01\0\x01\0\x02\0\0\0\0\0\0\0\0\0\0\0\x03\0\x03\0\x01\
+    \0\0\0\x02\0\0\04\x12\0\0\0\0\0\0\0\0\0\0\0\0\0\0\x08\0\0\0\x01\0\x01\0\0\0\0\0\0\0\0\0\0\0\0\0\0\0\
+    \0\0\0\0\0\0\x01\0\0\0\0\0\0\0\x01\0\x01\0\0\0\0\0\0\0\0\0\0\0\0\0\0\0\0\0\x0b\0\0\0\0\0\0\0\0\0\0\0\
+    \0\x01\0\x02\0\0\0\0\0\0\0\x60\0\0\0\0\0\0\0\x0b\0\0\0\0\0\0\0\x01\0\x01\0\x03\0\0\0\0\0\0\0\0\0\0\0\
+    \x02\0\x01\0\0\0\0\0\0\0\0\0\0\0\0\0\0\0\0\0\0\0\0\0\0\0\x02\0\x03\0\0\0\0\0\0\0\x01\0\0\0\x17\0\0\0\
+    \x04\0\0\0\x01\0\x01\0\x01\0\0\0\0\0\0\0\0\0\0\0\0\0\0\0\x0b\0\0\0\0\0\0\0\0\0\0\0\0\0\08\0\0\0\0\0\
+    \0\0\x06\0\0\0\0\0\0\0\x01\0\x01\0\x03\0\0\0\0\0\0\0\0\0\0\0\x02\0\x01\0\x01\0\0\0\0\0\0\0\0\0\0\0\0\
+    \0\0\0\0\0\0\0\0\0\0\0";
+
+/// The log of these bytes, also where one growth of memory was refused.
+fn parsed(alloc: Global, bytes: &'static [u8]) -> Result<VatLog, LogError> {
+    match parse_log(alloc, Bytes::from_static(bytes)) {
+        Err(LogError::OutOfMemory) => parse_log(alloc, Bytes::from_static(bytes)),
+        answer => answer,
+    }
+}
+
+fn fault_of(alloc: Global, bytes: &'static [u8]) -> Option<LogError> {
+    parsed(alloc, bytes).err()
+}
+
+#[test]
+fn faults_come_from_the_left(rt: HostRuntime) {
+    let alloc = rt.alloc();
+    assert_eq!(rt; fault_of(alloc, b"VATLOG0"), Some(LogError::BadMagic));
+    assert_eq!(rt;
+        fault_of(alloc, b"VATLOG01\x01\0"),
+        Some(LogError::Short(8))
+    );
+    assert_eq!(rt;
+        fault_of(alloc, b"VATLOG01\x01\0\0\0\x0c"),
+        Some(LogError::BadKind(12))
+    );
+    assert_eq!(rt;
+        fault_of(
+            alloc,
+            b"VATLOG01\x01\0\0\0\x01\0\0\0\0\0\0\0\0\0\0\0\0\0\0\0\0"
+        ),
+        Some(LogError::ZeroNumber(13))
+    );
+    assert_eq!(rt;
+        fault_of(
+            alloc,
+            b"VATLOG01\x01\0\0\0\x01\x01\0\0\0\0\0\0\0\0\0\0\0\0\0\0"
+        ),
+        Some(LogError::Short(21))
+    );
+    assert_eq!(rt;
+        fault_of(
+            alloc,
+            b"VATLOG01\x01\0\0\0\x0a\0\0\0\0\0\0\0\0\0\0\0\0\0\0\x01\0\0\x04"
+        ),
+        Some(LogError::TooLong)
+    );
+    assert_eq!(rt;
+        fault_of(alloc, &SECOND_VAT[..473]),
+        Some(LogError::Short(418))
+    );
+    assert_eq!(rt; fault_of(alloc, FIRST_VAT), Some(LogError::BadKind(79)));
+}
+
+#[test]
+fn a_log_is_read(rt: HostRuntime) -> Result<(), Fail> {
+    let log = parsed(rt.alloc(), SECOND_VAT)?;
+    assert_eq!(rt; log.vat(), 2);
+    assert_eq!(rt; log.len(), 8);
+    assert_eq!(rt; log.bytes().as_slice(), SECOND_VAT.as_slice());
+    let deliver = log.get(4).ok_or("there is a record 4")?;
+    assert!(rt; matches!(deliver.body(), Body::Deliver { call: 2, object: 7 }));
+    let last = log.get(7).ok_or("there is a record 7")?;
+    let Body::Send { frame, .. } = last.body() else {
+        return Err("record 7 is a SEND".into());
+    };
+    assert_eq!(rt; frame.as_slice(), RETURN_OF_CALL.as_slice());
+    assert!(rt; log.get(8).is_none());
+    Ok(())
+}
+
+fn stored(body: Body) -> Result<Record, LogError> {
+    Record::new(body).map_err(|(error, _)| error)
+}
+
+fn references(alloc: Global, numbers: &[u64]) -> Result<References, AllocError> {
+    Ok(References::new(Vec::from_slice(alloc, numbers)?))
+}
+
+/// The records of vat 2 in pipelined_call.
+fn records_of_second_vat(alloc: Global) -> Result<Vec<Record>, LogError> {
+    let at_root = (1, Path::new(Vec::new(alloc)));
+    let bodies = [
+        Body::Host {
+            reference: 1,
+            object: 7,
+        },
+        Body::Receive {
+            connection: 0,
+            call: 1,
+            references: references(alloc, &[])?,
+            frame: Bytes::from_static(BOOTSTRAP),
+        },
+        Body::Receive {
+            connection: 0,
+            call: 2,
+            references: references(alloc, &[])?,
+            frame: Bytes::from_static(CALL),
+        },
+        Body::Answer {
+            call: 1,
+            results: Results::new(vec![in alloc; at_root]?),
+        },
+        Body::Deliver { call: 2, object: 7 },
+        Body::Send {
+            connection: 0,
+            call: 0,
+            references: references(alloc, &[1])?,
+            frame: Bytes::from_static(RETURN_OF_BOOTSTRAP),
+        },
+        Body::Answer {
+            call: 2,
+            results: Results::new(Vec::new(alloc)),
+        },
+        Body::Send {
+            connection: 0,
+            call: 0,
+            references: references(alloc, &[])?,
+            frame: Bytes::from_static(RETURN_OF_CALL),
+        },
+    ];
+    let mut records = Vec::new(alloc);
+    for body in bodies {
+        records.push(stored(body)?)?;
+    }
+    Ok(records)
+}
+
+fn written_again(alloc: Global) -> Result<VatLog, LogError> {
+    write_log(alloc, 2, &records_of_second_vat(alloc)?)
+}
+
+#[test]
+fn a_log_is_written(rt: HostRuntime) -> Result<(), Fail> {
+    let log = match written_again(rt.alloc()) {
+        Err(LogError::OutOfMemory) => written_again(rt.alloc()),
+        answer => answer,
+    }?;
+    assert_eq!(rt; log.bytes().as_slice(), SECOND_VAT.as_slice());
+    Ok(())
+}
+
+#[test]
+fn bodies_are_refused(rt: HostRuntime) {
+    let host = Body::Host {
+        reference: 0,
+        object: 7,
+    };
+    assert!(rt;
+        matches!(
+            Record::new(host),
+            Err((
+                LogError::ZeroNumber(0),
+                Body::Host {
+                    reference: 0,
+                    object: 7
+                }
+            ))
+        )
+    );
+}

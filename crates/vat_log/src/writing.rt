@@ -1,0 +1,180 @@
+//! Writing records.
+
+ghost use Rattle.std.specs.Prelude.{◌≡◌, ◌<◌, ◌≤◌, ◌^◌, ◌++◌, List, ℕ, length, All, OnOk, IfOk};
+ghost use Rattle.std.specs.Int.{w16, w32, w64};
+ghost use Rattle.vat_log.specs.Fits.{count_limit, frame_limit, Fits, IsWide};
+ghost use Rattle.vat_log.specs.Spelling.{number_bytes, references_bytes, path_bytes, answered_bytes, listed, frame_bytes, passage_bytes, record_bytes, log_bytes};
+
+use crate::body::Body;
+use crate::record::Record;
+use cap_frame::Path;
+use std::alloc::{AllocError, Global};
+
+#[tactic(auto, unfolding(crate::specs::Spelling::number_bytes))]
+fn put_u16(out: &mut Vec<u8>, n: u16) -> Result<(), AllocError>
+    ensures { OnOk result (out.new.items ≡ out.old.items ++ number_bytes w16 n) }
+{
+    out.extend_from_slice(&n.to_le_bytes())
+}
+
+#[tactic(auto, unfolding(crate::specs::Spelling::number_bytes))]
+fn put_u32(out: &mut Vec<u8>, n: u32) -> Result<(), AllocError>
+    ensures { OnOk result (out.new.items ≡ out.old.items ++ number_bytes w32 n) }
+{
+    out.extend_from_slice(&n.to_le_bytes())
+}
+
+#[tactic(auto, unfolding(crate::specs::Spelling::number_bytes))]
+fn put_u64(out: &mut Vec<u8>, n: u64) -> Result<(), AllocError>
+    ensures { OnOk result (out.new.items ≡ out.old.items ++ number_bytes w64 n) }
+{
+    out.extend_from_slice(&n.to_le_bytes())
+}
+
+fn put_references(out: &mut Vec<u8>, references: &[u64]) -> Result<(), AllocError>
+    requires { length references.now ≤ count_limit }
+    ensures ok { OnOk result (out.new.items ≡ out.old.items ++ references_bytes references.now) }
+    ensures wide { All (λ reference. reference < 2 ^ 64) references.now }
+{
+    put_u16(out, references.len() as u16)?;
+    for reference in references {
+        put_u64(out, *reference)?;
+    }
+    Ok(())
+}
+
+fn put_path(out: &mut Vec<u8>, fields: &[u16]) -> Result<(), AllocError>
+    requires { length fields.now ≤ count_limit }
+    ensures ok { OnOk result (out.new.items ≡ out.old.items ++ path_bytes fields.now) }
+    ensures wide { All (λ field. field < 2 ^ 16) fields.now }
+{
+    put_u16(out, fields.len() as u16)?;
+    for field in fields {
+        put_u16(out, *field)?;
+    }
+    Ok(())
+}
+
+fn put_answered(out: &mut Vec<u8>, answered: &(u64, Path)) -> Result<(), AllocError>
+    requires { length answered.now.1 ≤ count_limit }
+    ensures ok { OnOk result (out.new.items ≡ out.old.items ++ answered_bytes answered.now) }
+    ensures wide { OnOk result ((answered.now.0 < 2 ^ 64) × All (λ field. field < 2 ^ 16) answered.now.1) }
+{
+    let (reference, path) = answered;
+    put_u64(out, *reference)?;
+    put_path(out, path.as_slice())
+}
+
+fn put_results(out: &mut Vec<u8>, results: &[(u64, Path)]) -> Result<(), AllocError>
+    requires counted { length results.now ≤ count_limit }
+    requires paths { All (λ answered. length answered.1 ≤ count_limit) results.now }
+    ensures ok { OnOk result (out.new.items ≡ out.old.items ++ listed answered_bytes results.now) }
+    ensures wide { OnOk result (All (λ answered. (answered.0 < 2 ^ 64) × All (λ field. field < 2 ^ 16) answered.1) results.now) }
+{
+    put_u16(out, results.len() as u16)?;
+    for answered in results {
+        put_answered(out, answered)?;
+    }
+    Ok(())
+}
+
+/// The fields of a SEND or a RECV.
+fn put_passage(
+    out: &mut Vec<u8>,
+    connection: u32,
+    call: u64,
+    references: &[u64],
+    frame: &[u8],
+) -> Result<(), AllocError>
+    requires counted { length references.now ≤ count_limit }
+    requires frame { length frame.now ≤ frame_limit }
+    ensures ok { OnOk result (out.new.items ≡ out.old.items ++ passage_bytes connection call references.now frame.now) }
+    ensures wide { OnOk result ((connection < 2 ^ 32) × (call < 2 ^ 64) × All (λ reference. reference < 2 ^ 64) references.now) }
+{
+    put_u32(out, connection)?;
+    put_u64(out, call)?;
+    put_references(out, references)?;
+    put_u32(out, frame.len() as u32)?;
+    out.extend_from_slice(frame)
+}
+
+fn put_body(out: &mut Vec<u8>, body: &Body) -> Result<(), AllocError>
+    requires { Fits body.now }
+    ensures ok { OnOk result (out.new.items ≡ out.old.items ++ record_bytes body.now) }
+    ensures wide { OnOk result (IsWide body.now) }
+{
+    match body {
+        Body::Host { reference, object } => {
+            out.push(0x01)?;
+            put_u64(out, *reference)?;
+            put_u64(out, *object)
+        }
+        Body::Make {
+            call,
+            reference,
+            interface,
+            method,
+        } => {
+            out.push(0x05)?;
+            put_u64(out, *call)?;
+            put_u64(out, *reference)?;
+            put_u64(out, *interface)?;
+            put_u16(out, *method)
+        }
+        Body::Deliver { call, object } => {
+            out.push(0x07)?;
+            put_u64(out, *call)?;
+            put_u64(out, *object)
+        }
+        Body::Answer { call, results } => {
+            out.push(0x08)?;
+            put_u64(out, *call)?;
+            put_results(out, results.as_slice())
+        }
+        Body::Send {
+            connection,
+            call,
+            references,
+            frame,
+        } => {
+            out.push(0x0a)?;
+            put_passage(
+                out,
+                *connection,
+                *call,
+                references.as_slice(),
+                frame.as_slice(),
+            )
+        }
+        Body::Receive {
+            connection,
+            call,
+            references,
+            frame,
+        } => {
+            out.push(0x0b)?;
+            put_passage(
+                out,
+                *connection,
+                *call,
+                references.as_slice(),
+                frame.as_slice(),
+            )
+        }
+    }
+}
+
+/// The one spelling of the log with this vat and these records.
+pub(crate) fn written(alloc: Global, vat: u32, records: &[Record]) -> Result<Vec<u8>, AllocError>
+    ensures spelled { IfOk result (λ v. v.items ≡ log_bytes (record { vat = vat; records = records.now })) }
+    ensures fit { IfOk result (λ v. All Fits records.now) }
+    ensures wide { IfOk result (λ v. All IsWide records.now) }
+{
+    let mut out = Vec::new(alloc);
+    out.extend_from_slice(b"VATLOG01")?;
+    put_u32(&mut out, vat)?;
+    for event in records {
+        put_body(&mut out, event.body())?;
+    }
+    Ok(out)
+}

@@ -1,9 +1,10 @@
 //! What a record says.
 
-ghost use Rattle.std.specs.Prelude.{◌≡◌};
+ghost use Rattle.std.specs.Prelude.{◌≡◌, IfOk};
 
 use bytes::Bytes;
 use cap_frame::Path;
+use std::alloc::AllocError;
 use std::marker::Model;
 
 /// References noted beside a frame, in the order of the descriptors that aren't none.
@@ -33,6 +34,14 @@ impl References {
     {
         &self.items
     }
+
+    /// A second list of the same references.
+    pub fn copy(&self) -> Result<References, AllocError>
+        ensures { IfOk result (λ copied. copied ≡ self.now) }
+    {
+        let items = self.items.clone()?;
+        Ok(References { items })
+    }
 }
 
 /// The results of a call: references, each with the path at which it stands.
@@ -61,6 +70,17 @@ impl Results {
         ensures { result.now ≡ self.now }
     {
         &self.items
+    }
+
+    /// A second list of the same results.
+    pub fn copy(&self) -> Result<Results, AllocError>
+        ensures { IfOk result (λ copied. copied ≡ self.now) }
+    {
+        let mut items = Vec::new(*self.items.allocator());
+        for (reference, path) in &self.items {
+            items.push((*reference, path.copy()?))?;
+        }
+        Ok(Results { items })
     }
 }
 

@@ -25,26 +25,35 @@ IsNumbered (Host reference object) = 0 < reference
 IsNumbered (Make call reference interface method) = (0 < call) × (0 < reference)
 IsNumbered (Deliver call object) = 0 < call
 IsNumbered (Answer call results) = (0 < call) × All (λ answered. 0 < answered.0) results
-IsNumbered (Send connection call references frame) = All (λ reference. 0 < reference) references
-IsNumbered (Receive connection call references frame) = All (λ reference. 0 < reference) references
+IsNumbered (Send connection call references frame) =
+    All (λ reference. 0 < reference) references
+IsNumbered (Receive connection call references frame) =
+    All (λ reference. 0 < reference) references
 
 -- No list is past the limit of its count, and no frame past that of its bytes.
 abbrev pub IsCounted : Body → Type 0
 IsCounted (Host reference object) = Unit {0}
 IsCounted (Make call reference interface method) = Unit {0}
 IsCounted (Deliver call object) = Unit {0}
-IsCounted (Answer call results) = (length results ≤ count_limit) × All (λ answered. length answered.1 ≤ count_limit) results
-IsCounted (Send connection call references frame) = (length references ≤ count_limit) × (length frame ≤ frame_limit)
-IsCounted (Receive connection call references frame) = (length references ≤ count_limit) × (length frame ≤ frame_limit)
+IsCounted (Answer call results) =
+    (length results ≤ count_limit) × All (λ answered. length answered.1 ≤ count_limit) results
+IsCounted (Send connection call references frame) =
+    (length references ≤ count_limit) × (length frame ≤ frame_limit)
+IsCounted (Receive connection call references frame) =
+    (length references ≤ count_limit) × (length frame ≤ frame_limit)
 
 -- Each number is within the width of its field, as the types of the fields keep it.
 abbrev pub IsWide : Body → Type 0
 IsWide (Host reference object) = (reference < 2 ^ 64) × (object < 2 ^ 64)
-IsWide (Make call reference interface method) = (call < 2 ^ 64) × (reference < 2 ^ 64) × (interface < 2 ^ 64) × (method < 2 ^ 16)
+IsWide (Make call reference interface method) =
+    (call < 2 ^ 64) × (reference < 2 ^ 64) × (interface < 2 ^ 64) × (method < 2 ^ 16)
 IsWide (Deliver call object) = (call < 2 ^ 64) × (object < 2 ^ 64)
-IsWide (Answer call results) = (call < 2 ^ 64) × All (λ answered. (answered.0 < 2 ^ 64) × All (λ field. field < 2 ^ 16) answered.1) results
-IsWide (Send connection call references frame) = (connection < 2 ^ 32) × (call < 2 ^ 64) × All (λ reference. reference < 2 ^ 64) references
-IsWide (Receive connection call references frame) = (connection < 2 ^ 32) × (call < 2 ^ 64) × All (λ reference. reference < 2 ^ 64) references
+IsWide (Answer call results) =
+    (call < 2 ^ 64) × All (λ answered. (answered.0 < 2 ^ 64) × All (λ field. field < 2 ^ 16) answered.1) results
+IsWide (Send connection call references frame) =
+    (connection < 2 ^ 32) × (call < 2 ^ 64) × All (λ reference. reference < 2 ^ 64) references
+IsWide (Receive connection call references frame) =
+    (connection < 2 ^ 32) × (call < 2 ^ 64) × All (λ reference. reference < 2 ^ 64) references
 
 -- what a record can say
 pub record Fits (body : Body) : Type 0 where

@@ -30,7 +30,9 @@ Gives view (Err e) read = Fails e read
 
 -- a number of this width
 unfoldable pub number_at : Width → List ℕ → ℕ → Result (ℕ × ℕ) LogError
-number_at width bytes at = if nat_lt (length bytes) (at + byte_len width) then Err (Short at) else Ok (from_le_bytes width (slice_range bytes at (at + byte_len width)), at + byte_len width)
+number_at width bytes at =
+    if nat_lt (length bytes) (at + byte_len width) then Err (Short at)
+    else Ok (from_le_bytes width (slice_range bytes at (at + byte_len width)), at + byte_len width)
 
 -- a reference or a call that isn't 0
 unfoldable pub nonzero_at : List ℕ → ℕ → Result (ℕ × ℕ) LogError
@@ -146,12 +148,27 @@ kind_at bytes at = known (kind_with (slice_index bytes at)) at
 
 -- The records from this place to the end, of which there may be so many.
 unfoldable pub records_at : List ℕ → ℕ → ℕ → Result (List Body) LogError
-records_at bytes zero at = if nat_lt at (length bytes) then (kind_at bytes at >>= λ kind. Err TooLong) else Ok []
-records_at bytes (suc left) at = if nat_lt at (length bytes) then (kind_at bytes at >>= λ kind. fields_at kind bytes (at + 1) >>= λ first. records_at bytes left first.1 >>= λ others. Ok (first.0 ∷ others)) else Ok []
+records_at bytes zero at =
+    if nat_lt at (length bytes) then (do
+      kind ← kind_at bytes at
+      Err TooLong)
+    else Ok []
+records_at bytes (suc left) at =
+    if nat_lt at (length bytes) then (do
+      kind ← kind_at bytes at
+      first ← fields_at kind bytes (at + 1)
+      others ← records_at bytes left first.1
+      Ok (first.0 ∷ others))
+    else Ok []
 
 -- The log that these bytes spell, of so many records at most, or the first fault.
 unfoldable pub log_within : ℕ → List ℕ → Result Log LogError
-log_within limit bytes = if starts_with nat_eq bytes magic then (number_at w32 bytes 8 >>= λ vat. records_at bytes limit vat.1 >>= λ records. Ok (record { vat = vat.0; records = records })) else Err BadMagic
+log_within limit bytes =
+    if starts_with nat_eq bytes magic then (do
+      vat ← number_at w32 bytes 8
+      records ← records_at bytes limit vat.1
+      Ok (record { vat = vat.0; records = records }))
+    else Err BadMagic
 
 -- The log that these bytes spell, or the first fault.
 abbrev pub log_of : List ℕ → Result Log LogError

@@ -47,7 +47,8 @@ frame_bytes frame = number_bytes w32 (length frame) ++ frame
 
 -- a frame on a connection, with the call and the references that are noted beside it
 abbrev pub passage_bytes : ℕ → ℕ → List ℕ → List ℕ → List ℕ
-passage_bytes connection call references frame = number_bytes w32 connection ++ (number_bytes w64 call ++ (references_bytes references ++ frame_bytes frame))
+passage_bytes connection call references frame =
+    number_bytes w32 connection ++ (number_bytes w64 call ++ (references_bytes references ++ frame_bytes frame))
 
 -- the kind of the record that says this
 abbrev pub kind_in : Body → Kind
@@ -61,7 +62,8 @@ kind_in (body.Receive connection call references frame) = Receive
 -- its fields, one after the other
 abbrev pub fields_bytes : Body → List ℕ
 fields_bytes (body.Host reference object) = number_bytes w64 reference ++ number_bytes w64 object
-fields_bytes (body.Make call reference interface method) = number_bytes w64 call ++ (number_bytes w64 reference ++ (number_bytes w64 interface ++ number_bytes w16 method))
+fields_bytes (body.Make call reference interface method) =
+    number_bytes w64 call ++ (number_bytes w64 reference ++ (number_bytes w64 interface ++ number_bytes w16 method))
 fields_bytes (body.Deliver call object) = number_bytes w64 call ++ number_bytes w64 object
 fields_bytes (body.Answer call results) = number_bytes w64 call ++ listed answered_bytes results
 fields_bytes (body.Send connection call references frame) = passage_bytes connection call references frame

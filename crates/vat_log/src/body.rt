@@ -29,6 +29,7 @@ impl References {
         References { items }
     }
 
+    /// The references, in their order.
     pub fn as_slice(&self) -> &[u64]
         ensures { result.now ≡ self.now }
     {
@@ -66,10 +67,11 @@ impl Results {
         Results { items }
     }
 
+    /// The results, each a reference with its path, in their order.
     pub fn as_slice(&self) -> &[(u64, Path)]
         ensures { result.now ≡ self.now }
     {
-        &self.items
+        self.items.as_slice()
     }
 
     /// A second list of the same results.

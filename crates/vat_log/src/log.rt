@@ -80,6 +80,7 @@ fn begins_log(bytes: &[u8]) -> bool
     bytes.starts_with(b"VATLOG01")
 }
 
+/// The records from this place to the end, of which there may be so many.
 fn records_of(
     alloc: Global,
     bytes: &Bytes,
@@ -107,7 +108,8 @@ fn records_of(
 /// The vat and the records that these bytes spell.
 #[tactic(auto, unfolding(crate::specs::Reading::log_within))]
 fn parts_of(alloc: Global, bytes: &Bytes, limit: usize) -> Result<(u32, Vec<Record>), LogError>
-    ensures gives { Gives (λ x. record { vat = x.0; records = x.1.items }) result (log_within limit bytes.now) }
+    ensures gives { Gives (λ x. record { vat = x.0; records = x.1.items }) result
+        (log_within limit bytes.now) }
     ensures octets { All (λ octet. octet < 2 ^ 8) bytes.now }
 {
     if !begins_log(bytes.as_slice()) {
@@ -131,7 +133,8 @@ pub fn parse_log(alloc: Global, bytes: Bytes) -> Result<VatLog, LogError>
     // What is read is spelled so.
     ensures found { IfOk result (λ log. LogFits record_limit log × (bytes ≡ log_bytes log)) }
     // What is spelled so is read, unless memory runs out.
-    ensures only { (log : Log) → LogFits record_limit log → bytes ≡ log_bytes log → Gives (λ read. read) result (Ok log) }
+    ensures only { (log : Log) → LogFits record_limit log → bytes ≡ log_bytes log
+        → Gives (λ read. read) result (Ok log) }
 {
     let (vat, records) = parts_of(alloc, &bytes, MAX_RECORDS)?;
     Ok(VatLog {

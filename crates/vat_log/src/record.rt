@@ -135,13 +135,15 @@ fn is_counted(body: &Body) -> bool
 }
 
 fn is_passage_counted(references: &References, frame: &Bytes) -> bool
-    ensures { IsTrue result ↔ ((length references.now ≤ count_limit) × (length frame.now ≤ frame_limit)) }
+    ensures { IsTrue result
+        ↔ ((length references.now ≤ count_limit) × (length frame.now ≤ frame_limit)) }
 {
     references.as_slice().len() <= MAX_COUNT && frame.len() <= MAX_FRAME
 }
 
 fn are_results_counted(results: &Results) -> bool
-    ensures { IsTrue result ↔ ((length results.now ≤ count_limit) × All (λ answered. length answered.1 ≤ count_limit) results.now) }
+    ensures { IsTrue result ↔ ((length results.now ≤ count_limit)
+        × All (λ answered. length answered.1 ≤ count_limit) results.now) }
 {
     let results = results.as_slice();
     results.len() <= MAX_COUNT && results.iter().all(|answered| is_path_counted(&answered.1))

@@ -213,3 +213,23 @@ fn bodies_are_refused(rt: HostRuntime) {
         )
     );
 }
+
+#[test]
+fn a_list_past_its_count_is_refused(rt: HostRuntime) -> Result<(), Fail> {
+    let numbers = match vec![in rt.alloc(); 1u64; 65_536] {
+        Err(_) => vec![in rt.alloc(); 1u64; 65_536],
+        numbers => numbers,
+    }?;
+    let send = Body::Send {
+        connection: 0,
+        call: 0,
+        references: References::new(numbers),
+        frame: Bytes::from_static(BOOTSTRAP),
+    };
+    let Err((error, Body::Send { references, .. })) = Record::new(send) else {
+        return Err("the body is handed back".into());
+    };
+    assert_eq!(rt; error, LogError::TooLong);
+    assert_eq!(rt; references.as_slice().len(), 65_536);
+    Ok(())
+}

@@ -58,7 +58,8 @@ fn put_path(out: &mut Vec<u8>, fields: &[u16]) -> Result<(), AllocError>
 fn put_answered(out: &mut Vec<u8>, answered: &(u64, Path)) -> Result<(), AllocError>
     requires { length answered.now.1 ≤ count_limit }
     ensures ok { OnOk result (out.new.items ≡ out.old.items ++ answered_bytes answered.now) }
-    ensures wide { OnOk result ((answered.now.0 < 2 ^ 64) × All (λ field. field < 2 ^ 16) answered.now.1) }
+    ensures wide { OnOk result ((answered.now.0 < 2 ^ 64)
+        × All (λ field. field < 2 ^ 16) answered.now.1) }
 {
     let (reference, path) = answered;
     put_u64(out, *reference)?;
@@ -69,7 +70,8 @@ fn put_results(out: &mut Vec<u8>, results: &[(u64, Path)]) -> Result<(), AllocEr
     requires counted { length results.now ≤ count_limit }
     requires paths { All (λ answered. length answered.1 ≤ count_limit) results.now }
     ensures ok { OnOk result (out.new.items ≡ out.old.items ++ listed answered_bytes results.now) }
-    ensures wide { OnOk result (All (λ answered. (answered.0 < 2 ^ 64) × All (λ field. field < 2 ^ 16) answered.1) results.now) }
+    ensures wide { OnOk result (All (λ answered.
+        (answered.0 < 2 ^ 64) × All (λ field. field < 2 ^ 16) answered.1) results.now) }
 {
     put_u16(out, results.len() as u16)?;
     for answered in results {
@@ -88,8 +90,10 @@ fn put_passage(
 ) -> Result<(), AllocError>
     requires counted { length references.now ≤ count_limit }
     requires frame { length frame.now ≤ frame_limit }
-    ensures ok { OnOk result (out.new.items ≡ out.old.items ++ passage_bytes connection call references.now frame.now) }
-    ensures wide { OnOk result ((connection < 2 ^ 32) × (call < 2 ^ 64) × All (λ reference. reference < 2 ^ 64) references.now) }
+    ensures ok { OnOk result (out.new.items
+        ≡ out.old.items ++ passage_bytes connection call references.now frame.now) }
+    ensures wide { OnOk result ((connection < 2 ^ 32) × (call < 2 ^ 64)
+        × All (λ reference. reference < 2 ^ 64) references.now) }
 {
     put_u32(out, connection)?;
     put_u64(out, call)?;
@@ -166,7 +170,8 @@ fn put_body(out: &mut Vec<u8>, body: &Body) -> Result<(), AllocError>
 
 /// The one spelling of the log with this vat and these records.
 pub(crate) fn written(alloc: Global, vat: u32, records: &[Record]) -> Result<Vec<u8>, AllocError>
-    ensures spelled { IfOk result (λ v. v.items ≡ log_bytes (record { vat = vat; records = records.now })) }
+    ensures spelled { IfOk result (λ v. v.items
+        ≡ log_bytes (record { vat = vat; records = records.now })) }
     ensures fit { IfOk result (λ v. All Fits records.now) }
     ensures wide { IfOk result (λ v. All IsWide records.now) }
 {

@@ -56,9 +56,9 @@ pub null_adds : (front : List (List ℕ × ℕ)) (path : List ℕ) (depth : ℕ)
 unfolding pointee fields_in run
 null_adds front path depth segment at left e = rw e (ap (λ (all : List (List ℕ × ℕ)). Ok (all, left)) (append-nil front))
 
-pub capability_adds : (front : List (List ℕ × ℕ)) (path : List ℕ) (depth : ℕ) (segment : List ℕ) (at left index : ℕ) → pointer_of (slice_index segment at) ≡ pointers.Capability index → with_front front (run (fields_in path (tree_at depth segment at)) left) ≡ Ok (front ++ (path, index) ∷ [], left)
+pub capability_adds : (front next : List (List ℕ × ℕ)) (path : List ℕ) (depth : ℕ) (segment : List ℕ) (at left index : ℕ) → pointer_of (slice_index segment at) ≡ pointers.Capability index → next ≡ front ++ (path, index) ∷ [] → with_front front (run (fields_in path (tree_at depth segment at)) left) ≡ Ok (next, left)
 unfolding pointee fields_in run
-capability_adds front path depth segment at left index e = rw e refl
+capability_adds front next path depth segment at left index e added = rw (e, added) refl
 
 pub list_fails : (front : List (List ℕ × ℕ)) (path : List ℕ) (depth : ℕ) (segment : List ℕ) (at left offset element_size count : ℕ) → pointer_of (slice_index segment at) ≡ pointers.List offset element_size count → with_front front (run (fields_in path (tree_at depth segment at)) left) ≡ Err (errors.Outside NotYet)
 unfolding run
@@ -103,7 +103,7 @@ module _ (path : List ℕ) (segment : List ℕ) (content : StructAt) where
   field_done front i words total le so_far = is_done field_at front content.pointer_count i words total le so_far
 
 -- a path is as it was once its last number is gone
-pub popped : (front before after : List ℕ) (n len : ℕ) → before ≡ front ++ n ∷ [] → after ≡ take (len - 1) before → len ≡ length before → after ≡ front
-popped front before after n len e shorter all =
-    let k : len - 1 ≡ length front = omega (arith, all, ap length e, length-append front (n ∷ [])) in
-    shorter ∙ rw (k, e) (take-append_seam front (n ∷ []))
+pub popped : (front longer before after : List ℕ) (n len : ℕ) → longer ≡ front ++ n ∷ [] → before ≡ longer → after ≡ take (len - 1) before → len ≡ length before → after ≡ front
+popped front longer before after n len e same shorter all =
+    let k : len - 1 ≡ length front = omega (arith, all, ap length same, ap length e, length-append front (n ∷ [])) in
+    shorter ∙ rw (k, same, e) (take-append_seam front (n ∷ []))

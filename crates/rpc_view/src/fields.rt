@@ -44,13 +44,7 @@ fn add_fields(
             Ok(())
         }
         Pointer::Struct(offset, data_words, pointer_count) => {
-            let content = pointed(
-                segment,
-                at,
-                (offset, data_words, pointer_count),
-                depth,
-                words,
-            )?;
+            let content = pointed(segment, at, offset, data_words, pointer_count, depth, words)?;
             let first = content.start + u64::from(content.data_words);
             for number in 0..content.pointer_count {
                 path.push(number)?;

@@ -24,7 +24,8 @@ fn visited(
     depth: u8,
     words: &mut u64,
 ) -> Result<StructAt, ViewError>
-    requires { start + data_words + pointer_count ≤ length segment.now }
+    requires reached { start + data_words + pointer_count ≤ length segment.now }
+    requires near { start + data_words + pointer_count < 2 ^ 32 }
     ensures value { Answers (λ place. (sections_at segment.now place, words.new)) result (run (structure_in (structure_at depth segment.now start data_words pointer_count)) words.old) }
     ensures falls { IfOk result (λ place. place.below < depth) }
 {
@@ -36,7 +37,6 @@ fn visited(
         return Err(ViewError::Read(ReadError::TooMuch));
     }
     *words -= cost;
-    let _reaches = segment.reaches(0);
     Ok(StructAt {
         start,
         data_words,
@@ -50,15 +50,16 @@ fn visited(
 pub fn pointed(
     segment: &Segment,
     at: u64,
-    pointer: (u32, u16, u16),
+    offset: u32,
+    data_words: u16,
+    pointer_count: u16,
     depth: u8,
     words: &mut u64,
 ) -> Result<StructAt, ViewError>
     requires { at < 2 ^ 40 }
-    ensures value { Answers (λ place. (sections_at segment.now place, words.new)) result (run (structure_in (pointee (structure_at depth segment.now) segment.now at (pointers.Struct pointer.0 pointer.1 pointer.2))) words.old) }
+    ensures value { Answers (λ place. (sections_at segment.now place, words.new)) result (run (structure_in (pointee (structure_at depth segment.now) segment.now at (pointers.Struct offset data_words pointer_count))) words.old) }
     ensures falls { IfOk result (λ place. place.below < depth) }
 {
-    let (offset, data_words, pointer_count) = pointer;
     let size = u32::from(data_words) + u32::from(pointer_count);
     match segment.extent_of(at, offset, size) {
         None => Err(ViewError::Read(ReadError::OutOfSegment)),
@@ -84,13 +85,9 @@ pub fn struct_of(
             pointer_count: 0,
             below: 0,
         }),
-        Pointer::Struct(offset, data_words, pointer_count) => pointed(
-            segment,
-            at,
-            (offset, data_words, pointer_count),
-            depth,
-            words,
-        ),
+        Pointer::Struct(offset, data_words, pointer_count) => {
+            pointed(segment, at, offset, data_words, pointer_count, depth, words)
+        }
         Pointer::Far => Err(ViewError::Outside(Outside::NotYet)),
         Pointer::Reserved => Err(ViewError::Read(ReadError::Reserved)),
         Pointer::List(..) | Pointer::Capability(_) => Err(ViewError::Read(ReadError::WrongKind)),

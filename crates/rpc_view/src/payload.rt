@@ -26,10 +26,9 @@ pub fn params(
 {
     let payload = struct_in(segment, call, CALL_PARAMS, words)?;
     let descriptors = params_table(alloc, segment, &payload)?;
-    let fields = fields(alloc, segment, &payload, words)?;
     Ok(Payload {
         descriptors,
-        fields,
+        fields: fields(alloc, segment, &payload, words)?,
     })
 }
 
@@ -44,10 +43,8 @@ pub fn results(
     ensures { Answers (λ payload. (payload, words.new)) result (run (payload_in results_table_in (child_at segment.now answer.now 0)) words.old) }
 {
     let payload = struct_in(segment, answer, RETURN_RESULTS, words)?;
-    let descriptors = results_table(alloc, segment, &payload, words)?;
-    let fields = fields(alloc, segment, &payload, words)?;
     Ok(Payload {
-        descriptors,
-        fields,
+        descriptors: results_table(alloc, segment, &payload, words)?,
+        fields: fields(alloc, segment, &payload, words)?,
     })
 }

@@ -26,9 +26,9 @@ impl<'a> Model for Segment<'a> {
 impl<'a> Segment<'a> {
     /// The first segment of a frame.
     pub fn first_of(frame: &'a Frame) -> Segment<'a>
+        requires { length (slice_index_or frame.now 0 []) < 2 ^ 32 }
         ensures { result ≡ slice_index_or frame.now 0 [] }
     {
-        let _count = frame.segments();
         Segment { frame }
     }
 
@@ -56,6 +56,7 @@ impl<'a> Segment<'a> {
         requires { at < 2 ^ 40 }
         ensures value { result ≡ extent self.now at offset size }
         ensures within { IfSome result (λ start. start + size ≤ length self.now) }
+        ensures near { IfSome result (λ start. start + size < 2 ^ 32) }
     {
         let start = start_of(at, offset)?;
         if self.reaches(start + u64::from(size)) {

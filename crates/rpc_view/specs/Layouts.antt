@@ -64,7 +64,7 @@ call_params call = call.child 1
 
 -- ---- Return
 
--- answerId: "Equal to the QuestionId of the corresponding Call message"
+-- answerId: "Equal to the QuestionId of the corresponding `Call` message"
 abbrev pub return_answer : Sections → ℕ
 return_answer answer = u32_at 0 answer.words
 
@@ -84,7 +84,7 @@ return_tag answer = u16_at 6 answer.words
 abbrev pub return_results : Sections → Tree
 return_results answer = answer.child 0
 
--- ---- MessageTarget: "The target of a Call or other messages that target a capability"
+-- ---- MessageTarget: "The target of a `Call` or other messages that target a capability"
 
 -- "union": 0 importedCap, 1 promisedAnswer
 abbrev pub target_tag : Sections → ℕ
@@ -114,7 +114,7 @@ promised_transform promised = promised.child 0
 abbrev pub payload_content : Sections → Tree
 payload_content payload = payload.child 0
 
--- capTable: "Descriptors corresponding to the cap pointers in the content"
+-- capTable: "Descriptors corresponding to the cap pointers in `content`"
 abbrev pub payload_cap_table : Sections → Tree
 payload_cap_table payload = payload.child 1
 

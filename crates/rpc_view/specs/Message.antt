@@ -24,17 +24,20 @@ use Rattle.rpc_view.specs.Layouts.{message_tag, message_body, bootstrap_question
 
 -- ---- what a call goes to
 
+-- PromisedAnswer's transform; one with operations isn't read yet
 unfoldable pub transform_in : Tree → Reading (List ℕ)
 transform_in tree = do
   operations ← elements_in tree
   if operations.count == 0 then done [] else fault (errors.Outside NotYet)
 
+-- PromisedAnswer
 unfoldable pub promised_in : Tree → Reading Target
 promised_in tree = do
   promised ← structure_in tree
   path ← transform_in (promised_transform promised)
   done (targets.Promised (promised_question promised) path)
 
+-- MessageTarget, a union by its tag
 unfoldable pub target_in : Tree → Reading Target
 target_in tree = do
   target ← structure_in tree
@@ -44,6 +47,7 @@ target_in tree = do
 
 -- ---- payloads
 
+-- CapDescriptor, a union by its tag; the tags are listed up to 5
 unfoldable pub descriptor_in : Tree → Reading Descriptor
 descriptor_in tree = do
   descriptor ← structure_in tree
@@ -52,22 +56,23 @@ descriptor_in tree = do
       else (if nat_lt (descriptor_tag descriptor) 6 then fault (errors.Outside NotYet)
       else fault errors.BadTag))
 
--- the elements are read one by one, each with what it holds
+-- the entries of a capTable one by one, each with what it holds
 unfoldable pub descriptors_in : Elements → Reading (List Descriptor)
 descriptors_in table = each (λ i. descriptor_in (table.element i) >>= λ descriptor. done (descriptor ∷ [])) 0 table.count
 
+-- the capTable of results
 unfoldable pub results_table_in : Tree → Reading (List Descriptor)
 results_table_in tree = do
   table ← elements_in tree
   descriptors_in table
 
--- a call with a descriptor isn't read yet
+-- the capTable of parameters; a call with a descriptor isn't read yet, whatever the descriptor is
 unfoldable pub params_table_in : Tree → Reading (List Descriptor)
 params_table_in tree = do
   table ← elements_in tree
   if table.count == 0 then done [] else fault (errors.Outside NotYet)
 
--- the table is read before the content
+-- Payload, whose capTable is read before its content
 unfoldable pub payload_in : (Tree → Reading (List Descriptor)) → Tree → Reading Payload
 payload_in table_in tree = do
   payload ← structure_in tree
@@ -77,6 +82,7 @@ payload_in table_in tree = do
 
 -- ---- messages
 
+-- Bootstrap
 unfoldable pub bootstrap_in : Tree → Reading RpcMessage
 bootstrap_in tree = do
   bootstrap ← structure_in tree
@@ -89,6 +95,7 @@ called_in call = do
   params ← payload_in params_table_in (call_params call)
   done (messages.Call (call_question call) target (call_interface call) (call_method call) params)
 
+-- Call, whose data is judged before what its pointers hold is read: sendResultsTo, then what isn't read yet
 unfoldable pub call_in : Tree → Reading RpcMessage
 call_in tree = do
   call ← structure_in tree
@@ -102,6 +109,7 @@ returned_in answer = do
   results ← payload_in results_table_in (return_results answer)
   done (messages.Return (return_answer answer) (return_release_param_caps answer) (Results results))
 
+-- Return, whose data is judged before what its pointers hold is read: its tag, then what isn't read yet
 unfoldable pub return_in : Tree → Reading RpcMessage
 return_in tree = do
   answer ← structure_in tree
@@ -109,7 +117,7 @@ return_in tree = do
       else (if nat_lt 0 (return_tag answer) || return_later answer then fault (errors.Outside NotYet)
       else returned_in answer)
 
--- the body behind each tag; the tags of this profile end at 13
+-- the body behind Message's tag: 2 call, 3 return, 8 bootstrap; by this project's choice the list of tags ends at 13
 unfoldable pub body_in : ℕ → Tree → Reading RpcMessage
 body_in tag body =
     if tag == 2 then call_in body
@@ -118,6 +126,7 @@ body_in tag body =
     else (if nat_lt tag 14 then fault (errors.Outside NotYet)
     else fault errors.BadTag)))
 
+-- Message, a union by its tag
 unfoldable pub message_in : Tree → Reading RpcMessage
 message_in tree = do
   message ← structure_in tree
@@ -128,13 +137,14 @@ abbrev pub value_in : {A : Type 0} → Result (A × ℕ) ViewError → Result A 
 value_in (Ok ran) = Ok ran.0
 value_in (Err e) = Err e
 
--- "The first word of the first segment is always a pointer pointing to the message's root struct". A frame of two or more
--- segments isn't read yet.
+-- "The first word of the first segment of the message is always a pointer pointing to the message's root struct." A frame
+-- of two or more segments isn't read yet.
 unfoldable pub message_of : List (List ℕ) → Limits → Result RpcMessage ViewError
 message_of segments limits =
     if nat_lt 1 (length segments) then Err (errors.Outside NotYet)
     else value_in (run (message_in (tree_at limits.depth (slice_index_or segments 0 []) 0)) limits.words)
 
+-- the message of a frame, or why there is no frame
 abbrev pub message_in_frame : Result (List (List ℕ)) FrameError → Limits → Result RpcMessage ViewError
 message_in_frame (Ok segments) limits = message_of segments limits
 message_in_frame (Err e) limits = Err (errors.Frame e)

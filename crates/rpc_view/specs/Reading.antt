@@ -35,8 +35,9 @@ price (done value) = 0
 price (fault e) = 0
 price (visit cost rest) = cost + price rest
 
--- ---- what a function of the code answers is a value or the fault of the definition, unless memory ran out
+-- ---- what a function of the code answers
 
+-- want of memory may come in the place of any other answer; each other fault is the definition's
 abbrev pub Fails : {Y : Type 0} → ViewError → Result Y ViewError → Type 0
 Fails errors.OutOfMemory defined = Unit {0}
 Fails (errors.Read e) defined = defined ≡ Err (errors.Read e)
@@ -44,6 +45,7 @@ Fails (errors.Outside e) defined = defined ≡ Err (errors.Outside e)
 Fails errors.BadTag defined = defined ≡ Err errors.BadTag
 Fails (errors.Frame e) defined = defined ≡ Err (errors.Frame e)
 
+-- what was answered, as it is seen, is what is defined
 abbrev pub Answers : {X Y : Type 0} → (X → Y) → Result X ViewError → Result Y ViewError → Type 0
 Answers seen (Ok x) defined = defined ≡ Ok (seen x)
 Answers seen (Err e) defined = Fails e defined
@@ -61,14 +63,16 @@ pub record Sections : Type 0 where
   pub count : ℕ
   pub child : ℕ → Tree
 
--- "all-zero pointer ... null"; a null pointer, and what is missing in a struct shorter than expected, read as the default
+-- what a null pointer reads as: all of its fields are missing, and read as their defaults
 abbrev pub default : Sections
 default = record { words = []; count = 0; child = λ n. nothing }
 
--- a visit of a struct costs its words, and at least 1
+-- A visit of a struct costs its words, and at least 1; each visit counts. The encoding specification asks for such a limit
+-- under "Amplification attack", and for one on the depth under "Stack overflow DoS attack".
 abbrev pub cost_of : ℕ → ℕ
 cost_of size = max size 1
 
+-- A tree where a struct is asked for: a far pointer first, then reserved bits, the kind, the extent, the depth, the cost.
 abbrev pub structure_in : Tree → Reading Sections
 structure_in nothing = done default
 structure_in (structure words count child) = visit (cost_of (length words + count)) (done (record { words = words; count = count; child = child }))
@@ -84,6 +88,7 @@ pub record Elements : Type 0 where
   pub count : ℕ
   pub element : ℕ → Tree
 
+-- A tree where a list of structs is asked for, in the same order. A list itself has no depth and no cost.
 abbrev pub elements_in : Tree → Reading Elements
 elements_in nothing = done (record { count = 0; element = λ i. nothing })
 elements_in (structure words count child) = fault (errors.Read WrongKind)

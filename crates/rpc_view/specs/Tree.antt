@@ -1,4 +1,4 @@
--- The whole value at a pointer: the encoding specification's tree of objects, in one segment.
+-- The whole value at a pointer, in one segment (Cap'n Proto encoding specification, "Structs", "Lists", "Capabilities").
 use Rattle.std.specs.Prelude.{ℕ, zero, suc, ◌+◌, ◌*◌, ◌%◌, ◌==◌, List, length, take, drop, Option, Some, None, nat_lt, nat_le, ◌&&◌, if◌then◌else◌, slice_index}
 use Rattle.rpc_view.specs.declared.pointer.Pointer.{Pointer}
 use Rattle.rpc_view.specs.declared.pointer.Pointer.TheVariants as pointers
@@ -52,8 +52,9 @@ pointee structure_of words at pointers.Far = far
 pointee structure_of words at (pointers.Capability index) = capability index
 pointee structure_of words at pointers.Reserved = reserved
 
--- The struct at a place with so many data words and pointers, where so many more structs may stand within one another:
--- "Structs: content" is the data section first, then the pointer section.
+-- The struct at a place with so many data words and pointers, where so many more structs may stand within one another.
+-- "The content is split into two sections: data and pointers, with the pointer section appearing immediately after the data
+-- section."
 unfoldable pub structure_at : ℕ → List ℕ → ℕ → ℕ → ℕ → Tree
 structure_at zero words start data_words pointer_count = bad_structure TooDeep
 structure_at (suc depth) words start data_words pointer_count =

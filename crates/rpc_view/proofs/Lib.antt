@@ -4,3 +4,4 @@ pub mod Loops
 pub mod Tables
 pub mod Prices
 pub mod Words
+pub mod Spelled

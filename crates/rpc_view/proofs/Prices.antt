@@ -80,3 +80,9 @@ has_price segments limits (Ok message) le e =
       },
     )
 has_price segments limits (Err e) le h = tt
+
+-- more words never change a message
+pub with_more : (segments : List (List ℕ)) (depth least words : ℕ) (message : RpcMessage) → length segments ≤ 1 → message_of segments (record { words = least; depth = depth }) ≡ Ok message → least ≤ words → message_of segments (record { words = words; depth = depth }) ≡ Ok message
+with_more segments depth least words message le e more =
+    let p = is_priced (message_in (tree_at depth (slice_index_or segments 0 []) 0)) message least (sym (one_segment segments (record { words = least; depth = depth }) le) ∙ e) in
+    one_segment segments (record { words = words; depth = depth }) le ∙ p.enough words (omega (arith, p.affordable))

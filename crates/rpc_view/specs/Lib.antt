@@ -5,3 +5,4 @@ pub mod Layouts
 pub mod Places
 pub mod Fields
 pub mod Message
+pub mod Spelling

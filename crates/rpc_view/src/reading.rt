@@ -1,8 +1,10 @@
 //! Reading messages.
 
-ghost use Rattle.std.specs.Prelude.{◌≤◌, ℕ, IfOk};
+ghost use Rattle.std.specs.Prelude.{◌≡◌, ◌≤◌, List, [], ◌∷◌, ℕ, IfOk, Ok};
 ghost use Rattle.rpc_view.specs.Reading.{Answers, run};
 ghost use Rattle.rpc_view.specs.Message.{bootstrap_in, called_in, call_in, returned_in, return_in, body_in, message_in, message_of, message_of_bytes, HasPrice};
+ghost use Rattle.rpc_view.specs.Spelling.{Spells};
+ghost use Rattle.rpc_view.specs.declared.message.RpcMessage.{RpcMessage};
 ghost use Rattle.rpc_view.specs.Places.{child_at, sections_at};
 ghost use Rattle.rpc_view.specs.Tree.{tree_at};
 
@@ -149,6 +151,8 @@ fn message(
 pub fn read_message(alloc: Global, frame: &Frame, limits: Limits) -> Result<RpcMessage, ViewError>
     // Which message, or which fault.
     ensures exact { Answers (λ message. message) result (message_of frame.now limits) }
+    // What is spelled so is read.
+    ensures spelled { (words : List ℕ) (message : RpcMessage) (cost depth : ℕ) → Spells words message cost depth → frame.now ≡ words ∷ [] → cost ≤ limits.words → depth ≤ limits.depth → Answers (λ message. message) result (Ok message) }
     // More words never change a message, and with fewer than it costs it isn't read.
     ensures priced { IfOk result (λ message. (cost : ℕ) × (cost ≤ limits.words) × HasPrice frame.now limits.depth message cost) }
 {

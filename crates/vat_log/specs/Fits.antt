@@ -1,4 +1,4 @@
--- Which records a log can have.
+-- Which records a log can have (docs/FORMATS.md, on limits).
 use Rattle.std.specs.Prelude.{◌≡◌, ℕ, ◌^◌, ◌<◌, ◌≤◌, length, Result, Ok, Err, nat_lt, if◌then◌else◌}
 use Rattle.std.specs.List.{All}
 use Rattle.vat_log.specs.declared.body.Body.{Body}

@@ -1,4 +1,4 @@
--- The one spelling of each log.
+-- The one spelling of each log, in the project's own format (docs/FORMATS.md).
 use Rattle.std.specs.Prelude.{ℕ, List, [], ◌∷◌, ◌++◌, length}
 use Rattle.std.specs.List.{flat_map}
 use Rattle.std.specs.Int.{Width, w16, w32, w64, to_le_bytes}

@@ -1,0 +1,13 @@
+pub mod Types
+pub mod Past
+pub mod Questions
+pub mod Lives
+pub mod Views
+pub mod Origins
+pub mod Walks
+pub mod Calls
+pub mod Rules
+pub mod Refers
+pub mod Told
+pub mod First
+pub mod Audit

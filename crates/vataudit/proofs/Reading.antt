@@ -1,0 +1,351 @@
+-- What clap makes of the words.
+use Rattle.std.proofs.Common.{◌≡◌, ◌⊎◌, ◌∙◌, ◌==◌, ◌||◌, ◌&&◌, ◌++◌, ℕ, Bool, true, false, List, [], ◌∷◌, Option, Some, None, if◌then◌else◌, length, drop, fold, option_map, codes, refl, sym, ap, ap₂, subst, inl, inr, append_assoc, append-nil}
+use Rattle.std.specs.Prelude.{slice_get, encode_utf8, option_and_then, unwrap_or}
+use Rattle.std.specs.Option.{option_map_or}
+use Rattle.std.specs.Str.{bytes_eq, chars}
+use Rattle.std.proofs.lemmas.Slice.Eq.{bytes_eq-Decides}
+use Rattle.clap.specs.Lexer.{long_of, long_of_rest, short_of, short_of_rest, strip_byte}
+use Rattle.clap.specs.Words.{App, HasMatchesOf, Rule, Row, Text, Kinds, HasKind, built, first_of, first_value, fault_of, found_of, is_simple, is_simple_and_free, kind_of, rows_of, subcommand_of, subcommand_rows_of}
+use Rattle.clap.specs.Walk.{Held, Names, Step, Walk, Waiting, after_step, finished, idle, rows_after, settled, stop_after, settled, stop_after, trailing, value, arg_by_long, arg_by_short, after_flag, bundle_met, bundle_step, nothing_held, plain, long_or_other, short_or_plain, subcommand_or_other, walk, walked, word_met}
+use Rattle.clap.specs.Simple.{Shape, entered, filled, help_rule, names_of}
+use Rattle.clap.specs.Kinds.{or_else}
+use Rattle.clap.specs.Faults.{bundle_step_fault, bundle_fault, built_fault, check_fault, defaults_fault, entered_fault, flag_word_fault, flags_fault, level_fault, long_fault, other_fault, react_fault, settle_fault, short_fault, step_fault, turn_fault, walk_fault, word_fault}
+use Rattle.clap.specs.declared.error.ErrorKind.{ErrorKind}
+use Rattle.clap.specs.declared.error.ErrorKind.TheVariants.{DisplayHelp, OutOfMemory}
+use Rattle.clap.specs.declared.Error.{Error}
+use Rattle.clap.specs.declared.ArgMatches.{ArgMatches}
+use Rattle.clap.proofs.WalkLemmas.{first_value-rows}
+use Rattle.clap.proofs.OnLiterals.{clap_on_literals}
+use Rattle.vataudit.specs.Parser.{program, vat}
+use Rattle.vataudit.specs.Spelled.{Spells, is_flag}
+
+abbrev dashes : Text
+dashes = codes "--"
+
+-- ---- no kind
+
+never : {k : ErrorKind} {ks : Kinds} → k ∷ ks ≡ [] → ⊥
+never e = cc
+
+then_none : (a b : Kinds) → or_else a b ≡ [] → b ≡ []
+then_none [] b e = e
+then_none (k ∷ ks) b e = absurd (never e)
+
+first_none : (a b : Kinds) → or_else a b ≡ [] → a ≡ []
+first_none [] b e = refl
+first_none (k ∷ ks) b e = e
+
+-- ---- the flags, of which a command has --help alone
+
+abbrev help : Rule
+help = filled help_rule
+
+-- what is held while an argument may wait
+abbrev holding : Option (Text × List Text) → Held
+holding p = record { rows = []; pending = p; skip = 0 }
+
+module _ (c : List Rule) (longs : (name : Text) → arg_by_long c name ≡ (if bytes_eq (codes "help") name || false then Some help else None))
+    (shorts : (x : ℕ) → arg_by_short c x ≡ (if (104 == x) || false then Some help else None)) (p : Option (Text × List Text)) where
+  long_fails : (name : Text) (v : Option Text) → long_fault c false (arg_by_long c name) v (holding p) ≡ [] → ⊥
+  long_fails name v e = go (bytes_eq (codes "help") name) v (rw longs at e)
+    where
+      go : (b : Bool) (v : Option Text) → long_fault c false (if b || false then Some help else None) v (holding p) ≡ [] → ⊥
+      go true (Some t) e = never e
+      go true None e = never (then_none (settle_fault c false (holding p)) (DisplayHelp ∷ []) e)
+      go false v e = never e
+
+  -- a first character of a bundle
+  short_fails : (x : ℕ) (rest : Text) (next : Held → Kinds) → short_fault c false (arg_by_short c x) rest (holding p) next ≡ [] → ⊥
+  short_fails x rest next e = go (104 == x) (rw shorts at e)
+    where
+      go : (b : Bool) → short_fault c false (if b || false then Some help else None) rest (holding p) next ≡ [] → ⊥
+      go true e = never (then_none (settle_fault c false (holding p)) (DisplayHelp ∷ []) (first_none (react_fault c false help [] (holding p)) _ e))
+      go false e = never e
+
+  -- a word that isn't refused is no flag
+  short_plain : (word : Text) (flags : Option Text) → option_map_or (λ f. bundle_fault c false f (holding p)) flags [] ≡ []
+      → short_or_plain c idle word flags (holding p) ≡ (holding p, value)
+  unfolding flags_fault bundle_met
+  short_plain word None e = refl
+  short_plain word (Some []) e = refl
+  short_plain word (Some (x ∷ xs)) e = go (slice_get (chars (x ∷ xs)) 0) e
+    where
+      go : (o : Option ℕ) → bundle_step_fault c false o (x ∷ xs) 0 (holding p) (flags_fault c false (length xs)) ≡ []
+          → after_flag c idle word (bundle_step c o (x ∷ xs) 0 plain (holding p) (bundle_met c (length xs))).0 (bundle_step c o (x ∷ xs) 0 plain (holding p) (bundle_met c (length xs))).1
+          ≡ (holding p, value)
+      go None e = refl
+      go (Some ch) e = absurd (short_fails ch (drop (length (encode_utf8 ch)) (x ∷ xs)) (flags_fault c false (length xs) (drop (length (encode_utf8 ch)) (x ∷ xs)) 0) e)
+
+  long_plain : (word : Text) (named : Option (Text × Option Text)) → flag_word_fault c false named word (holding p) ≡ []
+      → long_or_other c idle word named (holding p) ≡ (holding p, value)
+  long_plain word (Some q) e = absurd (long_fails q.0 q.1 e)
+  long_plain word None e = short_plain word (short_of word) e
+
+  -- a word that isn't refused where nothing waits is `--`, or goes to a positional
+  word_plain : (n : ℕ) (word : Text) → (if bytes_eq word dashes then [] else flag_word_fault c false (long_of word) word (holding p)) ≡ []
+      → (word ≡ dashes) ⊎ (word_met c [] false idle n word (holding p) ≡ (holding p, value))
+  word_plain n word e = go (bytes_eq word dashes) refl e
+    where
+      go : (b : Bool) → bytes_eq word dashes ≡ b → (if b then [] else flag_word_fault c false (long_of word) word (holding p)) ≡ []
+          → (word ≡ dashes) ⊎ ((if b then (holding p, trailing n) else long_or_other c idle word (long_of word) (holding p)) ≡ (holding p, value))
+      go true is e = inl ((bytes_eq-Decides word dashes).0 is)
+      go false is e = inr (long_plain word (long_of word) e)
+
+-- ---- the words after `vat`
+
+abbrev main : Shape
+main = (built program).top
+
+abbrev names : Names
+names = names_of (built program)
+
+abbrev sub : Shape
+sub = unwrap_or (slice_get (built program).subs 0) vat.top
+
+-- where the walk stands between two words
+abbrev at : Option (Text × List Text) → ℕ → Bool → Walk
+at p n ended = record { held = holding p; waiting = idle; position = n; is_trailing = ended; stopped = None }
+
+-- FILE has come
+abbrev given : Text → Option (Text × List Text)
+given file = Some (codes "file", file ∷ [])
+
+sub_longs : (name : Text) → arg_by_long sub.rules name ≡ (if bytes_eq (codes "help") name || false then Some help else None)
+sub_longs name = refl
+
+sub_shorts : (x : ℕ) → arg_by_short sub.rules x ≡ (if (104 == x) || false then Some help else None)
+sub_shorts x = refl
+
+first_word : (f : Text) → turn_fault sub [] (at None 1 false) f ≡ []
+    → (f ≡ dashes) ⊎ (walked sub.rules [] (at None 1 false) f ≡ at (given f) 2 false)
+unfolding walked
+first_word f e = elim (word_plain sub.rules sub_longs sub_shorts None 1 f (first_none (word_fault sub [] false idle f (holding None)) _ e)) [
+  | inl d ↦ inl d
+  | inr met ↦ inr (ap (λ (m : Held × Step). after_step sub.rules f (at None 1 false) m.0 m.1) met)
+]
+
+second_word : (f g : Text) → turn_fault sub [] (at (given f) 2 false) g ≡ [] → g ≡ dashes
+second_word f g e =
+    let met = word_met sub.rules [] false idle 2 g (holding (given f)) in
+    let stray : step_fault sub 2 met.0 met.1 ≡ [] = then_none (word_fault sub [] false idle g (holding (given f))) (step_fault sub 2 met.0 met.1) e in
+    elim (word_plain sub.rules sub_longs sub_shorts (given f) 2 g (first_none (word_fault sub [] false idle g (holding (given f))) _ e)) [
+      | inl d ↦ d
+      | inr is ↦ absurd (never (sym (ap (λ (m : Held × Step). step_fault sub 2 m.0 m.1) is) ∙ stray))
+    ]
+
+-- the words are FILE, with `--` before or after it or not at all
+abbrev HasFile : List Text → Text → Type 0
+HasFile words file = (words ≡ file ∷ []) ⊎ ((words ≡ dashes ∷ file ∷ []) ⊎ (words ≡ file ∷ dashes ∷ []))
+
+-- and so they are read
+abbrev IsRead : List Text → Text → Type 0
+IsRead words file = HasFile words file × (first_of (codes "file") (rows_after sub.rules [] words) ≡ Some file)
+
+abbrev file_in : Walk → Option Text
+file_in w = first_of (codes "file") (finished sub.rules w.held)
+
+one_word : (f : Text) → level_fault sub [] nothing_held (f ∷ []) false [] ≡ [] → IsRead (f ∷ []) f
+unfolding clap_on_literals
+one_word f e =
+    let walks : walk_fault sub [] (at None 1 false) (f ∷ []) ≡ [] = first_none _ _ e in
+    elim (first_word f (first_none (turn_fault sub [] (at None 1 false) f) _ walks)) [
+      | inl d ↦ absurd (never (subst (λ w. level_fault sub [] nothing_held (w ∷ []) false [] ≡ []) d e))
+      | inr w ↦ (inl refl, ap file_in w)
+    ]
+
+two_words : (f g : Text) → level_fault sub [] nothing_held (f ∷ g ∷ []) false [] ≡ [] → (file : Text) × IsRead (f ∷ g ∷ []) file
+unfolding clap_on_literals
+two_words f g e =
+    let walks : walk_fault sub [] (at None 1 false) (f ∷ g ∷ []) ≡ [] = first_none _ _ e in
+    let more : walk_fault sub [] (walked sub.rules [] (at None 1 false) f) (g ∷ []) ≡ [] = then_none (turn_fault sub [] (at None 1 false) f) _ walks in
+    elim (first_word f (first_none (turn_fault sub [] (at None 1 false) f) _ walks)) [
+      | inl d ↦ (g, (inr (inl (ap (λ w. w ∷ g ∷ []) d)), ap (λ (w : Text). first_of (codes "file") (rows_after sub.rules [] (w ∷ g ∷ []))) d))
+      | inr w ↦
+          let last : walk_fault sub [] (at (given f) 2 false) (g ∷ []) ≡ [] = subst (λ (x : Walk). walk_fault sub [] x (g ∷ []) ≡ []) w more in
+          let d : g ≡ dashes = second_word f g (first_none (turn_fault sub [] (at (given f) 2 false) g) _ last) in (
+            f,
+            (
+              inr (inr (ap (λ x. f ∷ x ∷ []) d)),
+              ap (λ (x : Walk). file_in (walked sub.rules [] x g)) w ∙ ap (λ (x : Text). file_in (walked sub.rules [] (at (given f) 2 false) x)) d,
+            ),
+          )
+    ]
+
+more_words : (f g h : Text) (rest : List Text) → level_fault sub [] nothing_held (f ∷ g ∷ h ∷ rest) false [] ≡ [] → ⊥
+unfolding clap_on_literals
+more_words f g h rest e =
+    let walks : walk_fault sub [] (at None 1 false) (f ∷ g ∷ h ∷ rest) ≡ [] = first_none _ _ e in
+    let more : walk_fault sub [] (walked sub.rules [] (at None 1 false) f) (g ∷ h ∷ rest) ≡ [] = then_none (turn_fault sub [] (at None 1 false) f) _ walks in
+    elim (first_word f (first_none (turn_fault sub [] (at None 1 false) f) _ walks)) [
+      | inl d ↦ never (subst (λ (w : Text). walk_fault sub [] (at None 1 false) (w ∷ g ∷ h ∷ rest) ≡ []) d walks)
+      | inr w ↦
+          let last : walk_fault sub [] (at (given f) 2 false) (g ∷ h ∷ rest) ≡ [] = subst (λ (x : Walk). walk_fault sub [] x (g ∷ h ∷ rest) ≡ []) w more in
+          let d : g ≡ dashes = second_word f g (first_none (turn_fault sub [] (at (given f) 2 false) g) _ last) in
+          never (subst (λ (x : Text). walk_fault sub [] (at (given f) 2 false) (x ∷ h ∷ rest) ≡ []) d last)
+    ]
+
+words_read : (words : List Text) → level_fault sub [] nothing_held words false [] ≡ [] → (file : Text) × IsRead words file
+unfolding clap_on_literals
+words_read [] e = absurd (never e)
+words_read (f ∷ []) e = (f, one_word f e)
+words_read (f ∷ g ∷ []) e = two_words f g e
+words_read (f ∷ g ∷ h ∷ rest) e = absurd (more_words f g h rest e)
+
+-- ---- all words after the program's name
+
+main_longs : (name : Text) → arg_by_long main.rules name ≡ (if bytes_eq (codes "help") name || false then Some help else None)
+main_longs name = refl
+
+main_shorts : (x : ℕ) → arg_by_short main.rules x ≡ (if (104 == x) || false then Some help else None)
+main_shorts x = refl
+
+-- the subcommand of a word that is `vat`, or `help`, or neither
+abbrev met_by : Bool → Bool → Option Text
+met_by is_vat is_help =
+    option_map (λ (s : Text × List Text). s.0) (if is_vat || false then Some (codes "vat", []) else (if is_help || false then Some (codes "help", []) else None))
+
+abbrev turn_by : Text → Bool → Bool → Kinds
+turn_by w is_vat is_help =
+    let met = subcommand_or_other main.rules (met_by is_vat is_help) idle 1 w (holding None) in
+    or_else (other_fault main (met_by is_vat is_help) w (holding None)) (step_fault main 1 met.0 met.1)
+
+first_main : (w : Text) → turn_fault main names (at None 1 false) w ≡ [] → (w ≡ codes "vat") ⊎ (w ≡ dashes)
+first_main w e = go (bytes_eq (codes "vat") w) (bytes_eq (codes "help") w) refl e
+  where
+    go : (is_vat is_help : Bool) → bytes_eq (codes "vat") w ≡ is_vat → turn_by w is_vat is_help ≡ [] → (w ≡ codes "vat") ⊎ (w ≡ dashes)
+    go true is_help is e = inl (sym ((bytes_eq-Decides (codes "vat") w).0 is))
+    go false true is e = absurd (never e)
+    go false false differs e =
+        let met = word_met main.rules [] false idle 1 w (holding None) in
+        let stray : step_fault main 1 met.0 met.1 ≡ [] = then_none (other_fault main None w (holding None)) (step_fault main 1 met.0 met.1) e in
+        elim (word_plain main.rules main_longs main_shorts None 1 w (first_none (other_fault main None w (holding None)) _ e)) [
+          | inl d ↦ inr d
+          | inr is ↦ absurd (never (sym (ap (λ (m : Held × Step). step_fault main 1 m.0 m.1) is) ∙ stray))
+        ]
+
+-- past `vat` the walk keeps the words
+stops : (h : Held) (waiting : Waiting) (n : ℕ) (ended : Bool) (name : Text) (seen words : List Text)
+    → (fold (walked main.rules names) (record { held = h; waiting = waiting; position = n; is_trailing = ended; stopped = Some (name, seen) }) words).stopped ≡ Some (name, seen ++ words)
+unfolding walked
+stops h waiting n ended name seen [] = ap (λ x. Some (name, x)) (sym (append-nil seen))
+stops h waiting n ended name seen (word ∷ words) =
+    stops h waiting n ended name (seen ++ word ∷ []) words ∙ ap (λ x. Some (name, x)) (append_assoc seen (word ∷ []) words)
+
+stop_vat : (words : List Text) → (walk main.rules names nothing_held (codes "vat" ∷ words)).stopped ≡ Some (codes "vat", words)
+unfolding walked
+stop_vat words = stops (holding None) idle 1 false (codes "vat") [] words
+
+no_command : (rest : List Text) → built_fault (built program) nothing_held (dashes ∷ rest) ≡ [] → ⊥
+unfolding clap_on_literals
+no_command [] e = never e
+no_command (v ∷ vs) e = never e
+
+main_read : (words : List Text) → built_fault (built program) nothing_held words ≡ [] → (rest : List Text) × (words ≡ codes "vat" ∷ rest) × (level_fault sub [] nothing_held rest false [] ≡ [])
+unfolding clap_on_literals
+main_read [] e = absurd (never e)
+main_read (w ∷ rest) e =
+    let walks : walk_fault main names (at None 1 false) (w ∷ rest) ≡ [] = first_none _ _ e in
+    elim (first_main w (first_none (turn_fault main names (at None 1 false) w) _ walks)) [
+      | inl v ↦
+          let whole : built_fault (built program) nothing_held (codes "vat" ∷ rest) ≡ [] = subst (λ (x : Text). built_fault (built program) nothing_held (x ∷ rest) ≡ []) v e in
+          let stop = (walk main.rules names nothing_held (codes "vat" ∷ rest)).stopped in
+          let below : entered_fault (built program) stop ≡ [] = first_none (entered_fault (built program) stop) _ (then_none (walk_fault main names (at None 1 false) (codes "vat" ∷ rest)) _ whole) in
+          (rest, ap (λ x. x ∷ rest) v, subst (λ (s : Option (Text × List Text)). entered_fault (built program) s ≡ []) (stop_vat rest) below)
+      | inr d ↦ absurd (no_command rest (subst (λ (x : Text). built_fault (built program) nothing_held (x ∷ rest) ≡ []) d e))
+    ]
+
+-- FILE of the command that was entered
+abbrev file_read : Option (Text × List Row) → Option (Option Text)
+file_read = option_map (λ p. first_of (codes "file") p.1)
+
+-- where clap finds no fault in the words, they spell FILE, and FILE is what it reads
+reads : (words : List Text) → fault_of program words ≡ []
+    → (file : Text) × Spells words file × (file_read (subcommand_of program words) ≡ Some (Some file))
+unfolding clap_on_literals
+reads [] e = absurd (never e)
+reads (first ∷ words) e =
+    let m = main_read words e in
+    let r = words_read m.0 m.2 in
+    let spelled : HasFile m.0 r.0 → Spells (first ∷ words) r.0 = elim [
+      | inl a ↦ (first, inl (ap (λ x. first ∷ x) (m.1 ∙ ap (λ x. codes "vat" ∷ x) a)))
+      | inr (inl a) ↦ (first, inr (inl (ap (λ x. first ∷ x) (m.1 ∙ ap (λ x. codes "vat" ∷ x) a))))
+      | inr (inr a) ↦ (first, inr (inr (ap (λ x. first ∷ x) (m.1 ∙ ap (λ x. codes "vat" ∷ x) a))))
+    ] in (
+      r.0,
+      spelled r.1.0,
+      ap (λ (ws : List Text). file_read (entered (built program) (stop_after main.rules names ws))) m.1
+          ∙ ap (λ (s : Option (Text × List Text)). file_read (entered (built program) s)) (stop_vat m.0)
+          ∙ ap (λ o. Some o) r.1.1,
+    )
+
+-- ---- FILE that is no flag
+
+plain_word_is : (file : Text) → is_flag file ≡ false → (bytes_eq file dashes ≡ false) × (long_of file ≡ None) × (short_of file ≡ None)
+plain_word_is [] e = (refl, refl, refl)
+plain_word_is (x ∷ []) e = go (x == 45)
+  where
+    go : (b : Bool) → ((b && false) ≡ false) × (option_and_then long_of_rest (option_and_then (strip_byte 45) (if b then Some [] else None)) ≡ None)
+        × (option_and_then short_of_rest (if b then Some [] else None) ≡ None)
+    go true = (refl, refl, refl)
+    go false = (refl, refl, refl)
+plain_word_is (x ∷ y ∷ rest) e = (rw e refl, rw e refl, rw e refl)
+
+file_taken : (file : Text) → is_flag file ≡ false → level_fault sub [] nothing_held (file ∷ []) false [] ≡ []
+unfolding clap_on_literals
+file_taken file e =
+    let is = plain_word_is file e in
+    let met : word_met sub.rules [] false idle 1 file (holding None) ≡ (holding None, value) = rw (is.0, is.1, is.2) refl in
+    let w : walked sub.rules [] (at None 1 false) file ≡ at (given file) 2 false = ap (λ (m : Held × Step). after_step sub.rules file (at None 1 false) m.0 m.1) met in
+    let word : word_fault sub [] false idle file (holding None) ≡ [] = rw (is.0, is.1, is.2) refl in
+    let turn : turn_fault sub [] (at None 1 false) file ≡ [] =
+    ap₂ (λ (k : Kinds) (m : Held × Step). or_else k (step_fault sub 1 m.0 m.1)) word met in
+    let walks : walk_fault sub [] (at None 1 false) (file ∷ []) ≡ [] = ap (λ k. or_else k []) turn in
+    ap₂ (λ (k : Kinds) (x : Walk). or_else k (or_else (settle_fault sub.rules false x.held)
+    (or_else (defaults_fault (settled sub.rules x.held).rows sub.rules) (check_fault sub (finished sub.rules x.held) false)))) walks w
+
+-- `vat FILE` has no fault, where FILE is no flag
+pub takes_file : (first file : Text) → is_flag file ≡ false → fault_of program (first ∷ codes "vat" ∷ file ∷ []) ≡ []
+unfolding clap_on_literals
+takes_file first file e = ap (λ (k : Kinds). or_else k []) (file_taken file e)
+
+-- `vat -- FILE` has none, whatever FILE is
+pub takes_after_dashes : (first file : Text) → fault_of program (first ∷ codes "vat" ∷ dashes ∷ file ∷ []) ≡ []
+unfolding clap_on_literals
+takes_after_dashes first file = refl
+
+-- ---- the matches
+
+file_at : (read : Option (Text × List Row)) (rows : List Row) (file : Text) → Some rows ≡ option_map (λ p. p.1) read → file_read read ≡ Some (Some file)
+    → first_of (codes "file") rows ≡ Some file
+file_at None rows file same is = cc
+file_at (Some p) rows file same is =
+    let these : rows ≡ p.1 = cc in
+    let that : first_of (codes "file") p.1 ≡ Some file = cc in
+    ap (first_of (codes "file")) these ∙ that
+
+-- a parse that succeeds has FILE, and the words spell it
+pub has_file : (app : App) (words : List Text) (m of_vat : ArgMatches) → app ≡ program
+    → (is_simple_and_free app ≡ true → fault_of app words ≡ []) → HasMatchesOf app words m
+    → Some (rows_of (found_of of_vat)) ≡ option_map (λ p. p.1) (subcommand_rows_of m)
+    → (file : Text) × Spells words file × (first_value (found_of of_vat) (codes "file") ≡ Some file)
+unfolding clap_on_literals
+has_file app words m of_vat is faults matches rows =
+    let free : is_simple_and_free app ≡ true = ap is_simple_and_free is in
+    let simple : is_simple app ≡ true = ap is_simple is in
+    let fault : fault_of program words ≡ [] = subst (λ (a : App). fault_of a words ≡ []) is (faults free) in
+    let r = reads words fault in
+    let read : file_read (subcommand_rows_of m) ≡ Some (Some r.0) =
+    ap file_read ((matches simple).1 ∙ ap (λ (a : App). subcommand_of a words) is) ∙ r.2 in
+    (r.0, r.1, first_value-rows (found_of of_vat) (codes "file") ∙ file_at (subcommand_rows_of m) (rows_of (found_of of_vat)) r.0 rows read)
+
+-- and only want of memory fails where clap finds no fault in the words
+pub fails_by_memory : (app : App) (words others : List Text) (e : Error) → app ≡ program
+    → (is_simple_and_free app ≡ true → HasKind (fault_of app words) e) → words ≡ others → fault_of program others ≡ [] → kind_of e ≡ OutOfMemory
+unfolding clap_on_literals
+fails_by_memory app words others e is faults same none =
+    let free : is_simple_and_free app ≡ true = ap is_simple_and_free is in
+    let no_fault : fault_of app words ≡ [] = ap₂ fault_of is same ∙ none in
+    elim (subst (λ (ks : Kinds). HasKind ks e) no_fault (faults free)) [ inl memory ↦ memory | inr h ↦ absurd h ]
+
+pub none_differs : (file : Text) → None ≡ Some file → ⊥
+none_differs file e = cc

@@ -1,0 +1,22 @@
+use Rattle.std.proofs.Common.{◌≡◌, ◌+◌, ◌≤◌, ◌++◌, ◌∙◌, ℕ, List, [], length, take, Option, Some, None, IfSome, option_map, arith, rules, ap, length-take}
+use Rattle.std.proofs.lemmas.Grind.{common_steps}
+use Rattle.vataudit.specs.declared.file.TheConstants.{LIMIT}
+use Rattle.vataudit.proofs.file.read_all.Goals as goal
+
+take_all : (n : ℕ) (xs : List ℕ) → length xs ≤ n → take n xs ≡ xs
+take_all n xs h = grind (arith, common_steps)
+
+-- what stops before the limit is all
+whole : (known : Option (List ℕ)) (limit : ℕ) (start got bytes : List ℕ) → start ≡ [] → bytes ≡ got → length bytes ≤ limit
+    → IfSome (option_map (take (limit + 1)) known) (λ xs. got ≡ start ++ xs) → IfSome known (λ all. bytes ≡ all)
+whole None limit start got bytes none same small is = tt
+whole (Some all) limit start got bytes none same small is =
+    let cut : bytes ≡ take (limit + 1) all = same ∙ is ∙ ap (λ s. s ++ take (limit + 1) all) none in
+    let fits : length all ≤ limit = omega (arith, length-take (limit + 1) all, ap length cut) in
+    cut ∙ take_all (limit + 1) all (omega arith)
+
+pub returns-in_ok-from_vec-in-Ok-clause-whole : goal.returns-in_ok-from_vec-in-Ok-clause-whole
+returns-in_ok-from_vec-in-Ok-clause-whole g c =
+    whole (g.R.Read.remaining c.args.reader) LIMIT c.new-bytes.result.items c.read_to_end.new.buf.items c.in_ok-from_vec-in-Ok.field-0
+    c.new-bytes.ensures.items c.in_ok-from_vec-in-Ok.ensures.ok (search rules)
+    (rw (c.take.ensures.limit, c.take.ensures.inner) at c.in-Ok.ensures.bytes)

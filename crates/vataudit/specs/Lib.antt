@@ -1,0 +1,4 @@
+pub mod Lines
+pub mod Parser
+pub mod Printed
+pub mod Spelled

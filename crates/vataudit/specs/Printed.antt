@@ -1,0 +1,30 @@
+-- What a run prints, and the status with which it ends.
+use Rattle.std.specs.Prelude.{◌≡◌, ◌⊎◌, ℕ, List, [], ◌∷◌, codes, Option, Result, Ok, Err, IsOk, string_bytes}
+use Rattle.std.specs.Io.KnownBytes.{Appends}
+use Rattle.vataudit.specs.declared.answer.Answer.{Answer}
+use Rattle.vataudit.specs.declared.source.SourceError.{SourceError}
+use Rattle.vataudit.specs.declared.source.SourceError.TheVariants.{CannotRead, OutOfMemory}
+use Rattle.vataudit.specs.Lines.{AnswersLog, line}
+
+-- what a source gave makes this answer, or is this fault, or memory ran out over its bytes
+abbrev pub GivesAnswer : Result (List ℕ) SourceError → Result Answer SourceError → Type 0
+GivesAnswer read (Ok answer) = (bytes : List ℕ) × (read ≡ Ok bytes) × AnswersLog bytes (string_bytes answer.line) answer.status
+GivesAnswer read (Err fault) = (read ≡ Err fault) ⊎ (IsOk read × (fault ≡ OutOfMemory))
+
+-- the line and the status for want of memory
+abbrev pub IsOutOfMemory : List ℕ → ℕ → Type 0
+IsOutOfMemory text status = (text ≡ line (codes "out of memory" ∷ [])) × (status ≡ 3)
+
+-- a line and a status answer what a source gave; over its bytes memory may run out
+abbrev pub AnswersSource : Result (List ℕ) SourceError → List ℕ → ℕ → Type 0
+AnswersSource (Ok bytes) text status = AnswersLog bytes text status ⊎ IsOutOfMemory text status
+AnswersSource (Err CannotRead) text status = (text ≡ line (codes "cannot read" ∷ [])) × (status ≡ 2)
+AnswersSource (Err OutOfMemory) text status = IsOutOfMemory text status
+
+-- an answer's line was written whole, and its status is the run's
+abbrev pub Prints : (List ℕ → ℕ → Type 0) → Option (List ℕ) → Option (List ℕ) → ℕ → Type 0
+Prints answers old new status = (text : List ℕ) × answers text status × Appends old new text
+
+-- the same, or a write failed and the status is 2
+abbrev pub PrintsOrFails : (List ℕ → ℕ → Type 0) → Option (List ℕ) → Option (List ℕ) → ℕ → Type 0
+PrintsOrFails answers old new status = Prints answers old new status ⊎ (status ≡ 2)

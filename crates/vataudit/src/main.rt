@@ -1,0 +1,73 @@
+//! Audits what the vats of Cap'n Proto RPC recorded: `vataudit vat FILE` prints one line for the log of one vat.
+//!
+//! A command line becomes a `Command` (command.rt), whose file a `Source` gives (source.rt, file.rt); the line and the exit
+//! status for its bytes are an `Answer` (answer.rt), which `run_on` prints (run.rt). What is printed is said by
+//! specs/Lines.antt and specs/Printed.antt, and which words spell a command by specs/Spelled.antt.
+#![tactic(auto)]
+
+ghost use Rattle.std.specs.Prelude.{◌≡◌, ◌≢◌, ◌⊎◌};
+ghost use Rattle.clap.specs.Words.{kind_of};
+
+mod answer;
+mod command;
+mod file;
+mod run;
+mod source;
+#[cfg(test)]
+mod tests;
+
+use clap::error::ErrorKind;
+use command::command_of;
+use file::Folder;
+use run::{FAILED, OUT_OF_MEMORY, run_on};
+use std::process::ExitCode;
+use std::{env, io};
+
+/// Prints that memory ran out, and gives the exit status: that of a failed write where the line can't be written.
+fn out_of_memory(rt: &impl Print) -> u8
+    ensures { (result ≡ OUT_OF_MEMORY) ⊎ (result ≡ FAILED) }
+{
+    match rt.print("out of memory\n") {
+        Ok(()) => OUT_OF_MEMORY,
+        Err(_) => FAILED,
+    }
+}
+
+/// Says on standard error what is wrong with the command line, and gives the exit status.
+fn refuse(rt: &(impl Print + Eprint), error: &clap::Error) -> u8
+    ensures { kind_of error.now ≢ ErrorKind.OutOfMemory → result ≡ FAILED }
+{
+    if error.kind() == ErrorKind::OutOfMemory {
+        return out_of_memory(rt);
+    }
+    let _ = rt.eprint(error);
+    FAILED
+}
+
+/// Does what the words ask, and gives the exit status.
+fn start(rt: &HostRuntime, words: &[String]) -> u8 {
+    let alloc = rt.alloc();
+    match command_of(alloc, words) {
+        Ok(command) => run_on(
+            alloc,
+            &command,
+            &mut Folder::new(rt),
+            &mut rt.stdout(),
+            &mut io::sink(),
+        ),
+        Err(error) => refuse(rt, &error),
+    }
+}
+
+fn main(rt: HostRuntime) -> ExitCode {
+    let alloc = rt.alloc();
+    let words: io::Result<Vec<String>> = env::args(&rt).and_then(|args| Ok(args.collect(alloc)?));
+    ExitCode::from(match words {
+        Ok(words) => start(&rt, &words),
+        Err(e) if e.kind() == io::ErrorKind::OutOfMemory => out_of_memory(&rt),
+        Err(_) => {
+            let _ = rt.eprint("error: an argument isn't UTF-8\n");
+            FAILED
+        }
+    })
+}

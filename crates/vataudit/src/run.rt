@@ -1,0 +1,73 @@
+//! Commands, run over a source and a writer.
+
+ghost use Rattle.std.specs.Prelude.{◌≡◌, List, ℕ, OnOk, IfOk, Result as Answered};
+ghost use Rattle.std.specs.Io.KnownBytes.{Appends};
+ghost use Rattle.vataudit.specs.declared.source.SourceError.{SourceError};
+ghost use Rattle.vataudit.specs.Printed.{GivesAnswer, AnswersSource, Prints, PrintsOrFails};
+ghost use Rattle.vataudit.specs.Spelled.{name_of};
+
+use crate::answer::{Answer, answer_of_log};
+use crate::command::Command;
+use crate::source::{Source, SourceError};
+use std::alloc::Global;
+use std::io;
+use std::io::Write;
+
+/// The exit status where a log can't be read, a line can't be written or the command line is wrong.
+pub const FAILED: u8 = 2;
+
+/// The exit status where memory ran out.
+pub const OUT_OF_MEMORY: u8 = 3;
+
+/// The answer to the log that a source has under a name.
+fn answer_from<S: Source>(alloc: Global, source: &mut S, name: &str) -> Result<Answer, SourceError>
+    ensures { (read : Answered (List ℕ) SourceError) × S.read_gives source.old name.now read source.new × GivesAnswer read result }
+{
+    let bytes = source.read(name)?;
+    Ok(answer_of_log(alloc, bytes)?)
+}
+
+/// Writes a text, and gives back the status that goes with it.
+fn print<W: Write>(out: &mut W, text: &str, status: u8) -> io::Result<u8>
+    ensures status { IfOk result (λ s. s ≡ status) }
+    ensures text { OnOk result (Appends (W.contents out.old) (W.contents out.new) text.now) }
+{
+    out.write_all(text.as_bytes())?;
+    out.flush()?;
+    Ok(status)
+}
+
+/// Prints the answer to the log that a source has under a name, and gives the exit status.
+fn audit<S: Source, W: Write>(
+    alloc: Global,
+    name: &str,
+    source: &mut S,
+    out: &mut W,
+) -> io::Result<u8>
+    ensures { (read : Answered (List ℕ) SourceError) × S.read_gives source.old name.now read source.new
+        × IfOk result (Prints (AnswersSource read) (W.contents out.old) (W.contents out.new)) }
+{
+    match answer_from(alloc, source, name) {
+        Ok(answer) => print(out, answer.line.as_str(), answer.status),
+        Err(SourceError::CannotRead) => print(out, "cannot read\n", FAILED),
+        Err(SourceError::OutOfMemory) => print(out, "out of memory\n", OUT_OF_MEMORY),
+    }
+}
+
+/// Runs a command: writes its one line to `out`, and answers the exit status. It is 0 where the log is good, 1 where a
+/// record breaks a rule, 2 where a record isn't judged, the log is bad, it can't be read or the line can't be written, and
+/// 3 where memory ran out. After a failed write nothing more is written. Nothing is written to `file`.
+pub fn run_on<S: Source, W: Write, F: Write>(
+    alloc: Global,
+    command: &Command<'_>,
+    source: &mut S,
+    out: &mut W,
+    file: &mut F,
+) -> u8
+    ensures printed { (read : Answered (List ℕ) SourceError) × S.read_gives source.old (name_of command.now) read source.new
+        × PrintsOrFails (AnswersSource read) (W.contents out.old) (W.contents out.new) result }
+    ensures file { file.new ≡ file.old }
+{
+    let Command::Vat { file: name } = command;
+    audit(alloc, name, source, out).unwrap_or(FAILED)
+}

@@ -1,0 +1,5 @@
+pub mod Pointers
+pub mod Tree
+pub mod Reading
+pub mod Fields
+pub mod Places

@@ -1,0 +1,178 @@
+//! The capabilities at and below a pointer.
+
+ghost use Rattle.std.specs.Prelude.{◌≡◌, ◌<◌, ◌≤◌, ◌-◌, ◌^◌, ◌++◌, ◌↔◌, List, ℕ, [], Some, OnOk, IfOk};
+ghost use Rattle.std.specs.List.{Contains};
+ghost use Rattle.cap_reader.specs.Tree.{structure_at, tree_at, list_there, element_bits, plain_words};
+ghost use Rattle.cap_reader.specs.Reading.{RunsInMemory, Gives, run, price, ending, with_front, IsTooMuch};
+ghost use Rattle.cap_reader.specs.Fields.{fields_in, capability_at};
+ghost use Rattle.cap_reader.specs.Places.{sections_at};
+
+use crate::extent::extent;
+use crate::field_list::Fields;
+use crate::following::follow;
+use crate::limits::Limits;
+use crate::place::StructAt;
+use crate::pointee::Pointee;
+use crate::read_error::ReadError;
+use crate::visiting::{COMPOSITE, composite, enter};
+use cap_frame::{Frame, Path};
+use std::alloc::{AllocError, Global};
+
+/// How many bits an element of a list has.
+fn bits_of(element_size: u8) -> u64
+    ensures value { result ≡ element_bits element_size }
+    ensures bound { result ≤ 64 }
+{
+    match element_size {
+        0 => 0,
+        1 => 1,
+        2 => 8,
+        3 => 16,
+        4 => 32,
+        _ => 64,
+    }
+}
+
+/// The words of a list that isn't composite.
+fn plain_size(element_size: u8, count: u32) -> u64
+    ensures { result ≡ plain_words element_size count }
+{
+    (u64::from(count) * bits_of(element_size)).div_ceil(64)
+}
+
+/// Judges a list, whose elements are unread.
+fn judge_list(
+    frame: &Frame,
+    segment: u32,
+    start: Option<u64>,
+    element_size: u8,
+    count: u32,
+    depth: u8,
+) -> Result<(), ReadError>
+    ensures { (path : List ℕ) → Gives (λ _. []) result (fields_in path (list_there (structure_at depth frame.now segment) frame.now segment start element_size count)) }
+{
+    if element_size == COMPOSITE {
+        composite(frame, segment, start, count, depth)?;
+        return Ok(());
+    }
+    match extent(frame, segment, start, plain_size(element_size, count)) {
+        Some(_) => Ok(()),
+        None => Err(ReadError::OutOfSegment),
+    }
+}
+
+/// The path of these numbers, in memory of its own.
+fn path_of(numbers: &Vec<u16>) -> Result<Path, AllocError>
+    ensures { IfOk result (λ path. path ≡ numbers.now.items) }
+{
+    Ok(Path::new(numbers.clone()?))
+}
+
+/// Adds the capabilities at and below the pointer at a place, to which the path leads. A path that was lengthened is as it
+/// was again.
+fn add_fields(
+    frame: &Frame,
+    segment: u32,
+    at: u64,
+    depth: u8,
+    path: &mut Vec<u16>,
+    found: &mut Vec<(Path, u32)>,
+    limits: &mut Limits,
+) -> Result<(), ReadError>
+    requires { at < 2 ^ 40 }
+    ensures value { RunsInMemory (λ _. found.new.items) result limits.new.words (with_front found.old.items (run (fields_in path.old.items (tree_at depth frame.now segment at)) limits.old.words)) }
+    ensures path { OnOk result (path.new.items ≡ path.old.items) }
+    ensures depth { limits.new.depth ≡ limits.old.depth }
+{
+    match follow(frame, segment, at)? {
+        Pointee::Null => Ok(()),
+        Pointee::Capability { index } => {
+            found.push((path_of(path)?, index))?;
+            Ok(())
+        }
+        Pointee::List {
+            segment,
+            start,
+            element_size,
+            count,
+        } => judge_list(frame, segment, start, element_size, count, depth),
+        Pointee::Struct {
+            segment,
+            start,
+            data_words,
+            pointer_count,
+        } => {
+            let sizes = (data_words, pointer_count);
+            let content = enter(frame, segment, start, sizes, depth, limits)?;
+            let first = u64::from(content.start) + u64::from(content.data_words);
+            for number in 0..content.pointer_count {
+                path.push(number)?;
+                add_fields(
+                    frame,
+                    content.segment,
+                    first + u64::from(number),
+                    content.below,
+                    path,
+                    found,
+                    limits,
+                )?;
+                path.pop();
+            }
+            Ok(())
+        }
+        Pointee::Reserved => Err(ReadError::Reserved),
+    }
+}
+
+/// The capabilities at and below a pointer of a struct, in the order in which they are met.
+#[tactic(auto, using(crate::proofs::Loops::no_front), unfolding(crate::specs::Fields::fields_in, crate::specs::Reading::pay_for))]
+fn listed(
+    alloc: Global,
+    frame: &Frame,
+    place: &StructAt,
+    n: u16,
+    limits: &mut Limits,
+) -> Result<Fields, ReadError>
+    ensures value { RunsInMemory (λ fields. fields) result limits.new.words (run (fields_in [] ((sections_at frame.now place.now).child n)) limits.old.words) }
+    ensures depth { limits.new.depth ≡ limits.old.depth }
+{
+    let mut path = Vec::new(alloc);
+    let mut found = Vec::new(alloc);
+    if let Some(at) = place.pointer(n) {
+        add_fields(
+            frame,
+            place.segment,
+            at,
+            place.below,
+            &mut path,
+            &mut found,
+            limits,
+        )?;
+    }
+    Ok(Fields::new(found))
+}
+
+/// The capabilities at and below a pointer of a struct, by the pointer's number, counted from 0: each path through structs
+/// alone that ends in a capability pointer, with its index, depth first by pointer number. A list on the way is judged, and
+/// its elements are unread. The words left are lowered by each visit; the visit that is refused doesn't lower them.
+pub fn fields(
+    alloc: Global,
+    frame: &Frame,
+    place: &StructAt,
+    n: u16,
+    limits: &mut Limits,
+) -> Result<Fields, ReadError>
+    // What is listed, or which fault, and the words that are left.
+    ensures value { RunsInMemory (λ fields. fields) result limits.new.words (run (fields_in [] ((sections_at frame.now place.now).child n)) limits.old.words) }
+    // What is listed is what stands at the end of the paths.
+    ensures listed { IfOk result (λ fields. (path : List ℕ) (index : ℕ) → Contains fields (path, index)
+        ↔ (capability_at ((sections_at frame.now place.now).child n) path ≡ Some index)) }
+    // Where the words are enough for the visits together, it ends as the tree says, and their price is gone.
+    ensures affordable { let reading = fields_in [] ((sections_at frame.now place.now).child n) in price reading ≤ limits.old.words
+        → RunsInMemory (λ fields. fields) result limits.new.words (ending reading, limits.old.words - price reading) }
+    // Else it is too much.
+    ensures too_dear { limits.old.words < price (fields_in [] ((sections_at frame.now place.now).child n)) → IsTooMuch result }
+    ensures depth { limits.new.depth ≡ limits.old.depth }
+{
+    listed(alloc, frame, place, n, limits)
+}

@@ -1,0 +1,145 @@
+//! Following the pads of far pointers.
+
+ghost use Rattle.std.specs.Prelude.{◌≡◌, ◌<◌, ◌^◌};
+ghost use Rattle.cap_reader.specs.Pointers.{pointee_of, pad_word as pad_word_in, tagged, landed, content_in, followed};
+
+use crate::extent::word_or_zero;
+use crate::pointee::Pointee;
+use crate::pointer::{Pointer, start_of};
+use crate::read_error::ReadError;
+use cap_frame::Frame;
+
+/// What a pointer says where it stands itself; it may not be far.
+#[tactic(auto, unfolding(crate::specs::Pointers::pointee_of))]
+fn direct(segment: u32, at: u64, pointer: Pointer) -> Result<Pointee, ReadError>
+    requires { at < 2 ^ 40 }
+    ensures { result ≡ pointee_of segment at pointer }
+{
+    match pointer {
+        Pointer::Null => Ok(Pointee::Null),
+        Pointer::Struct {
+            offset,
+            data_words,
+            pointer_count,
+        } => Ok(Pointee::Struct {
+            segment,
+            start: start_of(at, offset),
+            data_words,
+            pointer_count,
+        }),
+        Pointer::List {
+            offset,
+            element_size,
+            count,
+        } => Ok(Pointee::List {
+            segment,
+            start: start_of(at, offset),
+            element_size,
+            count,
+        }),
+        Pointer::Far { .. } => Err(ReadError::BadPad),
+        Pointer::Capability { index } => Ok(Pointee::Capability { index }),
+        Pointer::Reserved => Ok(Pointee::Reserved),
+    }
+}
+
+/// A word of a pad.
+#[tactic(auto, unfolding(crate::specs::Pointers::pad_word))]
+fn pad_word(frame: &Frame, segment: u32, at: u64) -> Result<u64, ReadError>
+    ensures { result ≡ pad_word_in frame.now segment at }
+{
+    if segment >= frame.segments() {
+        return Err(ReadError::NoSegment);
+    }
+    match frame.word(segment, at) {
+        Some(word) => Ok(word),
+        None => Err(ReadError::OutOfSegment),
+    }
+}
+
+/// What has to be in a segment that is there.
+fn content(frame: &Frame, segment: u32, pointee: Pointee) -> Result<Pointee, ReadError>
+    ensures { result ≡ content_in frame.now segment pointee }
+{
+    if segment < frame.segments() {
+        Ok(pointee)
+    } else {
+        Err(ReadError::NoSegment)
+    }
+}
+
+/// What a pad of two words leads to.
+#[tactic(auto, unfolding(crate::specs::Pointers::tagged))]
+fn by_tag(frame: &Frame, first: Pointer, tag: Pointer) -> Result<Pointee, ReadError>
+    ensures { result ≡ tagged frame.now first tag }
+{
+    let Pointer::Far {
+        two_words: false,
+        offset,
+        segment,
+    } = first
+    else {
+        return Err(ReadError::BadPad);
+    };
+    let start = Some(u64::from(offset));
+    let pointee = match tag {
+        Pointer::Null => Pointee::Struct {
+            segment,
+            start,
+            data_words: 0,
+            pointer_count: 0,
+        },
+        Pointer::Struct {
+            data_words,
+            pointer_count,
+            ..
+        } => Pointee::Struct {
+            segment,
+            start,
+            data_words,
+            pointer_count,
+        },
+        Pointer::List {
+            element_size,
+            count,
+            ..
+        } => Pointee::List {
+            segment,
+            start,
+            element_size,
+            count,
+        },
+        _ => return Err(ReadError::BadPad),
+    };
+    content(frame, segment, pointee)
+}
+
+/// What the pointer at a place leads to.
+#[tactic(auto, unfolding(crate::specs::Pointers::landed))]
+pub fn follow(frame: &Frame, segment: u32, at: u64) -> Result<Pointee, ReadError>
+    requires { at < 2 ^ 40 }
+    ensures { result ≡ followed frame.now segment at }
+{
+    match Pointer::of(word_or_zero(frame, segment, at)) {
+        Pointer::Far {
+            two_words: false,
+            offset,
+            segment,
+        } => {
+            let at = u64::from(offset);
+            let pad = pad_word(frame, segment, at)?;
+            direct(segment, at, Pointer::of(pad))
+        }
+        Pointer::Far {
+            two_words: true,
+            offset,
+            segment,
+        } => {
+            let at = u64::from(offset);
+            let first = pad_word(frame, segment, at)?;
+            let tag = pad_word(frame, segment, at + 1)?;
+            by_tag(frame, Pointer::of(first), Pointer::of(tag))
+        }
+        pointer => direct(segment, at, pointer),
+    }
+}

@@ -1,0 +1,25 @@
+//! Reading the structs, lists and capabilities of a frame where they lie, by their pointers, within limits.
+//!
+//! It stands on `cap_frame`. What stands at a pointer is the whole tree of `specs/Tree.antt`; reading it is a list of visits
+//! with costs and an ending, as `specs/Reading.antt` says. Nothing here takes memory but [`fields`].
+#![tactic(auto)]
+
+mod capabilities;
+mod data;
+mod extent;
+mod field_list;
+mod following;
+mod limits;
+mod place;
+mod pointee;
+mod pointer;
+mod read_error;
+mod visiting;
+
+pub use capabilities::fields;
+pub use data::{bit_at, u16_at, u32_at, u64_at};
+pub use field_list::Fields;
+pub use limits::Limits;
+pub use place::{ListAt, StructAt};
+pub use read_error::ReadError;
+pub use visiting::{list_field, root, struct_field};

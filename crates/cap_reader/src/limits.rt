@@ -1,0 +1,25 @@
+//! How much of a frame may be read.
+
+ghost use Rattle.std.specs.Prelude.{◌≡◌};
+
+/// How much of a frame may be read: the words that visits may cost together, and how many structs may stand within one
+/// another, the root being the first. A visit of a struct costs its words, and at least 1.
+#[derive(Clone, Copy, Debug, PartialEq, Eq)]
+pub struct Limits {
+    /// Words of 8 bytes that are left to be paid for visits.
+    pub words: u64,
+    /// The greatest depth of a struct; the root struct has depth 1.
+    pub depth: u8,
+}
+
+impl Default for Limits {
+    fn default() -> Limits
+        ensures words { result.words ≡ 8388608 }
+        ensures depth { result.depth ≡ 64 }
+    {
+        Limits {
+            words: 8_388_608,
+            depth: 64,
+        }
+    }
+}

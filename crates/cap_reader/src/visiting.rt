@@ -1,0 +1,266 @@
+//! Visiting the structs and the lists of structs of a frame. Each call answers what the reading of the tree at its place
+//! gives within the words left, and lowers them by what its visit costs; a refusal leaves them as they were.
+
+ghost use Rattle.std.specs.Prelude.{◌≡◌, ◌<◌, ◌+◌, ◌^◌, List, ℕ, Option, Some, IfSome, IfOk};
+ghost use Rattle.std.specs.Option.{option_map};
+ghost use Rattle.cap_reader.specs.Pointers.{extent as extent_in};
+ghost use Rattle.cap_reader.specs.Tree.{structure_there, structure_at, tree_at, root_tree, composite_there};
+ghost use Rattle.cap_reader.specs.Reading.{Runs, Gives, run, structure_in, elements_in, root_in};
+ghost use Rattle.cap_reader.specs.Places.{sections_at, elements_at, element_at, child_at, list_len};
+
+use crate::extent::{extent, reaches, word_or_zero};
+use crate::following::follow;
+use crate::limits::Limits;
+use crate::place::{ListAt, StructAt};
+use crate::pointee::Pointee;
+use crate::pointer::{data_of, offset_of, pointers_of};
+use crate::read_error::ReadError;
+use cap_frame::Frame;
+
+pub const COMPOSITE: u8 = 7;
+
+/// Where a struct may stand: its segment, its start and the sizes of its two sections in words.
+#[derive(Clone, Copy)]
+struct Spot {
+    segment: u32,
+    start: u32,
+    data_words: u16,
+    pointer_count: u16,
+}
+
+/// The struct at a place where so many structs may stand within one another, after paying for the visit.
+fn visit(spot: Spot, depth: u8, limits: &mut Limits) -> Result<StructAt, ReadError>
+    ensures value { (segments : List (List ℕ)) → Runs (λ place. Some (sections_at segments place)) result limits.new.words
+        (run (structure_in (structure_at depth segments spot.segment spot.start spot.data_words spot.pointer_count)) limits.old.words) }
+    ensures falls { IfOk result (λ place. place.below < depth) }
+    ensures depth { limits.new.depth ≡ limits.old.depth }
+{
+    if depth == 0 {
+        return Err(ReadError::TooDeep);
+    }
+    let cost = (u64::from(spot.data_words) + u64::from(spot.pointer_count)).max(1);
+    if limits.words < cost {
+        return Err(ReadError::TooMuch);
+    }
+    limits.words -= cost;
+    Ok(StructAt {
+        segment: spot.segment,
+        start: spot.start,
+        data_words: spot.data_words,
+        pointer_count: spot.pointer_count,
+        below: depth - 1,
+    })
+}
+
+/// The struct to which a struct pointer leads.
+#[tactic(auto, unfolding(crate::specs::Reading::pay_for))]
+pub fn enter(
+    frame: &Frame,
+    segment: u32,
+    start: Option<u64>,
+    sizes: (u16, u16),
+    depth: u8,
+    limits: &mut Limits,
+) -> Result<StructAt, ReadError>
+    ensures value { Runs (λ place. Some (sections_at frame.now place)) result limits.new.words
+        (run (structure_in (structure_there (λ at. structure_at depth frame.now segment at sizes.0 sizes.1)
+        (extent_in frame.now segment start (sizes.0 + sizes.1)))) limits.old.words) }
+    ensures falls { IfOk result (λ place. place.below < depth) }
+    ensures depth { limits.new.depth ≡ limits.old.depth }
+{
+    let (data_words, pointer_count) = sizes;
+    let size = u64::from(data_words) + u64::from(pointer_count);
+    match extent(frame, segment, start, size) {
+        None => Err(ReadError::OutOfSegment),
+        Some(start) => visit(
+            Spot {
+                segment,
+                start,
+                data_words,
+                pointer_count,
+            },
+            depth,
+            limits,
+        ),
+    }
+}
+
+/// The struct at the pointer at a place, None where it is null.
+#[tactic(auto, using(crate::proofs::OtherKinds::list_is_no_structure), unfolding(crate::specs::Tree::pointed, crate::specs::Reading::pay_for))]
+fn struct_at(
+    frame: &Frame,
+    segment: u32,
+    at: u64,
+    depth: u8,
+    limits: &mut Limits,
+) -> Result<Option<StructAt>, ReadError>
+    requires { at < 2 ^ 40 }
+    ensures value { Runs (λ found. option_map (sections_at frame.now) found) result limits.new.words
+        (run (structure_in (tree_at depth frame.now segment at)) limits.old.words) }
+    ensures depth { limits.new.depth ≡ limits.old.depth }
+{
+    match follow(frame, segment, at)? {
+        Pointee::Null => Ok(None),
+        Pointee::Struct {
+            segment,
+            start,
+            data_words,
+            pointer_count,
+        } => {
+            let sizes = (data_words, pointer_count);
+            let place = enter(frame, segment, start, sizes, depth, limits)?;
+            Ok(Some(place))
+        }
+        Pointee::Reserved => Err(ReadError::Reserved),
+        Pointee::List { .. } | Pointee::Capability { .. } => Err(ReadError::WrongKind),
+    }
+}
+
+/// The list of structs to which a composite list pointer leads, whose content has so many words behind its tag.
+#[tactic(auto, unfolding(crate::specs::Tree::elements_behind))]
+pub fn composite(
+    frame: &Frame,
+    segment: u32,
+    start: Option<u64>,
+    size: u32,
+    depth: u8,
+) -> Result<ListAt, ReadError>
+    ensures { Gives (λ list. Some (elements_at frame.now list)) result (elements_in (composite_there (structure_at depth frame.now segment) frame.now segment size
+        (extent_in frame.now segment start 1))) }
+{
+    let Some(tag_at) = extent(frame, segment, start, 1) else {
+        return Err(ReadError::OutOfSegment);
+    };
+    let tag = word_or_zero(frame, segment, u64::from(tag_at));
+    if tag % 4 != 0 {
+        return Err(ReadError::WrongKind);
+    }
+    let count = offset_of(tag);
+    let data_words = data_of(tag);
+    let pointer_count = pointers_of(tag);
+    let element_size = u64::from(data_words) + u64::from(pointer_count);
+    let start = u64::from(tag_at) + 1;
+    if !reaches(frame, segment, start + u64::from(size))
+        || u64::from(count) * element_size > u64::from(size)
+    {
+        return Err(ReadError::OutOfSegment);
+    }
+    Ok(ListAt {
+        segment,
+        start: start as u32,
+        count,
+        data_words,
+        pointer_count,
+        depth,
+    })
+}
+
+/// The list of structs at the pointer at a place, None where it is null.
+#[tactic(auto, using(crate::proofs::OtherKinds::structure_is_no_list), unfolding(crate::specs::Tree::pointed, crate::specs::Tree::list_there))]
+fn list_at(frame: &Frame, segment: u32, at: u64, depth: u8) -> Result<Option<ListAt>, ReadError>
+    requires { at < 2 ^ 40 }
+    ensures { Gives (λ found. option_map (elements_at frame.now) found) result (elements_in (tree_at depth frame.now segment at)) }
+{
+    match follow(frame, segment, at)? {
+        Pointee::Null => Ok(None),
+        Pointee::List {
+            segment,
+            start,
+            element_size: COMPOSITE,
+            count,
+        } => {
+            let list = composite(frame, segment, start, count, depth)?;
+            Ok(Some(list))
+        }
+        Pointee::Reserved => Err(ReadError::Reserved),
+        _ => Err(ReadError::WrongKind),
+    }
+}
+
+/// The root struct of a frame; where the root pointer is null, the empty struct, in which every field has its default.
+pub fn root(frame: &Frame, limits: &mut Limits) -> Result<StructAt, ReadError>
+    ensures value { Runs (sections_at frame.now) result limits.new.words
+        (run (root_in (root_tree limits.old.depth frame.now)) limits.old.words) }
+    ensures depth { limits.new.depth ≡ limits.old.depth }
+{
+    let depth = limits.depth;
+    match struct_at(frame, 0, 0, depth, limits)? {
+        Some(place) => Ok(place),
+        None => Ok(StructAt {
+            segment: 0,
+            start: 0,
+            data_words: 0,
+            pointer_count: 0,
+            below: 0,
+        }),
+    }
+}
+
+/// The struct at a pointer of a struct, by the pointer's number, counted from 0. None where the pointer is null, or the struct
+/// is too short to have it.
+#[tactic(auto, unfolding(crate::specs::Reading::pay_for))]
+pub fn struct_field(
+    frame: &Frame,
+    place: &StructAt,
+    n: u16,
+    limits: &mut Limits,
+) -> Result<Option<StructAt>, ReadError>
+    ensures value { Runs (λ found. option_map (sections_at frame.now) found) result limits.new.words
+        (run (structure_in ((sections_at frame.now place.now).child n)) limits.old.words) }
+    ensures depth { limits.new.depth ≡ limits.old.depth }
+{
+    match place.pointer(n) {
+        Some(at) => struct_at(frame, place.segment, at, place.below, limits),
+        None => Ok(None),
+    }
+}
+
+/// The list of structs at a pointer of a struct, by the pointer's number, counted from 0. None where the pointer is null, or
+/// the struct is too short to have it. It costs nothing.
+#[tactic(auto, unfolding(crate::specs::Reading::pay_for))]
+pub fn list_field(
+    frame: &Frame,
+    place: &StructAt,
+    n: u16,
+    limits: &mut Limits,
+) -> Result<Option<ListAt>, ReadError>
+    ensures value { Runs (λ found. option_map (elements_at frame.now) found) result limits.new.words
+        (run (elements_in ((sections_at frame.now place.now).child n)) limits.old.words) }
+    ensures depth { limits.new.depth ≡ limits.old.depth }
+{
+    match place.pointer(n) {
+        Some(at) => list_at(frame, place.segment, at, place.below),
+        None => Ok(None),
+    }
+}
+
+impl ListAt {
+    /// How many elements there are.
+    pub fn len(&self) -> u32
+        ensures { result ≡ list_len self.now }
+    {
+        self.count
+    }
+
+    /// The struct of an element, counted from 0.
+    pub fn element(&self, i: u32, limits: &mut Limits) -> Result<StructAt, ReadError>
+        requires { i < list_len self.now }
+        // In any frame, so in the list's own.
+        ensures value { (segments : List (List ℕ)) → Runs (λ place. Some (sections_at segments place)) result limits.new.words
+            (run (structure_in ((elements_at segments self.now).element i)) limits.old.words) }
+        ensures depth { limits.new.depth ≡ limits.old.depth }
+    {
+        let size = u64::from(self.data_words) + u64::from(self.pointer_count);
+        let start = u64::from(self.start) + u64::from(i) * size;
+        visit(
+            Spot {
+                segment: self.segment,
+                start: start as u32,
+                data_words: self.data_words,
+                pointer_count: self.pointer_count,
+            },
+            self.depth,
+            limits,
+        )
+    }
+}

@@ -1,0 +1,96 @@
+-- Frames on a connection, as the logs of its two ends have them. A link is first in, first out: what one vat received is a
+-- prefix, byte for byte, of what the other sent.
+use Rattle.std.specs.Prelude.{◌≡◌, ◌≢◌, ◌⊎◌, ℕ, suc, ◌+◌, ◌-◌, ◌<◌, ◌==◌, List, [], ◌∷◌, ◌++◌, length, Option, Some, None, if◌then◌else◌, nat_lt, slice_get}
+use Rattle.std.specs.List.{filter_map}
+use Rattle.std.specs.Option.{option_map}
+use Rattle.std.specs.Str.{bytes_eq}
+use Rattle.vat_log.specs.Log.{Log}
+use Rattle.vat_log.specs.declared.body.Body.{Body}
+use Rattle.vat_log.specs.declared.body.Body.TheVariants.{Send, Receive}
+use Rattle.link_check.specs.declared.outcome.LinkOutcome.{LinkOutcome}
+use Rattle.link_check.specs.declared.outcome.LinkOutcome.TheVariants.{Good, Broken}
+
+-- the frame that a record sends on the connection
+abbrev pub sent_by : ℕ → Body → Option (List ℕ)
+sent_by connection (Send on call references frame) = if on == connection then Some frame else None
+sent_by connection _ = None
+
+-- the frame that a record receives on the connection
+abbrev pub received_by : ℕ → Body → Option (List ℕ)
+received_by connection (Receive on call references frame) = if on == connection then Some frame else None
+received_by connection _ = None
+
+-- the frames that a vat sent on the connection, in order
+abbrev pub sent : ℕ → Log → List (List ℕ)
+sent connection log = filter_map (sent_by connection) log.records
+
+-- the frames that a vat received on the connection, in order
+abbrev pub received : ℕ → Log → List (List ℕ)
+received connection log = filter_map (received_by connection) log.records
+
+-- a connection and the logs of its two ends
+pub record Ends : Type 0 where
+  pub connection : ℕ
+  pub first : Log
+  pub second : Log
+
+-- the ends, the smaller vat number first
+abbrev pub ends_of : ℕ → Log → Log → Ends
+ends_of connection a b = if nat_lt a.vat b.vat then record { connection = connection; first = a; second = b } else record { connection = connection; first = b; second = a }
+
+-- what was received is a prefix of what was sent
+abbrev pub IsPrefix : List (List ℕ) → List (List ℕ) → Type 0
+IsPrefix received sent = (rest : List (List ℕ)) × (sent ≡ received ++ rest)
+
+-- the message of this number was received and isn't the one sent; all before it are
+pub record IsLeastFault (received sent : List (List ℕ)) (message : ℕ) : Type 0 where
+  pub came : message < length received
+  pub differs : slice_get sent message ≢ slice_get received message
+  pub least : (before : ℕ) → before < message → slice_get sent before ≡ slice_get received before
+
+-- both ends received a prefix of what the other sent; the frames received, and those sent and not received
+pub record IsGood (link : Ends) (delivered in_flight : ℕ) : Type 0 where
+  pub at_first : IsPrefix (received link.connection link.first) (sent link.connection link.second)
+  pub at_second : IsPrefix (received link.connection link.second) (sent link.connection link.first)
+  pub came : delivered ≡ length (received link.connection link.first) + length (received link.connection link.second)
+  pub went : delivered + in_flight ≡ length (sent link.connection link.first) + length (sent link.connection link.second)
+
+-- the least fault is at the first end
+pub record IsBrokenAtFirst (link : Ends) (at message : ℕ) : Type 0 where
+  pub end : at ≡ link.first.vat
+  pub fault : IsLeastFault (received link.connection link.first) (sent link.connection link.second) message
+
+-- the first end has no fault, and the least fault is at the second
+pub record IsBrokenAtSecond (link : Ends) (at message : ℕ) : Type 0 where
+  pub end : at ≡ link.second.vat
+  pub at_first : IsPrefix (received link.connection link.first) (sent link.connection link.second)
+  pub fault : IsLeastFault (received link.connection link.second) (sent link.connection link.first) message
+
+-- what an outcome says of a link
+abbrev pub IsOutcome : Ends → LinkOutcome → Type 0
+IsOutcome link (Good delivered in_flight) = IsGood link delivered in_flight
+IsOutcome link (Broken at message) = IsBrokenAtFirst link at message ⊎ IsBrokenAtSecond link at message
+
+-- the least message that was received and isn't the one sent
+unfoldable pub first_fault : List (List ℕ) → List (List ℕ) → Option ℕ
+first_fault [] sent = None
+first_fault (r ∷ received) [] = Some 0
+first_fault (r ∷ received) (s ∷ sent) = if bytes_eq r s then option_map suc (first_fault received sent) else Some 0
+
+-- the first end's fault, else the second's, else the outcome of a good link
+abbrev pub told : ℕ → Option ℕ → ℕ → Option ℕ → LinkOutcome → LinkOutcome
+told first (Some message) second _ good = Broken first message
+told first None second (Some message) good = Broken second message
+told first None second None good = good
+
+-- the outcome of a link, computed
+unfoldable pub outcome_of : Ends → LinkOutcome
+outcome_of link =
+    let delivered = length (received link.connection link.first) + length (received link.connection link.second) in
+    let went_out = length (sent link.connection link.first) + length (sent link.connection link.second) in
+    told link.first.vat (first_fault (received link.connection link.first) (sent link.connection link.second)) link.second.vat (first_fault (received link.connection link.second) (sent link.connection link.first)) (Good delivered (went_out - delivered))
+
+-- what a finding carries: its ends are in order, and the outcome is theirs
+pub record IsFinding (link : Ends) (outcome : LinkOutcome) : Type 0 where
+  pub ordered : link.first.vat < link.second.vat
+  pub exact : outcome ≡ outcome_of link

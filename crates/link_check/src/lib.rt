@@ -1,0 +1,13 @@
+//! Two ends of a connection: the frames that one vat received are to be a prefix, byte for byte, of those that the other
+//! sent.
+//!
+//! It stands on `vat_log`. What a good link is, and the least fault of another, is said in `specs/Prefix.antt`. Nothing
+//! here takes memory.
+#![tactic(auto)]
+
+mod finding;
+mod frames;
+mod outcome;
+
+pub use finding::{LinkFinding, check_link};
+pub use outcome::LinkOutcome;

@@ -1,0 +1,3 @@
+pub mod Greedy
+pub mod Steps
+pub mod Reading

@@ -1,0 +1,6 @@
+use Rattle.std.proofs.Common.{◌≡◌, ◌++◌, take, drop}
+use Rattle.merge_order.specs.Fits.{after}
+use Rattle.merge_order.proofs.progress.Progress.take.Given as goal
+
+abbrev pub invariant-loop-cursor : goal.invariant-loop-cursor
+invariant-loop-cursor l = l.cursor-items ≡ after l.vat (take l.cursor-index l.initial.cursor-items) ++ drop l.cursor-index l.initial.cursor-items

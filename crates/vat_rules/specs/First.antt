@@ -28,12 +28,17 @@ abbrev pub with_message : (RpcMessage → Event) → Result RpcMessage Why → R
 with_message event (Ok m) = if is_audited m then Ok (event m) else Err NotYet
 with_message event (Err why) = Err why
 
--- a stored record as it is judged
+-- a stored record as it is judged; promises, fields and faults aren't audited yet
 abbrev pub event_of : Reader → Body → Result Event Why
 event_of read (body.Host r object) = Ok (Host r object)
+event_of read (body.Vow r) = Err NotYet
+event_of read (body.Fulfil r to) = Err NotYet
+event_of read (body.Break r) = Err NotYet
 event_of read (body.Make call r interface method) = Ok (Make call r interface method)
+event_of read (body.Field r call path) = Err NotYet
 event_of read (body.Deliver call object) = Ok (Deliver call object)
 event_of read (body.Answer call results) = Ok (Answer call results)
+event_of read (body.Fault call) = Err NotYet
 event_of read (body.Send connection call references frame) = with_message (Wire true connection call references) (read frame)
 event_of read (body.Receive connection call references frame) = with_message (Wire false connection call references) (read frame)
 

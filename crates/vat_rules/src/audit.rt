@@ -102,6 +102,11 @@ fn event_of(alloc: Global, body: &Body, limits: Limits) -> Result<Result<Event, 
                 results,
             }))
         }
+        Body::Vow { .. }
+        | Body::Fulfil { .. }
+        | Body::Break { .. }
+        | Body::Field { .. }
+        | Body::Fault { .. } => Ok(Err(Why::NotYet)),
         Body::Send {
             connection,
             call,

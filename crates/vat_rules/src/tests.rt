@@ -117,6 +117,30 @@ fn a_finish_is_not_audited_yet(rt: HostRuntime) -> Result<(), Fail> {
     Ok(())
 }
 
+/// The first record of this log isn't judged, for this reason.
+fn assert_outside(alloc: Global, record: &[u8], reason: Why) -> Result<(), Fail> {
+    let found = finding(alloc, &[&VAT_1, record], Limits::default())?;
+    match found.outcome() {
+        Outcome::Outside { at: 0, why } if *why == reason => Ok(()),
+        _ => Err(Fail::new("record 0 is outside for another reason")),
+    }
+}
+
+#[test]
+fn promises_fields_and_faults_are_not_audited_yet(rt: HostRuntime) -> Result<(), Fail> {
+    let records: [&[u8]; 5] = [
+        &[2, 1, 0, 0, 0, 0, 0, 0, 0],
+        &[3, 1, 0, 0, 0, 0, 0, 0, 0, 2, 0, 0, 0, 0, 0, 0, 0],
+        &[4, 1, 0, 0, 0, 0, 0, 0, 0],
+        &[6, 1, 0, 0, 0, 0, 0, 0, 0, 2, 0, 0, 0, 0, 0, 0, 0, 0, 0],
+        &[9, 1, 0, 0, 0, 0, 0, 0, 0],
+    ];
+    for record in records {
+        assert_outside(rt.alloc(), record, Why::NotYet)?;
+    }
+    Ok(())
+}
+
 #[test]
 fn a_frame_past_the_limits_is_unread(rt: HostRuntime) -> Result<(), Fail> {
     let limits = Limits {

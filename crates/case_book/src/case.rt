@@ -117,9 +117,10 @@ impl Case {
     pub fn tie_fault(&self) -> Option<TieFault>
         ensures { result ≡ tie_fault_of self.now }
     {
-        if let Some(connection) = least_missing(&self.logs, &self.links) {
+        let Case { logs, links } = self;
+        if let Some(connection) = least_missing(logs, links) {
             return Some(TieFault::MissingLog(connection));
         }
-        least_same_ended(&self.links).map(TieFault::SameEnds)
+        least_same_ended(links).map(TieFault::SameEnds)
     }
 }

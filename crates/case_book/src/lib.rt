@@ -14,3 +14,6 @@ pub use case::Case;
 pub use error::CaseError;
 pub use link::Link;
 pub use ties::TieFault;
+
+#[cfg(test)]
+mod tests;

@@ -24,12 +24,8 @@ fn lower_of(found: Option<u32>, connection: u32) -> Option<u32>
     ensures { result ≡ lower found connection }
 {
     match found {
-        None => Some(connection),
-        Some(least) => Some(if connection < least {
-            connection
-        } else {
-            least
-        }),
+        Some(least) if least <= connection => found,
+        _ => Some(connection),
     }
 }
 

@@ -11,3 +11,6 @@ mod outcome;
 
 pub use finding::{LinkFinding, check_link};
 pub use outcome::LinkOutcome;
+
+#[cfg(test)]
+mod tests;

@@ -1,0 +1,4 @@
+pub mod Least
+pub mod Neighbours
+pub mod Case
+pub mod Ties

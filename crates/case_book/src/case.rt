@@ -1,0 +1,126 @@
+//! Cases.
+
+ghost use Rattle.std.specs.Prelude.{◌≡◌, ◌≤◌, None, Some, IfOk, IfErr, length, map};
+ghost use Rattle.std.specs.Arc.{arc_value};
+ghost use Rattle.std.specs.List.Sorted.{IsPermutation, IsStrictlyIncreasing};
+ghost use Rattle.case_book.specs.Case.{vat_limit, link_limit, vats_fault, links_fault, refusal_of, vats_of, connections_of, IsCase, HoldsJust};
+ghost use Rattle.case_book.specs.Ties.{tie_fault_of};
+
+use crate::error::CaseError;
+use crate::link::Link;
+use crate::repeats::{repeated_connection, repeated_vat};
+use crate::ties::{TieFault, least_missing, least_same_ended};
+use std::marker::Model;
+use std::sync::Arc;
+use vat_log::VatLog;
+
+/// The logs of some vats, at most 64, and the links between them, at most 256. Each vat has one log, each connection one
+/// link; that they tie up is asked of [`Case::tie_fault`].
+#[derive(Debug, Drop)]
+pub struct Case {
+    logs: Vec<Arc<VatLog>>,
+    links: Vec<Link>,
+}
+
+/// How many logs a case can hold.
+const MAX_VATS: usize = 64;
+
+/// How many links a case can hold.
+const MAX_LINKS: usize = 256;
+
+/// These logs by rising vat number, or why there are too many.
+fn rising_logs(mut logs: Vec<Arc<VatLog>>) -> Result<Vec<Arc<VatLog>>, CaseError>
+    ensures err { IfErr result (λ error. vats_fault (map arc_value logs.items) ≡ Some error) }
+    ensures ok { IfOk result (λ sorted. vats_fault (map arc_value logs.items) ≡ None) }
+    ensures just { IfOk result (λ sorted. IsPermutation (map arc_value logs.items) (map arc_value sorted.items)) }
+    ensures rising { IfOk result (λ sorted. IsStrictlyIncreasing (vats_of (map arc_value sorted.items))) }
+    ensures few { IfOk result (λ sorted. length (map arc_value sorted.items) ≤ vat_limit) }
+{
+    if logs.len() > MAX_VATS {
+        return Err(CaseError::TooManyVats);
+    }
+    logs.sort_unstable_by_key(|log| log.vat());
+    match repeated_vat(&logs) {
+        Some(vat) => Err(CaseError::SameVat(vat)),
+        None => Ok(logs),
+    }
+}
+
+/// These links by rising connection, or why there are too many.
+fn rising_links(mut links: Vec<Link>) -> Result<Vec<Link>, CaseError>
+    ensures err { IfErr result (λ error. links_fault links.items ≡ Some error) }
+    ensures ok { IfOk result (λ sorted. links_fault links.items ≡ None) }
+    ensures just { IfOk result (λ sorted. IsPermutation links.items sorted.items) }
+    ensures rising { IfOk result (λ sorted. IsStrictlyIncreasing (connections_of sorted.items)) }
+    ensures few { IfOk result (λ sorted. length sorted.items ≤ link_limit) }
+{
+    if links.len() > MAX_LINKS {
+        return Err(CaseError::TooManyLinks);
+    }
+    links.sort_unstable_by_key(|link| link.conn);
+    match repeated_connection(&links) {
+        Some(connection) => Err(CaseError::SameLink(connection)),
+        None => Ok(links),
+    }
+}
+
+impl Model for Case {
+    ghost use Rattle.std.specs.Prelude.{map};
+    ghost use Rattle.std.specs.Arc.{arc_value};
+    ghost use Rattle.case_book.specs.Case.{Contents, IsCase};
+
+    ghost Value = { Contents };
+
+    ghost view = { λ held. record { logs = map arc_value held.logs.items; links = held.links.items } };
+
+    ghost invariant = { λ held. IsCase (record { logs = map arc_value held.logs.items; links = held.links.items }) };
+}
+
+impl Case {
+    /// The case of these logs and links, which may come in any order. It takes no memory.
+    ///
+    /// # Errors
+    ///
+    /// The first that applies: `TooManyVats` above 64 logs; `SameVat` with the least vat that has two logs; `TooManyLinks`
+    /// above 256 links; `SameLink` with the least connection that has two links.
+    pub fn new(logs: Vec<Arc<VatLog>>, links: Vec<Link>) -> Result<Case, CaseError>
+        // Where it is refused, and why.
+        ensures err { IfErr result (λ error. refusal_of (map arc_value logs.items) links.items ≡ Some error) }
+        ensures ok { IfOk result (λ case. refusal_of (map arc_value logs.items) links.items ≡ None) }
+        // What it holds.
+        ensures held { IfOk result (λ case. HoldsJust (map arc_value logs.items) links.items case) }
+        ensures rising { IfOk result IsCase }
+    {
+        let logs = rising_logs(logs)?;
+        let links = rising_links(links)?;
+        Ok(Case { logs, links })
+    }
+
+    /// The logs, by rising vat number.
+    pub fn logs(&self) -> &[Arc<VatLog>]
+        ensures lent { map arc_value result.now ≡ self.now.logs }
+        ensures rising { IsStrictlyIncreasing (vats_of (map arc_value result.now)) }
+    {
+        &self.logs
+    }
+
+    /// The links, by rising connection.
+    pub fn links(&self) -> &[Link]
+        ensures lent { result.now ≡ self.now.links }
+        ensures rising { IsStrictlyIncreasing (connections_of result.now) }
+    {
+        &self.links
+    }
+
+    /// Why the logs and links don't tie up, if they don't. A connection for which a log is missing comes before any whose
+    /// two ends are one vat; of each kind the least connection is named. It takes no memory.
+    pub fn tie_fault(&self) -> Option<TieFault>
+        ensures { result ≡ tie_fault_of self.now }
+    {
+        let Case { logs, links } = self;
+        if let Some(connection) = least_missing(logs, links) {
+            return Some(TieFault::MissingLog(connection));
+        }
+        least_same_ended(links).map(TieFault::SameEnds)
+    }
+}

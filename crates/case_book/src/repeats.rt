@@ -1,0 +1,39 @@
+//! Numbers that stand more than once, in lists sorted by them.
+
+ghost use Rattle.std.specs.Prelude.{◌≡◌, None, map};
+ghost use Rattle.std.specs.Arc.{arc_value};
+ghost use Rattle.case_book.specs.Case.{vats_of, connections_of};
+ghost use Rattle.case_book.specs.Neighbours.{first_same};
+
+use crate::link::Link;
+use std::sync::Arc;
+use vat_log::VatLog;
+
+/// The first vat number that is that of the log before it.
+pub fn repeated_vat(logs: &[Arc<VatLog>]) -> Option<u32>
+    ensures { result ≡ first_same None (vats_of (map arc_value logs.now)) }
+{
+    let mut previous = None;
+    for log in logs {
+        let vat = log.vat();
+        match previous {
+            Some(last) if last == vat => return previous,
+            _ => previous = Some(vat),
+        }
+    }
+    None
+}
+
+/// The first connection that is that of the link before it.
+pub fn repeated_connection(links: &[Link]) -> Option<u32>
+    ensures { result ≡ first_same None (connections_of links.now) }
+{
+    let mut previous = None;
+    for link in links {
+        match previous {
+            Some(last) if last == link.conn => return previous,
+            _ => previous = Some(link.conn),
+        }
+    }
+    None
+}

@@ -1,0 +1,44 @@
+//! Laws of readings, which hold of every frame and not of one call.
+
+ghost use Rattle.std.specs.Prelude.{◌≡◌, ◌≤◌, ◌+◌, ℕ, List, [], Ok, Some, true};
+ghost use Rattle.std.specs.Ordering.{nat_cmp};
+ghost use Rattle.std.specs.Cmp.Lexicographic.{slice_cmp};
+ghost use Rattle.std.specs.List.Sorted.{IsStrictlySortedBy};
+ghost use Rattle.cap_reader.specs.declared.pointer.Pointer.{Pointer};
+ghost use Rattle.cap_reader.specs.Pointers.{start_from};
+ghost use Rattle.cap_reader.specs.Tree.{Tree, tree_at};
+ghost use Rattle.cap_reader.specs.Reading.{run, cost_of};
+ghost use Rattle.cap_reader.specs.Fields.{fields_in};
+ghost use Rattle.cap_reader.specs.Laws.{paths_of, over_structs, struct_words, PadOfOne, PadOfTwo, LooksLike, pointer_at, Pairs, Correspond};
+
+/// What [`fields`](crate::fields) lists has each path once, in rising lexicographic order.
+pub fn paths_rise()
+    ensures { (tree : Tree) (words left : ℕ) (found : List (List ℕ × ℕ)) → run (fields_in [] tree) words ≡ (Ok found, left)
+        → IsStrictlySortedBy (slice_cmp nat_cmp) (paths_of found) }
+{}
+
+/// What [`fields`](crate::fields) pays is the words of the structs at and below the pointer, at least 1 for each; so at
+/// least their words together.
+pub fn structs_are_paid()
+    ensures exact { (tree : Tree) (words left : ℕ) (found : List (List ℕ × ℕ)) → run (fields_in [] tree) words ≡ (Ok found, left)
+        → left + over_structs cost_of tree ≡ words }
+    ensures words { (tree : Tree) (words left : ℕ) (found : List (List ℕ × ℕ)) → run (fields_in [] tree) words ≡ (Ok found, left)
+        → left + struct_words tree ≤ words }
+{}
+
+/// A far pointer has the value of the pointer on its pad; behind a pad of two words it has the value that a pointer in the
+/// content's segment has which looks like the tag and leads to the start.
+pub fn pads_lead_on()
+    ensures one_word { (segments : List (List ℕ)) (segment at pad_segment pad_at : ℕ) → PadOfOne segments segment at pad_segment pad_at
+        → (depth : ℕ) → tree_at depth segments segment at ≡ tree_at depth segments pad_segment pad_at }
+    ensures two_words { (segments : List (List ℕ)) (segment at content start : ℕ) (tag : Pointer) → PadOfTwo segments segment at content start tag
+        → (near offset : ℕ) → LooksLike tag offset (pointer_at segments content near) → start_from near offset ≡ Some start
+        → (depth : ℕ) → tree_at depth segments segment at ≡ tree_at depth segments content near }
+{}
+
+/// Where the pointers of two frames correspond, those that do have the same value, however the frames are cut in segments.
+pub fn cuts_keep_values()
+    ensures { (pairs : Pairs) (one other : List (List ℕ)) → Correspond pairs one other
+        → (depth segment at other_segment other_at : ℕ) → pairs segment at other_segment other_at ≡ true
+        → tree_at depth one segment at ≡ tree_at depth other other_segment other_at }
+{}

@@ -9,3 +9,5 @@ pub mod Rising
 pub mod Paid
 pub mod Pads
 pub mod Alike
+pub mod Visited
+pub mod Deep

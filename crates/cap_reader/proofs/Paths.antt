@@ -89,11 +89,11 @@ sound (capability index) front found e x c =
 sound reserved front found e x c = absurd (no_ok _ found e)
 sound (unfollowed d) front found e x c = absurd (no_ok d found e)
 
-guard_some : {A : Type 0} (b : Bool) (o : Option A) (x : A) → cond b o None ≡ Some x → (b ≡ true) × (o ≡ Some x)
+pub guard_some : {A : Type 0} (b : Bool) (o : Option A) (x : A) → cond b o None ≡ Some x → (b ≡ true) × (o ≡ Some x)
 guard_some true o x e = (refl, e)
 guard_some false o x e = absurd cc
 
-not_some : {A : Type 0} (x : A) → None ≡ Some x → ⊥
+pub not_some : {A : Type 0} (x : A) → None ≡ Some x → ⊥
 not_some x e = cc
 
 some_is : (m n : ℕ) → ◌≡◌ {A = Option ℕ} (Some m) (Some n) → m ≡ n

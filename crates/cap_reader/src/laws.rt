@@ -1,14 +1,15 @@
 //! Laws of readings, which hold of every frame and not of one call.
 
-ghost use Rattle.std.specs.Prelude.{◌≡◌, ◌≤◌, ◌+◌, ℕ, List, [], Ok, Some, true};
+ghost use Rattle.std.specs.Prelude.{◌≡◌, ◌≤◌, ◌+◌, ℕ, List, [], length, Some, None, Ok, Err, true};
 ghost use Rattle.std.specs.Ordering.{nat_cmp};
 ghost use Rattle.std.specs.Cmp.Lexicographic.{slice_cmp};
 ghost use Rattle.std.specs.List.Sorted.{IsStrictlySortedBy};
 ghost use Rattle.cap_reader.specs.declared.pointer.Pointer.{Pointer};
+ghost use Rattle.cap_reader.specs.declared.read_error.ReadError.{ReadError};
 ghost use Rattle.cap_reader.specs.Pointers.{start_from};
 ghost use Rattle.cap_reader.specs.Tree.{Tree, tree_at};
-ghost use Rattle.cap_reader.specs.Reading.{run, cost_of};
-ghost use Rattle.cap_reader.specs.Fields.{fields_in};
+ghost use Rattle.cap_reader.specs.Reading.{run, cost_of, structure_in, elements_in, Sections};
+ghost use Rattle.cap_reader.specs.Fields.{fields_in, capability_at};
 ghost use Rattle.cap_reader.specs.Laws.{paths_of, over_structs, struct_words, PadOfOne, PadOfTwo, LooksLike, pointer_at, Pairs, Correspond};
 
 /// What [`fields`](crate::fields) lists has each path once, in rising lexicographic order.
@@ -41,4 +42,20 @@ pub fn cuts_keep_values()
     ensures { (pairs : Pairs) (one other : List (List ℕ)) → Correspond pairs one other
         → (depth segment at other_segment other_at : ℕ) → pairs segment at other_segment other_at ≡ true
         → tree_at depth one segment at ≡ tree_at depth other other_segment other_at }
+{}
+
+/// A call that visits one struct pays its words, and at least 1. One that finds null, or refuses, pays nothing, and so does
+/// one that finds a list.
+pub fn one_visit_is_paid()
+    ensures read { (tree : Tree) (words left : ℕ) (sections : Sections) → run (structure_in tree) words ≡ (Ok (Some sections), left)
+        → left + cost_of (sections.data_words + sections.pointer_count) ≡ words }
+    ensures null { (tree : Tree) (words left : ℕ) → run (structure_in tree) words ≡ (Ok None, left) → left ≡ words }
+    ensures refused { (tree : Tree) (words left : ℕ) (e : ReadError) → run (structure_in tree) words ≡ (Err e, left) → left ≡ words }
+    ensures list { (tree : Tree) (words : ℕ) → (run (elements_in tree) words).1 ≡ words }
+{}
+
+/// A path to a capability has no more numbers than structs may stand within one another from its pointer on.
+pub fn paths_end()
+    ensures { (depth : ℕ) (segments : List (List ℕ)) (segment at : ℕ) (path : List ℕ) (index : ℕ)
+        → capability_at (tree_at depth segments segment at) path ≡ Some index → length path ≤ depth }
 {}

@@ -21,7 +21,9 @@ mod visiting;
 pub use capabilities::fields;
 pub use data::{bit_at, u16_at, u32_at, u64_at};
 pub use field_list::Fields;
-pub use laws::{cuts_keep_values, pads_lead_on, paths_rise, structs_are_paid};
+pub use laws::{
+    cuts_keep_values, one_visit_is_paid, pads_lead_on, paths_end, paths_rise, structs_are_paid,
+};
 pub use limits::Limits;
 pub use place::{ListAt, StructAt};
 pub use read_error::ReadError;

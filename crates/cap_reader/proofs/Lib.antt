@@ -11,3 +11,4 @@ pub mod Pads
 pub mod Alike
 pub mod Visited
 pub mod Deep
+pub mod Instance

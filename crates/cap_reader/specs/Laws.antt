@@ -4,7 +4,7 @@
 -- frame's segments, and the calls' contracts speak of a frame by these alone. So two frames with the same segments read the
 -- same, whatever their padding holds:
 --     segments ≡ others → tree_at depth segments segment at ≡ tree_at depth others segment at
-use Rattle.std.specs.Prelude.{◌≡◌, ℕ, ◌+◌, ◌*◌, ◌<◌, ◌==◌, Bool, true, false, List, length, map, Option, Some, None, Result, Ok, Err, slice_index}
+use Rattle.std.specs.Prelude.{◌≡◌, ℕ, ◌+◌, ◌*◌, ◌<◌, ◌==◌, Bool, true, false, List, length, map, Option, Some, None, Result, Ok, Err, slice_index, [], ◌∷◌}
 use Rattle.std.specs.Bool.{MatchBool}
 use Rattle.std.specs.List.{range_with_len, sum_by}
 use Rattle.cap_reader.specs.declared.pointer.Pointer.{Pointer}
@@ -139,3 +139,12 @@ SamePointees pairs one other here there = ⊥
 abbrev pub Correspond : Pairs → List (List ℕ) → List (List ℕ) → Type 0
 Correspond pairs one other =
     (segment at other_segment other_at : ℕ) → pairs segment at other_segment other_at ≡ true → SamePointees pairs one other (followed one segment at) (followed other other_segment other_at)
+
+-- ---- one frame cut in two ways: a Release of the export 3, two times
+
+abbrev pub release_whole : List (List ℕ)
+release_whole = (0x0001_0001_0000_0000 ∷ 6 ∷ 0x0000_0001_0000_0000 ∷ 0x0000_0002_0000_0003 ∷ []) ∷ []
+
+-- the message in a second segment, its pad behind it, and the body in the first, behind its pad
+abbrev pub release_cut : List (List ℕ)
+release_cut = (0x0000_0001_0000_0012 ∷ 0x0000_0001_0000_0000 ∷ 0x0000_0002_0000_0003 ∷ []) ∷ (6 ∷ 0x0000_0000_0000_000a ∷ 0x0001_0001_ffff_fff4 ∷ []) ∷ []

@@ -7,10 +7,10 @@ ghost use Rattle.std.specs.List.Sorted.{IsStrictlySortedBy};
 ghost use Rattle.cap_reader.specs.declared.pointer.Pointer.{Pointer};
 ghost use Rattle.cap_reader.specs.declared.read_error.ReadError.{ReadError};
 ghost use Rattle.cap_reader.specs.Pointers.{start_from};
-ghost use Rattle.cap_reader.specs.Tree.{Tree, tree_at};
+ghost use Rattle.cap_reader.specs.Tree.{Tree, tree_at, root_tree};
 ghost use Rattle.cap_reader.specs.Reading.{run, cost_of, structure_in, elements_in, Sections};
 ghost use Rattle.cap_reader.specs.Fields.{fields_in, capability_at};
-ghost use Rattle.cap_reader.specs.Laws.{paths_of, over_structs, struct_words, PadOfOne, PadOfTwo, LooksLike, pointer_at, Pairs, Correspond};
+ghost use Rattle.cap_reader.specs.Laws.{paths_of, over_structs, struct_words, PadOfOne, PadOfTwo, LooksLike, pointer_at, Pairs, Correspond, release_whole, release_cut};
 
 /// What [`fields`](crate::fields) lists has each path once, in rising lexicographic order.
 pub fn paths_rise()
@@ -38,10 +38,12 @@ pub fn pads_lead_on()
 {}
 
 /// Where the pointers of two frames correspond, those that do have the same value, however the frames are cut in segments.
+/// So has one message, whole and cut in two.
 pub fn cuts_keep_values()
-    ensures { (pairs : Pairs) (one other : List (List ℕ)) → Correspond pairs one other
+    ensures values { (pairs : Pairs) (one other : List (List ℕ)) → Correspond pairs one other
         → (depth segment at other_segment other_at : ℕ) → pairs segment at other_segment other_at ≡ true
         → tree_at depth one segment at ≡ tree_at depth other other_segment other_at }
+    ensures release { (depth : ℕ) → root_tree depth release_whole ≡ root_tree depth release_cut }
 {}
 
 /// A call that visits one struct pays its words, and at least 1. One that finds null, or refuses, pays nothing, and so does

@@ -10,7 +10,7 @@ use Rattle.cap_reader.specs.declared.pointee.Pointee.TheVariants as leads
 use Rattle.cap_reader.specs.declared.read_error.ReadError.{ReadError}
 use Rattle.cap_reader.specs.Pointers.{pointer_of, words_of, start_from, pointee_of, pad_word, word_there, content_in, tagged, landed, followed, ◌>>=◌}
 use Rattle.cap_reader.specs.Tree.{pointed, structure_at, tree_at}
-use Rattle.cap_reader.specs.Laws.{pointer_at, IsNear, PadOfOne, PadOfTwo, LooksLike}
+use Rattle.cap_reader.specs.Laws.{pointer_at, IsNear, PadOfOne, PadOfTwo, LooksLike, tagged_tree}
 
 abbrev Lead : Type 0
 Lead = Result Pointee ReadError
@@ -67,16 +67,19 @@ both_words segments segment at pad_segment pad_at first tag e d =
     ap (λ (pad : Result ℕ ReadError). pad >>= λ word. pad_word segments pad_segment (pad_at + 1) >>= λ other. tagged segments (pointer_of word) (pointer_of other)) e
     ∙ ap (λ (pad : Result ℕ ReadError). pad >>= λ other. tagged segments (pointer_of first) (pointer_of other)) d
 
-by_two : (segments : List (List ℕ)) (segment at content start : ℕ) (tag : Pointer) → PadOfTwo segments segment at content start tag → (near offset : ℕ) → LooksLike tag offset (pointer_at segments content near) → start_from near offset ≡ Some start
-    → followed segments segment at ≡ followed segments content near
-by_two segments segment at content start tag pad near offset same from =
+by_tag : (segments : List (List ℕ)) (segment at content start : ℕ) (tag : Pointer) → PadOfTwo segments segment at content start tag → followed segments segment at ≡ tagged segments (pointers.Far false start content) tag
+by_tag segments segment at content start tag pad =
     let first = slice_index (words_of segments pad.pad_segment) pad.pad_at in
     let second = slice_index (words_of segments pad.pad_segment) (pad.pad_at + 1) in
     ap (landed segments segment at) pad.far
     ∙ both_words segments segment at pad.pad_segment pad.pad_at first second (pad_there segments pad.pad_segment pad.pad_at pad.segment_there (omega (arith, pad.words_there))) (pad_there segments pad.pad_segment (pad.pad_at + 1) pad.segment_there pad.words_there)
     ∙ ap (λ (p : Pointer). tagged segments p (pointer_of second)) pad.first
     ∙ ap (tagged segments (pointers.Far false start content)) pad.tagged
-    ∙ tag_leads segments content start near offset tag (pointer_at segments content near) pad.content_there same from
+
+by_two : (segments : List (List ℕ)) (segment at content start : ℕ) (tag : Pointer) → PadOfTwo segments segment at content start tag → (near offset : ℕ) → LooksLike tag offset (pointer_at segments content near) → start_from near offset ≡ Some start
+    → followed segments segment at ≡ followed segments content near
+by_two segments segment at content start tag pad near offset same from =
+    by_tag segments segment at content start tag pad ∙ tag_leads segments content start near offset tag (pointer_at segments content near) pad.content_there same from
 
 pub tree_by_one : (segments : List (List ℕ)) (segment at pad_segment pad_at : ℕ) → PadOfOne segments segment at pad_segment pad_at → (depth : ℕ) → tree_at depth segments segment at ≡ tree_at depth segments pad_segment pad_at
 tree_by_one segments segment at pad_segment pad_at pad depth =
@@ -86,3 +89,17 @@ pub tree_by_two : (segments : List (List ℕ)) (segment at content start : ℕ) 
     → (depth : ℕ) → tree_at depth segments segment at ≡ tree_at depth segments content near
 tree_by_two segments segment at content start tag pad near offset same from depth =
     ap (λ (lead : Lead). pointed (structure_at depth segments) segments lead) (by_two segments segment at content start tag pad near offset same from)
+
+tag_is : (depth : ℕ) (segments : List (List ℕ)) (content start : ℕ) (tag : Pointer) → content < length segments
+    → pointed (structure_at depth segments) segments (tagged segments (pointers.Far false start content) tag) ≡ tagged_tree depth segments content start tag
+unfolding tagged pointed
+tag_is depth segments content start pointers.Null there = rw (lt-ltb content (length segments) there) refl
+tag_is depth segments content start (pointers.Struct unread data_words pointer_count) there = rw (lt-ltb content (length segments) there) refl
+tag_is depth segments content start (pointers.List unread element_size count) there = rw (lt-ltb content (length segments) there) refl
+tag_is depth segments content start (pointers.Far two_words unread segment) there = refl
+tag_is depth segments content start (pointers.Capability index) there = refl
+tag_is depth segments content start pointers.Reserved there = refl
+
+pub tree_by_tag : (segments : List (List ℕ)) (segment at content start : ℕ) (tag : Pointer) → PadOfTwo segments segment at content start tag → (depth : ℕ) → tree_at depth segments segment at ≡ tagged_tree depth segments content start tag
+tree_by_tag segments segment at content start tag pad depth =
+    ap (λ (lead : Lead). pointed (structure_at depth segments) segments lead) (by_tag segments segment at content start tag pad) ∙ tag_is depth segments content start tag pad.content_there

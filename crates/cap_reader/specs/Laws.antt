@@ -12,8 +12,9 @@ use Rattle.cap_reader.specs.declared.pointer.Pointer.TheVariants as pointers
 use Rattle.cap_reader.specs.declared.pointee.Pointee.{Pointee}
 use Rattle.cap_reader.specs.declared.pointee.Pointee.TheVariants as leads
 use Rattle.cap_reader.specs.declared.read_error.ReadError.{ReadError}
+use Rattle.cap_reader.specs.declared.read_error.ReadError.TheVariants.{BadPad}
 use Rattle.cap_reader.specs.Pointers.{pointer_of, offset_bits, data_bits, pointer_bits, words_of, has_words, extent, followed}
-use Rattle.cap_reader.specs.Tree.{Tree, nothing, structure, bad_structure, composite, bad_composite, plain, bad_plain, capability, reserved, unfollowed, plain_words}
+use Rattle.cap_reader.specs.Tree.{Tree, nothing, structure, bad_structure, composite, bad_composite, plain, bad_plain, capability, reserved, unfollowed, structure_there, list_there, plain_words, structure_at}
 
 -- ---- what is listed
 
@@ -86,6 +87,18 @@ LooksLike (pointers.List unread element_size count) offset pointer = pointer ≡
 LooksLike (pointers.Far two_words unread segment) offset pointer = ⊥
 LooksLike (pointers.Capability index) offset pointer = ⊥
 LooksLike pointers.Reserved offset pointer = ⊥
+
+-- What stands at the start of the content, by the tag: a struct or a list there, whatever the tag's own offset is.
+abbrev pub tagged_tree : ℕ → List (List ℕ) → ℕ → ℕ → Pointer → Tree
+tagged_tree depth segments content start pointers.Null =
+    structure_there (λ at. structure_at depth segments content at 0 0) (extent segments content (Some start) 0)
+tagged_tree depth segments content start (pointers.Struct unread data_words pointer_count) =
+    structure_there (λ at. structure_at depth segments content at data_words pointer_count) (extent segments content (Some start) (data_words + pointer_count))
+tagged_tree depth segments content start (pointers.List unread element_size count) =
+    list_there (structure_at depth segments content) segments content (Some start) element_size count
+tagged_tree depth segments content start (pointers.Far two_words unread segment) = unfollowed BadPad
+tagged_tree depth segments content start (pointers.Capability index) = unfollowed BadPad
+tagged_tree depth segments content start pointers.Reserved = unfollowed BadPad
 
 -- ---- frames whose pointers correspond: one frame's content lies elsewhere in the other, behind pads or not
 

@@ -10,7 +10,7 @@ ghost use Rattle.cap_reader.specs.Pointers.{start_from};
 ghost use Rattle.cap_reader.specs.Tree.{Tree, tree_at, root_tree};
 ghost use Rattle.cap_reader.specs.Reading.{run, cost_of, structure_in, elements_in, Sections};
 ghost use Rattle.cap_reader.specs.Fields.{fields_in, capability_at};
-ghost use Rattle.cap_reader.specs.Laws.{paths_of, over_structs, struct_words, PadOfOne, PadOfTwo, LooksLike, pointer_at, Pairs, Correspond, release_whole, release_cut};
+ghost use Rattle.cap_reader.specs.Laws.{paths_of, over_structs, struct_words, PadOfOne, PadOfTwo, tagged_tree, LooksLike, pointer_at, Pairs, Correspond, release_whole, release_cut};
 
 /// What [`fields`](crate::fields) lists has each path once, in rising lexicographic order.
 pub fn paths_rise()
@@ -27,12 +27,14 @@ pub fn structs_are_paid()
         → left + struct_words tree ≤ words }
 {}
 
-/// A far pointer has the value of the pointer on its pad; behind a pad of two words it has the value that a pointer in the
-/// content's segment has which looks like the tag and leads to the start.
+/// A far pointer has the value of the pointer on its pad. Behind a pad of two words it has the value of what the tag says at
+/// the start of the content, and so that of each pointer in the content's segment which looks like the tag and leads there.
 pub fn pads_lead_on()
     ensures one_word { (segments : List (List ℕ)) (segment at pad_segment pad_at : ℕ) → PadOfOne segments segment at pad_segment pad_at
         → (depth : ℕ) → tree_at depth segments segment at ≡ tree_at depth segments pad_segment pad_at }
     ensures two_words { (segments : List (List ℕ)) (segment at content start : ℕ) (tag : Pointer) → PadOfTwo segments segment at content start tag
+        → (depth : ℕ) → tree_at depth segments segment at ≡ tagged_tree depth segments content start tag }
+    ensures near { (segments : List (List ℕ)) (segment at content start : ℕ) (tag : Pointer) → PadOfTwo segments segment at content start tag
         → (near offset : ℕ) → LooksLike tag offset (pointer_at segments content near) → start_from near offset ≡ Some start
         → (depth : ℕ) → tree_at depth segments segment at ≡ tree_at depth segments content near }
 {}

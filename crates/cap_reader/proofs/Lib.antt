@@ -5,3 +5,10 @@ pub mod Loops
 pub mod Adding
 pub mod Prices
 pub mod Paths
+pub mod Rising
+pub mod Paid
+pub mod Pads
+pub mod Alike
+pub mod Visited
+pub mod Deep
+pub mod Instance

@@ -1,9 +1,9 @@
 -- Reading numbers one after another, as a loop does.
-use Rattle.std.proofs.Common.{◌≡◌, ℕ, zero, suc, ◌+◌, ◌-◌, ◌<◌, ◌≤◌, List, [], ◌∷◌, ◌++◌, Result, Ok, Err, refl, sym, ap, ◌∙◌, append_assoc, arith}
+use Rattle.std.proofs.Common.{◌≡◌, ℕ, suc, ◌+◌, ◌-◌, ◌<◌, ◌≤◌, List, [], ◌++◌, Result, Ok, Err, refl, sym, ap, ◌∙◌, append_assoc, arith}
 use Rattle.std.proofs.lemmas.List.{append-nil}
 use Rattle.cap_reader.specs.declared.read_error.ReadError.{ReadError}
 use Rattle.cap_reader.specs.declared.read_error.ReadError.TheVariants as errors
-use Rattle.cap_reader.specs.Reading.{Reading, done, fault, visit, and_then, pay_for, run, each, with_front, Refuses}
+use Rattle.cap_reader.specs.Reading.{Reading, done, and_then, pay_for, run, each, with_front, Refuses}
 use Rattle.cap_reader.proofs.Running.{going_on, run_then}
 
 abbrev answered : {A : Type 0} → List A → ℕ → Result (List A) ReadError × ℕ

@@ -26,7 +26,7 @@ module _ {A : Type 0} (f : Tree → A) (z : A) (is_composite : (n : ℕ) (g : �
   plain_is p q None = q OutOfSegment
   plain_is p q (Some start) = p
 
-  list_is : f plain ≡ z → ((e : ReadError) → f (bad_plain e) ≡ z) → (made : ℕ → ℕ → ℕ → Tree) (segments : List (List ℕ)) (segment : ℕ) (start : Option ℕ) (element_size count : ℕ) → f (list_there made segments segment start element_size count) ≡ z
+  pub list_is : f plain ≡ z → ((e : ReadError) → f (bad_plain e) ≡ z) → (made : ℕ → ℕ → ℕ → Tree) (segments : List (List ℕ)) (segment : ℕ) (start : Option ℕ) (element_size count : ℕ) → f (list_there made segments segment start element_size count) ≡ z
   unfolding list_there
   list_is p q made segments segment start element_size count =
       chosen f z _ _ _ (there_is made segments segment count (extent segments segment start 1)) (plain_is p q (extent segments segment start (plain_words element_size count)))

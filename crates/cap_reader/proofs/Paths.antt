@@ -1,5 +1,5 @@
 -- What is listed is what stands at the end of the paths.
-use Rattle.std.proofs.Common.{◌≡◌, ℕ, zero, suc, ◌+◌, ◌-◌, ◌<◌, ◌≤◌, Bool, true, false, cond, ltb, List, [], ◌∷◌, ◌++◌, length, get_or, Option, Some, None, Result, Ok, Err, refl, sym, ap, subst, ◌∙◌, append_assoc, arith, inl, inr}
+use Rattle.std.proofs.Common.{◌≡◌, ℕ, zero, suc, ◌+◌, ◌<◌, ◌≤◌, Bool, true, false, cond, ltb, List, [], ◌∷◌, ◌++◌, length, Option, Some, None, Result, Ok, Err, refl, sym, ap, subst, ◌∙◌, append_assoc, arith, inl, inr}
 use Rattle.std.specs.Prelude.{IfOk, ◌↔◌}
 use Rattle.std.specs.List.{Contains}
 use Rattle.std.proofs.lemmas.Bool.{cases_lt, lt-ltb, ltb-true}
@@ -12,19 +12,19 @@ use Rattle.cap_reader.specs.Reading.{Reading, done, fault, visit, and_then, run,
 use Rattle.cap_reader.specs.Fields.{fields_in, capability_at}
 use Rattle.cap_reader.proofs.Prices.{ends_so}
 
-abbrev Entry : Type 0
+abbrev pub Entry : Type 0
 Entry = List ℕ × ℕ
 
-abbrev Listing : Type 0
+abbrev pub Listing : Type 0
 Listing = Reading ReadError (List Entry)
 
-ok_is : (x y : List Entry) → ◌≡◌ {A = Result (List Entry) ReadError} (Ok x) (Ok y) → x ≡ y
+pub ok_is : (x y : List Entry) → ◌≡◌ {A = Result (List Entry) ReadError} (Ok x) (Ok y) → x ≡ y
 ok_is x y e = cc
 
-no_ok : (e : ReadError) (y : List Entry) → ◌≡◌ {A = Result (List Entry) ReadError} (Err e) (Ok y) → ⊥
+pub no_ok : (e : ReadError) (y : List Entry) → ◌≡◌ {A = Result (List Entry) ReadError} (Err e) (Ok y) → ⊥
 no_ok e y h = cc
 
-ending_then : {A B : Type 0} (reading : Reading ReadError A) (next : A → Reading ReadError B) (y : B) → ending (and_then reading next) ≡ Ok y → (x : A) × (ending reading ≡ Ok x) × (ending (next x) ≡ Ok y)
+pub ending_then : {A B : Type 0} (reading : Reading ReadError A) (next : A → Reading ReadError B) (y : B) → ending (and_then reading next) ≡ Ok y → (x : A) × (ending reading ≡ Ok x) × (ending (next x) ≡ Ok y)
 unfolding ending and_then
 ending_then (done value) next y e = (value, refl, e)
 ending_then (fault d) next y e = absurd cc
@@ -40,7 +40,7 @@ one_entry y x (suc k, lt, e) = absurd (omega arith)
 -- ---- the readings of one number after another
 
 module _ (f : ℕ → Listing) (P : ℕ → Entry → Type 0) where
-  each_sound : ((n : ℕ) (found : List Entry) → ending (f n) ≡ Ok found → (x : Entry) → Contains found x → P n x) → (n from : ℕ) (found : List Entry) → ending (each f from n) ≡ Ok found → (x : Entry) → Contains found x → (k : ℕ) × (k < from + n) × P k x
+  pub each_sound : ((n : ℕ) (found : List Entry) → ending (f n) ≡ Ok found → (x : Entry) → Contains found x → P n x) → (n from : ℕ) (found : List Entry) → ending (each f from n) ≡ Ok found → (x : Entry) → Contains found x → (k : ℕ) × (from ≤ k) × (k < from + n) × P k x
   unfolding each ending
   each_sound s zero from found e x c = absurd (no_entry found x e c)
   each_sound s (suc n) from found e x c =
@@ -48,8 +48,8 @@ module _ (f : ℕ → Listing) (P : ℕ → Entry → Type 0) where
       let b = ending_then (each f (from + 1) n) (λ others. done (a.0 ++ others)) found a.2 in
       let there : Contains (a.0 ++ b.0) x = (let Q : List Entry → Type 0 = λ l. Contains l x in subst Q (sym (ok_is (a.0 ++ b.0) found b.2)) c) in
       elim (Contains-append_cases a.0 b.0 x there) [
-        | inl h ↦ (from, omega arith, s from a.0 a.1 x h)
-        | inr h ↦ (let r = each_sound s n (from + 1) b.0 b.1 x h in (r.0, omega (arith, r.1), r.2))
+        | inl h ↦ (from, omega arith, omega arith, s from a.0 a.1 x h)
+        | inr h ↦ (let r = each_sound s n (from + 1) b.0 b.1 x h in (r.0, omega (arith, r.1), omega (arith, r.2), r.3))
       ]
 
   each_complete : ((n : ℕ) (found : List Entry) → ending (f n) ≡ Ok found → (x : Entry) → P n x → Contains found x) → (n from : ℕ) (found : List Entry) → ending (each f from n) ≡ Ok found → (x : Entry) (k : ℕ) → from ≤ k → k < from + n → P k x → Contains found x
@@ -75,8 +75,8 @@ unfolding fields_in capability_at ending
 sound nothing front found e x c = absurd (no_entry found x e c)
 sound (structure data_words word pointer_count child) front found e x c =
     let r = each_sound (λ n. fields_in (front ++ n ∷ []) (child n)) (λ n y. IsBelow (front ++ n ∷ []) (child n) y) (λ n. sound (child n) (front ++ n ∷ [])) pointer_count 0 found e x c in
-    let lt : r.0 < pointer_count = omega (arith, r.1) in
-    (r.0 ∷ r.2.0, r.2.1 ∙ append_assoc front (r.0 ∷ []) r.2.0, rw (lt-ltb r.0 pointer_count lt) r.2.2)
+    let lt : r.0 < pointer_count = omega (arith, r.2) in
+    (r.0 ∷ r.3.0, r.3.1 ∙ append_assoc front (r.0 ∷ []) r.3.0, rw (lt-ltb r.0 pointer_count lt) r.3.2)
 sound (bad_structure d) front found e x c = absurd (no_ok d found e)
 sound (composite n g) front found e x c = absurd (no_entry found x e c)
 sound (bad_composite d) front found e x c = absurd (no_ok d found e)
@@ -89,11 +89,11 @@ sound (capability index) front found e x c =
 sound reserved front found e x c = absurd (no_ok _ found e)
 sound (unfollowed d) front found e x c = absurd (no_ok d found e)
 
-guard_some : {A : Type 0} (b : Bool) (o : Option A) (x : A) → cond b o None ≡ Some x → (b ≡ true) × (o ≡ Some x)
+pub guard_some : {A : Type 0} (b : Bool) (o : Option A) (x : A) → cond b o None ≡ Some x → (b ≡ true) × (o ≡ Some x)
 guard_some true o x e = (refl, e)
 guard_some false o x e = absurd cc
 
-not_some : {A : Type 0} (x : A) → None ≡ Some x → ⊥
+pub not_some : {A : Type 0} (x : A) → None ≡ Some x → ⊥
 not_some x e = cc
 
 some_is : (m n : ℕ) → ◌≡◌ {A = Option ℕ} (Some m) (Some n) → m ≡ n

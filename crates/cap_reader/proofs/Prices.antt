@@ -1,6 +1,5 @@
 -- What visits cost together decides whether a reading ends as it does or is too much.
-use Rattle.std.proofs.Common.{◌≡◌, ℕ, zero, suc, ◌+◌, ◌-◌, ◌<◌, ◌≤◌, Bool, true, false, cond, List, Result, Ok, Err, refl, sym, ap, subst, ◌∙◌, arith, inl, inr}
-use Rattle.std.specs.Prelude.{nat_lt}
+use Rattle.std.proofs.Common.{◌≡◌, ℕ, ◌+◌, ◌-◌, ◌<◌, ◌≤◌, Result, Ok, Err, refl, sym, ap, subst, ◌∙◌, arith, inl, inr}
 use Rattle.std.proofs.lemmas.Bool.{cases_lt, lt-ltb, le-ltb}
 use Rattle.cap_reader.specs.declared.read_error.ReadError.{ReadError}
 use Rattle.cap_reader.specs.declared.read_error.ReadError.TheVariants as errors
@@ -24,7 +23,7 @@ too_dear too_much (visit cost rest) words lt =
       | inr enough ↦ rw (le-ltb words cost enough) (too_dear too_much rest (words - cost) (omega arith))
     ]
 
-err_ok : {E A : Type 0} (d : E) (v : A) (l k : ℕ) → ◌≡◌ {A = Result A E × ℕ} (Err d, l) (Ok v, k) → ⊥
+pub err_ok : {E A : Type 0} (d : E) (v : A) (l k : ℕ) → ◌≡◌ {A = Result A E × ℕ} (Err d, l) (Ok v, k) → ⊥
 err_ok {E} {A} d v l k h = let e : ◌≡◌ {A = Result A E} (Err d) (Ok v) = ap (λ (r : Result A E × ℕ). r.0) h in cc
 
 pub ends_so : {E A : Type 0} (too_much : E) (reading : Reading E A) (words left : ℕ) (value : A) → pay_for too_much reading words ≡ (Ok value, left) → ending reading ≡ Ok value

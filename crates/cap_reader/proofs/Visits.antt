@@ -1,12 +1,11 @@
 -- A visit of a struct: what it answers and what it costs.
-use Rattle.std.proofs.Common.{◌≡◌, ℕ, zero, suc, ◌+◌, ◌-◌, ◌<◌, ◌≤◌, Bool, true, false, cond, List, Option, Some, None, Result, Ok, Err, refl, sym, ap, ◌∙◌, arith}
+use Rattle.std.proofs.Common.{◌≡◌, ℕ, zero, suc, ◌+◌, ◌-◌, ◌<◌, ◌≤◌, true, false, List, Some, Ok, Err, refl, arith}
 use Rattle.std.specs.Prelude.{max, nat_lt}
 use Rattle.std.proofs.lemmas.Bool.{lt-ltb, le-ltb}
 use Rattle.cap_reader.specs.declared.place.StructAt.{StructAt}
-use Rattle.cap_reader.specs.declared.read_error.ReadError.{ReadError}
 use Rattle.cap_reader.specs.declared.read_error.ReadError.TheVariants.{TooDeep, TooMuch}
 use Rattle.cap_reader.specs.Tree.{structure_at}
-use Rattle.cap_reader.specs.Reading.{run, pay_for, structure_in, Sections, cost_of}
+use Rattle.cap_reader.specs.Reading.{run, pay_for, structure_in, cost_of}
 use Rattle.cap_reader.specs.Places.{sections_at}
 
 pub visit_deep : (depth words segment start data_words pointer_count : ℕ) → depth ≡ 0 → (segments : List (List ℕ))

@@ -3,3 +3,4 @@ pub mod Tree
 pub mod Reading
 pub mod Fields
 pub mod Places
+pub mod Laws

@@ -1,7 +1,7 @@
 -- What a pointer's word says, and what it leads to (Cap'n Proto encoding specification, "Structs", "Lists",
 -- "Inter-Segment Pointers", "Capabilities"). A word is a number below 2^64, a segment the list of its words; segments and
 -- places in them are counted from 0.
-use Rattle.std.specs.Prelude.{ℕ, ◌+◌, ◌-◌, ◌*◌, ◌/◌, ◌%◌, ◌^◌, ◌==◌, Bool, true, false, ◌&&◌, List, [], length, Option, Some, None, Result, Ok, Err, nat_lt, nat_le, if◌then◌else◌, slice_index, slice_index_or}
+use Rattle.std.specs.Prelude.{ℕ, ◌+◌, ◌-◌, ◌/◌, ◌%◌, ◌^◌, ◌==◌, Bool, true, false, ◌&&◌, List, [], length, Option, Some, None, Result, Ok, Err, nat_lt, nat_le, if◌then◌else◌, slice_index, slice_index_or}
 use Rattle.cap_frame.specs.Segments.{word_at}
 use Rattle.cap_reader.specs.declared.pointer.Pointer.{Pointer}
 use Rattle.cap_reader.specs.declared.pointer.Pointer.TheVariants as pointers

@@ -1,5 +1,5 @@
 -- A reading of a tree: the costs of its visits in order, and how it ends.
-use Rattle.std.specs.Prelude.{◌≡◌, ℕ, zero, suc, ◌+◌, ◌-◌, List, [], ◌∷◌, ◌++◌, Option, Some, None, Result, Ok, Err, nat_lt, max, if◌then◌else◌}
+use Rattle.std.specs.Prelude.{◌≡◌, ℕ, zero, suc, ◌+◌, ◌-◌, List, [], ◌++◌, Option, Some, None, Result, Ok, Err, nat_lt, max, if◌then◌else◌}
 use Rattle.cap_reader.specs.declared.read_error.ReadError.{ReadError}
 use Rattle.cap_reader.specs.declared.read_error.ReadError.TheVariants.{WrongKind, Reserved, TooMuch, OutOfMemory}
 use Rattle.cap_reader.specs.Tree.{Tree, nothing, structure, bad_structure, composite, bad_composite, plain, bad_plain, capability, reserved, unfollowed}

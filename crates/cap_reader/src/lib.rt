@@ -1,7 +1,8 @@
 //! Reading the structs, lists and capabilities of a frame where they lie, by their pointers, within limits.
 //!
 //! It stands on `cap_frame`. What stands at a pointer is the whole tree of `specs/Tree.antt`; reading it is a list of visits
-//! with costs and an ending, as `specs/Reading.antt` says. Nothing here takes memory but [`fields`].
+//! with costs and an ending, as `specs/Reading.antt` says. What holds of every reading, as that it is the same however a
+//! frame is cut in segments, `laws` promises. Nothing here takes memory but [`fields`].
 #![tactic(auto)]
 
 mod capabilities;
@@ -9,6 +10,7 @@ mod data;
 mod extent;
 mod field_list;
 mod following;
+mod laws;
 mod limits;
 mod place;
 mod pointee;
@@ -19,6 +21,9 @@ mod visiting;
 pub use capabilities::fields;
 pub use data::{bit_at, u16_at, u32_at, u64_at};
 pub use field_list::Fields;
+pub use laws::{
+    cuts_keep_values, one_visit_is_paid, pads_lead_on, paths_end, paths_rise, structs_are_paid,
+};
 pub use limits::Limits;
 pub use place::{ListAt, StructAt};
 pub use read_error::ReadError;

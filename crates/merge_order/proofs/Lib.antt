@@ -1,3 +1,4 @@
 pub mod Greedy
 pub mod Steps
 pub mod Reading
+pub mod Tables

@@ -1,13 +1,10 @@
 -- Going on by one step, as the loops do.
 use Rattle.std.proofs.Common.{◌≡◌, ℕ, suc, ◌+◌, ◌-◌, ◌<◌, ◌≤◌, Bool, true, false, List, [], ◌∷◌, ◌++◌, length, get_or, take, drop, Option, Some, None, refl, sym, ap, subst, ◌∙◌, inl, inr, arith, append_assoc}
-use Rattle.std.specs.Prelude.{◌≢◌, ◌==◌, ◌↔◌, map, slice_get, nat_lt, count_by}
+use Rattle.std.specs.Prelude.{◌≢◌, ◌==◌, ◌↔◌, map, slice_get, nat_lt}
 use Rattle.std.specs.Option.{option_map}
 use Rattle.std.specs.List.Sorted.{IsStrictlyIncreasing}
 use Rattle.std.proofs.lemmas.Bool.{false≢true, eq-eqb, cases_eq, cases_lt, lt-ltb, le-ltb}
 use Rattle.std.proofs.lemmas.List.{append-nil, drop_more, drop-map, get_or-drop, length-drop, take_all, drop_all}
-use Rattle.std.proofs.lemmas.List.Sums.{count_by_more_yes, count_by_more_no}
-use Rattle.std.proofs.lemmas.Option.{slice_get-get_or}
-use Rattle.std.specs.Option.{option_map_or}
 use Rattle.vat_log.specs.declared.body.Body.{Body}
 use Rattle.vat_log.specs.declared.body.Body.TheVariants.{Receive}
 use Rattle.vat_log.specs.Log.{Log}
@@ -240,24 +237,6 @@ pub may_receive : (ps : List Part) (v : ℕ) (own : Part) (b : Body) (connection
 unfolding may_come
 may_receive ps v own b connection call references frame n r part next kind count is =
     rw (← part, ← next, kind) (is ∙ ap (λ k. nat_lt k (sent_by_others v connection ps)) count)
-
--- ---- counts
-
-pub counts : (p : Body → Bool) (xs ys : List Body) (i n : ℕ) (b : Bool) → ys ≡ xs → n ≡ count_by p (take i xs) → n ≤ i → i < length xs → b ≡ option_map_or p (slice_get ys i) false → b ≡ true
-    → (n + 1 ≡ count_by p (take (i + 1) xs)) × (n + 1 ≤ i + 1)
-counts p [] ys i n b same count le lt is holds = absurd (omega arith)
-counts p (x ∷ xs) ys i n b same count le lt is holds =
-    let at : slice_get ys i ≡ Some (get_or (x ∷ xs) i x) = ap (λ (l : List Body). slice_get l i) same ∙ slice_get-get_or (x ∷ xs) i x lt in
-    let test : p (get_or (x ∷ xs) i x) ≡ true = sym (ap (λ (o : Option Body). option_map_or p o false) at) ∙ sym is ∙ holds in
-    (omega (arith, count, count_by_more_yes p (x ∷ xs) i x lt test), omega arith)
-
-pub counts_not : (p : Body → Bool) (xs ys : List Body) (i n : ℕ) (b : Bool) → ys ≡ xs → n ≡ count_by p (take i xs) → n ≤ i → i < length xs → b ≡ option_map_or p (slice_get ys i) false → b ≡ false
-    → (n ≡ count_by p (take (i + 1) xs)) × (n ≤ i + 1)
-counts_not p [] ys i n b same count le lt is fails = absurd (omega arith)
-counts_not p (x ∷ xs) ys i n b same count le lt is fails =
-    let at : slice_get ys i ≡ Some (get_or (x ∷ xs) i x) = ap (λ (l : List Body). slice_get l i) same ∙ slice_get-get_or (x ∷ xs) i x lt in
-    let test : p (get_or (x ∷ xs) i x) ≡ false = sym (ap (λ (o : Option Body). option_map_or p o false) at) ∙ sym is ∙ fails in
-    (omega (arith, count, count_by_more_no p (x ∷ xs) i x lt test), omega arith)
 
 -- ---- a step of all parts
 

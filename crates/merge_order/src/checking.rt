@@ -29,7 +29,7 @@ fn find(alloc: Global, logs: &[Arc<VatLog>], order: &Order) -> Result<OrderFindi
         if !progress.may_come(*vat) {
             return Ok(OrderFinding::Fails(step as u64));
         }
-        progress.take(*vat);
+        progress.take(*vat)?;
     }
     if progress.is_used_up() {
         Ok(OrderFinding::Fits)

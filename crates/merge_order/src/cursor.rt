@@ -1,70 +1,48 @@
 //! A log, and how many of its records came already.
 
-ghost use Rattle.std.specs.Prelude.{◌≡◌, false, length, IfOk, nat_le, slice_get};
+ghost use Rattle.std.specs.Prelude.{◌≡◌, length, IfOk, OnOk, nat_le, slice_get};
 ghost use Rattle.std.specs.Arc.{arc_value};
-ghost use Rattle.std.specs.Option.{option_copied, option_map_or};
-ghost use Rattle.merge_order.specs.Fits.{sends, receives};
+ghost use Rattle.std.specs.Option.{option_copied};
 
-use std::alloc::AllocError;
+use crate::counts::Counts;
+use std::alloc::{AllocError, Global};
 use std::marker::Model;
 use std::sync::Arc;
 use vat_log::{Body, Record, VatLog};
 
-/// Whether the record of this number sends a frame on the connection.
-fn sends_at(log: &VatLog, connection: u32, index: usize) -> bool
-    ensures { result ≡ option_map_or (sends connection) (slice_get log.now.records index) false }
-{
-    match log.get(index) {
-        Some(event) => match event.body() {
-            Body::Send { connection: on, .. } => *on == connection,
-            _ => false,
-        },
-        None => false,
-    }
-}
-
-/// Whether the record of this number receives a frame on the connection.
-fn receives_at(log: &VatLog, connection: u32, index: usize) -> bool
-    ensures { result ≡ option_map_or (receives connection) (slice_get log.now.records index) false }
-{
-    match log.get(index) {
-        Some(event) => match event.body() {
-            Body::Receive { connection: on, .. } => *on == connection,
-            _ => false,
-        },
-        None => false,
-    }
-}
-
-/// A log, and how many of its records came already.
+/// A log, how many of its records came already, and how many frames these sent and received on each connection.
 #[derive(Debug, Drop)]
 pub struct Cursor {
     log: Arc<VatLog>,
     came: usize,
+    sent_counts: Counts,
+    received_counts: Counts,
 }
 
 impl Model for Cursor {
-    ghost use Rattle.std.specs.Prelude.{◌≤◌, length};
     ghost use Rattle.std.specs.Arc.{arc_value};
     ghost use Rattle.merge_order.specs.Fits.{Part};
+    ghost use Rattle.merge_order.specs.Tables.{IsCounted};
 
     ghost Value = { Part };
 
     ghost view = { λ cursor. record { log = arc_value cursor.log; came = cursor.came } };
 
-    ghost invariant = { λ cursor. cursor.came ≤ length (arc_value cursor.log).records };
+    ghost invariant = { λ cursor. IsCounted (record { log = arc_value cursor.log; came = cursor.came }) cursor.sent_counts cursor.received_counts };
 }
 
 impl Cursor {
     ghost use Rattle.merge_order.specs.Fits.{sent, received, further};
 
     /// At the log's begin.
-    pub fn new(log: &Arc<VatLog>) -> Result<Cursor, AllocError>
+    pub fn new(alloc: Global, log: &Arc<VatLog>) -> Result<Cursor, AllocError>
         ensures { IfOk result (λ cursor. cursor ≡ record { log = arc_value log.now; came = 0 }) }
     {
         Ok(Cursor {
             log: Arc::try_clone(log)?,
             came: 0,
+            sent_counts: Counts::new(alloc),
+            received_counts: Counts::new(alloc),
         })
     }
 
@@ -93,35 +71,33 @@ impl Cursor {
     pub fn sent(&self, connection: u32) -> u64
         ensures { result ≡ sent connection self.now }
     {
-        let mut count = 0;
-        for index in 0..self.came {
-            if sends_at(&self.log, connection, index) {
-                count += 1;
-            }
-        }
-        count
+        self.sent_counts.of(connection)
     }
 
     /// How many frames were received on the connection.
     pub fn received(&self, connection: u32) -> u64
         ensures { result ≡ received connection self.now }
     {
-        let mut count = 0;
-        for index in 0..self.came {
-            if receives_at(&self.log, connection, index) {
-                count += 1;
-            }
-        }
-        count
+        self.received_counts.of(connection)
     }
 
     /// Goes one record further, if the log is this vat's and a record is left.
     #[tactic(auto, unfolding(crate::specs::Fits::further))]
-    pub fn go_on(&mut self, vat: u32)
-        ensures { self.new ≡ further vat self.old }
+    pub fn go_on(&mut self, vat: u32) -> Result<(), AllocError>
+        ensures { OnOk result (self.new ≡ further vat self.old) }
     {
-        if self.log.vat() == vat && self.came < self.log.len() {
-            self.came += 1;
+        if self.log.vat() != vat || self.log.len() <= self.came {
+            return Ok(());
         }
+        let Some(event) = self.log.get(self.came) else {
+            return Ok(());
+        };
+        match event.body() {
+            Body::Send { connection, .. } => self.sent_counts.raise(*connection)?,
+            Body::Receive { connection, .. } => self.received_counts.raise(*connection)?,
+            _ => {}
+        }
+        self.came += 1;
+        Ok(())
     }
 }

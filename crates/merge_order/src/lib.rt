@@ -5,6 +5,7 @@
 #![tactic(auto)]
 
 mod checking;
+mod counts;
 mod cursor;
 mod error;
 mod format;

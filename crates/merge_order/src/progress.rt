@@ -35,7 +35,7 @@ impl Progress {
     {
         let mut cursors = Vec::new(alloc);
         for log in logs {
-            cursors.push(Cursor::new(log)?)?;
+            cursors.push(Cursor::new(alloc, log)?)?;
         }
         Ok(Progress { cursors })
     }
@@ -88,12 +88,13 @@ impl Progress {
     }
 
     /// Takes the next record of this vat.
-    pub fn take(&mut self, vat: u32)
-        ensures { self.new ≡ after vat self.old }
+    pub fn take(&mut self, vat: u32) -> Result<(), AllocError>
+        ensures { OnOk result (self.new ≡ after vat self.old) }
     {
         for cursor in self.cursors.iter_mut() {
-            cursor.go_on(vat);
+            cursor.go_on(vat)?;
         }
+        Ok(())
     }
 
     /// Whether all records came.

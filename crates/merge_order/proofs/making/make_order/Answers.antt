@@ -6,11 +6,11 @@ pub loop-vat-init : goal.loop-vat-init
 loop-vat-init c = rw (c.in_ok-progress.ensures, c.new-vats.ensures.items) (made_none _, rising_begin _ _ refl c.requires)
 
 pub loop-vat-smaller : goal.loop-vat-smaller
-loop-vat-smaller c = rw c.take.ensures (falls c.in-Some.vat c.loop-vat.progress c.in-Some.ensures.0)
+loop-vat-smaller c = rw c.in_ok-take.ensures (falls c.in-Some.vat c.loop-vat.progress c.in-Some.ensures.0)
 
 pub loop-vat-preserved : goal.loop-vat-preserved
 loop-vat-preserved c =
-    rw (c.take.ensures, c.in_ok-push.ensures.items)
+    rw (c.in_ok-take.ensures, c.in_ok-push.ensures.items)
     (made_more _ c.loop-vat.progress c.loop-vat.vats.items c.in-Some.vat c.in-Some.ensures.0 c.in-Some.ensures.1 c.loop-vat.invariant.0, rising_after c.in-Some.vat c.loop-vat.progress _ refl c.loop-vat.invariant.1)
 
 pub returns-then-is_used_up-clause-fits : goal.returns-then-is_used_up-clause-fits

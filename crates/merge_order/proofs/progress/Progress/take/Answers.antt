@@ -9,7 +9,7 @@ loop-cursor-init c = refl
 
 pub loop-cursor-preserved : goal.loop-cursor-preserved
 loop-cursor-preserved c =
-    rw (c.go_on.ensures, ← c.cursor-item.is) (map_over_more (further c.args.vat) c.deref_mut-cursor-items.result.now c.loop-cursor.cursor-items c.loop-cursor.cursor-index c.cursor-item.result (omega (arith, c.loop-cursor-test.true)) c.loop-cursor.invariant c.cursor-item.is)
+    rw (c.in_ok-go_on.ensures, ← c.cursor-item.is) (map_over_more (further c.args.vat) c.deref_mut-cursor-items.result.now c.loop-cursor.cursor-items c.loop-cursor.cursor-index c.cursor-item.result (omega (arith, c.loop-cursor-test.true)) c.loop-cursor.invariant c.cursor-item.is)
 
 pub returns : goal.returns
 returns c =

@@ -1,8 +1,0 @@
-use Rattle.std.proofs.Common.{◌≡◌, ◌≤◌, take}
-use Rattle.std.specs.Prelude.{count_by}
-use Rattle.std.specs.Arc.{arc_value}
-use Rattle.merge_order.specs.Fits.{sends}
-use Rattle.merge_order.proofs.cursor.Cursor.sent.Given as goal
-
-abbrev pub invariant-loop-index : goal.invariant-loop-index
-invariant-loop-index l = (l.count ≡ count_by (sends l.connection) (take l.index (arc_value l.self-inside.log).records)) × (l.count ≤ l.index)

@@ -1,0 +1,42 @@
+//! How often connections came up.
+
+ghost use Rattle.std.specs.Prelude.{◌≡◌, ◌+◌, ◌<◌, ◌^◌, OnOk, OnErr};
+ghost use Rattle.merge_order.specs.Tables.{count_of, IsEmpty, IsRaised, IsSame};
+
+use std::alloc::{AllocError, Global};
+use std::collections::BTreeMap;
+
+/// How often each connection came up.
+#[derive(Debug, Drop)]
+pub struct Counts {
+    counts: BTreeMap<u32, u64>,
+}
+
+impl Counts {
+    /// Before any came up.
+    pub fn new(alloc: Global) -> Counts
+        ensures { IsEmpty result }
+    {
+        Counts {
+            counts: BTreeMap::new(alloc),
+        }
+    }
+
+    /// How often this connection came up.
+    pub fn of(&self, connection: u32) -> u64
+        ensures { result ≡ count_of self.now connection }
+    {
+        self.counts.get(&connection).copied().unwrap_or(0)
+    }
+
+    /// This connection came up once more. Where memory is refused, nothing changes.
+    pub fn raise(&mut self, connection: u32) -> Result<(), AllocError>
+        requires { count_of self.old connection + 1 < 2 ^ 64 }
+        ensures ok { OnOk result (IsRaised connection self.old self.new) }
+        ensures err { OnErr result (IsSame self.old self.new) }
+    {
+        let count = self.of(connection) + 1;
+        self.counts.insert(connection, count)?;
+        Ok(())
+    }
+}

@@ -36,6 +36,32 @@ const FINISH: [u8; 71] = [
     0, 0, 0, 3, 0, 0, 0, 0, 0, 0, 0,
 ];
 
+/// Receives a Provide, of level 3.
+const PROVIDE: [u8; 51] = [
+    11, 0, 0, 0, 0, 0, 0, 0, 0, 0, 0, 0, 0, 0, 0, 32, 0, 0, 0, 0, 0, 0, 0, 3, 0, 0, 0, 0, 0, 0, 0,
+    1, 0, 1, 0, 10, 0, 0, 0, 0, 0, 0, 0, 0, 0, 0, 0, 0, 0, 0, 0,
+];
+
+/// Receives an Unimplemented.
+const UNIMPLEMENTED: [u8; 51] = [
+    11, 0, 0, 0, 0, 0, 0, 0, 0, 0, 0, 0, 0, 0, 0, 32, 0, 0, 0, 0, 0, 0, 0, 3, 0, 0, 0, 0, 0, 0, 0,
+    1, 0, 1, 0, 0, 0, 0, 0, 0, 0, 0, 0, 0, 0, 0, 0, 0, 0, 0, 0,
+];
+
+/// Receives a Return with the bit that says that no Finish is needed.
+const LATER: [u8; 91] = [
+    11, 0, 0, 0, 0, 0, 0, 0, 0, 0, 0, 0, 0, 0, 0, 72, 0, 0, 0, 0, 0, 0, 0, 8, 0, 0, 0, 0, 0, 0, 0,
+    1, 0, 1, 0, 3, 0, 0, 0, 0, 0, 0, 0, 0, 0, 0, 0, 2, 0, 1, 0, 0, 0, 0, 0, 2, 0, 0, 0, 0, 0, 0, 0,
+    0, 0, 0, 0, 0, 0, 0, 0, 0, 0, 2, 0, 252, 255, 255, 255, 0, 0, 0, 0, 0, 0, 0, 0, 0, 0, 0, 0,
+];
+
+/// Receives a Return whose results were sent elsewhere.
+const ELSEWHERE: [u8; 75] = [
+    11, 0, 0, 0, 0, 0, 0, 0, 0, 0, 0, 0, 0, 0, 0, 56, 0, 0, 0, 0, 0, 0, 0, 6, 0, 0, 0, 0, 0, 0, 0,
+    1, 0, 1, 0, 3, 0, 0, 0, 0, 0, 0, 0, 0, 0, 0, 0, 2, 0, 1, 0, 7, 0, 0, 0, 0, 0, 3, 0, 0, 0, 0, 0,
+    0, 0, 0, 0, 0, 0, 0, 0, 0, 0, 0, 0,
+];
+
 /// How a log of vat 1 begins.
 const VAT_1: [u8; 12] = [86, 65, 84, 76, 79, 71, 48, 49, 1, 0, 0, 0];
 
@@ -139,6 +165,15 @@ fn promises_fields_and_faults_are_not_audited_yet(rt: HostRuntime) -> Result<(),
         assert_outside(rt.alloc(), record, Why::NotYet)?;
     }
     Ok(())
+}
+
+#[test]
+fn each_reason_has_its_message(rt: HostRuntime) -> Result<(), Fail> {
+    assert_outside(rt.alloc(), &PROVIDE, Why::Level)?;
+    assert_outside(rt.alloc(), &UNIMPLEMENTED, Why::Unimplemented)?;
+    assert_outside(rt.alloc(), &LATER, Why::LaterField)?;
+    assert_outside(rt.alloc(), &ELSEWHERE, Why::TailCall)?;
+    assert_outside(rt.alloc(), &FINISH[12..], Why::NotYet)
 }
 
 #[test]

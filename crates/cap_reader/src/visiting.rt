@@ -1,7 +1,7 @@
 //! Visiting the structs and the lists of structs of a frame. Each call answers what the reading of the tree at its place
 //! gives within the words left, and lowers them by what its visit costs; a refusal leaves them as they were.
 
-ghost use Rattle.std.specs.Prelude.{◌≡◌, ◌<◌, ◌+◌, ◌^◌, List, ℕ, Option, Some, IfSome, IfOk};
+ghost use Rattle.std.specs.Prelude.{◌≡◌, ◌<◌, ◌≤◌, ◌+◌, ◌^◌, List, ℕ, Option, Some, IfSome, IfOk};
 ghost use Rattle.std.specs.Option.{option_map};
 ghost use Rattle.cap_reader.specs.Pointers.{extent as extent_in};
 ghost use Rattle.cap_reader.specs.Tree.{structure_there, structure_at, tree_at, root_tree, composite_there};
@@ -33,6 +33,7 @@ fn visit(spot: Spot, depth: u8, limits: &mut Limits) -> Result<StructAt, ReadErr
     ensures value { (segments : List (List ℕ)) → Runs (λ place. Some (sections_at segments place)) result limits.new.words
         (run (structure_in (structure_at depth segments spot.segment spot.start spot.data_words spot.pointer_count)) limits.old.words) }
     ensures falls { IfOk result (λ place. place.below < depth) }
+    ensures words { limits.new.words ≤ limits.old.words }
     ensures depth { limits.new.depth ≡ limits.old.depth }
 {
     if depth == 0 {
@@ -66,6 +67,7 @@ pub fn enter(
         (run (structure_in (structure_there (λ at. structure_at depth frame.now segment at sizes.0 sizes.1)
         (extent_in frame.now segment start (sizes.0 + sizes.1)))) limits.old.words) }
     ensures falls { IfOk result (λ place. place.below < depth) }
+    ensures words { limits.new.words ≤ limits.old.words }
     ensures depth { limits.new.depth ≡ limits.old.depth }
 {
     let (data_words, pointer_count) = sizes;

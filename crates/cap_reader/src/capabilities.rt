@@ -162,6 +162,11 @@ fn listed(
 /// alone that ends in a capability pointer, with its index, depth first by pointer number. A list on the way is judged, and
 /// its elements are unread. The words left are lowered by each visit; the visit that is refused doesn't lower them.
 /// Where memory is refused, the words of the visits made until then are gone.
+///
+/// # Errors
+///
+/// The fault of the first pointer that has one, in the order of the visits: each of [`ReadError`], of which `WrongKind` comes
+/// only from a composite list whose tag isn't a struct's. `OutOfMemory` where a growth of the list or of a path is refused.
 pub fn fields(
     alloc: Global,
     frame: &Frame,

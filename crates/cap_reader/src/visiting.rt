@@ -179,7 +179,12 @@ fn list_at(frame: &Frame, segment: u32, at: u64, depth: u8) -> Result<Option<Lis
     }
 }
 
-/// The root struct of a frame; where the root pointer is null, the empty struct, in which every field has its default.
+/// The root struct of a frame; where the root pointer is null, the empty struct, in which every field has its default. The
+/// root pointer is the first word of segment 0 (encoding specification, "Messages").
+///
+/// # Errors
+///
+/// Each of [`ReadError`] but `OutOfMemory`, in the order that is told there. The words left are as they were.
 pub fn root(frame: &Frame, limits: &mut Limits) -> Result<StructAt, ReadError>
     ensures value { Runs (sections_at frame.now) result limits.new.words
         (run (root_in (root_tree limits.old.depth frame.now)) limits.old.words) }
@@ -199,7 +204,11 @@ pub fn root(frame: &Frame, limits: &mut Limits) -> Result<StructAt, ReadError>
 }
 
 /// The struct at a pointer of a struct, by the pointer's number, counted from 0. None where the pointer is null, or the struct
-/// is too short to have it.
+/// is too short to have it (encoding specification, "Structs").
+///
+/// # Errors
+///
+/// Each of [`ReadError`] but `OutOfMemory`, in the order that is told there. The words left are as they were.
 #[tactic(auto, unfolding(crate::specs::Reading::pay_for))]
 pub fn struct_field(
     frame: &Frame,
@@ -218,7 +227,13 @@ pub fn struct_field(
 }
 
 /// The list of structs at a pointer of a struct, by the pointer's number, counted from 0. None where the pointer is null, or
-/// the struct is too short to have it. It costs nothing.
+/// the struct is too short to have it. It costs nothing (encoding specification, "Lists", of element size 7).
+///
+/// # Errors
+///
+/// `NoSegment`, `OutOfSegment` or `BadPad` of a pad; else `Reserved`; else `WrongKind` where it isn't a list of structs, or
+/// its tag isn't a struct's; else `OutOfSegment` where the list leaves its segment, or its elements the list. A list whose
+/// very tag leaves the segment is `OutOfSegment`.
 #[tactic(auto, unfolding(crate::specs::Reading::pay_for))]
 pub fn list_field(
     frame: &Frame,
@@ -244,7 +259,11 @@ impl ListAt {
         self.count
     }
 
-    /// The struct of an element, counted from 0.
+    /// The struct of an element, counted from 0. It stands one deeper than the struct with the list's pointer.
+    ///
+    /// # Errors
+    ///
+    /// `TooDeep` or else `TooMuch`, and no other. The words left are as they were.
     pub fn element(&self, i: u32, limits: &mut Limits) -> Result<StructAt, ReadError>
         requires { i < list_len self.now }
         // In any frame, so in the list's own.

@@ -1,6 +1,6 @@
 -- Paths are listed in rising order.
-use Rattle.std.proofs.Common.{◌≡◌, ℕ, zero, suc, ◌+◌, ◌<◌, List, [], ◌∷◌, ◌++◌, Result, Ok, refl, sym, ap, subst, ◌∙◌, append_assoc, arith, inl, inr}
-use Rattle.std.specs.Prelude.{map}
+use Rattle.std.proofs.Common.{◌≡◌, ℕ, zero, suc, ◌+◌, ◌<◌, List, [], ◌∷◌, ◌++◌, Result, Ok, Err, refl, sym, ap, subst, ◌∙◌, append_assoc, arith, inl, inr}
+use Rattle.std.specs.Prelude.{map, IfOk}
 use Rattle.std.specs.List.{Contains, AllByRecursion}
 use Rattle.std.specs.List.Sorted.{IsStrictlySortedBy}
 use Rattle.std.specs.declared.cmp.Ordering.{Ordering}
@@ -12,7 +12,7 @@ use Rattle.std.proofs.lemmas.List.Elements.{Contains-append_cases, Contains-appe
 use Rattle.cap_reader.specs.declared.read_error.ReadError.{ReadError}
 use Rattle.cap_reader.specs.declared.read_error.ReadError.TheVariants as errors
 use Rattle.cap_reader.specs.Tree.{Tree, nothing, structure, bad_structure, composite, bad_composite, plain, bad_plain, capability, reserved, unfollowed}
-use Rattle.cap_reader.specs.Reading.{and_then, done, run, ending, each}
+use Rattle.cap_reader.specs.Reading.{and_then, done, run, ending, each, RunsInMemory}
 use Rattle.cap_reader.specs.Fields.{fields_in}
 use Rattle.cap_reader.specs.Laws.{path_of, paths_of}
 use Rattle.cap_reader.proofs.Prices.{ends_so}
@@ -102,3 +102,8 @@ tree_rises (unfollowed d) front found e = absurd (no_ok d found e)
 
 pub listed_rise : (tree : Tree) (words left : ℕ) (found : List Entry) → run (fields_in [] tree) words ≡ (Ok found, left) → Rises found
 listed_rise tree words left found e = tree_rises tree [] found (ends_so errors.TooMuch (fields_in [] tree) words left found e)
+
+-- the same of what a call answers
+pub rising_by : (tree : Tree) (result : Result (List Entry) ReadError) (left words : ℕ) → RunsInMemory (λ x. x) result left (run (fields_in [] tree) words) → IfOk result Rises
+rising_by tree (Err e) left words h = tt
+rising_by tree (Ok found) left words h = listed_rise tree words left found h

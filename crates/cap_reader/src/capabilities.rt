@@ -1,11 +1,15 @@
 //! The capabilities at and below a pointer.
 
 ghost use Rattle.std.specs.Prelude.{◌≡◌, ◌<◌, ◌≤◌, ◌-◌, ◌^◌, ◌++◌, ◌↔◌, List, ℕ, [], Some, OnOk, IfOk};
+ghost use Rattle.std.specs.Ordering.{nat_cmp};
+ghost use Rattle.std.specs.Cmp.Lexicographic.{slice_cmp};
 ghost use Rattle.std.specs.List.{Contains};
+ghost use Rattle.std.specs.List.Sorted.{IsStrictlySortedBy};
 ghost use Rattle.cap_reader.specs.Tree.{structure_at, tree_at, list_there, element_bits, plain_words};
 ghost use Rattle.cap_reader.specs.Reading.{RunsInMemory, Gives, run, price, ending, with_front, IsTooMuch};
 ghost use Rattle.cap_reader.specs.Fields.{fields_in, capability_at};
 ghost use Rattle.cap_reader.specs.Places.{sections_at};
+ghost use Rattle.cap_reader.specs.Laws.{paths_of};
 
 use crate::extent::extent;
 use crate::field_list::Fields;
@@ -82,6 +86,7 @@ fn add_fields(
     requires { at < 2 ^ 40 }
     ensures value { RunsInMemory (λ _. found.new.items) result limits.new.words (with_front found.old.items (run (fields_in path.old.items (tree_at depth frame.now segment at)) limits.old.words)) }
     ensures path { OnOk result (path.new.items ≡ path.old.items) }
+    ensures words { limits.new.words ≤ limits.old.words }
     ensures depth { limits.new.depth ≡ limits.old.depth }
 {
     match follow(frame, segment, at)? {
@@ -134,6 +139,7 @@ fn listed(
     limits: &mut Limits,
 ) -> Result<Fields, ReadError>
     ensures value { RunsInMemory (λ fields. fields) result limits.new.words (run (fields_in [] ((sections_at frame.now place.now).child n)) limits.old.words) }
+    ensures words { limits.new.words ≤ limits.old.words }
     ensures depth { limits.new.depth ≡ limits.old.depth }
 {
     let mut path = Vec::new(alloc);
@@ -155,6 +161,12 @@ fn listed(
 /// The capabilities at and below a pointer of a struct, by the pointer's number, counted from 0: each path through structs
 /// alone that ends in a capability pointer, with its index, depth first by pointer number. A list on the way is judged, and
 /// its elements are unread. The words left are lowered by each visit; the visit that is refused doesn't lower them.
+/// Where memory is refused, the words of the visits made until then are gone.
+///
+/// # Errors
+///
+/// The fault of the first pointer that has one, in the order of the visits: each of [`ReadError`], of which `WrongKind` comes
+/// only from a composite list whose tag isn't a struct's. `OutOfMemory` where a growth of the list or of a path is refused.
 pub fn fields(
     alloc: Global,
     frame: &Frame,
@@ -167,11 +179,15 @@ pub fn fields(
     // What is listed is what stands at the end of the paths.
     ensures listed { IfOk result (λ fields. (path : List ℕ) (index : ℕ) → Contains fields (path, index)
         ↔ (capability_at ((sections_at frame.now place.now).child n) path ≡ Some index)) }
+    // Each path is listed once, in rising lexicographic order.
+    ensures rising { IfOk result (λ fields. IsStrictlySortedBy (slice_cmp nat_cmp) (paths_of fields)) }
     // Where the words are enough for the visits together, it ends as the tree says, and their price is gone.
     ensures affordable { let reading = fields_in [] ((sections_at frame.now place.now).child n) in price reading ≤ limits.old.words
         → RunsInMemory (λ fields. fields) result limits.new.words (ending reading, limits.old.words - price reading) }
     // Else it is too much.
     ensures too_dear { limits.old.words < price (fields_in [] ((sections_at frame.now place.now).child n)) → IsTooMuch result }
+    // Whatever it answers, want of memory too, no words are won.
+    ensures words { limits.new.words ≤ limits.old.words }
     ensures depth { limits.new.depth ≡ limits.old.depth }
 {
     listed(alloc, frame, place, n, limits)

@@ -5,8 +5,9 @@ ghost use Rattle.cap_reader.specs.declared.read_error.ReadError.TheVariants.{Out
 
 use std::alloc::{AllocError, AllocFailed};
 
-/// Why the pointers of a frame can't be followed: the first fault that reading one pointer meets, in this order but for a
-/// far pointer, whose [`ReadError::NoSegment`] and [`ReadError::OutOfSegment`] are met as its pads are.
+/// Why the pointers of a frame can't be followed: the first fault that reading one pointer meets. Its pads are followed first
+/// (`NoSegment`, `OutOfSegment`, `BadPad`); then come `Reserved`, `WrongKind`, `OutOfSegment` of what it leads to, `TooDeep`
+/// and `TooMuch`.
 #[derive(Clone, Copy, Debug, PartialEq, Eq)]
 pub enum ReadError {
     /// A pad, or what a pointer leads to, leaves its segment, or a list's elements need more words than the list has.
@@ -23,6 +24,7 @@ pub enum ReadError {
     TooDeep,
     /// The visits cost more words than the limit.
     TooMuch,
+    /// A growth of memory was refused. [`fields`](crate::fields) alone answers this: nothing else here takes memory.
     OutOfMemory,
 }
 

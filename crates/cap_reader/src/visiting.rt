@@ -1,7 +1,7 @@
 //! Visiting the structs and the lists of structs of a frame. Each call answers what the reading of the tree at its place
 //! gives within the words left, and lowers them by what its visit costs; a refusal leaves them as they were.
 
-ghost use Rattle.std.specs.Prelude.{◌≡◌, ◌<◌, ◌+◌, ◌^◌, List, ℕ, Option, Some, IfSome, IfOk};
+ghost use Rattle.std.specs.Prelude.{◌≡◌, ◌<◌, ◌≤◌, ◌+◌, ◌^◌, List, ℕ, Option, Some, IfSome, IfOk};
 ghost use Rattle.std.specs.Option.{option_map};
 ghost use Rattle.cap_reader.specs.Pointers.{extent as extent_in};
 ghost use Rattle.cap_reader.specs.Tree.{structure_there, structure_at, tree_at, root_tree, composite_there};
@@ -33,6 +33,7 @@ fn visit(spot: Spot, depth: u8, limits: &mut Limits) -> Result<StructAt, ReadErr
     ensures value { (segments : List (List ℕ)) → Runs (λ place. Some (sections_at segments place)) result limits.new.words
         (run (structure_in (structure_at depth segments spot.segment spot.start spot.data_words spot.pointer_count)) limits.old.words) }
     ensures falls { IfOk result (λ place. place.below < depth) }
+    ensures words { limits.new.words ≤ limits.old.words }
     ensures depth { limits.new.depth ≡ limits.old.depth }
 {
     if depth == 0 {
@@ -66,6 +67,7 @@ pub fn enter(
         (run (structure_in (structure_there (λ at. structure_at depth frame.now segment at sizes.0 sizes.1)
         (extent_in frame.now segment start (sizes.0 + sizes.1)))) limits.old.words) }
     ensures falls { IfOk result (λ place. place.below < depth) }
+    ensures words { limits.new.words ≤ limits.old.words }
     ensures depth { limits.new.depth ≡ limits.old.depth }
 {
     let (data_words, pointer_count) = sizes;
@@ -177,7 +179,12 @@ fn list_at(frame: &Frame, segment: u32, at: u64, depth: u8) -> Result<Option<Lis
     }
 }
 
-/// The root struct of a frame; where the root pointer is null, the empty struct, in which every field has its default.
+/// The root struct of a frame; where the root pointer is null, the empty struct, in which every field has its default. The
+/// root pointer is the first word of segment 0 (encoding specification, "Messages").
+///
+/// # Errors
+///
+/// Each of [`ReadError`] but `OutOfMemory`, in the order that is told there. The words left are as they were.
 pub fn root(frame: &Frame, limits: &mut Limits) -> Result<StructAt, ReadError>
     ensures value { Runs (sections_at frame.now) result limits.new.words
         (run (root_in (root_tree limits.old.depth frame.now)) limits.old.words) }
@@ -197,7 +204,11 @@ pub fn root(frame: &Frame, limits: &mut Limits) -> Result<StructAt, ReadError>
 }
 
 /// The struct at a pointer of a struct, by the pointer's number, counted from 0. None where the pointer is null, or the struct
-/// is too short to have it.
+/// is too short to have it (encoding specification, "Structs").
+///
+/// # Errors
+///
+/// Each of [`ReadError`] but `OutOfMemory`, in the order that is told there. The words left are as they were.
 #[tactic(auto, unfolding(crate::specs::Reading::pay_for))]
 pub fn struct_field(
     frame: &Frame,
@@ -216,7 +227,13 @@ pub fn struct_field(
 }
 
 /// The list of structs at a pointer of a struct, by the pointer's number, counted from 0. None where the pointer is null, or
-/// the struct is too short to have it. It costs nothing.
+/// the struct is too short to have it. It costs nothing (encoding specification, "Lists", of element size 7).
+///
+/// # Errors
+///
+/// `NoSegment`, `OutOfSegment` or `BadPad` of a pad; else `Reserved`; else `WrongKind` where it isn't a list of structs, or
+/// its tag isn't a struct's; else `OutOfSegment` where the list leaves its segment, or its elements the list. A list whose
+/// very tag leaves the segment is `OutOfSegment`.
 #[tactic(auto, unfolding(crate::specs::Reading::pay_for))]
 pub fn list_field(
     frame: &Frame,
@@ -242,7 +259,11 @@ impl ListAt {
         self.count
     }
 
-    /// The struct of an element, counted from 0.
+    /// The struct of an element, counted from 0. It stands one deeper than the struct with the list's pointer.
+    ///
+    /// # Errors
+    ///
+    /// `TooDeep` or else `TooMuch`, and no other. The words left are as they were.
     pub fn element(&self, i: u32, limits: &mut Limits) -> Result<StructAt, ReadError>
         requires { i < list_len self.now }
         // In any frame, so in the list's own.

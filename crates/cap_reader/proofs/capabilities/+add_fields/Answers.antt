@@ -1,4 +1,4 @@
-use Rattle.std.proofs.Common.{◌≡◌, ◌+◌, ◌++◌, ◌∷◌, [], ℕ, List, refl, sym, Ok, Err, vec_len, ◌∙◌, ap}
+use Rattle.std.proofs.Common.{◌≡◌, ◌+◌, ◌++◌, ◌∷◌, [], ℕ, List, refl, sym, Ok, Err, vec_len, ◌∙◌, ap, arith}
 use Rattle.std.proofs.lemmas.Result.{err_from_is_err_and}
 use Rattle.cap_reader.specs.declared.pointee.Pointee.{Pointee}
 use Rattle.cap_reader.specs.declared.pointee.Pointee.TheVariants as leads
@@ -24,6 +24,7 @@ loop-number-init t c =
     let e : followed c.args.frame.now c.args.segment c.args.at ≡ Ok (leads.Struct c.in-Struct.segment c.in-Struct.start c.in-Struct.data_words c.in-Struct.pointer_count) = sym c.in_ok-follow.ensures ∙ ap (λ (p : Pointee). Ok p) c.in-Struct.is in
     record {
       so_far = struct_begins c.args.found.now.items c.args.path.now.items c.args.depth c.args.frame.now c.args.segment c.args.at c.args.limits.now.words c.in-Struct.segment c.in-Struct.start c.in-Struct.data_words c.in-Struct.pointer_count e (sections_at c.args.frame.now c.in_ok-content-in-Struct.content) c.enter.new.limits.words c.in_ok-content-in-Struct.ensures.value;
+      fewer_words = c.in_ok-content-in-Struct.ensures.words;
       same_path = refl;
       same_depth = c.in_ok-content-in-Struct.ensures.depth;
     }
@@ -41,6 +42,7 @@ loop-number-preserved t c =
     let there : c.from.result + c.from-in-Struct.result + c.from-in-loop-number.result ≡ c.in_ok-content-in-Struct.content.start + c.in_ok-content-in-Struct.content.data_words + c.loop-number.number = rw (c.from.ensures, c.from-in-Struct.ensures, c.from-in-loop-number.ensures) refl in
     record {
       so_far = field_goes_on c.args.path.now.items c.args.frame.now c.in_ok-content-in-Struct.content c.loop-number.found.items c.add_fields.new.found.items c.push-in-loop-number.new.self.items c.loop-number.number (c.from.result + c.from-in-Struct.result + c.from-in-loop-number.result) c.loop-number.limits.words c.add_fields.new.limits.words _ c.loop-number-test.true same there c.in_ok-add_fields-in-Struct.ensures.value c.loop-number.invariant.so_far;
+      fewer_words = omega (arith, c.in_ok-add_fields-in-Struct.ensures.words, c.loop-number.invariant.fewer_words);
       same_path = popped c.args.path.now.items c.add_fields.new.path.items c.pop.new.self.items c.loop-number.number (vec_len c.add_fields.new.path) (c.in_ok-add_fields-in-Struct.ensures.path ∙ same) c.pop.ensures.rest c.add_fields.new.path.ok.0;
       same_depth = c.in_ok-add_fields-in-Struct.ensures.depth ∙ c.loop-number.invariant.same_depth;
     }

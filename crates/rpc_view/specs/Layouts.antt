@@ -14,7 +14,7 @@ bit_or_true bit word = not (bit_in bit word)
 -- ---- Message
 
 -- "union": 0 unimplemented, 1 abort, 2 call, 3 return, 4 finish, 5 resolve, 6 release, 7 obsoleteSave, 8 bootstrap,
--- 9 obsoleteDelete, 10 provide, 11 accept, 12 join, 13 disembargo; by default the one that asks for nothing
+-- 9 obsoleteDelete, 10 provide, 11 accept, 12 join, 13 disembargo; by default unimplemented
 abbrev pub message_tag : Sections → ℕ
 message_tag message = u16_in 0 message.word
 

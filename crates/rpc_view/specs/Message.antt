@@ -1,5 +1,6 @@
 -- The message of a tree, by the layouts of rpc.capnp. Each tag, and the data of a body, is judged where it is read: a number
--- that this profile doesn't list first, then what belongs to another level, then tail calls, then what later editions use.
+-- that this profile doesn't list first, then what belongs to another level, then unimplemented, which only Message's tag
+-- says, then tail calls, then what later editions use.
 -- The data of a body is judged whole before its pointers are followed; pointers that a union doesn't select are unread.
 use Rattle.std.specs.Prelude.{◌≡◌, ℕ, ◌<◌, ◌≤◌, ◌==◌, List, [], ◌∷◌, Result, Ok, Err, nat_lt, if◌then◌else◌}
 use Rattle.cap_frame.specs.declared.frame_error.FrameError.{FrameError}

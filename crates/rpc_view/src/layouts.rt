@@ -3,7 +3,7 @@
 //! pointers by their number, each counted from 0. Where nothing else is said, rpc.capnp declares no default: a number is 0, a
 //! union its first member, a pointer null.
 
-/// `Message`'s union, by default `unimplemented`, which asks for nothing.
+/// `Message`'s union, by default `unimplemented`.
 pub const MESSAGE_TAG: u32 = 0;
 
 /// The body, whichever member of `Message`'s union it is.

@@ -177,6 +177,146 @@ static LATER_FIELD: [u8; 72] = [
     0, 0, 0, 0, 0, 0, 0, 0, 0, 0, 0,
 ];
 
+/// Return to question 0 with the export 0, whose descriptor has a pointer of a reserved kind that its tag doesn't select.
+static UNREAD_POINTER: [u8; 96] = [
+    0, 0, 0, 0, 11, 0, 0, 0, 0, 0, 0, 0, 1, 0, 1, 0, 3, 0, 0, 0, 0, 0, 0, 0, 0, 0, 0, 0, 2, 0, 1,
+    0, 0, 0, 0, 0, 0, 0, 0, 0, 0, 0, 0, 0, 0, 0, 0, 0, 0, 0, 0, 0, 0, 0, 2, 0, 3, 0, 0, 0, 0, 0, 0,
+    0, 1, 0, 0, 0, 23, 0, 0, 0, 4, 0, 0, 0, 1, 0, 1, 0, 1, 0, 0, 0, 0, 0, 0, 0, 7, 0, 0, 0, 0, 0,
+    0, 0,
+];
+
+/// Return to question 0 with a table of three descriptors of no words, each of them none.
+static RETURN_OF_EMPTY_DESCRIPTORS: [u8; 80] = [
+    0, 0, 0, 0, 9, 0, 0, 0, 0, 0, 0, 0, 1, 0, 1, 0, 3, 0, 0, 0, 0, 0, 0, 0, 0, 0, 0, 0, 2, 0, 1, 0,
+    0, 0, 0, 0, 0, 0, 0, 0, 0, 0, 0, 0, 0, 0, 0, 0, 0, 0, 0, 0, 0, 0, 2, 0, 0, 0, 0, 0, 0, 0, 0, 0,
+    1, 0, 0, 0, 7, 0, 0, 0, 12, 0, 0, 0, 0, 0, 0, 0,
+];
+
+/// Call whose results stay with the callee, with a bit of later editions.
+static TAIL_CALL: [u8; 112] = [
+    0, 0, 0, 0, 13, 0, 0, 0, 0, 0, 0, 0, 1, 0, 1, 0, 2, 0, 0, 0, 0, 0, 0, 0, 0, 0, 0, 0, 3, 0, 3,
+    0, 1, 0, 0, 0, 2, 0, 1, 0, 52, 18, 0, 0, 0, 0, 0, 0, 4, 0, 0, 0, 0, 0, 0, 0, 8, 0, 0, 0, 1, 0,
+    1, 0, 12, 0, 0, 0, 0, 0, 2, 0, 0, 0, 0, 0, 0, 0, 0, 0, 4, 0, 0, 0, 0, 0, 0, 0, 0, 0, 0, 0, 0,
+    0, 0, 0, 3, 0, 0, 0, 0, 0, 0, 0, 0, 0, 0, 0, 0, 0, 0, 0,
+];
+
+/// Call whose results go to a third party.
+static CALL_FOR_THIRD_PARTY: [u8; 112] = [
+    0, 0, 0, 0, 13, 0, 0, 0, 0, 0, 0, 0, 1, 0, 1, 0, 2, 0, 0, 0, 0, 0, 0, 0, 0, 0, 0, 0, 3, 0, 3,
+    0, 1, 0, 0, 0, 2, 0, 2, 0, 52, 18, 0, 0, 0, 0, 0, 0, 0, 0, 0, 0, 0, 0, 0, 0, 8, 0, 0, 0, 1, 0,
+    1, 0, 12, 0, 0, 0, 0, 0, 2, 0, 0, 0, 0, 0, 0, 0, 0, 0, 4, 0, 0, 0, 0, 0, 0, 0, 0, 0, 0, 0, 0,
+    0, 0, 0, 3, 0, 0, 0, 0, 0, 0, 0, 0, 0, 0, 0, 0, 0, 0, 0,
+];
+
+/// Call with a tag of sendResultsTo that none has.
+static SEND_RESULTS_TO_3: [u8; 112] = [
+    0, 0, 0, 0, 13, 0, 0, 0, 0, 0, 0, 0, 1, 0, 1, 0, 2, 0, 0, 0, 0, 0, 0, 0, 0, 0, 0, 0, 3, 0, 3,
+    0, 1, 0, 0, 0, 2, 0, 3, 0, 52, 18, 0, 0, 0, 0, 0, 0, 0, 0, 0, 0, 0, 0, 0, 0, 8, 0, 0, 0, 1, 0,
+    1, 0, 12, 0, 0, 0, 0, 0, 2, 0, 0, 0, 0, 0, 0, 0, 0, 0, 4, 0, 0, 0, 0, 0, 0, 0, 0, 0, 0, 0, 0,
+    0, 0, 0, 3, 0, 0, 0, 0, 0, 0, 0, 0, 0, 0, 0, 0, 0, 0, 0,
+];
+
+/// Call with a bit of later editions.
+static CALL_LATER_FIELD: [u8; 112] = [
+    0, 0, 0, 0, 13, 0, 0, 0, 0, 0, 0, 0, 1, 0, 1, 0, 2, 0, 0, 0, 0, 0, 0, 0, 0, 0, 0, 0, 3, 0, 3,
+    0, 1, 0, 0, 0, 2, 0, 0, 0, 52, 18, 0, 0, 0, 0, 0, 0, 4, 0, 0, 0, 0, 0, 0, 0, 8, 0, 0, 0, 1, 0,
+    1, 0, 12, 0, 0, 0, 0, 0, 2, 0, 0, 0, 0, 0, 0, 0, 0, 0, 4, 0, 0, 0, 0, 0, 0, 0, 0, 0, 0, 0, 0,
+    0, 0, 0, 3, 0, 0, 0, 0, 0, 0, 0, 0, 0, 0, 0, 0, 0, 0, 0,
+];
+
+/// Return to question 7, whose results were sent elsewhere.
+static RESULTS_ELSEWHERE: [u8; 56] = [
+    0, 0, 0, 0, 6, 0, 0, 0, 0, 0, 0, 0, 1, 0, 1, 0, 3, 0, 0, 0, 0, 0, 0, 0, 0, 0, 0, 0, 2, 0, 1, 0,
+    7, 0, 0, 0, 0, 0, 3, 0, 0, 0, 0, 0, 0, 0, 0, 0, 0, 0, 0, 0, 0, 0, 0, 0,
+];
+
+/// Return to question 7 of a third party, with a bit of later editions.
+static RETURN_OF_THIRD_PARTY: [u8; 56] = [
+    0, 0, 0, 0, 6, 0, 0, 0, 0, 0, 0, 0, 1, 0, 1, 0, 3, 0, 0, 0, 0, 0, 0, 0, 0, 0, 0, 0, 2, 0, 1, 0,
+    7, 0, 0, 0, 2, 0, 5, 0, 0, 0, 0, 0, 0, 0, 0, 0, 0, 0, 0, 0, 0, 0, 0, 0,
+];
+
+/// Disembargo whose context is accept.
+static DISEMBARGO_ACCEPT: [u8; 64] = [
+    0, 0, 0, 0, 7, 0, 0, 0, 0, 0, 0, 0, 1, 0, 1, 0, 13, 0, 0, 0, 0, 0, 0, 0, 0, 0, 0, 0, 1, 0, 1,
+    0, 2, 0, 0, 0, 2, 0, 0, 0, 0, 0, 0, 0, 1, 0, 1, 0, 4, 0, 0, 0, 0, 0, 0, 0, 0, 0, 0, 0, 0, 0, 0,
+    0,
+];
+
+/// Disembargo whose context is provide.
+static DISEMBARGO_PROVIDE: [u8; 64] = [
+    0, 0, 0, 0, 7, 0, 0, 0, 0, 0, 0, 0, 1, 0, 1, 0, 13, 0, 0, 0, 0, 0, 0, 0, 0, 0, 0, 0, 1, 0, 1,
+    0, 2, 0, 0, 0, 3, 0, 0, 0, 0, 0, 0, 0, 1, 0, 1, 0, 4, 0, 0, 0, 0, 0, 0, 0, 0, 0, 0, 0, 0, 0, 0,
+    0,
+];
+
+/// Disembargo with a tag of its context that none has.
+static DISEMBARGO_TAG_4: [u8; 64] = [
+    0, 0, 0, 0, 7, 0, 0, 0, 0, 0, 0, 0, 1, 0, 1, 0, 13, 0, 0, 0, 0, 0, 0, 0, 0, 0, 0, 0, 1, 0, 1,
+    0, 2, 0, 0, 0, 4, 0, 0, 0, 0, 0, 0, 0, 1, 0, 1, 0, 4, 0, 0, 0, 0, 0, 0, 0, 0, 0, 0, 0, 0, 0, 0,
+    0,
+];
+
+/// Resolve with a tag that none has.
+static RESOLVE_TAG_2: [u8; 64] = [
+    0, 0, 0, 0, 7, 0, 0, 0, 0, 0, 0, 0, 1, 0, 1, 0, 5, 0, 0, 0, 0, 0, 0, 0, 0, 0, 0, 0, 1, 0, 1, 0,
+    3, 0, 0, 0, 2, 0, 0, 0, 0, 0, 0, 0, 1, 0, 1, 0, 1, 0, 0, 0, 1, 0, 0, 0, 0, 0, 0, 0, 0, 0, 0, 0,
+];
+
+/// Disembargo to a target with a tag that none has.
+static TARGET_TAG_2: [u8; 64] = [
+    0, 0, 0, 0, 7, 0, 0, 0, 0, 0, 0, 0, 1, 0, 1, 0, 13, 0, 0, 0, 0, 0, 0, 0, 0, 0, 0, 0, 1, 0, 1,
+    0, 2, 0, 0, 0, 1, 0, 0, 0, 0, 0, 0, 0, 1, 0, 1, 0, 4, 0, 0, 0, 2, 0, 0, 0, 0, 0, 0, 0, 0, 0, 0,
+    0,
+];
+
+/// Disembargo to a path with an operation that none is.
+static OPERATION_TAG_2: [u8; 104] = [
+    0, 0, 0, 0, 12, 0, 0, 0, 0, 0, 0, 0, 1, 0, 1, 0, 13, 0, 0, 0, 0, 0, 0, 0, 0, 0, 0, 0, 1, 0, 1,
+    0, 2, 0, 0, 0, 0, 0, 0, 0, 0, 0, 0, 0, 1, 0, 1, 0, 0, 0, 0, 0, 1, 0, 0, 0, 0, 0, 0, 0, 1, 0, 1,
+    0, 1, 0, 0, 0, 0, 0, 0, 0, 1, 0, 0, 0, 23, 0, 0, 0, 8, 0, 0, 0, 1, 0, 0, 0, 0, 0, 0, 0, 0, 0,
+    0, 0, 2, 0, 3, 0, 0, 0, 0, 0,
+];
+
+/// Resolve to a capability that a third party hosts.
+static DESCRIPTOR_TAG_5: [u8; 64] = [
+    0, 0, 0, 0, 7, 0, 0, 0, 0, 0, 0, 0, 1, 0, 1, 0, 5, 0, 0, 0, 0, 0, 0, 0, 0, 0, 0, 0, 1, 0, 1, 0,
+    3, 0, 0, 0, 0, 0, 0, 0, 0, 0, 0, 0, 1, 0, 1, 0, 5, 0, 0, 0, 1, 0, 0, 0, 0, 0, 0, 0, 0, 0, 0, 0,
+];
+
+/// Resolve to a descriptor with a tag that none has.
+static DESCRIPTOR_TAG_6: [u8; 64] = [
+    0, 0, 0, 0, 7, 0, 0, 0, 0, 0, 0, 0, 1, 0, 1, 0, 5, 0, 0, 0, 0, 0, 0, 0, 0, 0, 0, 0, 1, 0, 1, 0,
+    3, 0, 0, 0, 0, 0, 0, 0, 0, 0, 0, 0, 1, 0, 1, 0, 6, 0, 0, 0, 1, 0, 0, 0, 0, 0, 0, 0, 0, 0, 0, 0,
+];
+
+/// Return whose content is a pointer of a reserved kind.
+static RESERVED_CONTENT: [u8; 96] = [
+    0, 0, 0, 0, 11, 0, 0, 0, 0, 0, 0, 0, 1, 0, 1, 0, 3, 0, 0, 0, 0, 0, 0, 0, 0, 0, 0, 0, 2, 0, 1,
+    0, 0, 0, 0, 0, 0, 0, 0, 0, 0, 0, 0, 0, 0, 0, 0, 0, 0, 0, 0, 0, 0, 0, 2, 0, 7, 0, 0, 0, 0, 0, 0,
+    0, 1, 0, 0, 0, 23, 0, 0, 0, 4, 0, 0, 0, 1, 0, 1, 0, 1, 0, 0, 0, 0, 0, 0, 0, 0, 0, 0, 0, 0, 0,
+    0, 0,
+];
+
+/// The same with a descriptor that has a tag that none has, which is met first.
+static TABLE_BEFORE_CONTENT: [u8; 96] = [
+    0, 0, 0, 0, 11, 0, 0, 0, 0, 0, 0, 0, 1, 0, 1, 0, 3, 0, 0, 0, 0, 0, 0, 0, 0, 0, 0, 0, 2, 0, 1,
+    0, 0, 0, 0, 0, 0, 0, 0, 0, 0, 0, 0, 0, 0, 0, 0, 0, 0, 0, 0, 0, 0, 0, 2, 0, 7, 0, 0, 0, 0, 0, 0,
+    0, 1, 0, 0, 0, 23, 0, 0, 0, 4, 0, 0, 0, 1, 0, 1, 0, 6, 0, 0, 0, 0, 0, 0, 0, 0, 0, 0, 0, 0, 0,
+    0, 0,
+];
+
+/// Return whose fourth descriptor points to a capability for a PromisedAnswer, and whose fifth has a tag that none has.
+static ENTRY_BEFORE_NEXT: [u8; 208] = [
+    0, 0, 0, 0, 25, 0, 0, 0, 0, 0, 0, 0, 1, 0, 1, 0, 3, 0, 0, 0, 0, 0, 0, 0, 0, 0, 0, 0, 2, 0, 1,
+    0, 5, 0, 0, 0, 0, 0, 0, 0, 0, 0, 0, 0, 0, 0, 0, 0, 0, 0, 0, 0, 0, 0, 2, 0, 0, 0, 0, 0, 0, 0, 0,
+    0, 1, 0, 0, 0, 87, 0, 0, 0, 20, 0, 0, 0, 1, 0, 1, 0, 0, 0, 0, 0, 0, 0, 0, 0, 0, 0, 0, 0, 0, 0,
+    0, 0, 1, 0, 0, 0, 1, 0, 0, 0, 0, 0, 0, 0, 0, 0, 0, 0, 2, 0, 0, 0, 2, 0, 0, 0, 0, 0, 0, 0, 0, 0,
+    0, 0, 4, 0, 0, 0, 3, 0, 0, 0, 3, 0, 0, 0, 0, 0, 0, 0, 6, 0, 0, 0, 0, 0, 0, 0, 0, 0, 0, 0, 1, 0,
+    1, 0, 4, 0, 0, 0, 0, 0, 0, 0, 1, 0, 0, 0, 31, 0, 0, 0, 12, 0, 0, 0, 1, 0, 0, 0, 0, 0, 9, 0, 0,
+    0, 0, 0, 1, 0, 7, 0, 0, 0, 0, 0, 1, 0, 0, 0, 0, 0, 0, 0,
+];
+
 /// Reads again where memory was wanting once.
 fn read(alloc: Global, bytes: &'static [u8], limits: Limits) -> Result<RpcMessage, ViewError> {
     match read_bytes(alloc, Bytes::from_static(bytes), limits) {
@@ -203,7 +343,7 @@ fn is_fault(alloc: Global, bytes: &'static [u8], fault: ViewError) -> bool {
 
 #[test]
 fn messages(rt: HostRuntime) -> Result<(), Fail> {
-    let rows: [(&'static [u8], &'static str); 18] = [
+    let rows: [(&'static [u8], &'static str); 19] = [
         (&BOOTSTRAP, "Bootstrap { question: 0 }"),
         (
             &CALL,
@@ -219,6 +359,10 @@ fn messages(rt: HostRuntime) -> Result<(), Fail> {
         ),
         (
             &RETURN_WITH_CAPABILITY,
+            "Return { answer: 0, release_param_caps: true, outcome: Results(Payload { descriptors: Descriptors { items: [SenderHosted(0)] }, fields: Fields { items: [(Path { fields: [] }, 0)] } }) }",
+        ),
+        (
+            &UNREAD_POINTER,
             "Return { answer: 0, release_param_caps: true, outcome: Results(Payload { descriptors: Descriptors { items: [SenderHosted(0)] }, fields: Fields { items: [(Path { fields: [] }, 0)] } }) }",
         ),
         (
@@ -273,7 +417,7 @@ fn messages(rt: HostRuntime) -> Result<(), Fail> {
 
 #[test]
 fn refusals(rt: HostRuntime) {
-    let rows: [(&'static [u8], ViewError); 9] = [
+    let rows: [(&'static [u8], ViewError); 26] = [
         (&CUT, ViewError::Frame(FrameError::Short)),
         (&BAD_PAD, ViewError::Read(ReadError::BadPad)),
         (&NULL_ROOT, ViewError::Outside(Outside::Unimplemented)),
@@ -283,6 +427,23 @@ fn refusals(rt: HostRuntime) {
         (&TAKES_RESULTS, ViewError::Outside(Outside::TailCall)),
         (&RETURN_TAG_6, ViewError::BadTag),
         (&LATER_FIELD, ViewError::Outside(Outside::LaterField)),
+        (&TAIL_CALL, ViewError::Outside(Outside::TailCall)),
+        (&CALL_FOR_THIRD_PARTY, ViewError::Outside(Outside::Level)),
+        (&SEND_RESULTS_TO_3, ViewError::BadTag),
+        (&CALL_LATER_FIELD, ViewError::Outside(Outside::LaterField)),
+        (&RESULTS_ELSEWHERE, ViewError::Outside(Outside::TailCall)),
+        (&RETURN_OF_THIRD_PARTY, ViewError::Outside(Outside::Level)),
+        (&DISEMBARGO_ACCEPT, ViewError::Outside(Outside::Level)),
+        (&DISEMBARGO_PROVIDE, ViewError::Outside(Outside::Level)),
+        (&DISEMBARGO_TAG_4, ViewError::BadTag),
+        (&RESOLVE_TAG_2, ViewError::BadTag),
+        (&TARGET_TAG_2, ViewError::BadTag),
+        (&OPERATION_TAG_2, ViewError::BadTag),
+        (&DESCRIPTOR_TAG_5, ViewError::Outside(Outside::Level)),
+        (&DESCRIPTOR_TAG_6, ViewError::BadTag),
+        (&RESERVED_CONTENT, ViewError::Read(ReadError::Reserved)),
+        (&TABLE_BEFORE_CONTENT, ViewError::BadTag),
+        (&ENTRY_BEFORE_NEXT, ViewError::Read(ReadError::WrongKind)),
     ];
     for (bytes, fault) in rows {
         assert!(rt; is_fault(rt.alloc(), bytes, fault), "{fault:?}");
@@ -305,5 +466,32 @@ fn a_release_within_limits(rt: HostRuntime) -> Result<(), Fail> {
             RpcMessage::Release { id: 3, count: 2 }
         )
     );
+    Ok(())
+}
+
+#[test]
+fn empty_descriptors_within_limits(rt: HostRuntime) -> Result<(), Fail> {
+    let fits = Limits {
+        words: 10,
+        depth: 64,
+    };
+    let short = Limits {
+        words: 9,
+        depth: 64,
+    };
+    let too_much = read(rt.alloc(), &RETURN_OF_EMPTY_DESCRIPTORS, short);
+    assert!(rt; matches!(too_much, Err(ViewError::Read(ReadError::TooMuch))));
+    match read(rt.alloc(), &RETURN_OF_EMPTY_DESCRIPTORS, fits)? {
+        RpcMessage::Return {
+            outcome: Outcome::Results(results),
+            ..
+        } => assert!(rt;
+            matches!(
+                results.descriptors.as_slice(),
+                [Descriptor::NoCap, Descriptor::NoCap, Descriptor::NoCap]
+            )
+        ),
+        other => assert!(rt; false, "{other:?}"),
+    }
     Ok(())
 }

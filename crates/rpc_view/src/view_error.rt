@@ -25,12 +25,13 @@ pub enum Outside {
 /// Why a frame isn't read as a message.
 #[derive(Clone, Copy, Debug, PartialEq, Eq)]
 pub enum ViewError {
-    /// A pointer can't be followed within the limits.
+    /// A pointer can't be followed within the limits. It never holds `ReadError::OutOfMemory`, which is `OutOfMemory` here.
     Read(ReadError),
     /// A message, or a part of one, that is outside of this profile.
     Outside(Outside),
     /// A tag that this profile doesn't list.
     BadTag,
+    /// Memory was refused. The same frame may be read again.
     OutOfMemory,
     /// The bytes aren't a frame.
     Frame(FrameError),

@@ -1,7 +1,6 @@
-pub mod OtherKinds
 pub mod Running
+pub mod Parts
 pub mod Loops
-pub mod Tables
 pub mod Prices
-pub mod Words
 pub mod Spelled
+pub mod Judged

@@ -1,80 +1,93 @@
 -- Reading numbers one after another, as a loop does.
-use Rattle.std.proofs.Common.{◌≡◌, ℕ, suc, ◌+◌, ◌-◌, ◌<◌, ◌≤◌, List, [], ◌++◌, Result, Ok, Err, refl, sym, ap, ◌∙◌, append_assoc, arith}
+use Rattle.std.proofs.Common.{◌≡◌, ℕ, suc, ◌+◌, ◌-◌, ◌<◌, ◌≤◌, List, [], ◌∷◌, ◌++◌, Result, Ok, Err, refl, sym, ap, ◌∙◌, append_assoc, arith}
 use Rattle.std.proofs.lemmas.List.{append-nil}
+use Rattle.cap_reader.specs.Reading.{Reading, done, and_then, pay_for, each, with_front}
 use Rattle.rpc_view.specs.declared.view_error.ViewError.{ViewError}
 use Rattle.rpc_view.specs.declared.view_error.ViewError.TheVariants as errors
-use Rattle.rpc_view.specs.Reading.{Reading, done, and_then, run, each, with_front, Fails}
+use Rattle.rpc_view.specs.Reading.{run, Refuses}
 use Rattle.rpc_view.proofs.Running.{and_run, run_then}
 
-regroup : {A : Type 0} (front xs : List A) (rest : Result (List A × ℕ) ViewError) → with_front front (and_run rest (λ others. done (xs ++ others))) ≡ with_front (front ++ xs) rest
-unfolding run
-regroup front xs (Ok ran) = ap (λ (all : List _). Ok (all, ran.1)) (sym (append_assoc front xs ran.0))
-regroup front xs (Err e) = refl
+abbrev answered : {A : Type 0} → List A → ℕ → Result (List A) ViewError × ℕ
+answered xs left = (Ok xs, left)
 
-abbrev ok_of : {A : Type 0} → List A × ℕ → Result (List A × ℕ) ViewError
-ok_of x = Ok x
-
-ok_is : {A : Type 0} (x y : List A × ℕ) → ok_of x ≡ ok_of y → x ≡ y
+ok_is : {A : Type 0} (x y : List A) → ◌≡◌ {A = Result (List A) ViewError} (Ok x) (Ok y) → x ≡ y
 ok_is x y e = cc
 
-module _ {A : Type 0} (f : ℕ → Reading (List A)) where
-  step : (front : List A) (i n words : ℕ) → with_front front (run (each f i (suc n)) words) ≡ with_front front (and_run (run (f i) words) (λ first. and_then (each f (i + 1) n) (λ others. done (first ++ others))))
+not_ok : {A : Type 0} (e : ViewError) (y : List A) → ◌≡◌ {A = Result (List A) ViewError} (Err e) (Ok y) → ⊥
+not_ok e y h = cc
+
+regroup : {A : Type 0} (front xs : List A) (rest : Result (List A) ViewError) (left : ℕ) → with_front front (and_run (rest, left) (λ others. done (xs ++ others))) ≡ with_front (front ++ xs) (rest, left)
+unfolding pay_for
+regroup front xs (Ok others) left = ap (λ (all : List _). answered all left) (sym (append_assoc front xs others))
+regroup front xs (Err e) left = refl
+
+module _ {A : Type 0} (f : ℕ → Reading ViewError (List A)) where
+  abbrev onwards : ℕ → ℕ → List A → Reading ViewError (List A)
+  onwards i n first = and_then (each f (i + 1) n) (λ others. done (first ++ others))
+
+  step : (front : List A) (i n words : ℕ) → with_front front (run (each f i (suc n)) words) ≡ with_front front (and_run (run (f i) words) (onwards i n))
   unfolding each
-  step front i n words = ap (with_front front) (run_then (f i) (λ first. and_then (each f (i + 1) n) (λ others. done (first ++ others))) words)
+  step front i n words = ap (with_front front) (run_then (f i) (onwards i n) words)
 
-  rest : (front xs : List A) (i n left : ℕ) → with_front front (run (and_then (each f (i + 1) n) (λ others. done (xs ++ others))) left) ≡ with_front (front ++ xs) (run (each f (i + 1) n) left)
-  rest front xs i n left = ap (with_front front) (run_then (each f (i + 1) n) (λ others. done (xs ++ others)) left) ∙ regroup front xs (run (each f (i + 1) n) left)
-
-  after : (front next : List A) (i n left : ℕ) (first : Result (List A × ℕ) ViewError) → with_front front first ≡ Ok (next, left) → with_front front (and_run first (λ xs. and_then (each f (i + 1) n) (λ others. done (xs ++ others)))) ≡ with_front next (run (each f (i + 1) n) left)
-  after front next i n left (Ok ran) e =
-      let pair = ok_is (front ++ ran.0, ran.1) (next, left) e in
-      rest front ran.0 i n ran.1 ∙ ap (λ (p : List A × ℕ). with_front p.0 (run (each f (i + 1) n) p.1)) pair
-  after front next i n left (Err e) h = absurd cc
+  rest : (front xs : List A) (i n left : ℕ) → with_front front (run (onwards i n xs) left) ≡ with_front (front ++ xs) (run (each f (i + 1) n) left)
+  rest front xs i n left =
+      ap (with_front front) (run_then (each f (i + 1) n) (λ others. done (xs ++ others)) left) ∙ regroup front xs (run (each f (i + 1) n) left).0 (run (each f (i + 1) n) left).1
 
   -- one more was read
-  pub goes_on : (front next : List A) (count i words left : ℕ) (total : Result (List A × ℕ) ViewError) → i < count → with_front front (run (f i) words) ≡ Ok (next, left)
-      → with_front front (run (each f i (count - i)) words) ≡ total → with_front next (run (each f (i + 1) (count - (i + 1))) left) ≡ total
-  goes_on front next count i words left total lt h so_far =
+  pub goes_on : (front found : List A) (count i words left : ℕ) (total : Result (List A) ViewError × ℕ) → i < count → run (f i) words ≡ (Ok found, left)
+      → with_front front (run (each f i (count - i)) words) ≡ total → with_front (front ++ found) (run (each f (i + 1) (count - (i + 1))) left) ≡ total
+  goes_on front found count i words left total lt h so_far =
       let k : count - i ≡ suc (count - (i + 1)) = omega arith in
-      let one : with_front front (run (each f i (count - i)) words) ≡ with_front next (run (each f (i + 1) (count - (i + 1))) left) = rw k (step front i (count - (i + 1)) words ∙ after front next i (count - (i + 1)) left (run (f i) words) h) in
+      let one : with_front front (run (each f i (count - i)) words) ≡ with_front (front ++ found) (run (each f (i + 1) (count - (i + 1))) left) =
+      rw k (step front i (count - (i + 1)) words ∙ ap (λ (ran : Result (List A) ViewError × ℕ). with_front front (and_run ran (onwards i (count - (i + 1))))) h ∙ rest front found i (count - (i + 1)) left) in
       sym one ∙ so_far
 
-  failed : (front : List A) (i n : ℕ) (e : ViewError) (first : Result (List A × ℕ) ViewError) → Fails e (with_front front first) → Fails e (with_front front (and_run first (λ xs. and_then (each f (i + 1) n) (λ others. done (xs ++ others)))))
-  failed front i n errors.OutOfMemory first p = tt
-  failed front i n (errors.Read e) (Err d) p = p
-  failed front i n (errors.Read e) (Ok ran) p = absurd cc
-  failed front i n (errors.Outside e) (Err d) p = p
-  failed front i n (errors.Outside e) (Ok ran) p = absurd cc
-  failed front i n errors.BadTag (Err d) p = p
-  failed front i n errors.BadTag (Ok ran) p = absurd cc
-  failed front i n (errors.Frame e) (Err d) p = p
-  failed front i n (errors.Frame e) (Ok ran) p = absurd cc
+  failed : (front : List A) (i n left : ℕ) (e : ViewError) (first : Result (List A) ViewError × ℕ) → Refuses e left first → Refuses e left (with_front front (and_run first (onwards i n)))
+  failed front i n left errors.OutOfMemory first p = tt
+  failed front i n left (errors.Read e) first p = rw p refl
+  failed front i n left (errors.Outside e) first p = rw p refl
+  failed front i n left errors.BadTag first p = rw p refl
+  failed front i n left (errors.Frame e) first p = rw p refl
 
   -- one wasn't read
-  pub ends : (e : ViewError) (front : List A) (count i words : ℕ) (total : Result (List A × ℕ) ViewError) → i < count → Fails e (with_front front (run (f i) words))
-      → with_front front (run (each f i (count - i)) words) ≡ total → Fails e total
-  ends e front count i words total lt h so_far =
+  pub ends : (e : ViewError) (front : List A) (count i words left : ℕ) (total : Result (List A) ViewError × ℕ) → i < count → Refuses e left (run (f i) words)
+      → with_front front (run (each f i (count - i)) words) ≡ total → Refuses e left total
+  ends e front count i words left total lt h so_far =
       let k : count - i ≡ suc (count - (i + 1)) = omega arith in
-      let one : with_front front (and_run (run (f i) words) (λ first. and_then (each f (i + 1) (count - (i + 1))) (λ others. done (first ++ others)))) ≡ total = sym (rw k (step front i (count - (i + 1)) words)) ∙ so_far in
-      rw one at (failed front i (count - (i + 1)) e (run (f i) words) h)
+      let one : with_front front (and_run (run (f i) words) (onwards i (count - (i + 1)))) ≡ total = sym (rw k (step front i (count - (i + 1)) words)) ∙ so_far in
+      rw one at (failed front i (count - (i + 1)) left e (run (f i) words) h)
 
   -- all were read
-  pub is_done : (front : List A) (count i words : ℕ) (total : Result (List A × ℕ) ViewError) → count ≤ i → with_front front (run (each f i (count - i)) words) ≡ total → total ≡ Ok (front, words)
-  unfolding each run
+  pub is_done : (front : List A) (count i words : ℕ) (total : Result (List A) ViewError × ℕ) → count ≤ i → with_front front (run (each f i (count - i)) words) ≡ total → total ≡ (Ok front, words)
+  unfolding each pay_for
   is_done front count i words total le so_far =
       let k : count - i ≡ 0 = omega arith in
-      let one : with_front front (run (each f i (count - i)) words) ≡ Ok (front, words) = rw k (ap (λ (xs : List A). Ok (xs, words)) (append-nil front)) in
+      let one : with_front front (run (each f i (count - i)) words) ≡ (Ok front, words) = rw k (ap (λ (xs : List A). answered xs words) (append-nil front)) in
       sym so_far ∙ one
 
 -- none was read yet
-pub no_front : {A : Type 0} (read : Result (List A × ℕ) ViewError) → with_front [] read ≡ read
-no_front (Ok ran) = refl
-no_front (Err e) = refl
+pub no_front : {A : Type 0} (ran : Result (List A) ViewError × ℕ) → with_front [] ran ≡ ran
+no_front (Ok found, left) = refl
+no_front (Err e, left) = refl
 
--- a fault stays one behind a list
-pub fails_front : {A : Type 0} (e : ViewError) (front : List A) (read : Result (List A × ℕ) ViewError) → Fails e read → Fails e (with_front front read)
-fails_front errors.OutOfMemory front read p = tt
-fails_front (errors.Read e) front read p = rw p refl
-fails_front (errors.Outside e) front read p = rw p refl
-fails_front errors.BadTag front read p = rw p refl
-fails_front (errors.Frame e) front read p = rw p refl
+-- ---- readings of one value each
+
+-- a reading of one value, as a list of one
+abbrev pub alone : {A : Type 0} → (ℕ → Reading ViewError A) → ℕ → Reading ViewError (List A)
+alone f i = and_then (f i) (λ value. done (value ∷ []))
+
+module _ {A : Type 0} (f : ℕ → Reading ViewError A) (i words left : ℕ) where
+  pub one : (value : A) → run (f i) words ≡ (Ok value, left) → run (alone f i) words ≡ (Ok (value ∷ []), left)
+  unfolding pay_for
+  one value h =
+      run_then (f i) (λ value. done (value ∷ [])) words ∙ ap (λ (ran : Result A ViewError × ℕ). and_run ran (λ value. done (value ∷ []))) h
+
+  alone_fails : (e : ViewError) (ran : Result A ViewError × ℕ) → Refuses e left ran → Refuses e left (and_run ran (λ value. done (value ∷ [])))
+  alone_fails errors.OutOfMemory ran p = tt
+  alone_fails (errors.Read e) ran p = rw p refl
+  alone_fails (errors.Outside e) ran p = rw p refl
+  alone_fails errors.BadTag ran p = rw p refl
+  alone_fails (errors.Frame e) ran p = rw p refl
+
+  pub none : (e : ViewError) → Refuses e left (run (f i) words) → Refuses e left (run (alone f i) words)
+  none e h = rw (run_then (f i) (λ value. done (value ∷ [])) words) (alone_fails e (run (f i) words) h)

@@ -1,148 +1,202 @@
--- The message of a tree, by the layouts of rpc.capnp, as far as messages are read yet: Bootstrap, Call and Return with
--- results. The data of a body is judged whole before its pointers are followed; pointers that a union doesn't select are
--- not read.
-use Rattle.std.specs.Prelude.{◌≡◌, ℕ, ◌<◌, ◌≤◌, ◌==◌, ◌||◌, List, [], ◌∷◌, length, slice_index_or, Result, Ok, Err, nat_lt, if◌then◌else◌}
+-- The message of a tree, by the layouts of rpc.capnp. Each tag, and the data of a body, is judged where it is read: a number
+-- that this profile doesn't list first, then what belongs to another level, then tail calls, then what later editions use.
+-- The data of a body is judged whole before its pointers are followed; pointers that a union doesn't select are unread.
+use Rattle.std.specs.Prelude.{◌≡◌, ℕ, ◌<◌, ◌≤◌, ◌==◌, List, [], ◌∷◌, Result, Ok, Err, nat_lt, if◌then◌else◌}
 use Rattle.cap_frame.specs.declared.frame_error.FrameError.{FrameError}
 use Rattle.cap_frame.specs.Segments.{segments_of}
-use Rattle.rpc_view.specs.declared.limits.Limits.{Limits}
+use Rattle.cap_reader.specs.declared.limits.Limits.{Limits}
+use Rattle.cap_reader.specs.declared.read_error.ReadError.TheVariants.{TooMuch}
+use Rattle.cap_reader.specs.Tree.{Tree, root_tree}
+use Rattle.cap_reader.specs.Reading.{Reading, done, fault, ◌>>=◌, Sections, Elements, each}
+use Rattle.cap_reader.specs.Fields.{fields_in}
 use Rattle.rpc_view.specs.declared.message.Target.{Target}
 use Rattle.rpc_view.specs.declared.message.Target.TheVariants as targets
 use Rattle.rpc_view.specs.declared.message.Descriptor.{Descriptor}
 use Rattle.rpc_view.specs.declared.message.Descriptor.TheVariants as descriptors
 use Rattle.rpc_view.specs.declared.message.Payload.{Payload}
-use Rattle.rpc_view.specs.declared.message.Outcome.TheVariants.{Results}
+use Rattle.rpc_view.specs.declared.message.Outcome.{Outcome}
+use Rattle.rpc_view.specs.declared.message.Outcome.TheVariants as outcomes
+use Rattle.rpc_view.specs.declared.message.Resolution.TheVariants as resolutions
+use Rattle.rpc_view.specs.declared.message.Loopback.{Loopback}
+use Rattle.rpc_view.specs.declared.message.Loopback.TheVariants as loopbacks
 use Rattle.rpc_view.specs.declared.message.RpcMessage.{RpcMessage}
 use Rattle.rpc_view.specs.declared.message.RpcMessage.TheVariants as messages
-use Rattle.rpc_view.specs.declared.view_error.ReadError.TheVariants.{TooMuch}
-use Rattle.rpc_view.specs.declared.view_error.Outside.TheVariants.{NotYet}
+use Rattle.rpc_view.specs.declared.view_error.Outside.TheVariants.{Level, Unimplemented, LaterField, TailCall}
 use Rattle.rpc_view.specs.declared.view_error.ViewError.{ViewError}
 use Rattle.rpc_view.specs.declared.view_error.ViewError.TheVariants as errors
-use Rattle.rpc_view.specs.Tree.{Tree, tree_at}
-use Rattle.rpc_view.specs.Reading.{Reading, done, fault, Sections, Elements, ◌>>=◌, run, structure_in, elements_in, each}
-use Rattle.rpc_view.specs.Fields.{fields_in}
-use Rattle.rpc_view.specs.Layouts.{message_tag, message_body, bootstrap_question, call_question, call_method, call_send_results_to, call_interface, call_later, call_target, call_params, return_answer, return_release_param_caps, return_later, return_tag, return_results, target_tag, target_imported, target_promised, promised_question, promised_transform, payload_content, payload_cap_table, descriptor_tag, descriptor_number}
+use Rattle.rpc_view.specs.Reading.{part, struct_in, list_in, run}
+use Rattle.rpc_view.specs.Layouts.{message_tag, message_body, bootstrap_question, call_question, call_method, call_send_results_to, call_interface, call_later, call_target, call_params, return_answer, return_release_param_caps, return_later, return_tag, return_results, finish_question, finish_release_result_caps, resolve_promise, resolve_tag, resolve_cap, release_id, release_count, disembargo_number, disembargo_tag, disembargo_target, target_tag, target_imported, target_promised, promised_question, promised_transform, operation_tag, operation_field, payload_content, payload_cap_table, descriptor_tag, descriptor_number, descriptor_answer}
 
--- ---- what a call goes to
+-- ---- results of questions
 
--- PromisedAnswer's transform; one with operations isn't read yet
-unfoldable pub transform_in : Tree → Reading (List ℕ)
-transform_in tree = do
-  operations ← elements_in tree
-  if operations.count == 0 then done [] else fault (errors.Outside NotYet)
+-- PromisedAnswer.Op, a union by its tag: the number of a pointer field, or nothing
+unfoldable pub operation_in : Tree → Reading ViewError (List ℕ)
+operation_in tree = do
+  operation ← struct_in tree
+  if operation_tag operation == 0 then done []
+      else (if operation_tag operation == 1 then done (operation_field operation ∷ [])
+      else fault errors.BadTag)
 
--- PromisedAnswer
-unfoldable pub promised_in : Tree → Reading Target
+-- the operations of a transform one by one
+unfoldable pub operations_in : Elements → Reading ViewError (List ℕ)
+operations_in operations = each (λ i. operation_in (operations.element i)) 0 operations.count
+
+-- PromisedAnswer: the question and the path that its transform goes
+unfoldable pub promised_in : Tree → Reading ViewError (ℕ × List ℕ)
 promised_in tree = do
-  promised ← structure_in tree
-  path ← transform_in (promised_transform promised)
-  done (targets.Promised (promised_question promised) path)
+  promised ← struct_in tree
+  operations ← list_in (promised_transform promised)
+  path ← operations_in operations
+  done (promised_question promised, path)
 
 -- MessageTarget, a union by its tag
-unfoldable pub target_in : Tree → Reading Target
+unfoldable pub target_in : Tree → Reading ViewError Target
 target_in tree = do
-  target ← structure_in tree
+  target ← struct_in tree
   if target_tag target == 0 then done (targets.Imported (target_imported target))
-      else (if target_tag target == 1 then promised_in (target_promised target)
+      else (if target_tag target == 1 then (promised_in (target_promised target) >>= λ answer. done (targets.Promised answer.0 answer.1))
       else fault errors.BadTag)
 
 -- ---- payloads
 
--- CapDescriptor, a union by its tag; the tags are listed up to 5
-unfoldable pub descriptor_in : Tree → Reading Descriptor
+-- what a CapDescriptor says, a union by its tag; 5 is of a third party
+unfoldable pub described_in : Sections → Reading ViewError Descriptor
+described_in descriptor =
+    if descriptor_tag descriptor == 0 then done descriptors.NoCap
+    else (if descriptor_tag descriptor == 1 then done (descriptors.SenderHosted (descriptor_number descriptor))
+    else (if descriptor_tag descriptor == 2 then done (descriptors.SenderPromise (descriptor_number descriptor))
+    else (if descriptor_tag descriptor == 3 then done (descriptors.ReceiverHosted (descriptor_number descriptor))
+    else (if descriptor_tag descriptor == 4 then (promised_in (descriptor_answer descriptor) >>= λ answer. done (descriptors.ReceiverAnswer answer.0 answer.1))
+    else (if descriptor_tag descriptor == 5 then fault (errors.Outside Level)
+    else fault errors.BadTag)))))
+
+-- CapDescriptor
+unfoldable pub descriptor_in : Tree → Reading ViewError Descriptor
 descriptor_in tree = do
-  descriptor ← structure_in tree
-  if descriptor_tag descriptor == 0 then done descriptors.NoCap
-      else (if descriptor_tag descriptor == 1 then done (descriptors.SenderHosted (descriptor_number descriptor))
-      else (if nat_lt (descriptor_tag descriptor) 6 then fault (errors.Outside NotYet)
-      else fault errors.BadTag))
+  descriptor ← struct_in tree
+  described_in descriptor
 
 -- the entries of a capTable one by one, each with what it holds
-unfoldable pub descriptors_in : Elements → Reading (List Descriptor)
+unfoldable pub descriptors_in : Elements → Reading ViewError (List Descriptor)
 descriptors_in table = each (λ i. descriptor_in (table.element i) >>= λ descriptor. done (descriptor ∷ [])) 0 table.count
 
--- the capTable of results
-unfoldable pub results_table_in : Tree → Reading (List Descriptor)
-results_table_in tree = do
-  table ← elements_in tree
-  descriptors_in table
-
--- the capTable of parameters; a call with a descriptor isn't read yet, whatever the descriptor is
-unfoldable pub params_table_in : Tree → Reading (List Descriptor)
-params_table_in tree = do
-  table ← elements_in tree
-  if table.count == 0 then done [] else fault (errors.Outside NotYet)
-
 -- Payload, whose capTable is read before its content
-unfoldable pub payload_in : (Tree → Reading (List Descriptor)) → Tree → Reading Payload
-payload_in table_in tree = do
-  payload ← structure_in tree
-  table ← table_in (payload_cap_table payload)
-  fields ← fields_in [] (payload_content payload)
-  done (record { descriptors = table; fields = fields })
+unfoldable pub payload_in : Tree → Reading ViewError Payload
+payload_in tree = do
+  payload ← struct_in tree
+  table ← list_in (payload_cap_table payload)
+  entries ← descriptors_in table
+  fields ← part (fields_in [] (payload_content payload))
+  done (record { descriptors = entries; fields = fields })
 
 -- ---- messages
 
 -- Bootstrap
-unfoldable pub bootstrap_in : Tree → Reading RpcMessage
+unfoldable pub bootstrap_in : Tree → Reading ViewError RpcMessage
 bootstrap_in tree = do
-  bootstrap ← structure_in tree
+  bootstrap ← struct_in tree
   done (messages.Bootstrap (bootstrap_question bootstrap))
 
--- what the pointers of a call hold
-unfoldable pub called_in : Sections → Reading RpcMessage
+-- what the pointers of a Call hold
+unfoldable pub called_in : Sections → Reading ViewError RpcMessage
 called_in call = do
   target ← target_in (call_target call)
-  params ← payload_in params_table_in (call_params call)
+  params ← payload_in (call_params call)
   done (messages.Call (call_question call) target (call_interface call) (call_method call) params)
 
--- Call, whose data is judged before what its pointers hold is read: sendResultsTo, then what isn't read yet
-unfoldable pub call_in : Tree → Reading RpcMessage
+-- Call, by whom its results are wanted: 0 the caller, 1 yourself, 2 a third party
+unfoldable pub call_in : Tree → Reading ViewError RpcMessage
 call_in tree = do
-  call ← structure_in tree
+  call ← struct_in tree
   if nat_lt 2 (call_send_results_to call) then fault errors.BadTag
-      else (if nat_lt 0 (call_send_results_to call) || call_later call then fault (errors.Outside NotYet)
-      else called_in call)
+      else (if call_send_results_to call == 2 then fault (errors.Outside Level)
+      else (if call_send_results_to call == 1 then fault (errors.Outside TailCall)
+      else (if call_later call then fault (errors.Outside LaterField)
+      else called_in call)))
 
--- what the pointer of a Return with results holds
-unfoldable pub returned_in : Sections → Reading RpcMessage
+-- what a Return says of its call: 0 results, 1 exception, 2 canceled
+unfoldable pub outcome_in : Sections → Reading ViewError Outcome
+outcome_in answer =
+    if return_tag answer == 0 then (payload_in (return_results answer) >>= λ results. done (outcomes.Results results))
+    else (if return_tag answer == 1 then done outcomes.Exception
+    else done outcomes.Canceled)
+
+-- what the pointer of a Return holds
+unfoldable pub returned_in : Sections → Reading ViewError RpcMessage
 returned_in answer = do
-  results ← payload_in results_table_in (return_results answer)
-  done (messages.Return (return_answer answer) (return_release_param_caps answer) (Results results))
+  outcome ← outcome_in answer
+  done (messages.Return (return_answer answer) (return_release_param_caps answer) outcome)
 
--- Return, whose data is judged before what its pointers hold is read: its tag, then what isn't read yet
-unfoldable pub return_in : Tree → Reading RpcMessage
+-- Return, a union by its tag: 3 and 4 are tail calls, 5 is of a third party
+unfoldable pub return_in : Tree → Reading ViewError RpcMessage
 return_in tree = do
-  answer ← structure_in tree
+  answer ← struct_in tree
   if nat_lt 5 (return_tag answer) then fault errors.BadTag
-      else (if nat_lt 0 (return_tag answer) || return_later answer then fault (errors.Outside NotYet)
-      else returned_in answer)
+      else (if return_tag answer == 5 then fault (errors.Outside Level)
+      else (if nat_lt 2 (return_tag answer) then fault (errors.Outside TailCall)
+      else (if return_later answer then fault (errors.Outside LaterField)
+      else returned_in answer)))
 
--- the body behind Message's tag: 2 call, 3 return, 8 bootstrap; by this project's choice the list of tags ends at 13
-unfoldable pub body_in : ℕ → Tree → Reading RpcMessage
+-- Finish
+unfoldable pub finish_in : Tree → Reading ViewError RpcMessage
+finish_in tree = do
+  finish ← struct_in tree
+  done (messages.Finish (finish_question finish) (finish_release_result_caps finish))
+
+-- Resolve, a union by its tag
+unfoldable pub resolve_in : Tree → Reading ViewError RpcMessage
+resolve_in tree = do
+  resolve ← struct_in tree
+  if resolve_tag resolve == 0 then (descriptor_in (resolve_cap resolve) >>= λ cap. done (messages.Resolve (resolve_promise resolve) (resolutions.Cap cap)))
+      else (if resolve_tag resolve == 1 then done (messages.Resolve (resolve_promise resolve) resolutions.Exception)
+      else fault errors.BadTag)
+
+-- Release
+unfoldable pub release_in : Tree → Reading ViewError RpcMessage
+release_in tree = do
+  release ← struct_in tree
+  done (messages.Release (release_id release) (release_count release))
+
+-- what the pointer of a Disembargo holds
+unfoldable pub disembargoed_in : Sections → Loopback → Reading ViewError RpcMessage
+disembargoed_in disembargo loopback = do
+  target ← target_in (disembargo_target disembargo)
+  done (messages.Disembargo (disembargo_number disembargo) loopback target)
+
+-- Disembargo, a union by the tag of its context: 2 accept and 3 provide are of level 3
+unfoldable pub disembargo_in : Tree → Reading ViewError RpcMessage
+disembargo_in tree = do
+  disembargo ← struct_in tree
+  if disembargo_tag disembargo == 0 then disembargoed_in disembargo loopbacks.Sender
+      else (if disembargo_tag disembargo == 1 then disembargoed_in disembargo loopbacks.Receiver
+      else (if nat_lt (disembargo_tag disembargo) 4 then fault (errors.Outside Level)
+      else fault errors.BadTag))
+
+-- The body behind Message's tag. An abort's isn't read. 7 obsoleteSave, 9 obsoleteDelete, 10 provide, 11 accept and 12 join
+-- are of other levels; by this project's choice the list of tags ends at 13.
+unfoldable pub body_in : ℕ → Tree → Reading ViewError RpcMessage
 body_in tag body =
-    if tag == 2 then call_in body
+    if tag == 0 then fault (errors.Outside Unimplemented)
+    else (if tag == 1 then done messages.Abort
+    else (if tag == 2 then call_in body
     else (if tag == 3 then return_in body
+    else (if tag == 4 then finish_in body
+    else (if tag == 5 then resolve_in body
+    else (if tag == 6 then release_in body
     else (if tag == 8 then bootstrap_in body
-    else (if nat_lt tag 14 then fault (errors.Outside NotYet)
-    else fault errors.BadTag)))
+    else (if tag == 13 then disembargo_in body
+    else (if nat_lt tag 13 then fault (errors.Outside Level)
+    else fault errors.BadTag)))))))))
 
 -- Message, a union by its tag
-unfoldable pub message_in : Tree → Reading RpcMessage
+unfoldable pub message_in : Tree → Reading ViewError RpcMessage
 message_in tree = do
-  message ← structure_in tree
+  message ← struct_in tree
   body_in (message_tag message) (message_body message)
 
--- the value of a reading that was paid for
-abbrev pub value_in : {A : Type 0} → Result (A × ℕ) ViewError → Result A ViewError
-value_in (Ok ran) = Ok ran.0
-value_in (Err e) = Err e
-
--- "The first word of the first segment of the message is always a pointer pointing to the message's root struct." A frame
--- of two or more segments isn't read yet.
+-- "The first word of the first segment of the message is always a pointer pointing to the message's root struct."
 unfoldable pub message_of : List (List ℕ) → Limits → Result RpcMessage ViewError
-message_of segments limits =
-    if nat_lt 1 (length segments) then Err (errors.Outside NotYet)
-    else value_in (run (message_in (tree_at limits.depth (slice_index_or segments 0 []) 0)) limits.words)
+message_of segments limits = (run (message_in (root_tree limits.depth segments)) limits.words).0
 
 -- the message of a frame, or why there is no frame
 abbrev pub message_in_frame : Result (List (List ℕ)) FrameError → Limits → Result RpcMessage ViewError

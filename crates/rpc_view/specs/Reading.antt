@@ -1,39 +1,36 @@
--- A reading of a tree: the costs of its visits in order, and how it ends.
-use Rattle.std.specs.Prelude.{◌≡◌, ℕ, zero, suc, ◌+◌, ◌-◌, List, [], ◌++◌, length, Result, Ok, Err, nat_lt, max, if◌then◌else◌}
-use Rattle.rpc_view.specs.declared.view_error.ReadError.TheVariants.{WrongKind, Reserved, TooMuch}
-use Rattle.rpc_view.specs.declared.view_error.Outside.TheVariants.{NotYet}
+-- Reading a message: readings of the trees of a frame one after another, with faults of a message besides theirs.
+use Rattle.std.specs.Prelude.{◌≡◌, ℕ, List, [], ◌∷◌, Option, Some, None, Result, Ok, Err}
+use Rattle.cap_reader.specs.declared.read_error.ReadError.{ReadError}
+use Rattle.cap_reader.specs.declared.read_error.ReadError.TheVariants as reads
+use Rattle.cap_reader.specs.declared.place.StructAt.{StructAt}
+use Rattle.cap_reader.specs.declared.place.ListAt.{ListAt}
+use Rattle.cap_reader.specs.Tree.{Tree, nothing}
+use Rattle.cap_reader.specs.Reading.{Reading, done, fault, visit, ◌>>=◌, pay_for, Sections, Elements, root_in, elements_in, or_default}
+use Rattle.cap_reader.specs.Places.{sections_at, elements_at}
 use Rattle.rpc_view.specs.declared.view_error.ViewError.{ViewError}
 use Rattle.rpc_view.specs.declared.view_error.ViewError.TheVariants as errors
-use Rattle.rpc_view.specs.Tree.{Tree, nothing, structure, bad_structure, composite, bad_list, capability, far, reserved}
 
--- the visits in order, and behind them a value, or the first fault
-pub data Reading (A : Type 0) : Type 0 where
-  done : A → Reading A
-  fault : ViewError → Reading A
-  visit : ℕ → Reading A → Reading A
+-- a reading of a tree, as a part of the reading of a message
+unfoldable pub part : {A : Type 0} → Reading ReadError A → Reading ViewError A
+part (done value) = done value
+part (fault e) = fault (errors.Read e)
+part (visit cost rest) = visit cost (part rest)
 
--- one reading and then another, which goes by the value of the first
-unfoldable pub and_then : {A B : Type 0} → Reading A → (A → Reading B) → Reading B
-and_then (done value) next = next value
-and_then (fault e) next = fault e
-and_then (visit cost rest) next = visit cost (and_then rest next)
+-- The struct at a pointer; where the pointer is null, the empty struct, in which every field has its default.
+abbrev pub struct_in : Tree → Reading ViewError Sections
+struct_in tree = part (root_in tree)
 
-infixl 10 ◌>>=◌
-abbrev pub ◌>>=◌ : {A B : Type 0} → Reading A → (A → Reading B) → Reading B
-reading >>= next = and_then reading next
+abbrev pub or_empty : Option Elements → Elements
+or_empty None = record { count = 0; element = λ i. nothing }
+or_empty (Some elements) = elements
 
--- Each visit is paid for in its turn; the first that costs more than there is left is too much. Else the value, and what
--- is left.
-unfoldable pub run : {A : Type 0} → Reading A → ℕ → Result (A × ℕ) ViewError
-run (done value) left = Ok (value, left)
-run (fault e) left = Err e
-run (visit cost rest) left = if nat_lt left cost then Err (errors.Read TooMuch) else run rest (left - cost)
+-- the list of structs at a pointer; where the pointer is null, the empty list
+abbrev pub list_in : Tree → Reading ViewError Elements
+list_in tree = part (elements_in tree >>= λ found. done (or_empty found))
 
--- what the visits of a reading cost together
-unfoldable pub price : {A : Type 0} → Reading A → ℕ
-price (done value) = 0
-price (fault e) = 0
-price (visit cost rest) = cost + price rest
+-- what a reading answers, given so many words, and how many it leaves
+abbrev pub run : {A : Type 0} → Reading ViewError A → ℕ → Result A ViewError × ℕ
+run reading words = pay_for (errors.Read reads.TooMuch) reading words
 
 -- ---- what a function of the code answers
 
@@ -50,61 +47,36 @@ abbrev pub Answers : {X Y : Type 0} → (X → Y) → Result X ViewError → Res
 Answers seen (Ok x) defined = defined ≡ Ok (seen x)
 Answers seen (Err e) defined = Fails e defined
 
--- the same of a reading without visits, for which no memory is taken
-abbrev pub Gives : {X Y : Type 0} → (X → Y) → Result X ViewError → Reading Y → Type 0
-Gives seen (Ok x) reading = reading ≡ done (seen x)
-Gives seen (Err e) reading = reading ≡ fault e
+-- the same with the words that are left
+abbrev pub Refuses : {Y : Type 0} → ViewError → ℕ → Result Y ViewError × ℕ → Type 0
+Refuses errors.OutOfMemory left ran = Unit {0}
+Refuses (errors.Read e) left ran = ran ≡ (Err (errors.Read e), left)
+Refuses (errors.Outside e) left ran = ran ≡ (Err (errors.Outside e), left)
+Refuses errors.BadTag left ran = ran ≡ (Err errors.BadTag, left)
+Refuses (errors.Frame e) left ran = ran ≡ (Err (errors.Frame e), left)
 
--- ---- reading a tree as one kind
+abbrev pub Runs : {X Y : Type 0} → (X → Y) → Result X ViewError → ℕ → Result Y ViewError × ℕ → Type 0
+Runs seen (Ok x) left ran = ran ≡ (Ok (seen x), left)
+Runs seen (Err e) left ran = Refuses e left ran
 
--- a struct's data section, and its pointer section: how many pointers, and the tree at each
-pub record Sections : Type 0 where
-  pub words : List ℕ
-  pub count : ℕ
-  pub child : ℕ → Tree
+-- the fault of a message for a fault of a pointer; want of memory isn't one of a pointer
+abbrev pub fault_of : ReadError → ViewError
+fault_of reads.OutOfMemory = errors.OutOfMemory
+fault_of e = errors.Read e
 
--- what a null pointer reads as: all of its fields are missing, and read as their defaults
-abbrev pub default : Sections
-default = record { words = []; count = 0; child = λ n. nothing }
+-- ---- what stands at the places that the code carries about
 
--- A visit of a struct costs its words, and at least 1; each visit counts. The encoding specification asks for such a limit
--- under "Amplification attack", and for one on the depth under "Stack overflow DoS attack".
-abbrev pub cost_of : ℕ → ℕ
-cost_of size = max size 1
+-- the sections of a struct that was looked for
+abbrev pub sections_of : List (List ℕ) → Option StructAt → Sections
+sections_of segments None = or_default None
+sections_of segments (Some place) = sections_at segments place
 
--- A tree where a struct is asked for: a far pointer first, then reserved bits, the kind, the extent, the depth, the cost.
-abbrev pub structure_in : Tree → Reading Sections
-structure_in nothing = done default
-structure_in (structure words count child) = visit (cost_of (length words + count)) (done (record { words = words; count = count; child = child }))
-structure_in (bad_structure e) = fault (errors.Read e)
-structure_in (composite count element) = fault (errors.Read WrongKind)
-structure_in (bad_list e) = fault (errors.Read WrongKind)
-structure_in (capability index) = fault (errors.Read WrongKind)
-structure_in far = fault (errors.Outside NotYet)
-structure_in reserved = fault (errors.Read Reserved)
+-- the elements of a list that was looked for
+abbrev pub elements_of : List (List ℕ) → Option ListAt → Elements
+elements_of segments None = or_empty None
+elements_of segments (Some list) = elements_at segments list
 
--- a list of structs: how many elements, and the tree of each
-pub record Elements : Type 0 where
-  pub count : ℕ
-  pub element : ℕ → Tree
-
--- A tree where a list of structs is asked for, in the same order. A list itself has no depth and no cost.
-abbrev pub elements_in : Tree → Reading Elements
-elements_in nothing = done (record { count = 0; element = λ i. nothing })
-elements_in (structure words count child) = fault (errors.Read WrongKind)
-elements_in (bad_structure e) = fault (errors.Read WrongKind)
-elements_in (composite count element) = done (record { count = count; element = element })
-elements_in (bad_list e) = fault (errors.Read e)
-elements_in (capability index) = fault (errors.Read WrongKind)
-elements_in far = fault (errors.Outside NotYet)
-elements_in reserved = fault (errors.Read Reserved)
-
--- the lists that the readings at n numbers from `from` on give, one after another
-unfoldable pub each : {A : Type 0} → (ℕ → Reading (List A)) → ℕ → ℕ → Reading (List A)
-each reading from zero = done []
-each reading from (suc n) = reading from >>= λ first. each reading (from + 1) n >>= λ others. done (first ++ others)
-
--- what a reading of a list gave, behind a list that was there
-abbrev pub with_front : {A : Type 0} → List A → Result (List A × ℕ) ViewError → Result (List A × ℕ) ViewError
-with_front front (Ok ran) = Ok (front ++ ran.0, ran.1)
-with_front front (Err e) = Err e
+-- a number that may be left out, as a list
+abbrev pub numbers_of : Option ℕ → List ℕ
+numbers_of None = []
+numbers_of (Some n) = n ∷ []

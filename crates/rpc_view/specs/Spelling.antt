@@ -1,11 +1,14 @@
 -- Messages from the writer's side: the one segment of a frame that holds nothing but the message, its structs one behind
 -- another in the order in which the pointers to them are met.
-use Rattle.std.specs.Prelude.{ℕ, ◌+◌, ◌*◌, ◌^◌, ◌<◌, true, List, [], ◌∷◌}
+use Rattle.std.specs.Prelude.{ℕ, ◌+◌, ◌*◌, ◌^◌, ◌<◌, Bool, true, if◌then◌else◌, List, [], ◌∷◌}
 use Rattle.rpc_view.specs.declared.message.Descriptor.TheVariants.{SenderHosted}
 use Rattle.rpc_view.specs.declared.message.Outcome.TheVariants.{Results}
 use Rattle.rpc_view.specs.declared.message.RpcMessage.{RpcMessage}
-use Rattle.rpc_view.specs.declared.message.RpcMessage.TheVariants.{Bootstrap, Call, Return}
-use Rattle.rpc_view.specs.declared.message.Target.TheVariants.{Promised}
+use Rattle.rpc_view.specs.declared.message.RpcMessage.TheVariants.{Bootstrap, Call, Return, Finish, Resolve, Release, Disembargo, Abort}
+use Rattle.rpc_view.specs.declared.message.Target.TheVariants.{Imported, Promised}
+use Rattle.rpc_view.specs.declared.message.Resolution.TheVariants.{Cap, Exception}
+use Rattle.rpc_view.specs.declared.message.Loopback.{Loopback}
+use Rattle.rpc_view.specs.declared.message.Loopback.TheVariants.{Sender, Receiver}
 
 -- a pointer to a struct so many words behind it, with the sizes of its two sections
 abbrev pub struct_pointer : ℕ → ℕ → ℕ → ℕ
@@ -40,6 +43,60 @@ return_segment answer export =
     ∷ struct_pointer 1 1 1 ∷ (1 + 2 ^ 32 * export) ∷ 0
     ∷ []
 
+-- a Message, whose tag is 4, and a Finish; releaseResultCaps is stored as the exclusive or with true
+abbrev pub finish_segment : ℕ → Bool → List ℕ
+finish_segment question released =
+    struct_pointer 0 1 1
+    ∷ 4 ∷ struct_pointer 0 1 0
+    ∷ (question + 2 ^ 32 * (if released then 0 else 1))
+    ∷ []
+
+-- a Message, whose tag is 5, a Resolve, whose tag is 0, and a CapDescriptor, whose tag is 1
+abbrev pub resolve_segment : ℕ → ℕ → List ℕ
+resolve_segment promise export =
+    struct_pointer 0 1 1
+    ∷ 5 ∷ struct_pointer 0 1 1
+    ∷ promise ∷ struct_pointer 0 1 1
+    ∷ (1 + 2 ^ 32 * export) ∷ 0
+    ∷ []
+
+-- a Message, whose tag is 5, and a Resolve, whose tag is 1
+abbrev pub broken_segment : ℕ → List ℕ
+broken_segment promise =
+    struct_pointer 0 1 1
+    ∷ 5 ∷ struct_pointer 0 1 1
+    ∷ (promise + 2 ^ 32) ∷ 0
+    ∷ []
+
+-- a Message, whose tag is 6, and a Release
+abbrev pub release_segment : ℕ → ℕ → List ℕ
+release_segment id count =
+    struct_pointer 0 1 1
+    ∷ 6 ∷ struct_pointer 0 1 0
+    ∷ (id + 2 ^ 32 * count)
+    ∷ []
+
+-- the tag of Disembargo's context
+abbrev pub loopback_tag : Loopback → ℕ
+loopback_tag Sender = 0
+loopback_tag Receiver = 1
+
+-- a Message, whose tag is 13, a Disembargo, whose tag is 0 or 1, and a MessageTarget, whose tag is 0
+abbrev pub disembargo_segment : ℕ → Loopback → ℕ → List ℕ
+disembargo_segment number loopback export =
+    struct_pointer 0 1 1
+    ∷ 13 ∷ struct_pointer 0 1 1
+    ∷ (number + 2 ^ 32 * loopback_tag loopback) ∷ struct_pointer 0 1 1
+    ∷ export ∷ 0
+    ∷ []
+
+-- a Message, whose tag is 1
+abbrev pub abort_segment : List ℕ
+abort_segment =
+    struct_pointer 0 1 1
+    ∷ 1 ∷ 0
+    ∷ []
+
 -- The words spell the message; reading it costs so many words, and so many structs stand within one another.
 pub data Spells : List ℕ → RpcMessage → ℕ → ℕ → Type 0 where
   bootstrap : {question : ℕ} → question < 2 ^ 32 → Spells (bootstrap_segment question) (Bootstrap question) 4 2
@@ -47,3 +104,9 @@ pub data Spells : List ℕ → RpcMessage → ℕ → ℕ → Type 0 where
       → Spells (call_segment question answer interface method) (Call question (Promised answer []) interface method (record { descriptors = []; fields = [] })) 12 4
   results : {answer export : ℕ} → answer < 2 ^ 32 → export < 2 ^ 32
       → Spells (return_segment answer export) (Return answer true (Results (record { descriptors = SenderHosted export ∷ []; fields = ([], 0) ∷ [] }))) 9 4
+  finish : {question : ℕ} {released : Bool} → question < 2 ^ 32 → Spells (finish_segment question released) (Finish question released) 3 2
+  resolve : {promise export : ℕ} → promise < 2 ^ 32 → export < 2 ^ 32 → Spells (resolve_segment promise export) (Resolve promise (Cap (SenderHosted export))) 6 3
+  broken : {promise : ℕ} → promise < 2 ^ 32 → Spells (broken_segment promise) (Resolve promise Exception) 4 2
+  release : {id count : ℕ} → id < 2 ^ 32 → count < 2 ^ 32 → Spells (release_segment id count) (Release id count) 3 2
+  disembargo : {number export : ℕ} {loopback : Loopback} → number < 2 ^ 32 → export < 2 ^ 32 → Spells (disembargo_segment number loopback export) (Disembargo number loopback (Imported export)) 6 3
+  abort : Spells abort_segment Abort 2 1

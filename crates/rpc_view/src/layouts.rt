@@ -1,50 +1,116 @@
-//! Where the fields of rpc.capnp's structs stand: numbers by the byte of the data section at which they begin, a Bool by
-//! its bit, pointers by their number.
+//! The table of rpc.capnp's layouts: where each field of its structs stands, under the names of its struct and field, with
+//! what it is by default and why. Numbers are named by the byte of the data section at which they begin, a Bool by its bit,
+//! pointers by their number, each counted from 0. Where nothing else is said, rpc.capnp declares no default: a number is 0, a
+//! union its first member, a pointer null.
 
-pub const MESSAGE_TAG: u16 = 0;
+/// `Message`'s union, by default `unimplemented`, which asks for nothing.
+pub const MESSAGE_TAG: u32 = 0;
 
+/// The body, whichever member of `Message`'s union it is.
 pub const MESSAGE_BODY: u16 = 0;
 
-pub const BOOTSTRAP_QUESTION: u16 = 0;
+/// `Bootstrap.questionId`.
+pub const BOOTSTRAP_QUESTION: u32 = 0;
 
-pub const CALL_QUESTION: u16 = 0;
+/// `Call.questionId`.
+pub const CALL_QUESTION: u32 = 0;
 
-pub const CALL_METHOD: u16 = 4;
+/// `Call.methodId`.
+pub const CALL_METHOD: u32 = 4;
 
-pub const CALL_SEND_RESULTS_TO: u16 = 6;
+/// `Call.sendResultsTo`'s union, by default `caller`, which is the usual.
+pub const CALL_SEND_RESULTS_TO: u32 = 6;
 
-pub const CALL_INTERFACE: u16 = 8;
+/// `Call.interfaceId`.
+pub const CALL_INTERFACE: u32 = 8;
 
-pub const CALL_LATER: u16 = 130;
+/// A bit of `Call` that later editions use; by default not set, as earlier editions send it.
+pub const CALL_LATER: u32 = 130;
 
+/// `Call.target`.
 pub const CALL_TARGET: u16 = 0;
 
+/// `Call.params`, by default a payload without a capability.
 pub const CALL_PARAMS: u16 = 1;
 
-pub const RETURN_ANSWER: u16 = 0;
+/// `Return.answerId`.
+pub const RETURN_ANSWER: u32 = 0;
 
-pub const RETURN_RELEASE_PARAM_CAPS: u16 = 32;
+/// `Return.releaseParamCaps`, by default true: who forgets to set it only keeps capabilities too long, and who forgets to
+/// clear it is told by errors soon.
+pub const RETURN_RELEASE_PARAM_CAPS: u32 = 32;
 
-pub const RETURN_LATER: u16 = 33;
+/// A bit of `Return` that later editions use; by default not set, as earlier editions send it.
+pub const RETURN_LATER: u32 = 33;
 
-pub const RETURN_TAG: u16 = 6;
+/// `Return`'s union, by default `results`.
+pub const RETURN_TAG: u32 = 6;
 
+/// `Return.results`, by default a payload without a capability.
 pub const RETURN_RESULTS: u16 = 0;
 
-pub const TARGET_TAG: u16 = 4;
+/// `Finish.questionId`.
+pub const FINISH_QUESTION: u32 = 0;
 
-pub const TARGET_IMPORTED: u16 = 0;
+/// `Finish.releaseResultCaps`, by default true, for the same reason as `Return.releaseParamCaps`.
+pub const FINISH_RELEASE_RESULT_CAPS: u32 = 32;
 
+/// `Resolve.promiseId`.
+pub const RESOLVE_PROMISE: u32 = 0;
+
+/// `Resolve`'s union, by default `cap`.
+pub const RESOLVE_TAG: u32 = 4;
+
+/// `Resolve.cap`, by default no capability.
+pub const RESOLVE_CAP: u16 = 0;
+
+/// `Release.id`.
+pub const RELEASE_ID: u32 = 0;
+
+/// `Release.referenceCount`.
+pub const RELEASE_COUNT: u32 = 4;
+
+/// `Disembargo.context.senderLoopback`, and `receiverLoopback`.
+pub const DISEMBARGO_NUMBER: u32 = 0;
+
+/// `Disembargo.context`'s union, by default `senderLoopback`.
+pub const DISEMBARGO_TAG: u32 = 4;
+
+/// `Disembargo.target`.
+pub const DISEMBARGO_TARGET: u16 = 0;
+
+/// `MessageTarget`'s union, by default `importedCap`.
+pub const TARGET_TAG: u32 = 4;
+
+/// `MessageTarget.importedCap`.
+pub const TARGET_IMPORTED: u32 = 0;
+
+/// `MessageTarget.promisedAnswer`.
 pub const TARGET_PROMISED: u16 = 0;
 
-pub const PROMISED_QUESTION: u16 = 0;
+/// `PromisedAnswer.questionId`.
+pub const PROMISED_QUESTION: u32 = 0;
 
+/// `PromisedAnswer.transform`, by default empty: the result itself is meant.
 pub const PROMISED_TRANSFORM: u16 = 0;
 
+/// `PromisedAnswer.Op`'s union, by default `noop`, which does nothing.
+pub const OPERATION_TAG: u32 = 0;
+
+/// `PromisedAnswer.Op.getPointerField`.
+pub const OPERATION_FIELD: u32 = 2;
+
+/// `Payload.content`, by default null, in which there is no capability.
 pub const PAYLOAD_CONTENT: u16 = 0;
 
+/// `Payload.capTable`, by default empty.
 pub const PAYLOAD_CAP_TABLE: u16 = 1;
 
-pub const DESCRIPTOR_TAG: u16 = 0;
+/// `CapDescriptor`'s union, by default `none`: no capability.
+pub const DESCRIPTOR_TAG: u32 = 0;
 
-pub const DESCRIPTOR_NUMBER: u16 = 4;
+/// `CapDescriptor.senderHosted`, `senderPromise` and `receiverHosted`.
+pub const DESCRIPTOR_NUMBER: u32 = 4;
+
+/// `CapDescriptor.receiverAnswer`.
+pub const DESCRIPTOR_ANSWER: u16 = 0;

@@ -1,25 +1,26 @@
 //! The level 1 messages that frames carry.
+//!
+//! It stands on `cap_reader`, whose limits and faults of pointers it lends. Which message a frame is says
+//! `specs/Message.antt`, by the table of layouts in `specs/Layouts.antt`.
 #![tactic(auto)]
 
-mod data;
-mod fields;
-mod following;
+mod bodies;
 mod layouts;
-mod limits;
 mod message;
 mod payload;
-mod place;
-mod pointer;
+mod promised;
 mod reading;
-mod segment;
+mod structs;
 mod table;
 mod target;
 mod view_error;
 
-pub use limits::Limits;
-pub use message::{Descriptor, Descriptors, Fields, Outcome, Payload, RpcMessage, Target};
+pub use cap_reader::{Fields, Limits, ReadError};
+pub use message::{
+    Descriptor, Descriptors, Loopback, Outcome, Payload, Resolution, RpcMessage, Target,
+};
 pub use reading::{read_bytes, read_message};
-pub use view_error::{Outside, ReadError, ViewError};
+pub use view_error::{Outside, ViewError};
 
 #[cfg(test)]
 mod tests;

@@ -3,14 +3,16 @@
 ghost use Rattle.std.specs.Prelude.{◌≡◌};
 
 use cap_frame::Path;
+use cap_reader::Fields;
 use std::marker::Model;
 
-/// What a call goes to: rpc.capnp's `MessageTarget`.
+/// What a message is meant for: rpc.capnp's `MessageTarget`.
 #[derive(Debug, Drop)]
 pub enum Target {
     /// A number of the receiver's exports: `importedCap`.
     Imported(u32),
-    /// A result of a question that the sender opened, at a path of pointer fields: `promisedAnswer`.
+    /// A result of a question that the sender opened, at a path of pointer fields: `promisedAnswer`. Operations that do
+    /// nothing are left out of the path.
     Promised(u32, Path),
 }
 
@@ -21,6 +23,13 @@ pub enum Descriptor {
     NoCap,
     /// A number of the sender's exports: `senderHosted`.
     SenderHosted(u32),
+    /// A number of the sender's exports, which a Resolve will follow: `senderPromise`.
+    SenderPromise(u32),
+    /// A number of the receiver's exports: `receiverHosted`.
+    ReceiverHosted(u32),
+    /// A result of a question that the sender opened, at a path of pointer fields: `receiverAnswer`. Operations that do
+    /// nothing are left out of the path.
+    ReceiverAnswer(u32, Path),
 }
 
 /// A capability table: descriptors by place, counted from 0.
@@ -54,42 +63,13 @@ impl Descriptors {
     }
 }
 
-/// Where a payload's content has capabilities: each path through its structs, with the index into the table.
-#[derive(Debug, Drop)]
-pub struct Fields {
-    pairs: Vec<(Path, u32)>,
-}
-
-impl Model for Fields {
-    ghost use Rattle.std.specs.Prelude.{List, ℕ};
-
-    ghost Value = { List (List ℕ × ℕ) };
-
-    ghost view = { λ fields. fields.pairs.items };
-}
-
-impl Fields {
-    /// The list of these paths with their indices. It takes no memory.
-    pub fn new(pairs: Vec<(Path, u32)>) -> Fields
-        ensures { result ≡ pairs.items }
-    {
-        Fields { pairs }
-    }
-
-    /// Each path with its index, depth first, by pointer number.
-    pub fn as_slice(&self) -> &[(Path, u32)]
-        ensures { result.now ≡ self.now }
-    {
-        &self.pairs
-    }
-}
-
 /// The parameters of a call, or its results: rpc.capnp's `Payload`.
 #[derive(Debug, Drop)]
 pub struct Payload {
     /// `capTable`.
     pub descriptors: Descriptors,
-    /// The capabilities in `content`.
+    /// Where `content` has capabilities: each path through its structs, with the index into the table, depth first by
+    /// pointer number.
     pub fields: Fields,
 }
 
@@ -98,9 +78,31 @@ pub struct Payload {
 pub enum Outcome {
     /// `results`.
     Results(Payload),
+    /// `exception`, which isn't read.
+    Exception,
+    /// `canceled`.
+    Canceled,
 }
 
-/// A message of the protocol: rpc.capnp's `Message`.
+/// What a promise was resolved to.
+#[derive(Debug, Drop)]
+pub enum Resolution {
+    /// `cap`.
+    Cap(Descriptor),
+    /// `exception`, which isn't read.
+    Exception,
+}
+
+/// Which way a Disembargo goes.
+#[derive(Clone, Copy, Debug, PartialEq, Eq)]
+pub enum Loopback {
+    /// `senderLoopback`: the receiver is asked to send it back.
+    Sender,
+    /// `receiverLoopback`: it comes back.
+    Receiver,
+}
+
+/// A message of the protocol's level 1: rpc.capnp's `Message`.
 #[derive(Debug, Drop)]
 pub enum RpcMessage {
     /// Asks for the peer's bootstrap object.
@@ -130,4 +132,36 @@ pub enum RpcMessage {
         /// The union of results and what may stand in their place.
         outcome: Outcome,
     },
+    /// Says that a question's answer isn't needed any more.
+    Finish {
+        /// `questionId`, a number that the sender chose.
+        question: u32,
+        /// `releaseResultCaps`: whether the capabilities of the results are given back.
+        release_result_caps: bool,
+    },
+    /// Says what a promise among the sender's exports became.
+    Resolve {
+        /// `promiseId`, a number of the sender's exports.
+        promise: u32,
+        /// The union of a capability and an exception.
+        resolution: Resolution,
+    },
+    /// Gives back references to one of the receiver's exports.
+    Release {
+        /// `id`, a number of the receiver's exports.
+        id: u32,
+        /// `referenceCount`: how many references are given back.
+        count: u32,
+    },
+    /// Makes sure that calls that took a longer way have come.
+    Disembargo {
+        /// `embargoId` of `senderLoopback` or of `receiverLoopback`.
+        number: u32,
+        /// Which of the two it is.
+        loopback: Loopback,
+        /// `target`.
+        target: Target,
+    },
+    /// Ends the connection; its reason isn't read.
+    Abort,
 }

@@ -1,50 +1,32 @@
 //! Payloads: a capability table, and where the content has capabilities.
 
-ghost use Rattle.rpc_view.specs.Reading.{Answers, run};
-ghost use Rattle.rpc_view.specs.Message.{payload_in, results_table_in, params_table_in};
-ghost use Rattle.rpc_view.specs.Places.{child_at};
+ghost use Rattle.rpc_view.specs.Reading.{Runs, run, sections_of};
+ghost use Rattle.rpc_view.specs.Message.{payload_in};
 
-use crate::fields::fields;
-use crate::following::struct_in;
-use crate::layouts::{CALL_PARAMS, RETURN_RESULTS};
+use crate::layouts::{PAYLOAD_CAP_TABLE, PAYLOAD_CONTENT};
 use crate::message::Payload;
-use crate::place::StructAt;
-use crate::segment::Segment;
-use crate::table::{params_table, results_table};
+use crate::structs::{fields_of, list_in, struct_in};
+use crate::table::descriptors;
 use crate::view_error::ViewError;
+use cap_frame::Frame;
+use cap_reader::{Limits, StructAt};
 use std::alloc::Global;
 
-/// The parameters of a call.
-#[tactic(auto, using(crate::proofs::Running::run_then), unfolding(crate::specs::Message::payload_in, crate::specs::Reading::run, crate::specs::Reading::and_then))]
-pub fn params(
+/// The payload at a pointer of a struct.
+#[tactic(auto, using(crate::proofs::Running::run_then), unfolding(crate::specs::Message::payload_in, cap_reader::specs::Reading::pay_for, cap_reader::specs::Reading::and_then))]
+pub fn payload(
     alloc: Global,
-    segment: &Segment,
-    call: &StructAt,
-    words: &mut u64,
+    frame: &Frame,
+    place: &Option<StructAt>,
+    n: u16,
+    limits: &mut Limits,
 ) -> Result<Payload, ViewError>
-    ensures { Answers (λ payload. (payload, words.new)) result (run (payload_in params_table_in (child_at segment.now call.now 1)) words.old) }
+    ensures { Runs (λ payload. payload) result limits.new.words (run (payload_in ((sections_of frame.now place.now).child n)) limits.old.words) }
 {
-    let payload = struct_in(segment, call, CALL_PARAMS, words)?;
-    let descriptors = params_table(alloc, segment, &payload)?;
+    let payload = struct_in(frame, place, n, limits)?;
+    let table = list_in(frame, &payload, PAYLOAD_CAP_TABLE, limits)?;
     Ok(Payload {
-        descriptors,
-        fields: fields(alloc, segment, &payload, words)?,
-    })
-}
-
-/// The results of a call.
-#[tactic(auto, using(crate::proofs::Running::run_then), unfolding(crate::specs::Message::payload_in, crate::specs::Reading::run, crate::specs::Reading::and_then))]
-pub fn results(
-    alloc: Global,
-    segment: &Segment,
-    answer: &StructAt,
-    words: &mut u64,
-) -> Result<Payload, ViewError>
-    ensures { Answers (λ payload. (payload, words.new)) result (run (payload_in results_table_in (child_at segment.now answer.now 0)) words.old) }
-{
-    let payload = struct_in(segment, answer, RETURN_RESULTS, words)?;
-    Ok(Payload {
-        descriptors: results_table(alloc, segment, &payload, words)?,
-        fields: fields(alloc, segment, &payload, words)?,
+        descriptors: descriptors(alloc, frame, &table, limits)?,
+        fields: fields_of(alloc, frame, &payload, PAYLOAD_CONTENT, limits)?,
     })
 }

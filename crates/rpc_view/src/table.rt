@@ -1,84 +1,104 @@
-//! Capability tables.
+//! Descriptors of capabilities, and tables of them.
 
-ghost use Rattle.std.specs.Prelude.{◌≡◌, ◌<◌, ◌≤◌, ◌+◌, ◌*◌, length};
-ghost use Rattle.rpc_view.specs.Reading.{Answers, Gives, run, each};
-ghost use Rattle.rpc_view.specs.Message.{descriptor_in, results_table_in, params_table_in, descriptors_in};
-ghost use Rattle.rpc_view.specs.Places.{child_at, element_at, elements_at};
+ghost use Rattle.std.specs.Prelude.{◌≡◌, ◌<◌};
+ghost use Rattle.cap_reader.specs.Places.{elements_at, list_len};
+ghost use Rattle.rpc_view.specs.Reading.{Runs, run, struct_in as struct_in_tree, sections_of, elements_of};
+ghost use Rattle.rpc_view.specs.Message.{descriptor_in, described_in, descriptors_in};
 
-use crate::data::{u16_of, u32_of};
-use crate::following::{element_in, list_in};
-use crate::layouts::{DESCRIPTOR_NUMBER, DESCRIPTOR_TAG, PAYLOAD_CAP_TABLE};
+use crate::layouts::{DESCRIPTOR_ANSWER, DESCRIPTOR_NUMBER, DESCRIPTOR_TAG};
 use crate::message::{Descriptor, Descriptors};
-use crate::place::{ListAt, StructAt};
-use crate::segment::Segment;
+use crate::promised::promised_answer;
+use crate::structs::{element_in, struct_in, u16_of, u32_of};
 use crate::view_error::{Outside, ViewError};
+use cap_frame::Frame;
+use cap_reader::{Limits, ListAt, StructAt};
 use std::alloc::Global;
 
-/// The descriptor at a place of a table.
-#[tactic(auto, using(crate::proofs::Running::run_then), unfolding(crate::specs::Message::descriptor_in, crate::specs::Reading::run, crate::specs::Reading::and_then))]
-fn descriptor(
-    segment: &Segment,
-    table: &ListAt,
-    index: u32,
-    words: &mut u64,
+/// What a descriptor says.
+#[tactic(auto, using(crate::proofs::Running::run_then), unfolding(crate::specs::Message::described_in, cap_reader::specs::Reading::pay_for, cap_reader::specs::Reading::and_then))]
+fn described(
+    alloc: Global,
+    frame: &Frame,
+    place: &Option<StructAt>,
+    limits: &mut Limits,
 ) -> Result<Descriptor, ViewError>
-    requires inside { index < table.now.count }
-    requires reached { table.now.start + table.now.count * (table.now.data_words + table.now.pointer_count) ≤ length segment.now }
-    ensures { Answers (λ found. (found, words.new)) result (run (descriptor_in (element_at segment.now table.now index)) words.old) }
+    ensures { Runs (λ found. found) result limits.new.words (run (described_in (sections_of frame.now place.now)) limits.old.words) }
 {
-    let descriptor = element_in(segment, table, index, words)?;
-    match u16_of(segment, &descriptor, DESCRIPTOR_TAG) {
+    let number = u32_of(frame, place, DESCRIPTOR_NUMBER);
+    match u16_of(frame, place, DESCRIPTOR_TAG) {
         0 => Ok(Descriptor::NoCap),
-        1 => Ok(Descriptor::SenderHosted(u32_of(segment, &descriptor, DESCRIPTOR_NUMBER))),
-        2..=5 => Err(ViewError::Outside(Outside::NotYet)),
+        1 => Ok(Descriptor::SenderHosted(number)),
+        2 => Ok(Descriptor::SenderPromise(number)),
+        3 => Ok(Descriptor::ReceiverHosted(number)),
+        4 => {
+            let (question, path) = promised_answer(alloc, frame, place, DESCRIPTOR_ANSWER, limits)?;
+            Ok(Descriptor::ReceiverAnswer(question, path))
+        }
+        5 => Err(ViewError::Outside(Outside::Level)),
         _ => Err(ViewError::BadTag),
     }
 }
 
-/// The descriptors of a table, one after another, each with what it holds.
-fn descriptors(
+/// The descriptor at a pointer of a struct.
+#[tactic(auto, using(crate::proofs::Running::run_then), unfolding(crate::specs::Message::descriptor_in, cap_reader::specs::Reading::pay_for, cap_reader::specs::Reading::and_then))]
+pub fn descriptor(
     alloc: Global,
-    segment: &Segment,
+    frame: &Frame,
+    place: &Option<StructAt>,
+    n: u16,
+    limits: &mut Limits,
+) -> Result<Descriptor, ViewError>
+    ensures { Runs (λ found. found) result limits.new.words (run (descriptor_in ((sections_of frame.now place.now).child n)) limits.old.words) }
+{
+    let descriptor = struct_in(frame, place, n, limits)?;
+    described(alloc, frame, &descriptor, limits)
+}
+
+/// The descriptor at a place of a table.
+#[tactic(auto, using(crate::proofs::Running::run_then), unfolding(crate::specs::Message::descriptor_in, cap_reader::specs::Reading::pay_for, cap_reader::specs::Reading::and_then))]
+fn entry(
+    alloc: Global,
+    frame: &Frame,
     table: &ListAt,
-    words: &mut u64,
+    i: u32,
+    limits: &mut Limits,
+) -> Result<Descriptor, ViewError>
+    requires { i < list_len table.now }
+    ensures { Runs (λ found. found) result limits.new.words (run (descriptor_in ((elements_at frame.now table.now).element i)) limits.old.words) }
+{
+    let descriptor = element_in(frame, table, i, limits)?;
+    described(alloc, frame, &descriptor, limits)
+}
+
+/// The descriptors of a table, one after another, each with what it holds.
+#[tactic(auto, using(crate::proofs::Loops::no_front), unfolding(crate::specs::Message::descriptors_in))]
+fn entries(
+    alloc: Global,
+    frame: &Frame,
+    table: &ListAt,
+    limits: &mut Limits,
 ) -> Result<Descriptors, ViewError>
-    requires { table.now.start + table.now.count * (table.now.data_words + table.now.pointer_count) ≤ length segment.now }
-    ensures { Answers (λ found. (found, words.new)) result (run (descriptors_in (elements_at segment.now table.now)) words.old) }
+    ensures { Runs (λ found. found) result limits.new.words (run (descriptors_in (elements_at frame.now table.now)) limits.old.words) }
 {
     let mut items = Vec::new(alloc);
-    for index in 0..table.count {
-        items.push(descriptor(segment, table, index, words)?)?;
+    for i in 0..table.len() {
+        items.push(entry(alloc, frame, table, i, limits)?)?;
     }
     Ok(Descriptors::new(items))
 }
 
-/// The table of a payload of results.
-#[tactic(auto, using(crate::proofs::Running::run_then), unfolding(crate::specs::Message::results_table_in, crate::specs::Reading::run, crate::specs::Reading::and_then))]
-pub fn results_table(
+/// The descriptors of a table that was looked for.
+#[tactic(auto, unfolding(crate::specs::Message::descriptors_in, cap_reader::specs::Reading::each, cap_reader::specs::Reading::pay_for))]
+pub fn descriptors(
     alloc: Global,
-    segment: &Segment,
-    payload: &StructAt,
-    words: &mut u64,
+    frame: &Frame,
+    table: &Option<ListAt>,
+    limits: &mut Limits,
 ) -> Result<Descriptors, ViewError>
-    ensures { Answers (λ found. (found, words.new)) result (run (results_table_in (child_at segment.now payload.now 1)) words.old) }
+    ensures { Runs (λ found. found) result limits.new.words (run (descriptors_in (elements_of frame.now table.now)) limits.old.words) }
 {
-    let table = list_in(segment, payload, PAYLOAD_CAP_TABLE)?;
-    descriptors(alloc, segment, &table, words)
-}
-
-/// The table of a call's parameters, which is empty as far as calls are read yet.
-#[tactic(auto, unfolding(crate::specs::Message::params_table_in, crate::specs::Reading::and_then))]
-pub fn params_table(
-    alloc: Global,
-    segment: &Segment,
-    payload: &StructAt,
-) -> Result<Descriptors, ViewError>
-    ensures { Gives (λ found. found) result (params_table_in (child_at segment.now payload.now 1)) }
-{
-    let table = list_in(segment, payload, PAYLOAD_CAP_TABLE)?;
-    if table.count == 0 {
-        Ok(Descriptors::new(Vec::new(alloc)))
-    } else {
-        Err(ViewError::Outside(Outside::NotYet))
+    match table {
+        Some(table) => entries(alloc, frame, table, limits),
+        None => Ok(Descriptors::new(Vec::new(alloc))),
     }
 }

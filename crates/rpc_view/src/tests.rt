@@ -13,16 +13,33 @@ static BOOTSTRAP: [u8; 48] = [
 /// Call of question 1 to the answer of question 0, interface 0x1234, method 2.
 static CALL: [u8; 112] = [
     0, 0, 0, 0, 13, 0, 0, 0, 0, 0, 0, 0, 1, 0, 1, 0, 2, 0, 0, 0, 0, 0, 0, 0, 0, 0, 0, 0, 3, 0, 3,
-    0, 1, 0, 0, 0, 2, 0, 0, 0, 0x34, 0x12, 0, 0, 0, 0, 0, 0, 0, 0, 0, 0, 0, 0, 0, 0, 8, 0, 0, 0, 1,
-    0, 1, 0, 0, 0, 0, 0, 0, 0, 0, 0, 0, 0, 0, 0, 0, 0, 0, 0, 0, 0, 0, 0, 1, 0, 0, 0, 0, 0, 0, 0, 1,
-    0, 1, 0, 0, 0, 0, 0, 0, 0, 0, 0, 0, 0, 0, 0, 0, 0, 0, 0,
+    0, 1, 0, 0, 0, 2, 0, 0, 0, 52, 18, 0, 0, 0, 0, 0, 0, 0, 0, 0, 0, 0, 0, 0, 0, 8, 0, 0, 0, 1, 0,
+    1, 0, 0, 0, 0, 0, 0, 0, 0, 0, 0, 0, 0, 0, 0, 0, 0, 0, 0, 0, 0, 0, 1, 0, 0, 0, 0, 0, 0, 0, 1, 0,
+    1, 0, 0, 0, 0, 0, 0, 0, 0, 0, 0, 0, 0, 0, 0, 0, 0, 0,
+];
+
+/// Call of question 1 to the import 4, in three segments; the content is a capability with index 0.
+static CALL_IN_SEGMENTS: [u8; 144] = [
+    2, 0, 0, 0, 9, 0, 0, 0, 5, 0, 0, 0, 2, 0, 0, 0, 0, 0, 0, 0, 1, 0, 1, 0, 2, 0, 0, 0, 0, 0, 0, 0,
+    0, 0, 0, 0, 3, 0, 3, 0, 1, 0, 0, 0, 2, 0, 0, 0, 52, 18, 0, 0, 0, 0, 0, 0, 0, 0, 0, 0, 0, 0, 0,
+    0, 2, 0, 0, 0, 1, 0, 0, 0, 30, 0, 0, 0, 1, 0, 0, 0, 0, 0, 0, 0, 0, 0, 0, 0, 0, 0, 0, 0, 1, 0,
+    1, 0, 4, 0, 0, 0, 0, 0, 0, 0, 0, 0, 0, 0, 0, 0, 0, 0, 2, 0, 0, 0, 2, 0, 0, 0, 0, 0, 0, 0, 0, 0,
+    2, 0, 3, 0, 0, 0, 0, 0, 0, 0, 0, 0, 0, 0, 0, 0, 0, 0,
+];
+
+/// The same in one segment.
+static CALL_IN_ONE_SEGMENT: [u8; 112] = [
+    0, 0, 0, 0, 13, 0, 0, 0, 0, 0, 0, 0, 1, 0, 1, 0, 2, 0, 0, 0, 0, 0, 0, 0, 0, 0, 0, 0, 3, 0, 3,
+    0, 1, 0, 0, 0, 2, 0, 0, 0, 52, 18, 0, 0, 0, 0, 0, 0, 0, 0, 0, 0, 0, 0, 0, 0, 8, 0, 0, 0, 1, 0,
+    1, 0, 12, 0, 0, 0, 0, 0, 2, 0, 0, 0, 0, 0, 0, 0, 0, 0, 4, 0, 0, 0, 0, 0, 0, 0, 0, 0, 0, 0, 0,
+    0, 0, 0, 3, 0, 0, 0, 0, 0, 0, 0, 0, 0, 0, 0, 0, 0, 0, 0,
 ];
 
 /// Return to question 0, whose results are the capability of the export 0.
 static RETURN_WITH_CAPABILITY: [u8; 96] = [
     0, 0, 0, 0, 11, 0, 0, 0, 0, 0, 0, 0, 1, 0, 1, 0, 3, 0, 0, 0, 0, 0, 0, 0, 0, 0, 0, 0, 2, 0, 1,
     0, 0, 0, 0, 0, 0, 0, 0, 0, 0, 0, 0, 0, 0, 0, 0, 0, 0, 0, 0, 0, 0, 0, 2, 0, 3, 0, 0, 0, 0, 0, 0,
-    0, 1, 0, 0, 0, 0x17, 0, 0, 0, 4, 0, 0, 0, 1, 0, 1, 0, 1, 0, 0, 0, 0, 0, 0, 0, 0, 0, 0, 0, 0, 0,
+    0, 1, 0, 0, 0, 23, 0, 0, 0, 4, 0, 0, 0, 1, 0, 1, 0, 1, 0, 0, 0, 0, 0, 0, 0, 0, 0, 0, 0, 0, 0,
     0, 0,
 ];
 
@@ -32,31 +49,132 @@ static RETURN_OF_NOTHING: [u8; 56] = [
     1, 0, 0, 0, 0, 0, 0, 0, 0, 0, 0, 0, 0, 0, 0, 0, 0, 0, 0, 0, 0, 0, 0, 0,
 ];
 
-/// The first without its last byte.
-static BOOTSTRAP_CUT: [u8; 47] = [
-    0, 0, 0, 0, 5, 0, 0, 0, 0, 0, 0, 0, 1, 0, 1, 0, 8, 0, 0, 0, 0, 0, 0, 0, 0, 0, 0, 0, 1, 0, 1, 0,
-    0, 0, 0, 0, 0, 0, 0, 0, 0, 0, 0, 0, 0, 0, 0,
+/// The same, but the capabilities of the call's parameters are kept.
+static KEEPS_PARAMS: [u8; 56] = [
+    0, 0, 0, 0, 6, 0, 0, 0, 0, 0, 0, 0, 1, 0, 1, 0, 3, 0, 0, 0, 0, 0, 0, 0, 0, 0, 0, 0, 2, 0, 1, 0,
+    1, 0, 0, 0, 1, 0, 0, 0, 0, 0, 0, 0, 0, 0, 0, 0, 0, 0, 0, 0, 0, 0, 0, 0,
 ];
 
-/// A message in two segments.
-static TWO_SEGMENTS: [u8; 56] = [
-    1, 0, 0, 0, 1, 0, 0, 0, 4, 0, 0, 0, 0, 0, 0, 0, 2, 0, 0, 0, 1, 0, 0, 0, 0, 0, 0, 0, 1, 0, 1, 0,
-    6, 0, 0, 0, 0, 0, 0, 0, 0, 0, 0, 0, 1, 0, 0, 0, 3, 0, 0, 0, 2, 0, 0, 0,
+/// Return to question 5 with a table of none, the export 1, the promised export 2, the receiver's export 3, and the answer of
+/// question 4 at the path 7, 0, before which an operation does nothing.
+static RETURN_OF_DESCRIPTORS: [u8; 208] = [
+    0, 0, 0, 0, 25, 0, 0, 0, 0, 0, 0, 0, 1, 0, 1, 0, 3, 0, 0, 0, 0, 0, 0, 0, 0, 0, 0, 0, 2, 0, 1,
+    0, 5, 0, 0, 0, 0, 0, 0, 0, 0, 0, 0, 0, 0, 0, 0, 0, 0, 0, 0, 0, 0, 0, 2, 0, 0, 0, 0, 0, 0, 0, 0,
+    0, 1, 0, 0, 0, 87, 0, 0, 0, 20, 0, 0, 0, 1, 0, 1, 0, 0, 0, 0, 0, 0, 0, 0, 0, 0, 0, 0, 0, 0, 0,
+    0, 0, 1, 0, 0, 0, 1, 0, 0, 0, 0, 0, 0, 0, 0, 0, 0, 0, 2, 0, 0, 0, 2, 0, 0, 0, 0, 0, 0, 0, 0, 0,
+    0, 0, 3, 0, 0, 0, 3, 0, 0, 0, 0, 0, 0, 0, 0, 0, 0, 0, 4, 0, 0, 0, 0, 0, 0, 0, 0, 0, 0, 0, 1, 0,
+    1, 0, 4, 0, 0, 0, 0, 0, 0, 0, 1, 0, 0, 0, 31, 0, 0, 0, 12, 0, 0, 0, 1, 0, 0, 0, 0, 0, 9, 0, 0,
+    0, 0, 0, 1, 0, 7, 0, 0, 0, 0, 0, 1, 0, 0, 0, 0, 0, 0, 0,
+];
+
+/// Return to question 7 with an exception.
+static RETURN_OF_EXCEPTION: [u8; 56] = [
+    0, 0, 0, 0, 6, 0, 0, 0, 0, 0, 0, 0, 1, 0, 1, 0, 3, 0, 0, 0, 0, 0, 0, 0, 0, 0, 0, 0, 2, 0, 1, 0,
+    7, 0, 0, 0, 0, 0, 1, 0, 0, 0, 0, 0, 0, 0, 0, 0, 0, 0, 0, 0, 0, 0, 0, 0,
+];
+
+/// Return to question 7, canceled.
+static RETURN_CANCELED: [u8; 56] = [
+    0, 0, 0, 0, 6, 0, 0, 0, 0, 0, 0, 0, 1, 0, 1, 0, 3, 0, 0, 0, 0, 0, 0, 0, 0, 0, 0, 0, 2, 0, 1, 0,
+    7, 0, 0, 0, 0, 0, 2, 0, 0, 0, 0, 0, 0, 0, 0, 0, 0, 0, 0, 0, 0, 0, 0, 0,
+];
+
+/// Finish of question 5.
+static FINISH: [u8; 40] = [
+    0, 0, 0, 0, 4, 0, 0, 0, 0, 0, 0, 0, 1, 0, 1, 0, 4, 0, 0, 0, 0, 0, 0, 0, 0, 0, 0, 0, 1, 0, 0, 0,
+    5, 0, 0, 0, 0, 0, 0, 0,
+];
+
+/// Finish of question 5, the capabilities of its results being kept.
+static FINISH_KEEPS: [u8; 40] = [
+    0, 0, 0, 0, 4, 0, 0, 0, 0, 0, 0, 0, 1, 0, 1, 0, 4, 0, 0, 0, 0, 0, 0, 0, 0, 0, 0, 0, 1, 0, 0, 0,
+    5, 0, 0, 0, 1, 0, 0, 0,
+];
+
+/// Resolve of the promise 3 to the export 1.
+static RESOLVE: [u8; 64] = [
+    0, 0, 0, 0, 7, 0, 0, 0, 0, 0, 0, 0, 1, 0, 1, 0, 5, 0, 0, 0, 0, 0, 0, 0, 0, 0, 0, 0, 1, 0, 1, 0,
+    3, 0, 0, 0, 0, 0, 0, 0, 0, 0, 0, 0, 1, 0, 1, 0, 1, 0, 0, 0, 1, 0, 0, 0, 0, 0, 0, 0, 0, 0, 0, 0,
+];
+
+/// Resolve of the promise 3 to an exception.
+static RESOLVE_BROKEN: [u8; 48] = [
+    0, 0, 0, 0, 5, 0, 0, 0, 0, 0, 0, 0, 1, 0, 1, 0, 5, 0, 0, 0, 0, 0, 0, 0, 0, 0, 0, 0, 1, 0, 1, 0,
+    3, 0, 0, 0, 1, 0, 0, 0, 0, 0, 0, 0, 0, 0, 0, 0,
+];
+
+/// Release of 2 references to the export 3.
+static RELEASE: [u8; 40] = [
+    0, 0, 0, 0, 4, 0, 0, 0, 0, 0, 0, 0, 1, 0, 1, 0, 6, 0, 0, 0, 0, 0, 0, 0, 0, 0, 0, 0, 1, 0, 0, 0,
+    3, 0, 0, 0, 2, 0, 0, 0,
+];
+
+/// Disembargo 2 to the answer of question 1 at the path 3.
+static DISEMBARGO: [u8; 104] = [
+    0, 0, 0, 0, 12, 0, 0, 0, 0, 0, 0, 0, 1, 0, 1, 0, 13, 0, 0, 0, 0, 0, 0, 0, 0, 0, 0, 0, 1, 0, 1,
+    0, 2, 0, 0, 0, 0, 0, 0, 0, 0, 0, 0, 0, 1, 0, 1, 0, 0, 0, 0, 0, 1, 0, 0, 0, 0, 0, 0, 0, 1, 0, 1,
+    0, 1, 0, 0, 0, 0, 0, 0, 0, 1, 0, 0, 0, 23, 0, 0, 0, 8, 0, 0, 0, 1, 0, 0, 0, 0, 0, 0, 0, 0, 0,
+    0, 0, 1, 0, 3, 0, 0, 0, 0, 0,
+];
+
+/// Disembargo 2 that comes back, to the import 4.
+static DISEMBARGO_BACK: [u8; 64] = [
+    0, 0, 0, 0, 7, 0, 0, 0, 0, 0, 0, 0, 1, 0, 1, 0, 13, 0, 0, 0, 0, 0, 0, 0, 0, 0, 0, 0, 1, 0, 1,
+    0, 2, 0, 0, 0, 1, 0, 0, 0, 0, 0, 0, 0, 1, 0, 1, 0, 4, 0, 0, 0, 0, 0, 0, 0, 0, 0, 0, 0, 0, 0, 0,
+    0,
+];
+
+/// Abort.
+static ABORT: [u8; 32] = [
+    0, 0, 0, 0, 3, 0, 0, 0, 0, 0, 0, 0, 1, 0, 1, 0, 1, 0, 0, 0, 0, 0, 0, 0, 0, 0, 0, 0, 0, 0, 0, 0,
+];
+
+/// Release without its last byte.
+static CUT: [u8; 39] = [
+    0, 0, 0, 0, 4, 0, 0, 0, 0, 0, 0, 0, 1, 0, 1, 0, 6, 0, 0, 0, 0, 0, 0, 0, 0, 0, 0, 0, 1, 0, 0, 0,
+    3, 0, 0, 0, 2, 0, 0,
+];
+
+/// A pad of one word that is far.
+static BAD_PAD: [u8; 24] = [
+    0, 0, 0, 0, 2, 0, 0, 0, 10, 0, 0, 0, 0, 0, 0, 0, 10, 0, 0, 0, 0, 0, 0, 0,
 ];
 
 /// A null root pointer.
 static NULL_ROOT: [u8; 16] = [0, 0, 0, 0, 1, 0, 0, 0, 0, 0, 0, 0, 0, 0, 0, 0];
 
-/// A Message with a tag that no message has.
-static TAG_14: [u8; 48] = [
-    0, 0, 0, 0, 5, 0, 0, 0, 0, 0, 0, 0, 1, 0, 1, 0, 14, 0, 0, 0, 0, 0, 0, 0, 0, 0, 0, 0, 1, 0, 1,
-    0, 0, 0, 0, 0, 0, 0, 0, 0, 0, 0, 0, 0, 0, 0, 0, 0,
+/// A Message whose tag is unimplemented.
+static UNIMPLEMENTED: [u8; 32] = [
+    0, 0, 0, 0, 3, 0, 0, 0, 0, 0, 0, 0, 1, 0, 1, 0, 0, 0, 0, 0, 0, 0, 0, 0, 0, 0, 0, 0, 0, 0, 0, 0,
 ];
 
-/// Return to question 1 with no results, whose call's capabilities are kept.
-static KEEPS_PARAMS: [u8; 56] = [
+/// A Message whose tag is provide.
+static PROVIDE: [u8; 32] = [
+    0, 0, 0, 0, 3, 0, 0, 0, 0, 0, 0, 0, 1, 0, 1, 0, 10, 0, 0, 0, 0, 0, 0, 0, 0, 0, 0, 0, 0, 0, 0, 0,
+];
+
+/// A Message with a tag that no message has.
+static MESSAGE_TAG_14: [u8; 32] = [
+    0, 0, 0, 0, 3, 0, 0, 0, 0, 0, 0, 0, 1, 0, 1, 0, 14, 0, 0, 0, 0, 0, 0, 0, 0, 0, 0, 0, 0, 0, 0, 0,
+];
+
+/// Return to question 7, whose results are taken from another question.
+static TAKES_RESULTS: [u8; 56] = [
     0, 0, 0, 0, 6, 0, 0, 0, 0, 0, 0, 0, 1, 0, 1, 0, 3, 0, 0, 0, 0, 0, 0, 0, 0, 0, 0, 0, 2, 0, 1, 0,
-    1, 0, 0, 0, 1, 0, 0, 0, 0, 0, 0, 0, 0, 0, 0, 0, 0, 0, 0, 0, 0, 0, 0, 0,
+    7, 0, 0, 0, 0, 0, 4, 0, 0, 0, 0, 0, 0, 0, 0, 0, 0, 0, 0, 0, 0, 0, 0, 0,
+];
+
+/// Return with a tag that none has, and a bit of later editions.
+static RETURN_TAG_6: [u8; 56] = [
+    0, 0, 0, 0, 6, 0, 0, 0, 0, 0, 0, 0, 1, 0, 1, 0, 3, 0, 0, 0, 0, 0, 0, 0, 0, 0, 0, 0, 2, 0, 1, 0,
+    7, 0, 0, 0, 2, 0, 6, 0, 0, 0, 0, 0, 0, 0, 0, 0, 0, 0, 0, 0, 0, 0, 0, 0,
+];
+
+/// Return with a bit of later editions.
+static LATER_FIELD: [u8; 72] = [
+    0, 0, 0, 0, 8, 0, 0, 0, 0, 0, 0, 0, 1, 0, 1, 0, 3, 0, 0, 0, 0, 0, 0, 0, 0, 0, 0, 0, 2, 0, 1, 0,
+    0, 0, 0, 0, 2, 0, 0, 0, 0, 0, 0, 0, 0, 0, 0, 0, 0, 0, 0, 0, 0, 0, 2, 0, 252, 255, 255, 255, 0,
+    0, 0, 0, 0, 0, 0, 0, 0, 0, 0, 0,
 ];
 
 /// Reads again where memory was wanting once.
@@ -67,6 +185,15 @@ fn read(alloc: Global, bytes: &'static [u8], limits: Limits) -> Result<RpcMessag
     }
 }
 
+/// What is read, as its `Debug` has it.
+fn text_of(alloc: Global, bytes: &'static [u8]) -> Result<String, Fail> {
+    let message = read(alloc, bytes, Limits::default())?;
+    match format!(in alloc; "{message:?}") {
+        Ok(text) => Ok(text),
+        Err(_) => Ok(format!(in alloc; "{message:?}")?),
+    }
+}
+
 fn is_fault(alloc: Global, bytes: &'static [u8], fault: ViewError) -> bool {
     match read(alloc, bytes, Limits::default()) {
         Ok(_) => false,
@@ -74,114 +201,109 @@ fn is_fault(alloc: Global, bytes: &'static [u8], fault: ViewError) -> bool {
     }
 }
 
-fn is_bootstrap(message: &RpcMessage, number: u32) -> bool {
-    match message {
-        RpcMessage::Bootstrap { question } => *question == number,
-        _ => false,
+#[test]
+fn messages(rt: HostRuntime) -> Result<(), Fail> {
+    let rows: [(&'static [u8], &'static str); 18] = [
+        (&BOOTSTRAP, "Bootstrap { question: 0 }"),
+        (
+            &CALL,
+            "Call { question: 1, target: Promised(0, Path { fields: [] }), interface: 4660, method: 2, params: Payload { descriptors: Descriptors { items: [] }, fields: Fields { items: [] } } }",
+        ),
+        (
+            &CALL_IN_SEGMENTS,
+            "Call { question: 1, target: Imported(4), interface: 4660, method: 2, params: Payload { descriptors: Descriptors { items: [] }, fields: Fields { items: [(Path { fields: [] }, 0)] } } }",
+        ),
+        (
+            &CALL_IN_ONE_SEGMENT,
+            "Call { question: 1, target: Imported(4), interface: 4660, method: 2, params: Payload { descriptors: Descriptors { items: [] }, fields: Fields { items: [(Path { fields: [] }, 0)] } } }",
+        ),
+        (
+            &RETURN_WITH_CAPABILITY,
+            "Return { answer: 0, release_param_caps: true, outcome: Results(Payload { descriptors: Descriptors { items: [SenderHosted(0)] }, fields: Fields { items: [(Path { fields: [] }, 0)] } }) }",
+        ),
+        (
+            &RETURN_OF_NOTHING,
+            "Return { answer: 1, release_param_caps: true, outcome: Results(Payload { descriptors: Descriptors { items: [] }, fields: Fields { items: [] } }) }",
+        ),
+        (
+            &KEEPS_PARAMS,
+            "Return { answer: 1, release_param_caps: false, outcome: Results(Payload { descriptors: Descriptors { items: [] }, fields: Fields { items: [] } }) }",
+        ),
+        (
+            &RETURN_OF_DESCRIPTORS,
+            "Return { answer: 5, release_param_caps: true, outcome: Results(Payload { descriptors: Descriptors { items: [NoCap, SenderHosted(1), SenderPromise(2), ReceiverHosted(3), ReceiverAnswer(4, Path { fields: [7, 0] })] }, fields: Fields { items: [] } }) }",
+        ),
+        (
+            &RETURN_OF_EXCEPTION,
+            "Return { answer: 7, release_param_caps: true, outcome: Exception }",
+        ),
+        (
+            &RETURN_CANCELED,
+            "Return { answer: 7, release_param_caps: true, outcome: Canceled }",
+        ),
+        (&FINISH, "Finish { question: 5, release_result_caps: true }"),
+        (
+            &FINISH_KEEPS,
+            "Finish { question: 5, release_result_caps: false }",
+        ),
+        (
+            &RESOLVE,
+            "Resolve { promise: 3, resolution: Cap(SenderHosted(1)) }",
+        ),
+        (
+            &RESOLVE_BROKEN,
+            "Resolve { promise: 3, resolution: Exception }",
+        ),
+        (&RELEASE, "Release { id: 3, count: 2 }"),
+        (
+            &DISEMBARGO,
+            "Disembargo { number: 2, loopback: Sender, target: Promised(1, Path { fields: [3] }) }",
+        ),
+        (
+            &DISEMBARGO_BACK,
+            "Disembargo { number: 2, loopback: Receiver, target: Imported(4) }",
+        ),
+        (&ABORT, "Abort"),
+    ];
+    for (bytes, text) in rows {
+        assert_eq!(rt; text_of(rt.alloc(), bytes)?.as_str(), text);
     }
+    Ok(())
 }
 
-fn is_answer(target: &Target, number: u32) -> bool {
-    match target {
-        Target::Promised(question, path) => *question == number && path.as_slice().is_empty(),
-        Target::Imported(_) => false,
-    }
-}
-
-fn is_sender_hosted(descriptor: &Descriptor, number: u32) -> bool {
-    match descriptor {
-        Descriptor::SenderHosted(export) => *export == number,
-        Descriptor::NoCap => false,
+#[test]
+fn refusals(rt: HostRuntime) {
+    let rows: [(&'static [u8], ViewError); 9] = [
+        (&CUT, ViewError::Frame(FrameError::Short)),
+        (&BAD_PAD, ViewError::Read(ReadError::BadPad)),
+        (&NULL_ROOT, ViewError::Outside(Outside::Unimplemented)),
+        (&UNIMPLEMENTED, ViewError::Outside(Outside::Unimplemented)),
+        (&PROVIDE, ViewError::Outside(Outside::Level)),
+        (&MESSAGE_TAG_14, ViewError::BadTag),
+        (&TAKES_RESULTS, ViewError::Outside(Outside::TailCall)),
+        (&RETURN_TAG_6, ViewError::BadTag),
+        (&LATER_FIELD, ViewError::Outside(Outside::LaterField)),
+    ];
+    for (bytes, fault) in rows {
+        assert!(rt; is_fault(rt.alloc(), bytes, fault), "{fault:?}");
     }
 }
 
 #[test]
-fn a_bootstrap_within_limits(rt: HostRuntime) -> Result<(), Fail> {
-    let frame = Frame::read(Bytes::from_static(&BOOTSTRAP))?;
-    let fits = Limits { words: 4, depth: 2 };
-    let short = Limits { words: 3, depth: 2 };
-    let flat = Limits { words: 4, depth: 1 };
+fn a_release_within_limits(rt: HostRuntime) -> Result<(), Fail> {
+    let frame = Frame::read(Bytes::from_static(&RELEASE))?;
+    let fits = Limits { words: 3, depth: 2 };
+    let short = Limits { words: 2, depth: 2 };
+    let flat = Limits { words: 3, depth: 1 };
     let too_much = read_message(rt.alloc(), &frame, short);
     let too_deep = read_message(rt.alloc(), &frame, flat);
-    assert!(rt; is_bootstrap(&read_message(rt.alloc(), &frame, fits)?, 0));
     assert!(rt; matches!(too_much, Err(ViewError::Read(ReadError::TooMuch))));
     assert!(rt; matches!(too_deep, Err(ViewError::Read(ReadError::TooDeep))));
-    assert!(rt; is_bootstrap(&read(rt.alloc(), &BOOTSTRAP, Limits::default())?, 0));
+    assert!(rt;
+        matches!(
+            read_message(rt.alloc(), &frame, fits)?,
+            RpcMessage::Release { id: 3, count: 2 }
+        )
+    );
     Ok(())
-}
-
-#[test]
-fn a_call(rt: HostRuntime) -> Result<(), Fail> {
-    match read(rt.alloc(), &CALL, Limits::default())? {
-        RpcMessage::Call {
-            question,
-            target,
-            interface,
-            method,
-            params,
-        } => {
-            assert_eq!(rt; question, 1);
-            assert!(rt; is_answer(&target, 0));
-            assert_eq!(rt; interface, 0x1234);
-            assert_eq!(rt; method, 2);
-            assert!(rt; params.descriptors.as_slice().is_empty());
-            assert!(rt; params.fields.as_slice().is_empty());
-        }
-        other => assert!(rt; false, "{other:?}"),
-    }
-    Ok(())
-}
-
-#[test]
-fn a_return_with_a_capability(rt: HostRuntime) -> Result<(), Fail> {
-    match read(rt.alloc(), &RETURN_WITH_CAPABILITY, Limits::default())? {
-        RpcMessage::Return {
-            answer,
-            release_param_caps,
-            outcome,
-        } => {
-            let Outcome::Results(results) = outcome;
-            assert_eq!(rt; answer, 0);
-            assert!(rt; release_param_caps);
-            assert_eq!(rt; results.descriptors.as_slice().len(), 1);
-            assert!(rt; is_sender_hosted(&results.descriptors.as_slice()[0], 0));
-            assert_eq!(rt; results.fields.as_slice().len(), 1);
-            let (path, index) = &results.fields.as_slice()[0];
-            assert!(rt; path.as_slice().is_empty());
-            assert_eq!(rt; *index, 0);
-        }
-        other => assert!(rt; false, "{other:?}"),
-    }
-    Ok(())
-}
-
-#[test]
-fn returns_of_nothing(rt: HostRuntime) -> Result<(), Fail> {
-    for (bytes, released) in [(&RETURN_OF_NOTHING, true), (&KEEPS_PARAMS, false)] {
-        match read(rt.alloc(), bytes, Limits::default())? {
-            RpcMessage::Return {
-                answer,
-                release_param_caps,
-                outcome,
-            } => {
-                let Outcome::Results(results) = outcome;
-                assert_eq!(rt; answer, 1);
-                assert_eq!(rt; release_param_caps, released);
-                assert!(rt; results.descriptors.as_slice().is_empty());
-                assert!(rt; results.fields.as_slice().is_empty());
-            }
-            other => assert!(rt; false, "{other:?}"),
-        }
-    }
-    Ok(())
-}
-
-#[test]
-fn faults(rt: HostRuntime) {
-    let not_yet = ViewError::Outside(Outside::NotYet);
-    let short = ViewError::Frame(FrameError::Short);
-    assert!(rt; is_fault(rt.alloc(), &BOOTSTRAP_CUT, short));
-    assert!(rt; is_fault(rt.alloc(), &TWO_SEGMENTS, not_yet));
-    assert!(rt; is_fault(rt.alloc(), &NULL_ROOT, not_yet));
-    assert!(rt; is_fault(rt.alloc(), &TAG_14, ViewError::BadTag));
 }

@@ -2,30 +2,24 @@
 
 ghost use Rattle.std.specs.Prelude.{◌≡◌};
 ghost use Rattle.rpc_view.specs.declared.view_error.ViewError.TheVariants.{OutOfMemory, Frame};
+ghost use Rattle.rpc_view.specs.Reading.{fault_of};
 
 use cap_frame::FrameError;
+use cap_reader::ReadError;
 use std::alloc::{AllocError, AllocFailed};
 
-/// Why the pointers of a frame can't be followed.
-#[derive(Clone, Copy, Debug, PartialEq, Eq)]
-pub enum ReadError {
-    /// An extent leaves its segment.
-    OutOfSegment,
-    /// Not the kind of pointer that is asked for.
-    WrongKind,
-    /// A capability pointer with bits that are kept for later.
-    Reserved,
-    /// A struct is deeper than the limit.
-    TooDeep,
-    /// The visits cost more words than the limit.
-    TooMuch,
-}
-
-/// Why a message is outside of what is read.
+/// What a message has that is outside of this profile, which is level 1 without tail calls.
 #[derive(Clone, Copy, Debug, PartialEq, Eq)]
 pub enum Outside {
-    /// Part of the protocol, but not read yet.
-    NotYet,
+    /// Part of a level above 1: provide, accept, join, the obsolete messages of persistence, and what has to do with third
+    /// parties.
+    Level,
+    /// The message `unimplemented`.
+    Unimplemented,
+    /// A bit that later editions of rpc.capnp use for what changes the life of a number.
+    LaterField,
+    /// Results that are sent elsewhere than to the caller, or taken from another question.
+    TailCall,
 }
 
 /// Why a frame isn't read as a message.
@@ -33,9 +27,9 @@ pub enum Outside {
 pub enum ViewError {
     /// A pointer can't be followed within the limits.
     Read(ReadError),
-    /// A message, or a part of one, that isn't read.
+    /// A message, or a part of one, that is outside of this profile.
     Outside(Outside),
-    /// A tag that no edition of this profile lists.
+    /// A tag that this profile doesn't list.
     BadTag,
     OutOfMemory,
     /// The bytes aren't a frame.
@@ -47,6 +41,18 @@ impl From<FrameError> for ViewError {
 
     fn from(e: FrameError) -> ViewError {
         ViewError::Frame(e)
+    }
+}
+
+/// Want of memory stays what it is; any other fault is that of a pointer.
+impl From<ReadError> for ViewError {
+    ghost from_gives = { λ e error. error ≡ fault_of e };
+
+    fn from(e: ReadError) -> ViewError {
+        match e {
+            ReadError::OutOfMemory => ViewError::OutOfMemory,
+            other => ViewError::Read(other),
+        }
     }
 }
 

@@ -7,9 +7,9 @@ use Rattle.cap_frame.specs.declared.frame_error.FrameError.TheVariants.{Short, T
 use Rattle.rpc_view.specs.Message.{message_of_bytes}
 use Rattle.rpc_view.specs.declared.message.RpcMessage.{RpcMessage}
 use Rattle.rpc_view.specs.declared.view_error.Outside.{Outside}
-use Rattle.rpc_view.specs.declared.view_error.Outside.TheVariants.{NotYet}
-use Rattle.rpc_view.specs.declared.view_error.ReadError.{ReadError}
-use Rattle.rpc_view.specs.declared.view_error.ReadError.TheVariants.{OutOfSegment, WrongKind, Reserved, TooDeep, TooMuch}
+use Rattle.rpc_view.specs.declared.view_error.Outside.TheVariants.{Level, Unimplemented, LaterField, TailCall}
+use Rattle.cap_reader.specs.declared.read_error.ReadError.{ReadError}
+use Rattle.cap_reader.specs.declared.read_error.ReadError.TheVariants.{OutOfSegment, NoSegment, BadPad, WrongKind, Reserved, TooDeep, TooMuch, OutOfMemory}
 use Rattle.rpc_view.specs.declared.view_error.ViewError.{ViewError}
 use Rattle.rpc_view.specs.declared.view_error.ViewError.TheVariants as faults
 use Rattle.vataudit.specs.Lines.{default_limits, line}
@@ -25,14 +25,20 @@ frame_fault_name NoRoot = codes "NoRoot"
 -- why a pointer can't be followed
 abbrev pub read_fault_name : ReadError → List ℕ
 read_fault_name OutOfSegment = codes "OutOfSegment"
+read_fault_name NoSegment = codes "NoSegment"
+read_fault_name BadPad = codes "BadPad"
 read_fault_name WrongKind = codes "WrongKind"
 read_fault_name Reserved = codes "Reserved"
 read_fault_name TooDeep = codes "TooDeep"
 read_fault_name TooMuch = codes "TooMuch"
+read_fault_name OutOfMemory = codes "OutOfMemory"
 
--- why a message isn't read
+-- what a message has that is outside of what is read
 abbrev pub outside_name : Outside → List ℕ
-outside_name NotYet = codes "NotYet"
+outside_name Level = codes "Level"
+outside_name Unimplemented = codes "Unimplemented"
+outside_name LaterField = codes "LaterField"
+outside_name TailCall = codes "TailCall"
 
 -- the line for a fault; want of memory is none of a frame's bytes
 abbrev pub fault_line : ViewError → List ℕ

@@ -31,19 +31,25 @@ fn read_fault_name(fault: ReadError) -> &'static str
 {
     match fault {
         ReadError::OutOfSegment => "OutOfSegment",
+        ReadError::NoSegment => "NoSegment",
+        ReadError::BadPad => "BadPad",
         ReadError::WrongKind => "WrongKind",
         ReadError::Reserved => "Reserved",
         ReadError::TooDeep => "TooDeep",
         ReadError::TooMuch => "TooMuch",
+        ReadError::OutOfMemory => "OutOfMemory",
     }
 }
 
-/// Why a message isn't read.
+/// What a message has that is outside of what is read.
 fn outside_name(why: Outside) -> &'static str
     ensures { result.now ≡ outside_name why }
 {
     match why {
-        Outside::NotYet => "NotYet",
+        Outside::Level => "Level",
+        Outside::Unimplemented => "Unimplemented",
+        Outside::LaterField => "LaterField",
+        Outside::TailCall => "TailCall",
     }
 }
 

@@ -12,8 +12,8 @@ the lines, an example and the exit status.
 Examples:
   $ vataudit vat vat2.log
   good vat 2 records 8 delivered 1
-  $ vataudit frame 0g
-  bad hex
+  $ vataudit frame 0000000003000000000000000100010001000000000000000000000000000000
+  abort
 
 Exit status:
   0  good, or the message
@@ -63,30 +63,36 @@ message of rpc.capnp, and prints one line:
   bootstrap question Q
   call question Q target TARGET interface H method M PAYLOAD
   return answer Q releaseParamCaps B results PAYLOAD
-  outside WHY      the message, or a part of it, isn't read
+  return answer Q releaseParamCaps B exception, or canceled in its place
+  finish question Q releaseResultCaps B
+  resolve promise P DESC, or exception in place of DESC
+  release id N count C
+  disembargo N senderLoopback TARGET, or receiverLoopback TARGET
+  abort
+  outside WHY      not in this profile: Level, Unimplemented, LaterField, TailCall
   bad tag          a number that stands for no message or no part of one
-  bad read NAME    a pointer can't be followed: OutOfSegment, WrongKind, Reserved,
-                   TooDeep (over 64), TooMuch (over 8388608 words)
+  bad read NAME    a pointer can't be followed: OutOfSegment, NoSegment, BadPad,
+                   WrongKind, Reserved, TooDeep (over 64), TooMuch (over 8388608
+                   words)
   bad frame NAME   no frame: Short, TooManySegments, Trailing, NoRoot
   bad hex          not two hexadecimal digits for each byte
   out of memory
 
 TARGET is import N or answer Q PATH. PAYLOAD is caps [DESC;DESC] fields
 [PATH=J;PATH=J]: the capability table, and each path of the content to a
-capability with its place in the table, counted from 0. DESC is none or
-senderHosted N. PATH is [A,B], pointer fields counted from 0. H is 16 hexadecimal
-digits, B is true or false, and other numbers are decimal.";
+capability with its place in the table, counted from 0. DESC is none,
+senderHosted N, senderPromise N, receiverHosted N or receiverAnswer Q PATH. PATH
+is [A,B], pointer fields counted from 0. H is 16 hexadecimal digits, B is true or
+false, and other numbers are decimal.";
 
 pub const FRAME_END: &str = "\
 Example:
-  $ vataudit frame 00000000050000000000000001000100\
-08000000000000000000000001000100\
-00000000000000000000000000000000
-  bootstrap question 0
+  $ vataudit frame 0000000003000000000000000100010001000000000000000000000000000000
+  abort
 
 Exit status:
   0  the message is printed
-  2  the message is outside of what is read, the frame or its digits are bad, the
+  2  the message is outside of this profile, the frame or its digits are bad, the
      line can't be written, or the command line is wrong
   3  memory ran out";
 

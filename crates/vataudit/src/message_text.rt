@@ -3,10 +3,10 @@
 ghost use Rattle.std.specs.Prelude.{◌≡◌, ◌++◌, codes, IfOk, OnOk, string_bytes};
 ghost use Rattle.std.specs.Fmt.{decimal};
 ghost use Rattle.std.specs.List.{join_by};
-ghost use Rattle.vataudit.specs.MessageText.{path_text, target_text, descriptor_text, field_text, payload_text, outcome_text, hexadecimal, call_text, return_text, message_text};
+ghost use Rattle.vataudit.specs.MessageText.{path_text, target_text, descriptor_text, field_text, payload_text, outcome_text, resolution_text, loopback_text, hexadecimal, call_text, return_text, disembargo_text, message_text};
 
 use cap_frame::Path;
-use rpc_view::{Descriptor, Outcome, Payload, RpcMessage, Target};
+use rpc_view::{Descriptor, Loopback, Outcome, Payload, Resolution, RpcMessage, Target};
 use std::alloc::{AllocError, Global};
 use std::fmt::Write;
 
@@ -54,6 +54,12 @@ fn put_descriptor(text: &mut String, descriptor: &Descriptor) -> Result<(), Allo
     match descriptor {
         Descriptor::NoCap => text.push_str("none"),
         Descriptor::SenderHosted(number) => write!(text, "senderHosted {number}"),
+        Descriptor::SenderPromise(number) => write!(text, "senderPromise {number}"),
+        Descriptor::ReceiverHosted(number) => write!(text, "receiverHosted {number}"),
+        Descriptor::ReceiverAnswer(question, path) => {
+            write!(text, "receiverAnswer {question} ")?;
+            put_path(text, path)
+        }
     }
 }
 
@@ -106,6 +112,32 @@ fn put_outcome(text: &mut String, outcome: &Outcome) -> Result<(), AllocError>
             text.push_str("results ")?;
             put_payload(text, results)
         }
+        Outcome::Exception => text.push_str("exception"),
+        Outcome::Canceled => text.push_str("canceled"),
+    }
+}
+
+/// Appends what a promise came to.
+#[tactic(auto, unfolding(crate::specs::MessageText::resolution_text))]
+fn put_resolution(text: &mut String, resolution: &Resolution) -> Result<(), AllocError>
+    ensures { OnOk result (string_bytes text.new ≡ string_bytes text.old ++ resolution_text resolution.now) }
+{
+    match resolution {
+        Resolution::Cap(descriptor) => {
+            text.push_str(" ")?;
+            put_descriptor(text, descriptor)
+        }
+        Resolution::Exception => text.push_str(" exception"),
+    }
+}
+
+/// The name of a loopback's end.
+fn loopback_text(loopback: Loopback) -> &'static str
+    ensures { result.now ≡ loopback_text loopback }
+{
+    match loopback {
+        Loopback::Sender => " senderLoopback ",
+        Loopback::Receiver => " receiverLoopback ",
     }
 }
 
@@ -149,6 +181,15 @@ fn put_return(
     put_outcome(text, outcome)
 }
 
+/// Appends what a Disembargo has behind its number.
+#[tactic(auto, unfolding(crate::specs::MessageText::disembargo_text))]
+fn put_disembargo(text: &mut String, loopback: Loopback, target: &Target) -> Result<(), AllocError>
+    ensures { OnOk result (string_bytes text.new ≡ string_bytes text.old ++ disembargo_text loopback target.now) }
+{
+    text.push_str(loopback_text(loopback))?;
+    put_target(text, target)
+}
+
 /// Appends a message.
 #[tactic(auto, unfolding(crate::specs::MessageText::message_text))]
 fn put_message(text: &mut String, message: &RpcMessage) -> Result<(), AllocError>
@@ -174,6 +215,32 @@ fn put_message(text: &mut String, message: &RpcMessage) -> Result<(), AllocError
             write!(text, "return answer {answer}")?;
             put_return(text, *release_param_caps, outcome)
         }
+        RpcMessage::Finish {
+            question,
+            release_result_caps,
+        } => {
+            write!(
+                text,
+                "finish question {question} releaseResultCaps {release_result_caps}"
+            )
+        }
+        RpcMessage::Resolve {
+            promise,
+            resolution,
+        } => {
+            write!(text, "resolve promise {promise}")?;
+            put_resolution(text, resolution)
+        }
+        RpcMessage::Release { id, count } => write!(text, "release id {id} count {count}"),
+        RpcMessage::Disembargo {
+            number,
+            loopback,
+            target,
+        } => {
+            write!(text, "disembargo {number}")?;
+            put_disembargo(text, *loopback, target)
+        }
+        RpcMessage::Abort => text.push_str("abort"),
     }
 }
 

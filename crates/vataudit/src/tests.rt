@@ -67,6 +67,31 @@ const RETURN_FRAME: &str = "000000000b000000000000000100010003000000000000000000
 0000000000000000000000000000000000000000000002000300000000000000\
 0100000017000000040000000100010001000000000000000000000000000000";
 
+/// A Resolve to a capability.
+const RESOLVE_FRAME: &str = "0000000007000000000000000100010005000000000000000000000001000100\
+0300000000000000000000000100010001000000010000000000000000000000";
+
+/// A Disembargo of an answer's field.
+const DISEMBARGO_FRAME: &str = "000000000c00000000000000010001000d000000000000000000000001000100\
+0200000000000000000000000100010000000000010000000000000001000100\
+0100000000000000010000001700000008000000010000000000000000000000\
+0100030000000000";
+
+/// A Release in two segments.
+const RELEASE_FRAME: &str = "0100000001000000040000000000000002000000010000000000000001000100\
+060000000000000000000000010000000300000002000000";
+
+/// A Finish that keeps the capabilities.
+const FINISH_FRAME: &str = "0000000004000000000000000100010004000000000000000000000001000000\
+0500000001000000";
+
+/// A Return without results.
+const CANCELED_FRAME: &str = "0000000006000000000000000100010003000000000000000000000002000100\
+070000000000020000000000000000000000000000000000";
+
+/// A Message whose tag is of another level.
+const PROVIDE_FRAME: &str = "000000000300000000000000010001000a000000000000000000000000000000";
+
 /// A source that has one log, under the name `log`: its bytes in hexadecimal, in pieces.
 #[derive(Drop)]
 struct Pieces<'a> {
@@ -260,6 +285,28 @@ fn prints_frames(rt: HostRuntime) -> Result<(), Fail> {
 }
 
 #[test]
+fn prints_every_message(rt: HostRuntime) -> Result<(), Fail> {
+    let keeps = "finish question 5 releaseResultCaps false";
+    let canceled = "return answer 7 releaseParamCaps true canceled";
+    let asks = "disembargo 2 senderLoopback answer 1 [3]";
+    let pad = "00000000020000000a000000000000000a00000000000000";
+    let alloc = rt.alloc();
+    assert_shown(&rt, alloc, FINISH_FRAME, keeps, 0)?;
+    assert_shown(&rt, alloc, CANCELED_FRAME, canceled, 0)?;
+    assert_shown(
+        &rt,
+        alloc,
+        RESOLVE_FRAME,
+        "resolve promise 3 senderHosted 1",
+        0,
+    )?;
+    assert_shown(&rt, alloc, RELEASE_FRAME, "release id 3 count 2", 0)?;
+    assert_shown(&rt, alloc, DISEMBARGO_FRAME, asks, 0)?;
+    assert_shown(&rt, alloc, PROVIDE_FRAME, "outside Level", 2)?;
+    assert_shown(&rt, alloc, pad, "bad read BadPad", 2)
+}
+
+#[test]
 fn names_faults(rt: HostRuntime) -> Result<(), Fail> {
     let rows = [
         ("5641544c4f4730", "bad log BadMagic"),
@@ -374,7 +421,7 @@ fn helps(rt: HostRuntime) -> Result<(), Fail> {
     let alloc = rt.alloc();
     for (command, line) in [
         ("vat", "good vat 2 records 8 delivered 1"),
-        ("frame", "bootstrap question 0"),
+        ("frame", "abort"),
         ("--help", "good vat 2 records 8 delivered 1"),
     ] {
         let words = ["vataudit", command, "--help"];

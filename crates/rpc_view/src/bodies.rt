@@ -1,0 +1,239 @@
+//! The bodies of messages. The data of each is judged whole before its pointers are followed.
+
+ghost use Rattle.rpc_view.specs.Reading.{Runs, run, sections_of};
+ghost use Rattle.rpc_view.specs.Message.{bootstrap_in, called_in, call_in, outcome_in, returned_in, return_in, finish_in, resolve_in, release_in, disembargoed_in, disembargo_in};
+
+use crate::layouts::{
+    BOOTSTRAP_QUESTION, CALL_INTERFACE, CALL_LATER, CALL_METHOD, CALL_PARAMS, CALL_QUESTION,
+    CALL_SEND_RESULTS_TO, CALL_TARGET, DISEMBARGO_NUMBER, DISEMBARGO_TAG, DISEMBARGO_TARGET,
+    FINISH_QUESTION, FINISH_RELEASE_RESULT_CAPS, MESSAGE_BODY, RELEASE_COUNT, RELEASE_ID,
+    RESOLVE_CAP, RESOLVE_PROMISE, RESOLVE_TAG, RETURN_ANSWER, RETURN_LATER,
+    RETURN_RELEASE_PARAM_CAPS, RETURN_RESULTS, RETURN_TAG,
+};
+use crate::message::{Loopback, Outcome, Resolution, RpcMessage};
+use crate::payload::payload;
+use crate::structs::{bit_of, struct_in, u16_of, u32_of, u64_of};
+use crate::table::descriptor;
+use crate::target::target;
+use crate::view_error::{Outside, ViewError};
+use cap_frame::Frame;
+use cap_reader::{Limits, StructAt};
+use std::alloc::Global;
+
+/// The Bootstrap behind a Message's pointer.
+#[tactic(auto, using(crate::proofs::Running::run_then), unfolding(crate::specs::Message::bootstrap_in, cap_reader::specs::Reading::pay_for, cap_reader::specs::Reading::and_then))]
+pub fn bootstrap(
+    frame: &Frame,
+    message: &Option<StructAt>,
+    limits: &mut Limits,
+) -> Result<RpcMessage, ViewError>
+    ensures { Runs (λ found. found) result limits.new.words (run (bootstrap_in ((sections_of frame.now message.now).child 0)) limits.old.words) }
+{
+    let bootstrap = struct_in(frame, message, MESSAGE_BODY, limits)?;
+    Ok(RpcMessage::Bootstrap {
+        question: u32_of(frame, &bootstrap, BOOTSTRAP_QUESTION),
+    })
+}
+
+/// What the pointers of a Call hold.
+#[tactic(auto, using(crate::proofs::Running::run_then), unfolding(crate::specs::Message::called_in, cap_reader::specs::Reading::pay_for, cap_reader::specs::Reading::and_then))]
+fn called(
+    alloc: Global,
+    frame: &Frame,
+    call: &Option<StructAt>,
+    limits: &mut Limits,
+) -> Result<RpcMessage, ViewError>
+    ensures { Runs (λ found. found) result limits.new.words (run (called_in (sections_of frame.now call.now)) limits.old.words) }
+{
+    let target = target(alloc, frame, call, CALL_TARGET, limits)?;
+    let params = payload(alloc, frame, call, CALL_PARAMS, limits)?;
+    Ok(RpcMessage::Call {
+        question: u32_of(frame, call, CALL_QUESTION),
+        target,
+        interface: u64_of(frame, call, CALL_INTERFACE),
+        method: u16_of(frame, call, CALL_METHOD),
+        params,
+    })
+}
+
+/// The Call behind a Message's pointer.
+#[tactic(auto, using(crate::proofs::Running::run_then), unfolding(crate::specs::Message::call_in, cap_reader::specs::Reading::pay_for, cap_reader::specs::Reading::and_then))]
+pub fn call(
+    alloc: Global,
+    frame: &Frame,
+    message: &Option<StructAt>,
+    limits: &mut Limits,
+) -> Result<RpcMessage, ViewError>
+    ensures { Runs (λ found. found) result limits.new.words (run (call_in ((sections_of frame.now message.now).child 0)) limits.old.words) }
+{
+    let call = struct_in(frame, message, MESSAGE_BODY, limits)?;
+    let send_results_to = u16_of(frame, &call, CALL_SEND_RESULTS_TO);
+    if send_results_to > 2 {
+        return Err(ViewError::BadTag);
+    }
+    if send_results_to == 2 {
+        return Err(ViewError::Outside(Outside::Level));
+    }
+    if send_results_to == 1 {
+        return Err(ViewError::Outside(Outside::TailCall));
+    }
+    if bit_of(frame, &call, CALL_LATER) {
+        return Err(ViewError::Outside(Outside::LaterField));
+    }
+    called(alloc, frame, &call, limits)
+}
+
+/// What a Return says of its call, as results, an exception or canceled.
+#[tactic(auto, using(crate::proofs::Running::run_then), unfolding(crate::specs::Message::outcome_in, cap_reader::specs::Reading::pay_for, cap_reader::specs::Reading::and_then))]
+fn outcome(
+    alloc: Global,
+    frame: &Frame,
+    answer: &Option<StructAt>,
+    limits: &mut Limits,
+) -> Result<Outcome, ViewError>
+    ensures { Runs (λ found. found) result limits.new.words (run (outcome_in (sections_of frame.now answer.now)) limits.old.words) }
+{
+    match u16_of(frame, answer, RETURN_TAG) {
+        0 => Ok(Outcome::Results(payload(alloc, frame, answer, RETURN_RESULTS, limits)?)),
+        1 => Ok(Outcome::Exception),
+        _ => Ok(Outcome::Canceled),
+    }
+}
+
+/// What the pointer of a Return holds.
+#[tactic(auto, using(crate::proofs::Running::run_then), unfolding(crate::specs::Message::returned_in, cap_reader::specs::Reading::pay_for, cap_reader::specs::Reading::and_then))]
+fn returned(
+    alloc: Global,
+    frame: &Frame,
+    answer: &Option<StructAt>,
+    limits: &mut Limits,
+) -> Result<RpcMessage, ViewError>
+    ensures { Runs (λ found. found) result limits.new.words (run (returned_in (sections_of frame.now answer.now)) limits.old.words) }
+{
+    let outcome = outcome(alloc, frame, answer, limits)?;
+    Ok(RpcMessage::Return {
+        answer: u32_of(frame, answer, RETURN_ANSWER),
+        release_param_caps: !bit_of(frame, answer, RETURN_RELEASE_PARAM_CAPS),
+        outcome,
+    })
+}
+
+/// The Return behind a Message's pointer.
+#[tactic(auto, using(crate::proofs::Running::run_then), unfolding(crate::specs::Message::return_in, cap_reader::specs::Reading::pay_for, cap_reader::specs::Reading::and_then))]
+pub fn answer(
+    alloc: Global,
+    frame: &Frame,
+    message: &Option<StructAt>,
+    limits: &mut Limits,
+) -> Result<RpcMessage, ViewError>
+    ensures { Runs (λ found. found) result limits.new.words (run (return_in ((sections_of frame.now message.now).child 0)) limits.old.words) }
+{
+    let answer = struct_in(frame, message, MESSAGE_BODY, limits)?;
+    let tag = u16_of(frame, &answer, RETURN_TAG);
+    if tag > 5 {
+        return Err(ViewError::BadTag);
+    }
+    if tag == 5 {
+        return Err(ViewError::Outside(Outside::Level));
+    }
+    if tag > 2 {
+        return Err(ViewError::Outside(Outside::TailCall));
+    }
+    if bit_of(frame, &answer, RETURN_LATER) {
+        return Err(ViewError::Outside(Outside::LaterField));
+    }
+    returned(alloc, frame, &answer, limits)
+}
+
+/// The Finish behind a Message's pointer.
+#[tactic(auto, using(crate::proofs::Running::run_then), unfolding(crate::specs::Message::finish_in, cap_reader::specs::Reading::pay_for, cap_reader::specs::Reading::and_then))]
+pub fn finish(
+    frame: &Frame,
+    message: &Option<StructAt>,
+    limits: &mut Limits,
+) -> Result<RpcMessage, ViewError>
+    ensures { Runs (λ found. found) result limits.new.words (run (finish_in ((sections_of frame.now message.now).child 0)) limits.old.words) }
+{
+    let finish = struct_in(frame, message, MESSAGE_BODY, limits)?;
+    Ok(RpcMessage::Finish {
+        question: u32_of(frame, &finish, FINISH_QUESTION),
+        release_result_caps: !bit_of(frame, &finish, FINISH_RELEASE_RESULT_CAPS),
+    })
+}
+
+/// The Resolve behind a Message's pointer.
+#[tactic(auto, using(crate::proofs::Running::run_then), unfolding(crate::specs::Message::resolve_in, cap_reader::specs::Reading::pay_for, cap_reader::specs::Reading::and_then))]
+pub fn resolve(
+    alloc: Global,
+    frame: &Frame,
+    message: &Option<StructAt>,
+    limits: &mut Limits,
+) -> Result<RpcMessage, ViewError>
+    ensures { Runs (λ found. found) result limits.new.words (run (resolve_in ((sections_of frame.now message.now).child 0)) limits.old.words) }
+{
+    let resolve = struct_in(frame, message, MESSAGE_BODY, limits)?;
+    let promise = u32_of(frame, &resolve, RESOLVE_PROMISE);
+    let resolution = match u16_of(frame, &resolve, RESOLVE_TAG) {
+        0 => Resolution::Cap(descriptor(alloc, frame, &resolve, RESOLVE_CAP, limits)?),
+        1 => Resolution::Exception,
+        _ => return Err(ViewError::BadTag),
+    };
+    Ok(RpcMessage::Resolve {
+        promise,
+        resolution,
+    })
+}
+
+/// The Release behind a Message's pointer.
+#[tactic(auto, using(crate::proofs::Running::run_then), unfolding(crate::specs::Message::release_in, cap_reader::specs::Reading::pay_for, cap_reader::specs::Reading::and_then))]
+pub fn release(
+    frame: &Frame,
+    message: &Option<StructAt>,
+    limits: &mut Limits,
+) -> Result<RpcMessage, ViewError>
+    ensures { Runs (λ found. found) result limits.new.words (run (release_in ((sections_of frame.now message.now).child 0)) limits.old.words) }
+{
+    let release = struct_in(frame, message, MESSAGE_BODY, limits)?;
+    Ok(RpcMessage::Release {
+        id: u32_of(frame, &release, RELEASE_ID),
+        count: u32_of(frame, &release, RELEASE_COUNT),
+    })
+}
+
+/// What the pointer of a Disembargo holds.
+#[tactic(auto, using(crate::proofs::Running::run_then), unfolding(crate::specs::Message::disembargoed_in, cap_reader::specs::Reading::pay_for, cap_reader::specs::Reading::and_then))]
+fn disembargoed(
+    alloc: Global,
+    frame: &Frame,
+    disembargo: &Option<StructAt>,
+    loopback: Loopback,
+    limits: &mut Limits,
+) -> Result<RpcMessage, ViewError>
+    ensures { Runs (λ found. found) result limits.new.words (run (disembargoed_in (sections_of frame.now disembargo.now) loopback) limits.old.words) }
+{
+    let target = target(alloc, frame, disembargo, DISEMBARGO_TARGET, limits)?;
+    Ok(RpcMessage::Disembargo {
+        number: u32_of(frame, disembargo, DISEMBARGO_NUMBER),
+        loopback,
+        target,
+    })
+}
+
+/// The Disembargo behind a Message's pointer.
+#[tactic(auto, using(crate::proofs::Running::run_then), unfolding(crate::specs::Message::disembargo_in, cap_reader::specs::Reading::pay_for, cap_reader::specs::Reading::and_then))]
+pub fn disembargo(
+    alloc: Global,
+    frame: &Frame,
+    message: &Option<StructAt>,
+    limits: &mut Limits,
+) -> Result<RpcMessage, ViewError>
+    ensures { Runs (λ found. found) result limits.new.words (run (disembargo_in ((sections_of frame.now message.now).child 0)) limits.old.words) }
+{
+    let disembargo = struct_in(frame, message, MESSAGE_BODY, limits)?;
+    match u16_of(frame, &disembargo, DISEMBARGO_TAG) {
+        0 => disembargoed(alloc, frame, &disembargo, Loopback::Sender, limits),
+        1 => disembargoed(alloc, frame, &disembargo, Loopback::Receiver, limits),
+        2..=3 => Err(ViewError::Outside(Outside::Level)),
+        _ => Err(ViewError::BadTag),
+    }
+}

@@ -69,24 +69,20 @@ impl LinkFinding {
 }
 
 /// The outcome of a link.
-fn outcome_between(
-    connection: u32,
-    first: &VatLog,
-    second: &VatLog,
-) -> Result<LinkOutcome, AllocError>
-    ensures { IfOk result (λ outcome. outcome ≡ outcome_of (record { connection = connection; first = first.now; second = second.now })) }
+fn outcome_between(connection: u32, first: &VatLog, second: &VatLog) -> LinkOutcome
+    ensures { result ≡ outcome_of (record { connection = connection; first = first.now; second = second.now }) }
 {
     if let Some(message) = find_fault(first, second, connection) {
-        return Ok(LinkOutcome::Broken {
+        return LinkOutcome::Broken {
             end: first.vat(),
             message,
-        });
+        };
     }
     if let Some(message) = find_fault(second, first, connection) {
-        return Ok(LinkOutcome::Broken {
+        return LinkOutcome::Broken {
             end: second.vat(),
             message,
-        });
+        };
     }
     let received = [
         count_received(first, connection),
@@ -97,14 +93,11 @@ fn outcome_between(
         count_sent(second, connection),
     ];
     let delivered = received[0] + received[1];
-    // No memory holds logs of so many records that their frames can't be counted.
-    let in_flight = (sent[0] - received[1])
-        .checked_add(sent[1] - received[0])
-        .ok_or(AllocError)?;
-    Ok(LinkOutcome::Good {
+    let in_flight = (sent[0] - received[1]) + (sent[1] - received[0]);
+    LinkOutcome::Good {
         delivered,
         in_flight,
-    })
+    }
 }
 
 fn ordered(
@@ -115,7 +108,7 @@ fn ordered(
     requires { (arc_value first.now).vat < (arc_value second.now).vat }
     ensures { IfOk result (λ link. link ≡ record { connection = connection; first = arc_value first.now; second = arc_value second.now }) }
 {
-    let outcome = outcome_between(connection, first, second)?;
+    let outcome = outcome_between(connection, first, second);
     Ok(LinkFinding {
         connection,
         first: Arc::try_clone(first)?,

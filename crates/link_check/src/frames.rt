@@ -1,6 +1,6 @@
 //! The frames of one connection in a log.
 
-ghost use Rattle.std.specs.Prelude.{◌≡◌, ◌+◌, ◌<◌, ◌^◌, length, option_and_then, slice_get};
+ghost use Rattle.std.specs.Prelude.{◌≡◌, ◌+◌, ◌≤◌, length, option_and_then, slice_get};
 ghost use Rattle.std.specs.Option.{option_copied, option_map};
 ghost use Rattle.link_check.specs.Prefix.{sent_by, received_by, sent, received, first_fault};
 ghost use Rattle.link_check.specs.Walk.{IsNext};
@@ -39,7 +39,7 @@ fn received_at(log: &VatLog, connection: u32, index: usize) -> Option<&Bytes>
 /// How many frames a vat sent on the connection.
 pub fn count_sent(log: &VatLog, connection: u32) -> u64
     ensures count { result ≡ length (sent connection log.now) }
-    ensures fits { result + length (received connection log.now) < 2 ^ 64 }
+    ensures fits { result + length (received connection log.now) ≤ 1048576 }
 {
     let mut count = 0;
     for index in 0..log.len() {

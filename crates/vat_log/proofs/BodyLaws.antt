@@ -4,13 +4,13 @@ use Rattle.vat_log.specs.declared.body.Body.{Body}
 use Rattle.vat_log.specs.declared.body.Body.TheVariants as body
 use Rattle.vat_log.specs.declared.error.LogError.{LogError}
 use Rattle.vat_log.specs.declared.kind.Kind.{Kind}
-use Rattle.vat_log.specs.declared.kind.Kind.TheVariants.{Host, Make, Deliver, Answer, Send, Receive}
+use Rattle.vat_log.specs.declared.kind.Kind.TheVariants.{Host, Vow, Fulfil, Break, Make, Field, Deliver, Answer, Fault, Send, Receive}
 use Rattle.vat_log.specs.declared.passage.Passage.{Passage}
 use Rattle.vat_log.specs.Fits.{IsWide, Fits}
-use Rattle.vat_log.specs.Reading.{◌>>=◌, passage_at, host_at, make_at, deliver_at, answer_at, send_at, receive_at, fields_at}
+use Rattle.vat_log.specs.Reading.{◌>>=◌, passage_at, host_at, vow_at, fulfil_at, break_at, make_at, field_at, deliver_at, answer_at, fault_at, send_at, receive_at, fields_at}
 use Rattle.vat_log.specs.Spelling.{passage_bytes, kind_in, fields_bytes}
 use Rattle.vat_log.proofs.Spans.{IsBytes, ok_is, Spans, Spans-join, Spans-first, Spans-second, IsField, then_takes}
-use Rattle.vat_log.proofs.FieldLaws.{IsNumber, IsList, IsFrame, u16_field, u32_field, u64_field, nonzero_field, references_field, results_field, frame_field}
+use Rattle.vat_log.proofs.FieldLaws.{IsNumber, IsList, IsFrame, u16_field, u32_field, u64_field, nonzero_field, path_field, references_field, results_field, frame_field}
 
 -- what a record can say, with numbers of the width of their fields
 pub record FitsWide (said : Body) : Type 0 where
@@ -19,11 +19,29 @@ pub record FitsWide (said : Body) : Type 0 where
 
 -- ---- fields that follow one another
 
+abbrev one_at : {A C : Type 0} → (ℕ → Result (A × ℕ) LogError) → (A → C) → ℕ → Result (C × ℕ) LogError
+one_at r make at = r at >>= λ a. Ok (make a.0, a.1)
+
 abbrev two_at : {A B C : Type 0} → (ℕ → Result (A × ℕ) LogError) → (ℕ → Result (B × ℕ) LogError) → (A → B → C) → ℕ → Result (C × ℕ) LogError
 two_at r r' make at = r at >>= λ a. r' a.1 >>= λ b. Ok (make a.0 b.0, b.1)
 
+abbrev three_at : {A B C D : Type 0} → (ℕ → Result (A × ℕ) LogError) → (ℕ → Result (B × ℕ) LogError) → (ℕ → Result (C × ℕ) LogError) → (A → B → C → D) → ℕ → Result (D × ℕ) LogError
+three_at ra rb rc make at = ra at >>= λ a. rb a.1 >>= λ b. rc b.1 >>= λ c. Ok (make a.0 b.0 c.0, c.1)
+
 abbrev four_at : {A B C D E : Type 0} → (ℕ → Result (A × ℕ) LogError) → (ℕ → Result (B × ℕ) LogError) → (ℕ → Result (C × ℕ) LogError) → (ℕ → Result (D × ℕ) LogError) → (A → B → C → D → E) → ℕ → Result (E × ℕ) LogError
 four_at ra rb rc rd make at = ra at >>= λ a. rb a.1 >>= λ b. rc b.1 >>= λ c. rd c.1 >>= λ d. Ok (make a.0 b.0 c.0 d.0, d.1)
+
+one_take : {A C : Type 0} {bytes : List ℕ} {r : ℕ → Result (A × ℕ) LogError} {s : A → List ℕ} {F : A → Type 0} → IsField A bytes r s F
+    → IsBytes bytes → (make : A → C) (at : ℕ) (x : C × ℕ) → at ≤ length bytes → one_at r make at ≡ Ok x → (a : A) × Spans bytes at (s a) x.1 × F a × (make a ≡ x.0)
+one_take {A} {C} {bytes} {r} {s} {F} field fits make at x le e =
+    let p = then_takes bytes r s F field fits at (λ a. Ok (make a.0, a.1)) x le e in
+    let made : C × ℕ = (make p.0.0, p.0.1) in
+    let same : made ≡ x = ok_is made x p.3 in
+    (p.0.0, subst (λ (y : C × ℕ). Spans bytes at (s p.0.0) y.1) same p.1, p.2, ap (λ (y : C × ℕ). y.0) same)
+
+one_again : {A C : Type 0} {bytes : List ℕ} {r : ℕ → Result (A × ℕ) LogError} {s : A → List ℕ} {F : A → Type 0} → IsField A bytes r s F
+    → (make : A → C) (at : ℕ) (a : A) (after : ℕ) → F a → Spans bytes at (s a) after → one_at r make at ≡ Ok (make a, after)
+one_again field make at a after fa p = rw (field.again at a after fa p) refl
 
 two_take : {A B C : Type 0} {bytes : List ℕ} {r : ℕ → Result (A × ℕ) LogError} {s : A → List ℕ} {F : A → Type 0} {r' : ℕ → Result (B × ℕ) LogError} {s' : B → List ℕ} {F' : B → Type 0}
     → IsField A bytes r s F → IsField B bytes r' s' F'
@@ -41,6 +59,26 @@ two_again : {A B C : Type 0} {bytes : List ℕ} {r : ℕ → Result (A × ℕ) L
     → (make : A → B → C) (at : ℕ) (a : A) (b : B) (after : ℕ) → F a → F' b → Spans bytes at (s a ++ s' b) after → two_at r r' make at ≡ Ok (make a b, after)
 two_again {A} {B} {C} {bytes} {r} {s} {F} {r'} {s'} {F'} field field' make at a b after fa fb p =
     rw (field.again at a (at + length (s a)) fa (Spans-first bytes at (s a) (s' b) after p), field'.again (at + length (s a)) b after fb (Spans-second bytes at (s a) (s' b) after p)) refl
+
+three_take : {A B C D : Type 0} {bytes : List ℕ} {ra : ℕ → Result (A × ℕ) LogError} {sa : A → List ℕ} {FA : A → Type 0} {rb : ℕ → Result (B × ℕ) LogError} {sb : B → List ℕ} {FB : B → Type 0}
+    {rc : ℕ → Result (C × ℕ) LogError} {sc : C → List ℕ} {FC : C → Type 0}
+    → IsField A bytes ra sa FA → IsField B bytes rb sb FB → IsField C bytes rc sc FC
+    → IsBytes bytes → (make : A → B → C → D) (at : ℕ) (x : D × ℕ) → at ≤ length bytes → three_at ra rb rc make at ≡ Ok x
+    → (a : A) × (b : B) × (c : C) × Spans bytes at (sa a ++ (sb b ++ sc c)) x.1 × FA a × FB b × FC c × (make a b c ≡ x.0)
+three_take {A} {B} {C} {D} {bytes} {ra} {sa} {FA} {rb} {sb} {FB} {rc} {sc} {FC} fa fb fc fits make at x le e =
+    let p = then_takes bytes ra sa FA fa fits at (λ a. rb a.1 >>= λ b. rc b.1 >>= λ c. Ok (make a.0 b.0 c.0, c.1)) x le e in
+    let t = two_take fb fc fits (make p.0.0) p.0.1 x p.1.within p.3 in
+    (p.0.0, t.0, t.1, Spans-join bytes at (sa p.0.0) p.0.1 (sb t.0 ++ sc t.1) x.1 p.1 t.2, p.2, t.3, t.4, t.5)
+
+three_again : {A B C D : Type 0} {bytes : List ℕ} {ra : ℕ → Result (A × ℕ) LogError} {sa : A → List ℕ} {FA : A → Type 0} {rb : ℕ → Result (B × ℕ) LogError} {sb : B → List ℕ} {FB : B → Type 0}
+    {rc : ℕ → Result (C × ℕ) LogError} {sc : C → List ℕ} {FC : C → Type 0}
+    → IsField A bytes ra sa FA → IsField B bytes rb sb FB → IsField C bytes rc sc FC
+    → (make : A → B → C → D) (at : ℕ) (a : A) (b : B) (c : C) (after : ℕ) → FA a → FB b → FC c → Spans bytes at (sa a ++ (sb b ++ sc c)) after
+    → three_at ra rb rc make at ≡ Ok (make a b c, after)
+three_again {A} {B} {C} {D} {bytes} {ra} {sa} {FA} {rb} {sb} {FB} {rc} {sc} {FC} fa fb fc make at a b c after ha hb hc p =
+    let b_at = at + length (sa a) in
+    let rest = Spans-second bytes at (sa a) (sb b ++ sc c) after p in
+    rw (fa.again at a b_at ha (Spans-first bytes at (sa a) (sb b ++ sc c) after p)) (two_again fb fc (make a) b_at b c after hb hc rest)
 
 four_take : {A B C D E : Type 0} {bytes : List ℕ} {ra : ℕ → Result (A × ℕ) LogError} {sa : A → List ℕ} {FA : A → Type 0} {rb : ℕ → Result (B × ℕ) LogError} {sb : B → List ℕ} {FB : B → Type 0}
     {rc : ℕ → Result (C × ℕ) LogError} {sc : C → List ℕ} {FC : C → Type 0} {rd : ℕ → Result (D × ℕ) LogError} {sd : D → List ℕ} {FD : D → Type 0}
@@ -109,11 +147,35 @@ host_takes bytes fits at x le e =
     let t = two_take (nonzero_field bytes) (u64_field bytes) fits (λ a b. body.Host a b) at x le e in
     subst (Taken bytes at x.1 Host) t.5 (t.2, record { fits = record { numbered = t.3.0; counted = tt }; wide = (t.3.1, t.4) }, refl)
 
+vow_takes : (bytes : List ℕ) → IsBytes bytes → (at : ℕ) (x : Body × ℕ) → at ≤ length bytes → vow_at bytes at ≡ Ok x → Taken bytes at x.1 Vow x.0
+unfolding vow_at
+vow_takes bytes fits at x le e =
+    let t = one_take (nonzero_field bytes) fits (λ a. body.Vow a) at x le e in
+    subst (Taken bytes at x.1 Vow) t.3 (t.1, record { fits = record { numbered = t.2.0; counted = tt }; wide = t.2.1 }, refl)
+
+fulfil_takes : (bytes : List ℕ) → IsBytes bytes → (at : ℕ) (x : Body × ℕ) → at ≤ length bytes → fulfil_at bytes at ≡ Ok x → Taken bytes at x.1 Fulfil x.0
+unfolding fulfil_at
+fulfil_takes bytes fits at x le e =
+    let t = two_take (nonzero_field bytes) (nonzero_field bytes) fits (λ a b. body.Fulfil a b) at x le e in
+    subst (Taken bytes at x.1 Fulfil) t.5 (t.2, record { fits = record { numbered = (t.3.0, t.4.0); counted = tt }; wide = (t.3.1, t.4.1) }, refl)
+
+break_takes : (bytes : List ℕ) → IsBytes bytes → (at : ℕ) (x : Body × ℕ) → at ≤ length bytes → break_at bytes at ≡ Ok x → Taken bytes at x.1 Break x.0
+unfolding break_at
+break_takes bytes fits at x le e =
+    let t = one_take (nonzero_field bytes) fits (λ a. body.Break a) at x le e in
+    subst (Taken bytes at x.1 Break) t.3 (t.1, record { fits = record { numbered = t.2.0; counted = tt }; wide = t.2.1 }, refl)
+
 make_takes : (bytes : List ℕ) → IsBytes bytes → (at : ℕ) (x : Body × ℕ) → at ≤ length bytes → make_at bytes at ≡ Ok x → Taken bytes at x.1 Make x.0
 unfolding make_at
 make_takes bytes fits at x le e =
     let t = four_take (nonzero_field bytes) (nonzero_field bytes) (u64_field bytes) (u16_field bytes) fits (λ a b c d. body.Make a b c d) at x le e in
     subst (Taken bytes at x.1 Make) t.9 (t.4, record { fits = record { numbered = (t.5.0, t.6.0); counted = tt }; wide = (t.5.1, t.6.1, t.7, t.8) }, refl)
+
+field_takes : (bytes : List ℕ) → IsBytes bytes → (at : ℕ) (x : Body × ℕ) → at ≤ length bytes → field_at bytes at ≡ Ok x → Taken bytes at x.1 Field x.0
+unfolding field_at
+field_takes bytes fits at x le e =
+    let t = three_take (nonzero_field bytes) (nonzero_field bytes) (path_field bytes) fits (λ a b c. body.Field a b c) at x le e in
+    subst (Taken bytes at x.1 Field) t.7 (t.3, record { fits = record { numbered = (t.4.0, t.5.0); counted = omega (arith, t.6.0) }; wide = (t.4.1, t.5.1, t.6.1) }, refl)
 
 deliver_takes : (bytes : List ℕ) → IsBytes bytes → (at : ℕ) (x : Body × ℕ) → at ≤ length bytes → deliver_at bytes at ≡ Ok x → Taken bytes at x.1 Deliver x.0
 unfolding deliver_at
@@ -134,6 +196,12 @@ answer_takes bytes fits at x le e =
       },
       refl,
     )
+
+fault_takes : (bytes : List ℕ) → IsBytes bytes → (at : ℕ) (x : Body × ℕ) → at ≤ length bytes → fault_at bytes at ≡ Ok x → Taken bytes at x.1 Fault x.0
+unfolding fault_at
+fault_takes bytes fits at x le e =
+    let t = one_take (nonzero_field bytes) fits (λ a. body.Fault a) at x le e in
+    subst (Taken bytes at x.1 Fault) t.3 (t.1, record { fits = record { numbered = t.2.0; counted = tt }; wide = t.2.1 }, refl)
 
 abbrev sent : Passage → Body
 sent x = body.Send x.connection x.call x.references x.frame
@@ -165,9 +233,14 @@ receive_takes bytes fits at x le e =
 -- what is read of a kind is a body of that kind, spelled so
 pub fields_take : (kind : Kind) (bytes : List ℕ) → IsBytes bytes → (at : ℕ) (x : Body × ℕ) → at ≤ length bytes → fields_at kind bytes at ≡ Ok x → Taken bytes at x.1 kind x.0
 fields_take Host bytes fits at x le e = host_takes bytes fits at x le e
+fields_take Vow bytes fits at x le e = vow_takes bytes fits at x le e
+fields_take Fulfil bytes fits at x le e = fulfil_takes bytes fits at x le e
+fields_take Break bytes fits at x le e = break_takes bytes fits at x le e
 fields_take Make bytes fits at x le e = make_takes bytes fits at x le e
+fields_take Field bytes fits at x le e = field_takes bytes fits at x le e
 fields_take Deliver bytes fits at x le e = deliver_takes bytes fits at x le e
 fields_take Answer bytes fits at x le e = answer_takes bytes fits at x le e
+fields_take Fault bytes fits at x le e = fault_takes bytes fits at x le e
 fields_take Send bytes fits at x le e = send_takes bytes fits at x le e
 fields_take Receive bytes fits at x le e = receive_takes bytes fits at x le e
 
@@ -183,16 +256,26 @@ passage_is connection call references frame numbered counted wide = record {
 }
 
 pub fields_again : (said : Body) (bytes : List ℕ) (at after : ℕ) → FitsWide said → Spans bytes at (fields_bytes said) after → fields_at (kind_in said) bytes at ≡ Ok (said, after)
-unfolding host_at make_at deliver_at answer_at send_at receive_at
+unfolding host_at vow_at fulfil_at break_at make_at field_at deliver_at answer_at fault_at send_at receive_at
 fields_again (body.Host reference object) bytes at after is p =
     two_again (nonzero_field bytes) (u64_field bytes) (λ a b. body.Host a b) at reference object after (is.fits.numbered, is.wide.0) is.wide.1 p
+fields_again (body.Vow reference) bytes at after is p =
+    one_again (nonzero_field bytes) (λ a. body.Vow a) at reference after (is.fits.numbered, is.wide) p
+fields_again (body.Fulfil reference to) bytes at after is p =
+    two_again (nonzero_field bytes) (nonzero_field bytes) (λ a b. body.Fulfil a b) at reference to after (is.fits.numbered.0, is.wide.0) (is.fits.numbered.1, is.wide.1) p
+fields_again (body.Break reference) bytes at after is p =
+    one_again (nonzero_field bytes) (λ a. body.Break a) at reference after (is.fits.numbered, is.wide) p
 fields_again (body.Make call reference interface method) bytes at after is p =
     four_again (nonzero_field bytes) (nonzero_field bytes) (u64_field bytes) (u16_field bytes) (λ a b c d. body.Make a b c d) at call reference interface method after (is.fits.numbered.0, is.wide.0) (is.fits.numbered.1, is.wide.1) is.wide.2 is.wide.3 p
+fields_again (body.Field reference call path) bytes at after is p =
+    three_again (nonzero_field bytes) (nonzero_field bytes) (path_field bytes) (λ a b c. body.Field a b c) at reference call path after (is.fits.numbered.0, is.wide.0) (is.fits.numbered.1, is.wide.1) (omega (arith, is.fits.counted), is.wide.2) p
 fields_again (body.Deliver call object) bytes at after is p =
     two_again (nonzero_field bytes) (u64_field bytes) (λ a b. body.Deliver a b) at call object after (is.fits.numbered, is.wide.0) is.wide.1 p
 fields_again (body.Answer call results) bytes at after is p =
     two_again (nonzero_field bytes) (results_field bytes) (λ a b. body.Answer a b) at call results after (is.fits.numbered.0, is.wide.0)
     (omega (arith, is.fits.counted.0), λ k d lt. ((is.fits.numbered.1 k d lt, (is.wide.1 k d lt).0), (omega (arith, is.fits.counted.1 k d lt), (is.wide.1 k d lt).1))) p
+fields_again (body.Fault call) bytes at after is p =
+    one_again (nonzero_field bytes) (λ a. body.Fault a) at call after (is.fits.numbered, is.wide) p
 fields_again (body.Send connection call references frame) bytes at after is p =
     rw (passage_again bytes at (passage connection call references frame) after (passage_is connection call references frame is.fits.numbered is.fits.counted is.wide) p) refl
 fields_again (body.Receive connection call references frame) bytes at after is p =

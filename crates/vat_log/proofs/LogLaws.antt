@@ -12,7 +12,7 @@ use Rattle.std.proofs.lemmas.Slice.Eq.{starts_is}
 use Rattle.vat_log.specs.declared.body.Body.{Body}
 use Rattle.vat_log.specs.declared.error.LogError.TheVariants.{BadMagic, TooLong}
 use Rattle.vat_log.specs.declared.kind.Kind.{Kind}
-use Rattle.vat_log.specs.declared.kind.Kind.TheVariants.{Host, Make, Deliver, Answer, Send, Receive}
+use Rattle.vat_log.specs.declared.kind.Kind.TheVariants.{Host, Vow, Fulfil, Break, Make, Field, Deliver, Answer, Fault, Send, Receive}
 use Rattle.vat_log.specs.Fits.{LogFits}
 use Rattle.vat_log.specs.Log.{Log}
 use Rattle.vat_log.specs.Reading.{◌>>=◌, number_at, fields_at, kind_with, known, kind_at, records_at, log_within}
@@ -40,15 +40,21 @@ kind_step byte code k kind rest is more e =
 kind_was : (byte : ℕ) (kind : Kind) → kind_with byte ≡ found kind → byte ≡ kind_byte kind
 unfolding kind_with
 kind_was byte kind e =
-    kind_step byte 1 Host kind _ refl (kind_step byte 5 Make kind _ refl (kind_step byte 7 Deliver kind _ refl (kind_step byte 8 Answer kind _ refl
-    (kind_step byte 10 Send kind _ refl (kind_step byte 11 Receive kind None refl (λ none. absurd cc)))))) e
+    kind_step byte 1 Host kind _ refl (kind_step byte 2 Vow kind _ refl (kind_step byte 3 Fulfil kind _ refl (kind_step byte 4 Break kind _ refl
+    (kind_step byte 5 Make kind _ refl (kind_step byte 6 Field kind _ refl (kind_step byte 7 Deliver kind _ refl (kind_step byte 8 Answer kind _ refl
+    (kind_step byte 9 Fault kind _ refl (kind_step byte 10 Send kind _ refl (kind_step byte 11 Receive kind None refl (λ none. absurd cc))))))))))) e
 
 kind_is : (kind : Kind) → kind_with (kind_byte kind) ≡ found kind
 unfolding kind_with
 kind_is Host = refl
+kind_is Vow = refl
+kind_is Fulfil = refl
+kind_is Break = refl
 kind_is Make = refl
+kind_is Field = refl
 kind_is Deliver = refl
 kind_is Answer = refl
+kind_is Fault = refl
 kind_is Send = refl
 kind_is Receive = refl
 

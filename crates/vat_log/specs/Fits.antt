@@ -2,7 +2,7 @@
 use Rattle.std.specs.Prelude.{◌≡◌, ℕ, ◌^◌, ◌<◌, ◌≤◌, length, Result, Ok, Err, nat_lt, if◌then◌else◌}
 use Rattle.std.specs.List.{All}
 use Rattle.vat_log.specs.declared.body.Body.{Body}
-use Rattle.vat_log.specs.declared.body.Body.TheVariants.{Host, Make, Deliver, Answer, Send, Receive}
+use Rattle.vat_log.specs.declared.body.Body.TheVariants.{Host, Vow, Fulfil, Break, Make, Field, Deliver, Answer, Fault, Send, Receive}
 use Rattle.vat_log.specs.declared.error.LogError.{LogError}
 use Rattle.vat_log.specs.declared.error.LogError.TheVariants.{ZeroNumber, TooLong}
 use Rattle.vat_log.specs.Log.{Log}
@@ -22,9 +22,14 @@ record_limit = 1048576
 -- No reference is 0, and no call is 0 but the one noted beside a frame, where 0 stands for no call.
 abbrev pub IsNumbered : Body → Type 0
 IsNumbered (Host reference object) = 0 < reference
+IsNumbered (Vow reference) = 0 < reference
+IsNumbered (Fulfil reference to) = (0 < reference) × (0 < to)
+IsNumbered (Break reference) = 0 < reference
 IsNumbered (Make call reference interface method) = (0 < call) × (0 < reference)
+IsNumbered (Field reference call path) = (0 < reference) × (0 < call)
 IsNumbered (Deliver call object) = 0 < call
 IsNumbered (Answer call results) = (0 < call) × All (λ answered. 0 < answered.0) results
+IsNumbered (Fault call) = 0 < call
 IsNumbered (Send connection call references frame) =
     All (λ reference. 0 < reference) references
 IsNumbered (Receive connection call references frame) =
@@ -33,10 +38,15 @@ IsNumbered (Receive connection call references frame) =
 -- No list is past the limit of its count, and no frame past that of its bytes.
 abbrev pub IsCounted : Body → Type 0
 IsCounted (Host reference object) = Unit {0}
+IsCounted (Vow reference) = Unit {0}
+IsCounted (Fulfil reference to) = Unit {0}
+IsCounted (Break reference) = Unit {0}
 IsCounted (Make call reference interface method) = Unit {0}
+IsCounted (Field reference call path) = length path ≤ count_limit
 IsCounted (Deliver call object) = Unit {0}
 IsCounted (Answer call results) =
     (length results ≤ count_limit) × All (λ answered. length answered.1 ≤ count_limit) results
+IsCounted (Fault call) = Unit {0}
 IsCounted (Send connection call references frame) =
     (length references ≤ count_limit) × (length frame ≤ frame_limit)
 IsCounted (Receive connection call references frame) =
@@ -45,11 +55,17 @@ IsCounted (Receive connection call references frame) =
 -- Each number is within the width of its field, as the types of the fields keep it.
 abbrev pub IsWide : Body → Type 0
 IsWide (Host reference object) = (reference < 2 ^ 64) × (object < 2 ^ 64)
+IsWide (Vow reference) = reference < 2 ^ 64
+IsWide (Fulfil reference to) = (reference < 2 ^ 64) × (to < 2 ^ 64)
+IsWide (Break reference) = reference < 2 ^ 64
 IsWide (Make call reference interface method) =
     (call < 2 ^ 64) × (reference < 2 ^ 64) × (interface < 2 ^ 64) × (method < 2 ^ 16)
+IsWide (Field reference call path) =
+    (reference < 2 ^ 64) × (call < 2 ^ 64) × All (λ field. field < 2 ^ 16) path
 IsWide (Deliver call object) = (call < 2 ^ 64) × (object < 2 ^ 64)
 IsWide (Answer call results) =
     (call < 2 ^ 64) × All (λ answered. (answered.0 < 2 ^ 64) × All (λ field. field < 2 ^ 16) answered.1) results
+IsWide (Fault call) = call < 2 ^ 64
 IsWide (Send connection call references frame) =
     (connection < 2 ^ 32) × (call < 2 ^ 64) × All (λ reference. reference < 2 ^ 64) references
 IsWide (Receive connection call references frame) =

@@ -8,7 +8,7 @@ use Rattle.vat_log.specs.declared.body.Body.TheVariants as body
 use Rattle.vat_log.specs.declared.error.LogError.{LogError}
 use Rattle.vat_log.specs.declared.error.LogError.TheVariants.{BadMagic, Short, BadKind, ZeroNumber, TooLong, OutOfMemory}
 use Rattle.vat_log.specs.declared.kind.Kind.{Kind}
-use Rattle.vat_log.specs.declared.kind.Kind.TheVariants.{Host, Make, Deliver, Answer, Send, Receive}
+use Rattle.vat_log.specs.declared.kind.Kind.TheVariants.{Host, Vow, Fulfil, Break, Make, Field, Deliver, Answer, Fault, Send, Receive}
 use Rattle.vat_log.specs.declared.passage.Passage.{Passage}
 use Rattle.vat_log.specs.Fits.{frame_limit, record_limit}
 use Rattle.vat_log.specs.Log.{Log}
@@ -88,6 +88,22 @@ host_at bytes at = do
   object ← number_at w64 bytes reference.1
   Ok (body.Host reference.0 object.0, object.1)
 
+unfoldable pub vow_at : List ℕ → ℕ → Result (Body × ℕ) LogError
+vow_at bytes at = do
+  reference ← nonzero_at bytes at
+  Ok (body.Vow reference.0, reference.1)
+
+unfoldable pub fulfil_at : List ℕ → ℕ → Result (Body × ℕ) LogError
+fulfil_at bytes at = do
+  reference ← nonzero_at bytes at
+  to ← nonzero_at bytes reference.1
+  Ok (body.Fulfil reference.0 to.0, to.1)
+
+unfoldable pub break_at : List ℕ → ℕ → Result (Body × ℕ) LogError
+break_at bytes at = do
+  reference ← nonzero_at bytes at
+  Ok (body.Break reference.0, reference.1)
+
 unfoldable pub make_at : List ℕ → ℕ → Result (Body × ℕ) LogError
 make_at bytes at = do
   call ← nonzero_at bytes at
@@ -95,6 +111,13 @@ make_at bytes at = do
   interface ← number_at w64 bytes reference.1
   method ← number_at w16 bytes interface.1
   Ok (body.Make call.0 reference.0 interface.0 method.0, method.1)
+
+unfoldable pub field_at : List ℕ → ℕ → Result (Body × ℕ) LogError
+field_at bytes at = do
+  reference ← nonzero_at bytes at
+  call ← nonzero_at bytes reference.1
+  path ← path_at bytes call.1
+  Ok (body.Field reference.0 call.0 path.0, path.1)
 
 unfoldable pub deliver_at : List ℕ → ℕ → Result (Body × ℕ) LogError
 deliver_at bytes at = do
@@ -107,6 +130,11 @@ answer_at bytes at = do
   call ← nonzero_at bytes at
   results ← list_at (answered_at bytes) bytes call.1
   Ok (body.Answer call.0 results.0, results.1)
+
+unfoldable pub fault_at : List ℕ → ℕ → Result (Body × ℕ) LogError
+fault_at bytes at = do
+  call ← nonzero_at bytes at
+  Ok (body.Fault call.0, call.1)
 
 unfoldable pub send_at : List ℕ → ℕ → Result (Body × ℕ) LogError
 send_at bytes at = do
@@ -121,9 +149,14 @@ receive_at bytes at = do
 -- the fields of a record of this kind
 abbrev pub fields_at : Kind → List ℕ → ℕ → Result (Body × ℕ) LogError
 fields_at Host bytes at = host_at bytes at
+fields_at Vow bytes at = vow_at bytes at
+fields_at Fulfil bytes at = fulfil_at bytes at
+fields_at Break bytes at = break_at bytes at
 fields_at Make bytes at = make_at bytes at
+fields_at Field bytes at = field_at bytes at
 fields_at Deliver bytes at = deliver_at bytes at
 fields_at Answer bytes at = answer_at bytes at
+fields_at Fault bytes at = fault_at bytes at
 fields_at Send bytes at = send_at bytes at
 fields_at Receive bytes at = receive_at bytes at
 
@@ -131,9 +164,14 @@ fields_at Receive bytes at = receive_at bytes at
 unfoldable pub kind_with : ℕ → Option Kind
 kind_with byte =
     if byte == 1 then Some Host
+    else if byte == 2 then Some Vow
+    else if byte == 3 then Some Fulfil
+    else if byte == 4 then Some Break
     else if byte == 5 then Some Make
+    else if byte == 6 then Some Field
     else if byte == 7 then Some Deliver
     else if byte == 8 then Some Answer
+    else if byte == 9 then Some Fault
     else if byte == 10 then Some Send
     else if byte == 11 then Some Receive
     else None

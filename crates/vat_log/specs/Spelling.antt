@@ -5,7 +5,7 @@ use Rattle.std.specs.Int.{Width, w16, w32, w64, to_le_bytes}
 use Rattle.vat_log.specs.declared.body.Body.{Body}
 use Rattle.vat_log.specs.declared.body.Body.TheVariants as body
 use Rattle.vat_log.specs.declared.kind.Kind.{Kind}
-use Rattle.vat_log.specs.declared.kind.Kind.TheVariants.{Host, Make, Deliver, Answer, Send, Receive}
+use Rattle.vat_log.specs.declared.kind.Kind.TheVariants.{Host, Vow, Fulfil, Break, Make, Field, Deliver, Answer, Fault, Send, Receive}
 use Rattle.vat_log.specs.Log.{Log}
 
 -- the bytes that begin each log: VATLOG01
@@ -15,9 +15,14 @@ magic = 86 ∷ 65 ∷ 84 ∷ 76 ∷ 79 ∷ 71 ∷ 48 ∷ 49 ∷ []
 -- the byte that begins a record of this kind
 abbrev pub kind_byte : Kind → ℕ
 kind_byte Host = 1
+kind_byte Vow = 2
+kind_byte Fulfil = 3
+kind_byte Break = 4
 kind_byte Make = 5
+kind_byte Field = 6
 kind_byte Deliver = 7
 kind_byte Answer = 8
+kind_byte Fault = 9
 kind_byte Send = 10
 kind_byte Receive = 11
 
@@ -53,19 +58,30 @@ passage_bytes connection call references frame =
 -- the kind of the record that says this
 abbrev pub kind_in : Body → Kind
 kind_in (body.Host reference object) = Host
+kind_in (body.Vow reference) = Vow
+kind_in (body.Fulfil reference to) = Fulfil
+kind_in (body.Break reference) = Break
 kind_in (body.Make call reference interface method) = Make
+kind_in (body.Field reference call path) = Field
 kind_in (body.Deliver call object) = Deliver
 kind_in (body.Answer call results) = Answer
+kind_in (body.Fault call) = Fault
 kind_in (body.Send connection call references frame) = Send
 kind_in (body.Receive connection call references frame) = Receive
 
 -- its fields, one after the other
 abbrev pub fields_bytes : Body → List ℕ
 fields_bytes (body.Host reference object) = number_bytes w64 reference ++ number_bytes w64 object
+fields_bytes (body.Vow reference) = number_bytes w64 reference
+fields_bytes (body.Fulfil reference to) = number_bytes w64 reference ++ number_bytes w64 to
+fields_bytes (body.Break reference) = number_bytes w64 reference
 fields_bytes (body.Make call reference interface method) =
     number_bytes w64 call ++ (number_bytes w64 reference ++ (number_bytes w64 interface ++ number_bytes w16 method))
+fields_bytes (body.Field reference call path) =
+    number_bytes w64 reference ++ (number_bytes w64 call ++ path_bytes path)
 fields_bytes (body.Deliver call object) = number_bytes w64 call ++ number_bytes w64 object
 fields_bytes (body.Answer call results) = number_bytes w64 call ++ listed answered_bytes results
+fields_bytes (body.Fault call) = number_bytes w64 call
 fields_bytes (body.Send connection call references frame) = passage_bytes connection call references frame
 fields_bytes (body.Receive connection call references frame) = passage_bytes connection call references frame
 

@@ -94,12 +94,31 @@ pub enum Body {
         reference: u64,
         object: u64,
     },
+    /// The vat promises a capability of its own under a reference.
+    Vow {
+        reference: u64,
+    },
+    /// The vat's promise under the first reference is kept: it is what the second one stands for.
+    Fulfil {
+        reference: u64,
+        to: u64,
+    },
+    /// The vat's promise is broken.
+    Break {
+        reference: u64,
+    },
     /// The vat makes a call through a reference.
     Make {
         call: u64,
         reference: u64,
         interface: u64,
         method: u16,
+    },
+    /// The vat names the capability at a path in a call's results, which may be still to come.
+    Field {
+        reference: u64,
+        call: u64,
+        path: Path,
     },
     /// The vat gives a call to its own object.
     Deliver {
@@ -110,6 +129,10 @@ pub enum Body {
     Answer {
         call: u64,
         results: Results,
+    },
+    /// A call ends with no results.
+    Fault {
+        call: u64,
     },
     /// A frame went out on a connection.
     Send {

@@ -124,7 +124,7 @@ fn many_path_fields(
 }
 
 #[tactic(auto, unfolding(crate::specs::Reading::list_at))]
-fn path_of(alloc: Global, bytes: &[u8], at: usize) -> Result<(Path, usize), LogError>
+pub(crate) fn path_of(alloc: Global, bytes: &[u8], at: usize) -> Result<(Path, usize), LogError>
     requires { at ≤ length bytes.now }
     ensures gives { Gives (λ x. (x.0, x.1)) result (path_at bytes.now at) }
     ensures within { IfOk result (λ x. x.1 ≤ length bytes.now) }

@@ -9,9 +9,14 @@ use crate::error::LogError;
 #[derive(Clone, Copy, Debug, PartialEq, Eq)]
 pub(crate) enum Kind {
     Host,
+    Vow,
+    Fulfil,
+    Break,
     Make,
+    Field,
     Deliver,
     Answer,
+    Fault,
     Send,
     Receive,
 }
@@ -23,9 +28,14 @@ fn kind_of(byte: u8) -> Option<Kind>
 {
     match byte {
         0x01 => Some(Kind::Host),
+        0x02 => Some(Kind::Vow),
+        0x03 => Some(Kind::Fulfil),
+        0x04 => Some(Kind::Break),
         0x05 => Some(Kind::Make),
+        0x06 => Some(Kind::Field),
         0x07 => Some(Kind::Deliver),
         0x08 => Some(Kind::Answer),
+        0x09 => Some(Kind::Fault),
         0x0a => Some(Kind::Send),
         0x0b => Some(Kind::Receive),
         _ => None,

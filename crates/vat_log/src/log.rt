@@ -48,9 +48,10 @@ impl VatLog {
         self.vat
     }
 
-    /// How many records there are.
+    /// How many records there are, 1,048,576 at most.
     pub fn len(&self) -> usize
-        ensures { result ≡ length self.now.records }
+        ensures value { result ≡ length self.now.records }
+        ensures bound { result ≤ 1048576 }
     {
         self.records.len()
     }

@@ -2,11 +2,13 @@
 
 ghost use Rattle.std.specs.Prelude.{◌≡◌, ◌≤◌, length, IfOk};
 ghost use Rattle.std.specs.List.{starts_with};
-ghost use Rattle.vat_log.specs.Reading.{Gives, passage_at, host_at, make_at, deliver_at, answer_at, send_at, receive_at, fields_at};
+ghost use Rattle.vat_log.specs.Reading.{Gives, passage_at, host_at, vow_at, fulfil_at, break_at, make_at, field_at, deliver_at, answer_at, fault_at, send_at, receive_at, fields_at};
 
 use crate::body::Body;
 use crate::error::LogError;
-use crate::fields::{frame_of, nonzero_of, references_of, results_of, u16_at, u32_at, u64_at};
+use crate::fields::{
+    frame_of, nonzero_of, path_of, references_of, results_of, u16_at, u32_at, u64_at,
+};
 use crate::kind::Kind;
 use crate::passage::Passage;
 use bytes::Bytes;
@@ -42,6 +44,37 @@ fn host_of(bytes: &[u8], at: usize) -> Result<(Body, usize), LogError>
     Ok((Body::Host { reference, object }, after))
 }
 
+#[tactic(auto, unfolding(crate::specs::Reading::vow_at))]
+fn vow_of(bytes: &[u8], at: usize) -> Result<(Body, usize), LogError>
+    requires { at ≤ length bytes.now }
+    ensures gives { Gives (λ x. (x.0, x.1)) result (vow_at bytes.now at) }
+    ensures within { IfOk result (λ x. x.1 ≤ length bytes.now) }
+{
+    let (reference, after) = nonzero_of(bytes, at)?;
+    Ok((Body::Vow { reference }, after))
+}
+
+#[tactic(auto, unfolding(crate::specs::Reading::fulfil_at))]
+fn fulfil_of(bytes: &[u8], at: usize) -> Result<(Body, usize), LogError>
+    requires { at ≤ length bytes.now }
+    ensures gives { Gives (λ x. (x.0, x.1)) result (fulfil_at bytes.now at) }
+    ensures within { IfOk result (λ x. x.1 ≤ length bytes.now) }
+{
+    let (reference, after) = nonzero_of(bytes, at)?;
+    let (to, after) = nonzero_of(bytes, after)?;
+    Ok((Body::Fulfil { reference, to }, after))
+}
+
+#[tactic(auto, unfolding(crate::specs::Reading::break_at))]
+fn break_of(bytes: &[u8], at: usize) -> Result<(Body, usize), LogError>
+    requires { at ≤ length bytes.now }
+    ensures gives { Gives (λ x. (x.0, x.1)) result (break_at bytes.now at) }
+    ensures within { IfOk result (λ x. x.1 ≤ length bytes.now) }
+{
+    let (reference, after) = nonzero_of(bytes, at)?;
+    Ok((Body::Break { reference }, after))
+}
+
 #[tactic(auto, unfolding(crate::specs::Reading::make_at))]
 fn make_of(bytes: &[u8], at: usize) -> Result<(Body, usize), LogError>
     requires { at ≤ length bytes.now }
@@ -57,6 +90,23 @@ fn make_of(bytes: &[u8], at: usize) -> Result<(Body, usize), LogError>
         reference,
         interface,
         method,
+    };
+    Ok((body, after))
+}
+
+#[tactic(auto, unfolding(crate::specs::Reading::field_at))]
+fn field_of(alloc: Global, bytes: &[u8], at: usize) -> Result<(Body, usize), LogError>
+    requires { at ≤ length bytes.now }
+    ensures gives { Gives (λ x. (x.0, x.1)) result (field_at bytes.now at) }
+    ensures within { IfOk result (λ x. x.1 ≤ length bytes.now) }
+{
+    let (reference, after) = nonzero_of(bytes, at)?;
+    let (call, after) = nonzero_of(bytes, after)?;
+    let (path, after) = path_of(alloc, bytes, after)?;
+    let body = Body::Field {
+        reference,
+        call,
+        path,
     };
     Ok((body, after))
 }
@@ -81,6 +131,16 @@ fn answer_of(alloc: Global, bytes: &[u8], at: usize) -> Result<(Body, usize), Lo
     let (call, after) = nonzero_of(bytes, at)?;
     let (results, after) = results_of(alloc, bytes, after)?;
     Ok((Body::Answer { call, results }, after))
+}
+
+#[tactic(auto, unfolding(crate::specs::Reading::fault_at))]
+fn fault_of(bytes: &[u8], at: usize) -> Result<(Body, usize), LogError>
+    requires { at ≤ length bytes.now }
+    ensures gives { Gives (λ x. (x.0, x.1)) result (fault_at bytes.now at) }
+    ensures within { IfOk result (λ x. x.1 ≤ length bytes.now) }
+{
+    let (call, after) = nonzero_of(bytes, at)?;
+    Ok((Body::Fault { call }, after))
 }
 
 #[tactic(auto, unfolding(crate::specs::Reading::send_at))]
@@ -128,9 +188,14 @@ pub(crate) fn body_of(
 {
     match kind {
         Kind::Host => host_of(bytes.as_slice(), at),
+        Kind::Vow => vow_of(bytes.as_slice(), at),
+        Kind::Fulfil => fulfil_of(bytes.as_slice(), at),
+        Kind::Break => break_of(bytes.as_slice(), at),
         Kind::Make => make_of(bytes.as_slice(), at),
+        Kind::Field => field_of(alloc, bytes.as_slice(), at),
         Kind::Deliver => deliver_of(bytes.as_slice(), at),
         Kind::Answer => answer_of(alloc, bytes.as_slice(), at),
+        Kind::Fault => fault_of(bytes.as_slice(), at),
         Kind::Send => send_of(alloc, bytes, at),
         Kind::Receive => receive_of(alloc, bytes, at),
     }

@@ -86,12 +86,19 @@ fn is_numbered(body: &Body) -> bool
 {
     match body {
         Body::Host { reference, .. } => *reference != 0,
+        Body::Vow { reference } | Body::Break { reference } => *reference != 0,
+        Body::Fulfil { reference, to } => *reference != 0 && *to != 0,
         Body::Make {
             call,
             reference,
             ..
         } => *call != 0 && *reference != 0,
-        Body::Deliver { call, .. } => *call != 0,
+        Body::Field {
+            reference,
+            call,
+            ..
+        } => *reference != 0 && *call != 0,
+        Body::Deliver { call, .. } | Body::Fault { call } => *call != 0,
         Body::Answer { call, results } => *call != 0 && are_results_numbered(results),
         Body::Send { references, .. } | Body::Receive { references, .. } => {
             are_references_numbered(references)
@@ -119,7 +126,9 @@ fn is_counted(body: &Body) -> bool
     ensures { IsTrue result ↔ IsCounted body.now }
 {
     match body {
-        Body::Host { .. } | Body::Make { .. } | Body::Deliver { .. } => true,
+        Body::Host { .. } | Body::Vow { .. } | Body::Fulfil { .. } | Body::Break { .. } => true,
+        Body::Make { .. } | Body::Deliver { .. } | Body::Fault { .. } => true,
+        Body::Field { path, .. } => is_path_counted(path),
         Body::Answer { results, .. } => are_results_counted(results),
         Body::Send {
             references,

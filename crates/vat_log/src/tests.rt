@@ -40,7 +40,7 @@ const SECOND_VAT: &[u8; 474] = b"\
     \0\x0a\0\0\0\0\0\0\0\0\0\0\0\0\0\08\0\0\0\0\0\0\0\x06\0\0\0\0\0\0\0\x01\0\x01\0\x03\0\0\0\0\0\0\0\0\
     \0\0\0\x02\0\x01\0\x01\0\0\0\0\0\0\0\0\0\0\0\0\0\0\0\0\0\0\0\0\0\0\0";
 
-/// The log of vat 1 in pipelined_call, whose third record is a FIELD.
+/// The log of vat 1 in pipelined_call, whose second record is a FIELD.
 const FIRST_VAT: &[u8; 454] = b"\
     VATLOG01\x01\0\0\0\x0a\0\0\0\0\x01\0\0\0\0\0\0\0\0\00\0\0\0\0\0\0\0\x05\0\0\0\0\0\0\0\x01\0\x01\0\
     \x08\0\0\0\0\0\0\0\0\0\0\0\x01\0\x01\0\0\0\0\0\0\0\0\0\0\0\0\0\0\0\0\0\x06\x01\0\0\0\0\0\0\0\x01\0\0\
@@ -53,6 +53,12 @@ const FIRST_VAT: &[u8; 454] = b"\
     \x04\0\0\0\x01\0\x01\0\x01\0\0\0\0\0\0\0\0\0\0\0\0\0\0\0\x0b\0\0\0\0\0\0\0\0\0\0\0\0\0\08\0\0\0\0\0\
     \0\0\x06\0\0\0\0\0\0\0\x01\0\x01\0\x03\0\0\0\0\0\0\0\0\0\0\0\x02\0\x01\0\x01\0\0\0\0\0\0\0\0\0\0\0\0\
     \0\0\0\0\0\0\0\0\0\0\0";
+
+/// A log of vat 3 with one record of each of these kinds: VOW r2, FULFIL r2 r1, BREAK r3, FIELD r4 c5 at path 0, 258,
+/// and FAULT c5.
+const PROMISES: &[u8; 79] = b"\
+    VATLOG01\x03\0\0\0\x02\x02\0\0\0\0\0\0\0\x03\x02\0\0\0\0\0\0\0\x01\0\0\0\0\0\0\0\x04\x03\0\0\0\0\0\0\0\
+    \x06\x04\0\0\0\0\0\0\0\x05\0\0\0\0\0\0\0\x02\0\0\0\x02\x01\x09\x05\0\0\0\0\0\0\0";
 
 /// The log of these bytes, also where one growth of memory was refused.
 fn parsed(alloc: Global, bytes: &'static [u8]) -> Result<VatLog, LogError> {
@@ -103,7 +109,36 @@ fn faults_come_from_the_left(rt: HostRuntime) {
         fault_of(alloc, &SECOND_VAT[..473]),
         Some(LogError::Short(418))
     );
-    assert_eq!(rt; fault_of(alloc, FIRST_VAT), Some(LogError::BadKind(79)));
+    assert_eq!(rt;
+        fault_of(alloc, b"VATLOG01\x01\0\0\0\0"),
+        Some(LogError::BadKind(12))
+    );
+    assert_eq!(rt;
+        fault_of(
+            alloc,
+            b"VATLOG01\x01\0\0\0\x03\x01\0\0\0\0\0\0\0\0\0\0\0\0\0\0\0"
+        ),
+        Some(LogError::ZeroNumber(21))
+    );
+    assert_eq!(rt; fault_of(alloc, &PROMISES[..69]), Some(LogError::Short(68)));
+    assert_eq!(rt; fault_of(alloc, &PROMISES[..78]), Some(LogError::Short(71)));
+}
+
+#[test]
+fn a_field_is_read(rt: HostRuntime) -> Result<(), Fail> {
+    let log = parsed(rt.alloc(), FIRST_VAT)?;
+    assert_eq!(rt; log.len(), 6);
+    let field = log.get(1).ok_or("there is a record 1")?;
+    let Body::Field {
+        reference: 1,
+        call: 1,
+        path,
+    } = field.body()
+    else {
+        return Err("record 1 is a FIELD".into());
+    };
+    assert!(rt; path.as_slice().is_empty());
+    Ok(())
 }
 
 #[test]
@@ -180,6 +215,60 @@ fn records_of_second_vat(alloc: Global) -> Result<Vec<Record>, LogError> {
     Ok(records)
 }
 
+/// The records of `PROMISES`.
+fn records_of_promises(alloc: Global) -> Result<Vec<Record>, LogError> {
+    let bodies = [
+        Body::Vow { reference: 2 },
+        Body::Fulfil {
+            reference: 2,
+            to: 1,
+        },
+        Body::Break { reference: 3 },
+        Body::Field {
+            reference: 4,
+            call: 5,
+            path: Path::new(Vec::from_slice(alloc, &[0, 258])?),
+        },
+        Body::Fault { call: 5 },
+    ];
+    let mut records = Vec::new(alloc);
+    for body in bodies {
+        records.push(stored(body)?)?;
+    }
+    Ok(records)
+}
+
+fn promises_again(alloc: Global) -> Result<VatLog, LogError> {
+    write_log(alloc, 3, &records_of_promises(alloc)?)
+}
+
+#[test]
+fn promises_fields_and_faults_are_written_and_read(rt: HostRuntime) -> Result<(), Fail> {
+    let written = match promises_again(rt.alloc()) {
+        Err(LogError::OutOfMemory) => promises_again(rt.alloc()),
+        answer => answer,
+    }?;
+    assert_eq!(rt; written.bytes().as_slice(), PROMISES.as_slice());
+    let log = parsed(rt.alloc(), PROMISES)?;
+    assert_eq!(rt; log.len(), 5);
+    let fulfil = log.get(1).ok_or("there is a record 1")?;
+    assert!(rt;
+        matches!(
+            fulfil.body(),
+            Body::Fulfil {
+                reference: 2,
+                to: 1
+            }
+        )
+    );
+    let field = log.get(3).ok_or("there is a record 3")?;
+    let Body::Field { path, .. } = field.body() else {
+        return Err("record 3 is a FIELD".into());
+    };
+    assert_eq!(rt; path.as_slice(), [0, 258].as_slice());
+    Ok(())
+}
+
 fn written_again(alloc: Global) -> Result<VatLog, LogError> {
     write_log(alloc, 2, &records_of_second_vat(alloc)?)
 }
@@ -200,6 +289,11 @@ fn bodies_are_refused(rt: HostRuntime) {
         reference: 0,
         object: 7,
     };
+    let fulfil = Body::Fulfil {
+        reference: 1,
+        to: 0,
+    };
+    assert!(rt; matches!(stored(fulfil), Err(LogError::ZeroNumber(0))));
     assert!(rt;
         matches!(
             Record::new(host),

@@ -3,7 +3,7 @@
 ghost use Rattle.std.specs.Prelude.{◌≡◌, ◌<◌, ◌≤◌, ◌^◌, ◌++◌, List, ℕ, length, All, OnOk, IfOk};
 ghost use Rattle.std.specs.Int.{w16, w32, w64};
 ghost use Rattle.vat_log.specs.Fits.{count_limit, frame_limit, Fits, IsWide};
-ghost use Rattle.vat_log.specs.Spelling.{number_bytes, references_bytes, path_bytes, answered_bytes, listed, frame_bytes, passage_bytes, record_bytes, log_bytes};
+ghost use Rattle.vat_log.specs.Spelling.{number_bytes, references_bytes, path_bytes, answered_bytes, listed, frame_bytes, passage_bytes, kind_byte, kind_in, fields_bytes, record_bytes, log_bytes};
 
 use crate::body::Body;
 use crate::record::Record;
@@ -102,70 +102,94 @@ fn put_passage(
     out.extend_from_slice(frame)
 }
 
-fn put_body(out: &mut Vec<u8>, body: &Body) -> Result<(), AllocError>
+/// Two numbers, one after the other.
+fn put_pair(out: &mut Vec<u8>, a: u64, b: u64) -> Result<(), AllocError>
+    ensures { OnOk result (out.new.items ≡ out.old.items ++ (number_bytes w64 a ++ number_bytes w64 b)) }
+{
+    put_u64(out, a)?;
+    put_u64(out, b)
+}
+
+/// The byte of a body's kind.
+fn byte_of(body: &Body) -> u8
+    ensures { result ≡ kind_byte (kind_in body.now) }
+{
+    match body {
+        Body::Host { .. } => 0x01,
+        Body::Vow { .. } => 0x02,
+        Body::Fulfil { .. } => 0x03,
+        Body::Break { .. } => 0x04,
+        Body::Make { .. } => 0x05,
+        Body::Field { .. } => 0x06,
+        Body::Deliver { .. } => 0x07,
+        Body::Answer { .. } => 0x08,
+        Body::Fault { .. } => 0x09,
+        Body::Send { .. } => 0x0a,
+        Body::Receive { .. } => 0x0b,
+    }
+}
+
+fn put_fields(out: &mut Vec<u8>, body: &Body) -> Result<(), AllocError>
     requires { Fits body.now }
-    ensures ok { OnOk result (out.new.items ≡ out.old.items ++ record_bytes body.now) }
+    ensures ok { OnOk result (out.new.items ≡ out.old.items ++ fields_bytes body.now) }
     ensures wide { OnOk result (IsWide body.now) }
 {
     match body {
-        Body::Host { reference, object } => {
-            out.push(0x01)?;
-            put_u64(out, *reference)?;
-            put_u64(out, *object)
-        }
+        Body::Host { reference, object } => put_pair(out, *reference, *object),
+        Body::Vow { reference } | Body::Break { reference } => put_u64(out, *reference),
+        Body::Fulfil { reference, to } => put_pair(out, *reference, *to),
         Body::Make {
             call,
             reference,
             interface,
             method,
         } => {
-            out.push(0x05)?;
-            put_u64(out, *call)?;
-            put_u64(out, *reference)?;
+            put_pair(out, *call, *reference)?;
             put_u64(out, *interface)?;
             put_u16(out, *method)
         }
-        Body::Deliver { call, object } => {
-            out.push(0x07)?;
-            put_u64(out, *call)?;
-            put_u64(out, *object)
+        Body::Field {
+            reference,
+            call,
+            path,
+        } => {
+            put_pair(out, *reference, *call)?;
+            put_path(out, path.as_slice())
         }
+        Body::Deliver { call, object } => put_pair(out, *call, *object),
         Body::Answer { call, results } => {
-            out.push(0x08)?;
             put_u64(out, *call)?;
             put_results(out, results.as_slice())
         }
+        Body::Fault { call } => put_u64(out, *call),
         Body::Send {
             connection,
             call,
             references,
             frame,
-        } => {
-            out.push(0x0a)?;
-            put_passage(
-                out,
-                *connection,
-                *call,
-                references.as_slice(),
-                frame.as_slice(),
-            )
         }
-        Body::Receive {
+        | Body::Receive {
             connection,
             call,
             references,
             frame,
-        } => {
-            out.push(0x0b)?;
-            put_passage(
-                out,
-                *connection,
-                *call,
-                references.as_slice(),
-                frame.as_slice(),
-            )
-        }
+        } => put_passage(
+            out,
+            *connection,
+            *call,
+            references.as_slice(),
+            frame.as_slice(),
+        ),
     }
+}
+
+fn put_body(out: &mut Vec<u8>, body: &Body) -> Result<(), AllocError>
+    requires { Fits body.now }
+    ensures ok { OnOk result (out.new.items ≡ out.old.items ++ record_bytes body.now) }
+    ensures wide { OnOk result (IsWide body.now) }
+{
+    out.push(byte_of(body))?;
+    put_fields(out, body)
 }
 
 /// The one spelling of the log with this vat and these records.

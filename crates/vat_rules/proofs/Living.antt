@@ -11,7 +11,7 @@ use Rattle.std.proofs.lemmas.List.{reverse-append, take-append-drop, length-reve
 use Rattle.vat_rules.specs.Types.{Bootstrap, Call, Return, Event, Wire, RpcMessage}
 use Rattle.vat_rules.specs.declared.id.Id.{Id}
 use Rattle.vat_rules.specs.Past.{Past, id, is, passed, last_answer, sum_back}
-use Rattle.vat_rules.specs.Questions.{opens}
+use Rattle.vat_rules.specs.Questions.{opened, opens}
 use Rattle.vat_rules.specs.Lives.{descriptors, introduced, comes_by, introduces, back_by, gives_back, held, is_in_life, Birth, introduction, begins, birth}
 use Rattle.vat_rules.specs.Rules.{GivesBackHeld}
 use Rattle.vat_rules.proofs.Looking.{reverse_more}
@@ -39,7 +39,7 @@ unopened false c n own e = refl
 opening : (q i : Id) (before : Past) (e : Event) → unwrap_or (if opens q e then Some (introduces i before e) else None) 0 ≡ 0
 opening q i before (Wire s k c rs (Bootstrap n)) = zero_if (opens q (Wire s k c rs (Bootstrap n))) (comes_by i (Wire s k c rs (Bootstrap n))) 0 refl
 opening q i before (Wire s k c rs (Call n t f m p)) = zero_if (opens q (Wire s k c rs (Call n t f m p))) (comes_by i (Wire s k c rs (Call n t f m p))) 0 refl
-opening q i before (Wire s k c rs (Return n r o)) = unopened (k == q.connection) (beq s q.ours) (introduces i before (Wire s k c rs (Return n r o))) false refl
+opening q i before (Wire s k c rs m) = unopened (k == q.connection) (beq s q.ours) (introduces i before (Wire s k c rs m)) (is q.number (opened m)) refl
 opening q i before _ = refl
 
 openings : (q i : Id) (past : Past) → unwrap_or (last_answer (λ earlier e. if opens q e then Some (introduces i earlier e) else None) past) 0 ≡ 0

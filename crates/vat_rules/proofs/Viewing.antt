@@ -15,7 +15,7 @@ places_both : (k : ℕ) (xs ys : List Descriptor) → places_from k (xs ++ ys) �
 places_both k [] ys = let same : k ≡ k + 0 = omega arith in ap (λ n. places_from n ys) same
 places_both k (NoCap ∷ xs) ys = let same : (k + 1) + length xs ≡ k + length (NoCap ∷ xs) = omega arith in
     places_both (k + 1) xs ys ∙ ap (λ n. places_from (k + 1) xs ++ places_from n ys) same
-places_both k (SenderHosted m ∷ xs) ys = let same : (k + 1) + length xs ≡ k + length (SenderHosted m ∷ xs) = omega arith in
+places_both k (d ∷ xs) ys = let same : (k + 1) + length xs ≡ k + length (d ∷ xs) = omega arith in
     ap (λ r. k ∷ r) (places_both (k + 1) xs ys ∙ ap (λ n. places_from (k + 1) xs ++ places_from n ys) same)
 
 places_more : (ds : List Descriptor) (i : ℕ) (z d : Descriptor) → i < length ds → get_or ds i z ≡ d → places_from 0 (take (i + 1) ds) ≡ (places_from 0 (take i ds) ++ places_from i (d ∷ []))
@@ -30,10 +30,15 @@ place_none xs ds i z same lt none =
     sym (ap (λ ys. places_from 0 (take (i + 1) ys)) (sym same) ∙ places_more xs i z NoCap lt none ∙ append-nil (places_from 0 (take i xs)) ∙ ap (λ ys. places_from 0 (take i ys)) same)
 
 -- any other takes its own
-pub place_some : (xs ds : List Descriptor) (i n : ℕ) (z : Descriptor) → xs ≡ ds → i < length xs → get_or xs i z ≡ SenderHosted n →
+own_place : (i : ℕ) (d : Descriptor) → (d ≡ NoCap → ⊥) → places_from i (d ∷ []) ≡ i ∷ []
+own_place i NoCap other = absurd (other refl)
+own_place i _ other = refl
+
+pub place_some : (xs ds : List Descriptor) (i : ℕ) (z : Descriptor) → xs ≡ ds → i < length xs → (get_or xs i z ≡ NoCap → ⊥) →
     (places_from 0 (take i ds) ++ (i ∷ [])) ≡ places_from 0 (take (i + 1) ds)
-place_some xs ds i n z same lt some =
-    sym (ap (λ ys. places_from 0 (take (i + 1) ys)) (sym same) ∙ places_more xs i z (SenderHosted n) lt some ∙ ap (λ ys. places_from 0 (take i ys) ++ (i ∷ [])) same)
+place_some xs ds i z same lt other =
+    sym (ap (λ ys. places_from 0 (take (i + 1) ys)) (sym same) ∙ places_more xs i z (get_or xs i z) lt refl
+    ∙ ap (λ ps. places_from 0 (take i xs) ++ ps) (own_place i (get_or xs i z) other) ∙ ap (λ ys. places_from 0 (take i ys) ++ (i ∷ [])) same)
 
 -- what a look-up of the code found, in the list that its slice is
 pub get_from : {A : Type 0} (xs ds : List A) (i : ℕ) (x y : A) → xs ≡ ds → i < length xs → ((d : A) → x ≡ get_or xs i d) → x ≡ y → slice_get ds i ≡ Some y

@@ -1,7 +1,9 @@
 -- What the audit of a log finds within limits.
 use Rattle.std.specs.Prelude.{Result, Ok, Err}
-use Rattle.rpc_view.specs.declared.limits.Limits.{Limits}
+use Rattle.cap_reader.specs.declared.limits.Limits.{Limits}
 use Rattle.rpc_view.specs.declared.message.RpcMessage.{RpcMessage}
+use Rattle.rpc_view.specs.declared.view_error.Outside.{Outside}
+use Rattle.rpc_view.specs.declared.view_error.Outside.TheVariants as outside
 use Rattle.rpc_view.specs.declared.view_error.ViewError.{ViewError}
 use Rattle.rpc_view.specs.declared.view_error.ViewError.TheVariants as errors
 use Rattle.rpc_view.specs.Message.{message_of_bytes}
@@ -11,9 +13,16 @@ use Rattle.vat_rules.specs.declared.outcome.Why.{Why}
 use Rattle.vat_rules.specs.declared.outcome.Why.TheVariants as why
 use Rattle.vat_rules.specs.First.{Reader, IsFirst}
 
+-- what a message has that is outside of level 1 without tail calls
+abbrev pub why_outside : Outside → Why
+why_outside outside.Level = why.Level
+why_outside outside.Unimplemented = why.Unimplemented
+why_outside outside.LaterField = why.LaterField
+why_outside outside.TailCall = why.TailCall
+
 -- why a record is outside whose frame isn't read as a message
 abbrev pub why_of : ViewError → Why
-why_of (errors.Outside reason) = why.NotYet
+why_of (errors.Outside reason) = why_outside reason
 why_of e = why.Unread
 
 -- the message that a frame's bytes give, or why it is outside

@@ -1,6 +1,6 @@
 -- The first record of a log that isn't good.
-use Rattle.std.specs.Prelude.{◌≡◌, ℕ, ◌<◌, ◌==◌, ◌⊎◌, List, [], ◌∷◌, take, reverse, length, count_by, Bool, true, false, Option, Some, None, Result, Ok, Err, slice_get, IsSomeAnd, if◌then◌else◌}
-use Rattle.std.specs.List.{filter_map}
+use Rattle.std.specs.Prelude.{◌≡◌, ℕ, ◌<◌, ◌==◌, ◌⊎◌, List, [], ◌∷◌, take, reverse, length, count_by, Bool, true, false, ◌&&◌, Option, Some, None, Result, Ok, Err, slice_get, IsSomeAnd, if◌then◌else◌}
+use Rattle.std.specs.List.{filter_map, list_all}
 use Rattle.vat_log.specs.declared.body.Body.{Body}
 use Rattle.vat_log.specs.declared.body.Body.TheVariants as body
 use Rattle.vat_rules.specs.declared.rule.Rule.{Rule}
@@ -8,7 +8,7 @@ use Rattle.vat_rules.specs.declared.outcome.Why.{Why}
 use Rattle.vat_rules.specs.declared.outcome.Why.TheVariants.{NotYet}
 use Rattle.vat_rules.specs.declared.outcome.Outcome.{Outcome}
 use Rattle.vat_rules.specs.declared.outcome.Outcome.TheVariants.{Good, Broken, Outside}
-use Rattle.vat_rules.specs.Types.{RpcMessage, Call, Event, Host, Make, Deliver, Answer, Wire}
+use Rattle.vat_rules.specs.Types.{Descriptor, NoCap, SenderHosted, Target, Imported, Promised, Results, RpcMessage, Bootstrap, Call, Return, Event, Host, Make, Deliver, Answer, Wire}
 use Rattle.vat_rules.specs.Past.{Past}
 use Rattle.vat_rules.specs.Told.{Told}
 use Rattle.vat_rules.specs.Views.{seen_back}
@@ -18,22 +18,41 @@ use Rattle.vat_rules.specs.Rules.{Meets, rules}
 abbrev pub Reader : Type 0
 Reader = List ℕ → Result RpcMessage Why
 
--- a Call with descriptors isn't audited yet (and isn't read yet either)
+-- a target that names no field of a result
+abbrev pub is_whole : Target → Bool
+is_whole (Imported n) = true
+is_whole (Promised q path) = length path == 0
+
+-- a descriptor that is none or senderHosted
+abbrev pub is_hosted : Descriptor → Bool
+is_hosted NoCap = true
+is_hosted (SenderHosted n) = true
+is_hosted _ = false
+
+-- the messages that are audited: a Bootstrap; a Call without capabilities, to an import or to the whole of a result; and a
+-- Return with results, whose capabilities are each none or senderHosted. No other is audited yet
 abbrev pub is_audited : RpcMessage → Bool
-is_audited (Call q target interface method params) = length params.descriptors == 0
-is_audited _ = true
+is_audited (Bootstrap q) = true
+is_audited (Call q target interface method params) = is_whole target && (length params.descriptors == 0)
+is_audited (Return q release (Results payload)) = list_all is_hosted payload.descriptors
+is_audited _ = false
 
 -- a frame's message makes the event
 abbrev pub with_message : (RpcMessage → Event) → Result RpcMessage Why → Result Event Why
 with_message event (Ok m) = if is_audited m then Ok (event m) else Err NotYet
 with_message event (Err why) = Err why
 
--- a stored record as it is judged
+-- a stored record as it is judged; promises, fields and faults aren't audited yet
 abbrev pub event_of : Reader → Body → Result Event Why
 event_of read (body.Host r object) = Ok (Host r object)
+event_of read (body.Vow r) = Err NotYet
+event_of read (body.Fulfil r to) = Err NotYet
+event_of read (body.Break r) = Err NotYet
 event_of read (body.Make call r interface method) = Ok (Make call r interface method)
+event_of read (body.Field r call path) = Err NotYet
 event_of read (body.Deliver call object) = Ok (Deliver call object)
 event_of read (body.Answer call results) = Ok (Answer call results)
+event_of read (body.Fault call) = Err NotYet
 event_of read (body.Send connection call references frame) = with_message (Wire true connection call references) (read frame)
 event_of read (body.Receive connection call references frame) = with_message (Wire false connection call references) (read frame)
 
@@ -72,7 +91,7 @@ abbrev pub AllGood : Reader → List Body → ℕ → Type 0
 AllGood read log n = (i : ℕ) → i < n → IsGoodAt read log i
 
 -- a record delivers a call
-abbrev pub is_delivery : Event → Bool
+unfoldable pub is_delivery : Event → Bool
 is_delivery (Deliver call object) = true
 is_delivery _ = false
 

@@ -2,7 +2,7 @@
 -- The parts of the rule REF for a message that passed.
 use Rattle.std.specs.Prelude.{ℕ, ◌==◌, List, Bool, true, false, not, ◌&&◌}
 use Rattle.std.specs.List.{list_all}
-use Rattle.vat_rules.specs.Types.{RpcMessage, Bootstrap, Call, Return}
+use Rattle.vat_rules.specs.Types.{RpcMessage, Bootstrap, Call}
 use Rattle.vat_rules.specs.Past.{Past}
 use Rattle.vat_rules.specs.Rules.{is_bound, is_bound_call, is_distinct}
 
@@ -16,4 +16,4 @@ abbrev pub refers_to_call : Past → Bool → ℕ → RpcMessage → Bool
 refers_to_call before sent call (Bootstrap q) = not (call == 0) && not (is_bound_call before call)
 refers_to_call before true call (Call q target interface method params) = not (call == 0) && is_bound_call before call
 refers_to_call before false call (Call q target interface method params) = not (call == 0) && not (is_bound_call before call)
-refers_to_call before sent call (Return q release outcome) = call == 0
+refers_to_call before sent call _ = call == 0

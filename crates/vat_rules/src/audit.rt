@@ -2,9 +2,10 @@
 
 ghost use Rattle.std.specs.Prelude.{◌≡◌, IfOk, count_by};
 ghost use Rattle.std.specs.Arc.{arc_value};
-ghost use Rattle.vat_rules.specs.First.{is_audited, is_delivery, with_message, event_of};
-ghost use Rattle.vat_rules.specs.Audit.{reads_within, IsTrueOf};
+ghost use Rattle.vat_rules.specs.First.{is_delivery, with_message, event_of};
+ghost use Rattle.vat_rules.specs.Audit.{why_outside, reads_within, IsTrueOf};
 
+use crate::audited::is_audited;
 use crate::event::Event;
 use crate::finding::VatFinding;
 use crate::judge::broken;
@@ -12,18 +13,20 @@ use crate::outcome::{Outcome, Why};
 use crate::story::Story;
 use crate::views::seen_of;
 use bytes::Bytes;
-use rpc_view::{Limits, RpcMessage, ViewError, read_bytes};
+use rpc_view::{Limits, Outside, RpcMessage, ViewError, read_bytes};
 use std::alloc::{AllocError, Global};
 use std::sync::Arc;
 use vat_log::{Body, References, Results, VatLog};
 
-/// Whether a message is audited yet: a Call with descriptors isn't.
-fn is_audited(message: &RpcMessage) -> bool
-    ensures { result ≡ is_audited message.now }
+/// Why a record is outside whose message is outside of what is read.
+fn why_outside(reason: Outside) -> Why
+    ensures { result ≡ why_outside reason }
 {
-    match message {
-        RpcMessage::Call { params, .. } => params.descriptors.as_slice().is_empty(),
-        _ => true,
+    match reason {
+        Outside::Level => Why::Level,
+        Outside::Unimplemented => Why::Unimplemented,
+        Outside::LaterField => Why::LaterField,
+        Outside::TailCall => Why::TailCall,
     }
 }
 
@@ -38,7 +41,7 @@ fn message_of(
     match read_bytes(alloc, frame.clone()?, limits) {
         Ok(message) => Ok(Ok(message)),
         Err(ViewError::OutOfMemory) => Err(AllocError),
-        Err(ViewError::Outside(_)) => Ok(Err(Why::NotYet)),
+        Err(ViewError::Outside(reason)) => Ok(Err(why_outside(reason))),
         Err(_) => Ok(Err(Why::Unread)),
     }
 }
@@ -102,6 +105,11 @@ fn event_of(alloc: Global, body: &Body, limits: Limits) -> Result<Result<Event, 
                 results,
             }))
         }
+        Body::Vow { .. }
+        | Body::Fulfil { .. }
+        | Body::Break { .. }
+        | Body::Field { .. }
+        | Body::Fault { .. } => Ok(Err(Why::NotYet)),
         Body::Send {
             connection,
             call,
@@ -118,6 +126,7 @@ fn event_of(alloc: Global, body: &Body, limits: Limits) -> Result<Result<Event, 
 }
 
 /// Whether a record delivers a call.
+#[tactic(auto, unfolding(crate::specs::First::is_delivery))]
 fn is_delivery(event: &Event) -> bool
     ensures { result ≡ is_delivery event.now }
 {
@@ -128,7 +137,13 @@ fn is_delivery(event: &Event) -> bool
 fn deliveries(events: &[Event]) -> u64
     ensures { result ≡ count_by is_delivery events.now }
 {
-    events.iter().filter(|event| is_delivery(event)).count() as u64
+    let mut delivered = 0;
+    for event in events {
+        if is_delivery(event) {
+            delivered += 1;
+        }
+    }
+    delivered
 }
 
 /// What the rules say of a log whose frames are read within the limits.

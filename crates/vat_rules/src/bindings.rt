@@ -136,7 +136,7 @@ fn refers_to_call(before: &[Event], sent: bool, call: u64, message: &RpcMessage)
         RpcMessage::Bootstrap { .. } | RpcMessage::Call { .. } => {
             call != 0 && !is_bound_call(before, call)
         }
-        RpcMessage::Return { .. } => call == 0,
+        _ => call == 0,
     }
 }
 

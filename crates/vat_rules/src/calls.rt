@@ -10,7 +10,7 @@ use crate::id::Id;
 use crate::questions::call_of;
 use crate::view::View;
 use crate::views::{target_view, view};
-use rpc_view::RpcMessage;
+use rpc_view::{Outcome, RpcMessage};
 use std::alloc::{AllocError, Global};
 
 /// Where a call is to go, and by which method.
@@ -184,7 +184,11 @@ fn knows(before: &[Event], event: &Event, call: u64) -> bool
         Event::Wire {
             sent: false,
             connection,
-            message: RpcMessage::Return { answer, .. },
+            message: RpcMessage::Return {
+                answer,
+                outcome: Outcome::Results(_),
+                ..
+            },
             ..
         } => {
             let question = Id {

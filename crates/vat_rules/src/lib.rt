@@ -2,6 +2,7 @@
 #![tactic(auto)]
 
 mod audit;
+mod audited;
 mod bindings;
 mod calls;
 mod event;

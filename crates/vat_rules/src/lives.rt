@@ -39,7 +39,7 @@ fn introduces(descriptor: &Descriptor, number: u32) -> bool
 {
     match descriptor {
         Descriptor::SenderHosted(n) => *n == number,
-        Descriptor::NoCap => false,
+        _ => false,
     }
 }
 

@@ -6,9 +6,17 @@ use crate::story::Story;
 /// Why a record isn't judged.
 #[derive(Clone, Copy, Debug, PartialEq, Eq)]
 pub enum Why {
+    /// Its message is part of a level above 1.
+    Level,
+    /// Its message is `unimplemented`.
+    Unimplemented,
+    /// Its message has a bit that later editions of rpc.capnp use for what changes the life of a number.
+    LaterField,
+    /// Its message sends results elsewhere than to the caller, or takes them from another question.
+    TailCall,
     /// Its frame isn't read as a message.
     Unread,
-    /// It isn't audited yet.
+    /// It is read, and isn't audited yet.
     NotYet,
 }
 

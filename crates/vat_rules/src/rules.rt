@@ -44,7 +44,7 @@ fn opened(message: &RpcMessage) -> Option<u32>
 {
     match message {
         RpcMessage::Bootstrap { question } | RpcMessage::Call { question, .. } => Some(*question),
-        RpcMessage::Return { .. } => None,
+        _ => None,
     }
 }
 
@@ -107,7 +107,7 @@ pub(crate) fn uses_questions(before: &[Event], event: &Event) -> bool
             }
             Target::Imported(_) => true,
         },
-        RpcMessage::Bootstrap { .. } => true,
+        _ => true,
     }
 }
 

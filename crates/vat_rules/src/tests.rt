@@ -36,6 +36,32 @@ const FINISH: [u8; 71] = [
     0, 0, 0, 3, 0, 0, 0, 0, 0, 0, 0,
 ];
 
+/// Receives a Provide, of level 3.
+const PROVIDE: [u8; 51] = [
+    11, 0, 0, 0, 0, 0, 0, 0, 0, 0, 0, 0, 0, 0, 0, 32, 0, 0, 0, 0, 0, 0, 0, 3, 0, 0, 0, 0, 0, 0, 0,
+    1, 0, 1, 0, 10, 0, 0, 0, 0, 0, 0, 0, 0, 0, 0, 0, 0, 0, 0, 0,
+];
+
+/// Receives an Unimplemented.
+const UNIMPLEMENTED: [u8; 51] = [
+    11, 0, 0, 0, 0, 0, 0, 0, 0, 0, 0, 0, 0, 0, 0, 32, 0, 0, 0, 0, 0, 0, 0, 3, 0, 0, 0, 0, 0, 0, 0,
+    1, 0, 1, 0, 0, 0, 0, 0, 0, 0, 0, 0, 0, 0, 0, 0, 0, 0, 0, 0,
+];
+
+/// Receives a Return with the bit that says that no Finish is needed.
+const LATER: [u8; 91] = [
+    11, 0, 0, 0, 0, 0, 0, 0, 0, 0, 0, 0, 0, 0, 0, 72, 0, 0, 0, 0, 0, 0, 0, 8, 0, 0, 0, 0, 0, 0, 0,
+    1, 0, 1, 0, 3, 0, 0, 0, 0, 0, 0, 0, 0, 0, 0, 0, 2, 0, 1, 0, 0, 0, 0, 0, 2, 0, 0, 0, 0, 0, 0, 0,
+    0, 0, 0, 0, 0, 0, 0, 0, 0, 0, 2, 0, 252, 255, 255, 255, 0, 0, 0, 0, 0, 0, 0, 0, 0, 0, 0, 0,
+];
+
+/// Receives a Return whose results were sent elsewhere.
+const ELSEWHERE: [u8; 75] = [
+    11, 0, 0, 0, 0, 0, 0, 0, 0, 0, 0, 0, 0, 0, 0, 56, 0, 0, 0, 0, 0, 0, 0, 6, 0, 0, 0, 0, 0, 0, 0,
+    1, 0, 1, 0, 3, 0, 0, 0, 0, 0, 0, 0, 0, 0, 0, 0, 2, 0, 1, 0, 7, 0, 0, 0, 0, 0, 3, 0, 0, 0, 0, 0,
+    0, 0, 0, 0, 0, 0, 0, 0, 0, 0, 0, 0,
+];
+
 /// How a log of vat 1 begins.
 const VAT_1: [u8; 12] = [86, 65, 84, 76, 79, 71, 48, 49, 1, 0, 0, 0];
 
@@ -115,6 +141,39 @@ fn a_finish_is_not_audited_yet(rt: HostRuntime) -> Result<(), Fail> {
         )
     );
     Ok(())
+}
+
+/// The first record of this log isn't judged, for this reason.
+fn assert_outside(alloc: Global, record: &[u8], reason: Why) -> Result<(), Fail> {
+    let found = finding(alloc, &[&VAT_1, record], Limits::default())?;
+    match found.outcome() {
+        Outcome::Outside { at: 0, why } if *why == reason => Ok(()),
+        _ => Err(Fail::new("record 0 is outside for another reason")),
+    }
+}
+
+#[test]
+fn promises_fields_and_faults_are_not_audited_yet(rt: HostRuntime) -> Result<(), Fail> {
+    let records: [&[u8]; 5] = [
+        &[2, 1, 0, 0, 0, 0, 0, 0, 0],
+        &[3, 1, 0, 0, 0, 0, 0, 0, 0, 2, 0, 0, 0, 0, 0, 0, 0],
+        &[4, 1, 0, 0, 0, 0, 0, 0, 0],
+        &[6, 1, 0, 0, 0, 0, 0, 0, 0, 2, 0, 0, 0, 0, 0, 0, 0, 0, 0],
+        &[9, 1, 0, 0, 0, 0, 0, 0, 0],
+    ];
+    for record in records {
+        assert_outside(rt.alloc(), record, Why::NotYet)?;
+    }
+    Ok(())
+}
+
+#[test]
+fn each_reason_has_its_message(rt: HostRuntime) -> Result<(), Fail> {
+    assert_outside(rt.alloc(), &PROVIDE, Why::Level)?;
+    assert_outside(rt.alloc(), &UNIMPLEMENTED, Why::Unimplemented)?;
+    assert_outside(rt.alloc(), &LATER, Why::LaterField)?;
+    assert_outside(rt.alloc(), &ELSEWHERE, Why::TailCall)?;
+    assert_outside(rt.alloc(), &FINISH[12..], Why::NotYet)
 }
 
 #[test]

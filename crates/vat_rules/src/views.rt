@@ -26,7 +26,7 @@ pub(crate) fn places(alloc: Global, event: &Event) -> Result<Vec<usize>, AllocEr
     for (place, descriptor) in descriptors(event).iter().enumerate() {
         match descriptor {
             Descriptor::NoCap => {}
-            Descriptor::SenderHosted(_) => places.push(place)?,
+            _ => places.push(place)?,
         }
     }
     Ok(places)

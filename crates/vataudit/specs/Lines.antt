@@ -1,7 +1,7 @@
 -- The line and the exit status that answer the bytes of a log.
 use Rattle.std.specs.Prelude.{◌≡◌, ℕ, List, [], ◌∷◌, ◌++◌, length, codes, Result, Ok, Err}
 use Rattle.std.specs.Fmt.{decimal}
-use Rattle.rpc_view.specs.declared.limits.Limits.{Limits}
+use Rattle.cap_reader.specs.declared.limits.Limits.{Limits}
 use Rattle.vat_log.specs.declared.error.LogError.{LogError}
 use Rattle.vat_log.specs.declared.error.LogError.TheVariants.{BadMagic, Short, BadKind, ZeroNumber, TooLong, OutOfMemory}
 use Rattle.vat_log.specs.Log.{Log}
@@ -39,8 +39,12 @@ code_of rule.RecvRef = codes "RECVREF"
 
 -- the word for why a record isn't judged
 abbrev pub word_of : Why → List ℕ
-word_of why.NotYet = codes "NotYet"
+word_of why.Level = codes "Level"
+word_of why.Unimplemented = codes "Unimplemented"
+word_of why.LaterField = codes "LaterField"
+word_of why.TailCall = codes "TailCall"
 word_of why.Unread = codes "Unread"
+word_of why.NotYet = codes "NotYet"
 
 -- the line for what was found of a vat, with the number of records in its log
 abbrev pub outcome_line : ℕ → ℕ → Outcome → List ℕ

@@ -47,8 +47,12 @@ fn word_of(why: Why) -> &'static str
     ensures { result.now ≡ word_of why }
 {
     match why {
-        Why::NotYet => "NotYet",
+        Why::Level => "Level",
+        Why::Unimplemented => "Unimplemented",
+        Why::LaterField => "LaterField",
+        Why::TailCall => "TailCall",
         Why::Unread => "Unread",
+        Why::NotYet => "NotYet",
     }
 }
 

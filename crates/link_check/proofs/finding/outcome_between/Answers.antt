@@ -1,11 +1,6 @@
-use Rattle.std.proofs.Common.{◌≡◌, ℕ, Option, Some, None, sym, ◌∙◌, arith}
-use Rattle.std.specs.Option.{SomeIff}
+use Rattle.std.proofs.Common.{sym, refl, arith}
 use Rattle.link_check.proofs.Faults.{length_prefix, prefix_from_none, broken_at_first, broken_at_second, good_link}
 use Rattle.link_check.proofs.finding.outcome_between.Goals as goal
-
-some_is : (P : Type 0) (r : Option ℕ) (v x : ℕ) → SomeIff r P v → r ≡ Some x → x ≡ v
-some_is P None v x h e = absurd cc
-some_is P (Some y) v x h e = let same : y ≡ x = cc in sym same ∙ h.1
 
 pub returns-in-Some : goal.returns-in-Some
 returns-in-Some c = broken_at_first _ _ _ c.vat.ensures c.in-Some.ensures
@@ -18,16 +13,16 @@ overflow_add-delivered c =
     let q = length_prefix _ _ (prefix_from_none _ _ (sym c.in_default-find_fault.ensures)) in
     omega (arith, q, c.count_received.ensures.count, c.count_received-2.ensures.count, c.count_sent.ensures.count, c.count_sent.ensures.fits)
 
-pub overflow_sub-sent : goal.overflow_sub-sent
-overflow_sub-sent c =
+pub overflow_sub-in_flight : goal.overflow_sub-in_flight
+overflow_sub-in_flight c =
     let q = length_prefix _ _ (prefix_from_none _ _ (sym c.in_default-find_fault.ensures)) in
     omega (arith, q, c.count_received-2.ensures.count, c.count_sent.ensures.count)
 
-pub overflow_sub-sent-2 : goal.overflow_sub-sent-2
-overflow_sub-sent-2 c =
+pub overflow_sub-in_flight-2 : goal.overflow_sub-in_flight-2
+overflow_sub-in_flight-2 c =
     let p = length_prefix _ _ (prefix_from_none _ _ (sym c.in_default.ensures)) in
     omega (arith, p, c.count_received.ensures.count, c.count_sent-2.ensures.count)
 
 pub returns : goal.returns
 returns c =
-    good_link _ _ _ _ _ _ c.in_default.ensures c.in_default-find_fault.ensures c.count_received.ensures.count c.count_received-2.ensures.count c.count_sent.ensures.count c.count_sent-2.ensures.count (some_is _ _ _ _ c.checked_add.ensures c.in_ok-in_flight.ensures.ok_part)
+    good_link _ _ _ _ _ _ c.in_default.ensures c.in_default-find_fault.ensures c.count_received.ensures.count c.count_received-2.ensures.count c.count_sent.ensures.count c.count_sent-2.ensures.count refl

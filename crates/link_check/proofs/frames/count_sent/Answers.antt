@@ -17,6 +17,6 @@ loop-index-preserved c =
 pub returns-clause-fits : goal.returns-clause-fits
 returns-clause-fits c =
     let xs = c.args.log.now.records in
-    let whole : take c.loop-index.index xs ≡ xs = take_all c.loop-index.index xs (omega (arith, c.loop-index-test.false, c.len-index-end.ensures)) in
+    let whole : take c.loop-index.index xs ≡ xs = take_all c.loop-index.index xs (omega (arith, c.loop-index-test.false, c.len-index-end.ensures.value)) in
     let count = c.loop-index.invariant.0 ∙ ap (λ ys. length (filter_map (sent_by c.args.connection) ys)) whole in
-    omega (arith, count, within c.args.connection c.args.log.now, c.len-index-end.ensures, c.len-index-end.type_inv)
+    omega (arith, count, within c.args.connection c.args.log.now, c.len-index-end.ensures.value, c.len-index-end.ensures.bound)

@@ -31,6 +31,6 @@ loop-at-preserved c =
 
 pub returns : goal.returns
 returns c =
-    let len : length c.args.log.now.records ≡ c.loop-at.at = omega (arith, c.len-at-end.ensures, c.loop-at-test.false, c.loop-at.auto.at-end) in
+    let len : length c.args.log.now.records ≡ c.loop-at.at = omega (arith, c.len-at-end.ensures.value, c.loop-at-test.false, c.loop-at.auto.at-end) in
     rw c.new.ensures (is_first-Good (reads_within c.args.limits) c.args.log.now.records c.loop-at.at c.loop-at.events.items c.loop-at.seen.items c.deliveries-delivered.result len
     c.loop-at.invariant.read c.loop-at.invariant.told (c.deliveries-delivered.ensures ∙ ap (count_by is_delivery) c.deref-2.ensures.value) c.loop-at.invariant.good)

@@ -52,6 +52,46 @@ const UNREAD: &str = "0a00000000000000000000000000002800000000000000040000000000
 00000100010004000000000000000000000001000000\
 0300000000000000";
 
+/// A Bootstrap.
+const BOOTSTRAP_FRAME: &str = "0000000005000000000000000100010008000000000000000000000001000100\
+00000000000000000000000000000000";
+
+/// A Call of a pipelined answer.
+const CALL_FRAME: &str = "000000000d000000000000000100010002000000000000000000000003000300\
+0100000002000000341200000000000000000000000000000800000001000100\
+0000000000000000000000000000000000000000010000000000000001000100\
+00000000000000000000000000000000";
+
+/// A Return with a capability.
+const RETURN_FRAME: &str = "000000000b000000000000000100010003000000000000000000000002000100\
+0000000000000000000000000000000000000000000002000300000000000000\
+0100000017000000040000000100010001000000000000000000000000000000";
+
+/// A Resolve to a capability.
+const RESOLVE_FRAME: &str = "0000000007000000000000000100010005000000000000000000000001000100\
+0300000000000000000000000100010001000000010000000000000000000000";
+
+/// A Disembargo of an answer's field.
+const DISEMBARGO_FRAME: &str = "000000000c00000000000000010001000d000000000000000000000001000100\
+0200000000000000000000000100010000000000010000000000000001000100\
+0100000000000000010000001700000008000000010000000000000000000000\
+0100030000000000";
+
+/// A Release in two segments.
+const RELEASE_FRAME: &str = "0100000001000000040000000000000002000000010000000000000001000100\
+060000000000000000000000010000000300000002000000";
+
+/// A Finish that keeps the capabilities.
+const FINISH_FRAME: &str = "0000000004000000000000000100010004000000000000000000000001000000\
+0500000001000000";
+
+/// A Return without results.
+const CANCELED_FRAME: &str = "0000000006000000000000000100010003000000000000000000000002000100\
+070000000000020000000000000000000000000000000000";
+
+/// A Message whose tag is of another level.
+const PROVIDE_FRAME: &str = "000000000300000000000000010001000a000000000000000000000000000000";
+
 /// A source that has one log, under the name `log`: its bytes in hexadecimal, in pieces.
 #[derive(Drop)]
 struct Pieces<'a> {
@@ -199,6 +239,73 @@ fn audits_records(rt: HostRuntime) -> Result<(), Fail> {
     assert_line(&rt, alloc, &unread, "outside vat 1 record 0 NotYet", 2)
 }
 
+/// What is printed for a frame in hexadecimal, and the exit status.
+fn shown(alloc: Global, hex: &str) -> Result<(Vec<u8>, u8), AllocError> {
+    let mut out = Vec::with_capacity(alloc, 256)?;
+    let command = Command::Frame { hex };
+    let status = run_on(alloc, &command, &mut Poor, &mut out, &mut io::sink());
+    Ok((out, status))
+}
+
+/// Prints a frame twice where memory ran out the first time, and compares.
+fn assert_shown(
+    rt: &impl Abort,
+    alloc: Global,
+    hex: &str,
+    line: &str,
+    status: u8,
+) -> Result<(), Fail> {
+    let (out, met) = match shown(alloc, hex) {
+        Ok((out, met)) if met != 3 => (out, met),
+        _ => shown(alloc, hex)?,
+    };
+    let text = std::str::from_utf8(&out)?;
+    assert!(rt;
+        text.strip_suffix('\n') == Some(line),
+        "{text:?} for {line:?}"
+    );
+    assert_eq!(rt; met, status, "at {line:?}");
+    Ok(())
+}
+
+#[test]
+fn prints_frames(rt: HostRuntime) -> Result<(), Fail> {
+    let call =
+        "call question 1 target answer 0 [] interface 0000000000001234 method 2 caps [] fields []";
+    let results =
+        "return answer 0 releaseParamCaps true results caps [senderHosted 0] fields [[]=0]";
+    let far = "00000000010000000400000001000000";
+    let alloc = rt.alloc();
+    assert_shown(&rt, alloc, BOOTSTRAP_FRAME, "bootstrap question 0", 0)?;
+    assert_shown(&rt, alloc, CALL_FRAME, call, 0)?;
+    assert_shown(&rt, alloc, RETURN_FRAME, results, 0)?;
+    assert_shown(&rt, alloc, "00000000FFFFFFFF", "bad frame Short", 2)?;
+    assert_shown(&rt, alloc, far, "bad read OutOfSegment", 2)?;
+    assert_shown(&rt, alloc, "0g", "bad hex", 2)
+}
+
+#[test]
+fn prints_every_message(rt: HostRuntime) -> Result<(), Fail> {
+    let keeps = "finish question 5 releaseResultCaps false";
+    let canceled = "return answer 7 releaseParamCaps true canceled";
+    let asks = "disembargo 2 senderLoopback answer 1 [3]";
+    let pad = "00000000020000000a000000000000000a00000000000000";
+    let alloc = rt.alloc();
+    assert_shown(&rt, alloc, FINISH_FRAME, keeps, 0)?;
+    assert_shown(&rt, alloc, CANCELED_FRAME, canceled, 0)?;
+    assert_shown(
+        &rt,
+        alloc,
+        RESOLVE_FRAME,
+        "resolve promise 3 senderHosted 1",
+        0,
+    )?;
+    assert_shown(&rt, alloc, RELEASE_FRAME, "release id 3 count 2", 0)?;
+    assert_shown(&rt, alloc, DISEMBARGO_FRAME, asks, 0)?;
+    assert_shown(&rt, alloc, PROVIDE_FRAME, "outside Level", 2)?;
+    assert_shown(&rt, alloc, pad, "bad read BadPad", 2)
+}
+
 #[test]
 fn names_faults(rt: HostRuntime) -> Result<(), Fail> {
     let rows = [
@@ -268,15 +375,28 @@ fn reads_whole_files(rt: HostRuntime) -> Result<(), Fail> {
     Ok(())
 }
 
-/// The file that the words name, or the kind of `clap`'s error; twice where memory ran out the first time.
-fn file_of<'a>(alloc: Global, words: &'a [&'a str]) -> Result<&'a str, ErrorKind> {
+/// The command that the words spell, or the kind of `clap`'s error; twice where memory ran out the first time.
+fn meant<'a>(alloc: Global, words: &'a [&'a str]) -> Result<Command<'a>, ErrorKind> {
     let command = match command_of(alloc, words) {
         Err(e) if e.kind() == ErrorKind::OutOfMemory => command_of(alloc, words),
         other => other,
     };
-    match command {
-        Ok(Command::Vat { file }) => Ok(file),
-        Err(e) => Err(e.kind()),
+    command.map_err(|e| e.kind())
+}
+
+/// The file that the words name for `vat`.
+fn file_of<'a>(alloc: Global, words: &'a [&'a str]) -> Result<&'a str, ErrorKind> {
+    match meant(alloc, words)? {
+        Command::Vat { file } => Ok(file),
+        Command::Frame { .. } => Err(ErrorKind::InvalidSubcommand),
+    }
+}
+
+/// The digits that the words give for `frame`.
+fn hex_of<'a>(alloc: Global, words: &'a [&'a str]) -> Result<&'a str, ErrorKind> {
+    match meant(alloc, words)? {
+        Command::Frame { hex } => Ok(hex),
+        Command::Vat { .. } => Err(ErrorKind::InvalidSubcommand),
     }
 }
 
@@ -290,17 +410,24 @@ fn takes_words(rt: HostRuntime) {
     assert!(rt; file_of(alloc, &["vataudit", "vat"]).is_err());
     assert!(rt; file_of(alloc, &["vataudit", "check", "a"]).is_err());
     assert!(rt; file_of(alloc, &["vataudit"]).is_err());
+    assert!(rt; hex_of(alloc, &["vataudit", "frame", "0g"]) == Ok("0g"));
+    assert!(rt; hex_of(alloc, &["vataudit", "frame", "--", "-x"]) == Ok("-x"));
+    assert!(rt; hex_of(alloc, &["vataudit", "frame"]).is_err());
     assert!(rt; file_of(alloc, &["vataudit", "--help"]) == Err(ErrorKind::DisplayHelp));
 }
 
 #[test]
 fn helps(rt: HostRuntime) -> Result<(), Fail> {
     let alloc = rt.alloc();
-    for command in ["vat", "--help"] {
+    for (command, line) in [
+        ("vat", "good vat 2 records 8 delivered 1"),
+        ("frame", "abort"),
+        ("--help", "good vat 2 records 8 delivered 1"),
+    ] {
         let words = ["vataudit", command, "--help"];
         let error = command_of(alloc, &words).err().ok_or("help")?;
         let text = error.to_string(alloc)?;
-        assert!(rt; text.contains("good vat 2 records 8 delivered 1"), "{text}");
+        assert!(rt; text.contains(line), "{text}");
         assert!(rt; text.contains("3  memory ran out"), "{text}");
     }
     Ok(())

@@ -12,3 +12,4 @@ pub mod Alike
 pub mod Visited
 pub mod Deep
 pub mod Instance
+pub mod Memory

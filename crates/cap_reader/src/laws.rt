@@ -1,13 +1,14 @@
 //! Laws of readings, which hold of every frame and not of one call.
 
-ghost use Rattle.std.specs.Prelude.{◌≡◌, ◌≤◌, ◌+◌, ℕ, List, [], length, Some, None, Ok, Err, true};
+ghost use Rattle.std.specs.Prelude.{◌≡◌, ◌≢◌, ◌≤◌, ◌+◌, ℕ, List, [], length, Some, None, Ok, Err, true};
 ghost use Rattle.std.specs.Ordering.{nat_cmp};
 ghost use Rattle.std.specs.Cmp.Lexicographic.{slice_cmp};
 ghost use Rattle.std.specs.List.Sorted.{IsStrictlySortedBy};
 ghost use Rattle.cap_reader.specs.declared.pointer.Pointer.{Pointer};
 ghost use Rattle.cap_reader.specs.declared.read_error.ReadError.{ReadError};
+ghost use Rattle.cap_reader.specs.declared.read_error.ReadError.TheVariants.{OutOfMemory};
 ghost use Rattle.cap_reader.specs.Pointers.{start_from};
-ghost use Rattle.cap_reader.specs.Tree.{Tree, tree_at, root_tree};
+ghost use Rattle.cap_reader.specs.Tree.{Tree, tree_at, structure_at, root_tree};
 ghost use Rattle.cap_reader.specs.Reading.{run, cost_of, structure_in, elements_in, Sections};
 ghost use Rattle.cap_reader.specs.Fields.{fields_in, capability_at};
 ghost use Rattle.cap_reader.specs.Laws.{paths_of, over_structs, struct_words, PadOfOne, PadOfTwo, tagged_tree, LooksLike, pointer_at, Pairs, Correspond, release_whole, release_cut};
@@ -56,6 +57,19 @@ pub fn one_visit_is_paid()
     ensures null { (tree : Tree) (words left : ℕ) → run (structure_in tree) words ≡ (Ok None, left) → left ≡ words }
     ensures refused { (tree : Tree) (words left : ℕ) (e : ReadError) → run (structure_in tree) words ≡ (Err e, left) → left ≡ words }
     ensures list { (tree : Tree) (words : ℕ) → (run (elements_in tree) words).1 ≡ words }
+{}
+
+/// No fault of pointers is want of memory: [`ReadError::OutOfMemory`](crate::ReadError::OutOfMemory) comes where a growth was
+/// refused, and so from [`fields`](crate::fields) alone.
+pub fn pointers_want_no_memory()
+    ensures structs { (depth : ℕ) (segments : List (List ℕ)) (segment at words : ℕ)
+        → (run (structure_in (tree_at depth segments segment at)) words).0 ≢ Err OutOfMemory }
+    ensures lists { (depth : ℕ) (segments : List (List ℕ)) (segment at words : ℕ)
+        → (run (elements_in (tree_at depth segments segment at)) words).0 ≢ Err OutOfMemory }
+    ensures elements { (depth : ℕ) (segments : List (List ℕ)) (segment start data_words pointer_count words : ℕ)
+        → (run (structure_in (structure_at depth segments segment start data_words pointer_count)) words).0 ≢ Err OutOfMemory }
+    ensures fields { (depth : ℕ) (segments : List (List ℕ)) (segment at words : ℕ) (path : List ℕ)
+        → (run (fields_in path (tree_at depth segments segment at)) words).0 ≢ Err OutOfMemory }
 {}
 
 /// A path to a capability has no more numbers than structs may stand within one another from its pointer on.

@@ -22,7 +22,8 @@ pub use capabilities::fields;
 pub use data::{bit_at, u16_at, u32_at, u64_at};
 pub use field_list::Fields;
 pub use laws::{
-    cuts_keep_values, one_visit_is_paid, pads_lead_on, paths_end, paths_rise, structs_are_paid,
+    cuts_keep_values, one_visit_is_paid, pads_lead_on, paths_end, paths_rise,
+    pointers_want_no_memory, structs_are_paid,
 };
 pub use limits::Limits;
 pub use place::{ListAt, StructAt};

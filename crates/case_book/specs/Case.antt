@@ -34,11 +34,11 @@ abbrev pub or_else : {X : Type 0} → Option X → Option X → Option X
 or_else (Some x) second = Some x
 or_else None second = second
 
--- why there are too many logs
+-- why these logs make no case
 abbrev pub vats_fault : List Log → Option CaseError
 vats_fault logs = if nat_lt vat_limit (length logs) then Some TooManyVats else option_map SameVat (least_repeated (vats_of logs))
 
--- why there are too many links
+-- why these links make no case
 abbrev pub links_fault : List Link → Option CaseError
 links_fault links = if nat_lt link_limit (length links) then Some TooManyLinks else option_map SameLink (least_repeated (connections_of links))
 

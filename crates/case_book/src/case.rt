@@ -28,7 +28,7 @@ const MAX_VATS: usize = 64;
 /// How many links a case can hold.
 const MAX_LINKS: usize = 256;
 
-/// These logs by rising vat number, or why there are too many.
+/// These logs by rising vat number, or why they make no case.
 fn rising_logs(mut logs: Vec<Arc<VatLog>>) -> Result<Vec<Arc<VatLog>>, CaseError>
     ensures err { IfErr result (λ error. vats_fault (map arc_value logs.items) ≡ Some error) }
     ensures ok { IfOk result (λ sorted. vats_fault (map arc_value logs.items) ≡ None) }
@@ -46,7 +46,7 @@ fn rising_logs(mut logs: Vec<Arc<VatLog>>) -> Result<Vec<Arc<VatLog>>, CaseError
     }
 }
 
-/// These links by rising connection, or why there are too many.
+/// These links by rising connection, or why they make no case.
 fn rising_links(mut links: Vec<Link>) -> Result<Vec<Link>, CaseError>
     ensures err { IfErr result (λ error. links_fault links.items ≡ Some error) }
     ensures ok { IfOk result (λ sorted. links_fault links.items ≡ None) }
@@ -77,7 +77,8 @@ impl Model for Case {
 }
 
 impl Case {
-    /// The case of these logs and links, which may come in any order. It takes no memory.
+    /// The case of these logs and links, which may come in any order. It takes no memory. Where it is refused, the logs and
+    /// links are dropped.
     ///
     /// # Errors
     ///

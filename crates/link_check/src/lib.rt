@@ -2,7 +2,7 @@
 //! sent.
 //!
 //! It stands on `vat_log`. What a good link is, and the least fault of another, is said in `specs/Prefix.antt`. Nothing
-//! here takes memory.
+//! here allocates; the only refusal is an `Arc` with too many owners to count.
 #![tactic(auto)]
 
 mod finding;

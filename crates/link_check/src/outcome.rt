@@ -7,8 +7,18 @@ ghost use Rattle.std.specs.Prelude.{◌≡◌};
 pub enum LinkOutcome {
     /// Each end received a prefix of what the other sent: so many frames were received, and so many were sent and not
     /// received.
-    Good { delivered: u64, in_flight: u64 },
+    Good {
+        /// How many frames both ends together received.
+        delivered: u64,
+        /// How many frames both ends together sent that the other didn't receive.
+        in_flight: u64,
+    },
     /// The frame of this number, counted from 0 in what the vat `end` received, isn't the one of this number that the
-    /// other sent. The smaller vat number is tried first, then the least message.
-    Broken { end: u32, message: u64 },
+    /// other sent, or the other sent none of this number. The smaller vat number is tried first, then the least message.
+    Broken {
+        /// The vat that received the frame.
+        end: u32,
+        /// Which of the frames that it received on the connection, counted from 0.
+        message: u64,
+    },
 }

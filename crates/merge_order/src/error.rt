@@ -12,6 +12,7 @@ pub enum OrderError {
     BadMagic,
     /// The step that begins at this offset is cut.
     Short(u64),
+    /// A growth of memory was refused.
     OutOfMemory,
 }
 

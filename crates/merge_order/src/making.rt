@@ -11,7 +11,7 @@ use std::sync::Arc;
 use vat_log::VatLog;
 
 /// An order of the records of these logs that fits, wherever one does: at each step the smallest vat number whose next
-/// record may come. The only error is want of memory.
+/// record may come. None where no order fits. The only error is want of memory.
 pub fn make_order(alloc: Global, logs: &[Arc<VatLog>]) -> Result<Option<Order>, AllocError>
     // The logs come by rising vat numbers.
     requires { IsRising (map arc_value logs.now) }

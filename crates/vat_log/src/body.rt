@@ -91,61 +91,87 @@ impl Results {
 pub enum Body {
     /// The vat hosts an object of its own under a reference.
     Host {
+        /// The new reference, which isn't 0.
         reference: u64,
+        /// The vat's own number of the object, which may be 0.
         object: u64,
     },
     /// The vat promises a capability of its own under a reference.
     Vow {
+        /// The new reference, which isn't 0.
         reference: u64,
     },
     /// The vat's promise under the first reference is kept: it is what the second one stands for.
     Fulfil {
+        /// The promise, which isn't 0.
         reference: u64,
+        /// What it turned out to be, which isn't 0.
         to: u64,
     },
     /// The vat's promise is broken.
     Break {
+        /// The promise, which isn't 0.
         reference: u64,
     },
     /// The vat makes a call through a reference.
     Make {
+        /// The new call, which isn't 0.
         call: u64,
+        /// Where it goes, which isn't 0.
         reference: u64,
+        /// The interface that is called, by its 64-bit id.
         interface: u64,
+        /// The method of the interface that is called, counted from 0.
         method: u16,
     },
     /// The vat names the capability at a path in a call's results, which may be still to come.
     Field {
+        /// The new reference, which isn't 0.
         reference: u64,
+        /// The call, which isn't 0.
         call: u64,
+        /// The pointer fields from the root of the results on, each counted from 0.
         path: Path,
     },
     /// The vat gives a call to its own object.
     Deliver {
+        /// The call, which isn't 0.
         call: u64,
+        /// The vat's own number of the object.
         object: u64,
     },
     /// The results of a call.
     Answer {
+        /// The call, which isn't 0.
         call: u64,
+        /// The capabilities in its results.
         results: Results,
     },
     /// A call ends with no results.
     Fault {
+        /// The call, which isn't 0.
         call: u64,
     },
     /// A frame went out on a connection.
     Send {
+        /// The connection's number, the same in the logs of both ends.
         connection: u32,
+        /// The call that a Bootstrap or a Call is; 0 where none is noted.
         call: u64,
+        /// The references given away by the capability table, in its order, without the descriptors that are none.
         references: References,
+        /// One message in stream framing, as it passes the wire.
         frame: Bytes,
     },
     /// A frame came in on a connection.
     Receive {
+        /// The connection's number, the same in the logs of both ends.
         connection: u32,
+        /// The call that a Bootstrap or a Call is; 0 where none is noted.
         call: u64,
+        /// The new references for what came in by the capability table, in its order, without the descriptors that are none.
         references: References,
+        /// One message in stream framing, as it passed the wire.
         frame: Bytes,
     },
 }

@@ -2,7 +2,7 @@
 -- that this profile doesn't list first, then what belongs to another level, then unimplemented, which only Message's tag
 -- says, then tail calls, then what later editions use.
 -- The data of a body is judged whole before its pointers are followed; pointers that a union doesn't select are unread.
-use Rattle.std.specs.Prelude.{◌≡◌, ℕ, ◌<◌, ◌≤◌, ◌==◌, List, [], ◌∷◌, Result, Ok, Err, nat_lt, if◌then◌else◌}
+use Rattle.std.specs.Prelude.{◌≡◌, ℕ, ◌<◌, ◌≤◌, ◌==◌, Bool, ◌||◌, List, [], ◌∷◌, Result, Ok, Err, nat_lt, if◌then◌else◌}
 use Rattle.cap_frame.specs.declared.frame_error.FrameError.{FrameError}
 use Rattle.cap_frame.specs.Segments.{segments_of}
 use Rattle.cap_reader.specs.declared.limits.Limits.{Limits}
@@ -92,6 +92,11 @@ payload_in tree = do
 
 -- ---- messages
 
+-- a reading, unless something refuses it: of refusals in their order, the first that applies is the fault
+unfoldable pub unless_refused : {A : Type 0} → List (Bool × ViewError) → Reading ViewError A → Reading ViewError A
+unless_refused [] reading = reading
+unless_refused ((applies, e) ∷ others) reading = if applies then fault e else unless_refused others reading
+
 -- Bootstrap
 unfoldable pub bootstrap_in : Tree → Reading ViewError RpcMessage
 bootstrap_in tree = do
@@ -105,22 +110,28 @@ called_in call = do
   params ← payload_in (call_params call)
   done (messages.Call (call_question call) target (call_interface call) (call_method call) params)
 
--- Call, by whom its results are wanted: 0 the caller, 1 yourself, 2 a third party
+-- why the data of a Call is refused, by whom its results are wanted: 0 the caller, 1 yourself, 2 a third party
+abbrev pub call_refusals : Sections → List (Bool × ViewError)
+call_refusals call =
+    (nat_lt 2 (call_send_results_to call), errors.BadTag)
+    ∷ (call_send_results_to call == 2, errors.Outside Level)
+    ∷ (call_send_results_to call == 1, errors.Outside TailCall)
+    ∷ (call_later call, errors.Outside LaterField)
+    ∷ []
+
+-- Call
 unfoldable pub call_in : Tree → Reading ViewError RpcMessage
 call_in tree = do
   call ← struct_in tree
-  if nat_lt 2 (call_send_results_to call) then fault errors.BadTag
-      else (if call_send_results_to call == 2 then fault (errors.Outside Level)
-      else (if call_send_results_to call == 1 then fault (errors.Outside TailCall)
-      else (if call_later call then fault (errors.Outside LaterField)
-      else called_in call)))
+  unless_refused (call_refusals call) (called_in call)
 
 -- what a Return says of its call: 0 results, 1 exception, 2 canceled
 unfoldable pub outcome_in : Sections → Reading ViewError Outcome
 outcome_in answer =
     if return_tag answer == 0 then (payload_in (return_results answer) >>= λ results. done (outcomes.Results results))
     else (if return_tag answer == 1 then done outcomes.Exception
-    else done outcomes.Canceled)
+    else (if return_tag answer == 2 then done outcomes.Canceled
+    else fault errors.BadTag))
 
 -- what the pointer of a Return holds
 unfoldable pub returned_in : Sections → Reading ViewError RpcMessage
@@ -128,15 +139,20 @@ returned_in answer = do
   outcome ← outcome_in answer
   done (messages.Return (return_answer answer) (return_release_param_caps answer) outcome)
 
--- Return, a union by its tag: 3 and 4 are tail calls, 5 is of a third party
+-- why the data of a Return is refused, by its tag: 3 and 4 are tail calls, 5 is of a third party
+abbrev pub return_refusals : Sections → List (Bool × ViewError)
+return_refusals answer =
+    (nat_lt 5 (return_tag answer), errors.BadTag)
+    ∷ (return_tag answer == 5, errors.Outside Level)
+    ∷ (return_tag answer == 3 || return_tag answer == 4, errors.Outside TailCall)
+    ∷ (return_later answer, errors.Outside LaterField)
+    ∷ []
+
+-- Return
 unfoldable pub return_in : Tree → Reading ViewError RpcMessage
 return_in tree = do
   answer ← struct_in tree
-  if nat_lt 5 (return_tag answer) then fault errors.BadTag
-      else (if return_tag answer == 5 then fault (errors.Outside Level)
-      else (if nat_lt 2 (return_tag answer) then fault (errors.Outside TailCall)
-      else (if return_later answer then fault (errors.Outside LaterField)
-      else returned_in answer)))
+  unless_refused (return_refusals answer) (returned_in answer)
 
 -- Finish
 unfoldable pub finish_in : Tree → Reading ViewError RpcMessage
@@ -186,7 +202,7 @@ body_in tag body =
     else (if tag == 6 then release_in body
     else (if tag == 8 then bootstrap_in body
     else (if tag == 13 then disembargo_in body
-    else (if nat_lt tag 13 then fault (errors.Outside Level)
+    else (if tag == 7 || tag == 9 || tag == 10 || tag == 11 || tag == 12 then fault (errors.Outside Level)
     else fault errors.BadTag)))))))))
 
 -- Message, a union by its tag

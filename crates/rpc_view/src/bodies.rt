@@ -57,7 +57,7 @@ fn called(
 }
 
 /// The Call behind a Message's pointer.
-#[tactic(auto, using(crate::proofs::Running::run_then), unfolding(crate::specs::Message::call_in, cap_reader::specs::Reading::pay_for, cap_reader::specs::Reading::and_then))]
+#[tactic(auto, using(crate::proofs::Running::run_then), unfolding(crate::specs::Message::call_in, crate::specs::Message::unless_refused, cap_reader::specs::Reading::pay_for, cap_reader::specs::Reading::and_then))]
 pub fn call(
     alloc: Global,
     frame: &Frame,
@@ -96,7 +96,8 @@ fn outcome(
     match u16_of(frame, answer, RETURN_TAG) {
         0 => Ok(Outcome::Results(payload(alloc, frame, answer, RETURN_RESULTS, limits)?)),
         1 => Ok(Outcome::Exception),
-        _ => Ok(Outcome::Canceled),
+        2 => Ok(Outcome::Canceled),
+        _ => Err(ViewError::BadTag),
     }
 }
 
@@ -119,7 +120,7 @@ fn returned(
 }
 
 /// The Return behind a Message's pointer.
-#[tactic(auto, using(crate::proofs::Running::run_then), unfolding(crate::specs::Message::return_in, cap_reader::specs::Reading::pay_for, cap_reader::specs::Reading::and_then))]
+#[tactic(auto, using(crate::proofs::Running::run_then), unfolding(crate::specs::Message::return_in, crate::specs::Message::unless_refused, cap_reader::specs::Reading::pay_for, cap_reader::specs::Reading::and_then))]
 pub fn answer(
     alloc: Global,
     frame: &Frame,
@@ -136,7 +137,7 @@ pub fn answer(
     if tag == 5 {
         return Err(ViewError::Outside(Outside::Level));
     }
-    if tag > 2 {
+    if tag == 3 || tag == 4 {
         return Err(ViewError::Outside(Outside::TailCall));
     }
     if bit_of(frame, &answer, RETURN_LATER) {

@@ -63,7 +63,7 @@ fn message(alloc: Global, frame: &Frame, limits: &mut Limits) -> Result<RpcMessa
 pub fn read_message(alloc: Global, frame: &Frame, limits: Limits) -> Result<RpcMessage, ViewError>
     // Which message, or which fault.
     ensures exact { Answers (λ message. message) result (message_of frame.now limits) }
-    // What is spelled so is read.
+    // A message that is spelled in one of the forms of Spells is read.
     ensures spelled { (words : List ℕ) (message : RpcMessage) (cost depth : ℕ) → Spells words message cost depth → frame.now ≡ words ∷ [] → cost ≤ limits.words → depth ≤ limits.depth → Answers (λ message. message) result (Ok message) }
     // More words never change a message, and with fewer than it costs it isn't read.
     ensures priced { IfOk result (λ message. (cost : ℕ) × (cost ≤ limits.words) × HasPrice frame.now limits.depth message cost) }

@@ -5,7 +5,7 @@ use Rattle.std.specs.Option.{option_map_or}
 use Rattle.std.specs.Str.{bytes_eq, chars}
 use Rattle.std.proofs.lemmas.Slice.Eq.{bytes_eq-Decides}
 use Rattle.clap.specs.Lexer.{long_of, long_of_rest, short_of, short_of_rest, strip_byte}
-use Rattle.clap.specs.Words.{App, HasMatchesOf, Rule, Row, Text, Kinds, HasKind, built, first_of, first_value, fault_of, found_of, is_simple, is_simple_and_free, kind_of, rows_of, subcommand_of, subcommand_rows_of}
+use Rattle.clap.specs.Words.{App, HasMatchesOf, Rule, Row, Text, Kinds, HasKind, built, first_of, first_value, fault_of, found_of, is_simple, is_simple_and_free, kind_of, rows_of, subcommand_name_of, subcommand_of, subcommand_rows_of}
 use Rattle.clap.specs.Walk.{Held, Names, Step, Walk, Waiting, after_step, finished, idle, rows_after, settled, stop_after, settled, stop_after, trailing, value, arg_by_long, arg_by_short, after_flag, bundle_met, bundle_step, nothing_held, plain, long_or_other, short_or_plain, subcommand_or_other, walk, walked, word_met}
 use Rattle.clap.specs.Simple.{Shape, entered, filled, help_rule, names_of}
 use Rattle.clap.specs.Kinds.{or_else}
@@ -16,8 +16,8 @@ use Rattle.clap.specs.declared.Error.{Error}
 use Rattle.clap.specs.declared.ArgMatches.{ArgMatches}
 use Rattle.clap.proofs.WalkLemmas.{first_value-rows}
 use Rattle.clap.proofs.OnLiterals.{clap_on_literals}
-use Rattle.vataudit.specs.Parser.{program, vat}
-use Rattle.vataudit.specs.Spelled.{Spells, is_flag}
+use Rattle.vataudit.specs.Parser.{input, program, reader}
+use Rattle.vataudit.specs.Spelled.{IsReader, SpellsOne, is_flag}
 
 abbrev dashes : Text
 dashes = codes "--"
@@ -91,7 +91,7 @@ module _ (c : List Rule) (longs : (name : Text) → arg_by_long c name ≡ (if b
       go true is e = inl ((bytes_eq-Decides word dashes).0 is)
       go false is e = inr (long_plain word (long_of word) e)
 
--- ---- the words after `vat`
+-- ---- the words after the name of a command that reads one thing
 
 abbrev main : Shape
 main = (built program).top
@@ -99,97 +99,98 @@ main = (built program).top
 abbrev names : Names
 names = names_of (built program)
 
-abbrev sub : Shape
-sub = unwrap_or (slice_get (built program).subs 0) vat.top
-
 -- where the walk stands between two words
 abbrev at : Option (Text × List Text) → ℕ → Bool → Walk
 at p n ended = record { held = holding p; waiting = idle; position = n; is_trailing = ended; stopped = None }
 
--- FILE has come
+-- the one thing has come
 abbrev given : Text → Option (Text × List Text)
-given file = Some (codes "file", file ∷ [])
+given file = Some (input, file ∷ [])
 
-sub_longs : (name : Text) → arg_by_long sub.rules name ≡ (if bytes_eq (codes "help") name || false then Some help else None)
-sub_longs name = refl
-
-sub_shorts : (x : ℕ) → arg_by_short sub.rules x ≡ (if (104 == x) || false then Some help else None)
-sub_shorts x = refl
-
-first_word : (f : Text) → turn_fault sub [] (at None 1 false) f ≡ []
-    → (f ≡ dashes) ⊎ (walked sub.rules [] (at None 1 false) f ≡ at (given f) 2 false)
-unfolding walked
-first_word f e = elim (word_plain sub.rules sub_longs sub_shorts None 1 f (first_none (word_fault sub [] false idle f (holding None)) _ e)) [
-  | inl d ↦ inl d
-  | inr met ↦ inr (ap (λ (m : Held × Step). after_step sub.rules f (at None 1 false) m.0 m.1) met)
-]
-
-second_word : (f g : Text) → turn_fault sub [] (at (given f) 2 false) g ≡ [] → g ≡ dashes
-second_word f g e =
-    let met = word_met sub.rules [] false idle 2 g (holding (given f)) in
-    let stray : step_fault sub 2 met.0 met.1 ≡ [] = then_none (word_fault sub [] false idle g (holding (given f))) (step_fault sub 2 met.0 met.1) e in
-    elim (word_plain sub.rules sub_longs sub_shorts (given f) 2 g (first_none (word_fault sub [] false idle g (holding (given f))) _ e)) [
-      | inl d ↦ d
-      | inr is ↦ absurd (never (sym (ap (λ (m : Held × Step). step_fault sub 2 m.0 m.1) is) ∙ stray))
-    ]
-
--- the words are FILE, with `--` before or after it or not at all
+-- the words are the one thing, with `--` before or after it or not at all
 abbrev HasFile : List Text → Text → Type 0
 HasFile words file = (words ≡ file ∷ []) ⊎ ((words ≡ dashes ∷ file ∷ []) ⊎ (words ≡ file ∷ dashes ∷ []))
 
--- and so they are read
-abbrev IsRead : List Text → Text → Type 0
-IsRead words file = HasFile words file × (first_of (codes "file") (rows_after sub.rules [] words) ≡ Some file)
+module _ (name : Text) where
+  abbrev sub : Shape
+  sub = record (unwrap_or (slice_get (built program).subs 0) (reader name).top) { name = name }
 
-abbrev file_in : Walk → Option Text
-file_in w = first_of (codes "file") (finished sub.rules w.held)
+  sub_longs : (name : Text) → arg_by_long sub.rules name ≡ (if bytes_eq (codes "help") name || false then Some help else None)
+  sub_longs name = refl
 
-one_word : (f : Text) → level_fault sub [] nothing_held (f ∷ []) false [] ≡ [] → IsRead (f ∷ []) f
-unfolding clap_on_literals
-one_word f e =
-    let walks : walk_fault sub [] (at None 1 false) (f ∷ []) ≡ [] = first_none _ _ e in
-    elim (first_word f (first_none (turn_fault sub [] (at None 1 false) f) _ walks)) [
-      | inl d ↦ absurd (never (subst (λ w. level_fault sub [] nothing_held (w ∷ []) false [] ≡ []) d e))
-      | inr w ↦ (inl refl, ap file_in w)
-    ]
+  sub_shorts : (x : ℕ) → arg_by_short sub.rules x ≡ (if (104 == x) || false then Some help else None)
+  sub_shorts x = refl
 
-two_words : (f g : Text) → level_fault sub [] nothing_held (f ∷ g ∷ []) false [] ≡ [] → (file : Text) × IsRead (f ∷ g ∷ []) file
-unfolding clap_on_literals
-two_words f g e =
-    let walks : walk_fault sub [] (at None 1 false) (f ∷ g ∷ []) ≡ [] = first_none _ _ e in
-    let more : walk_fault sub [] (walked sub.rules [] (at None 1 false) f) (g ∷ []) ≡ [] = then_none (turn_fault sub [] (at None 1 false) f) _ walks in
-    elim (first_word f (first_none (turn_fault sub [] (at None 1 false) f) _ walks)) [
-      | inl d ↦ (g, (inr (inl (ap (λ w. w ∷ g ∷ []) d)), ap (λ (w : Text). first_of (codes "file") (rows_after sub.rules [] (w ∷ g ∷ []))) d))
-      | inr w ↦
-          let last : walk_fault sub [] (at (given f) 2 false) (g ∷ []) ≡ [] = subst (λ (x : Walk). walk_fault sub [] x (g ∷ []) ≡ []) w more in
-          let d : g ≡ dashes = second_word f g (first_none (turn_fault sub [] (at (given f) 2 false) g) _ last) in (
-            f,
-            (
-              inr (inr (ap (λ x. f ∷ x ∷ []) d)),
-              ap (λ (x : Walk). file_in (walked sub.rules [] x g)) w ∙ ap (λ (x : Text). file_in (walked sub.rules [] (at (given f) 2 false) x)) d,
-            ),
-          )
-    ]
+  first_word : (f : Text) → turn_fault sub [] (at None 1 false) f ≡ []
+      → (f ≡ dashes) ⊎ (walked sub.rules [] (at None 1 false) f ≡ at (given f) 2 false)
+  unfolding walked
+  first_word f e = elim (word_plain sub.rules sub_longs sub_shorts None 1 f (first_none (word_fault sub [] false idle f (holding None)) _ e)) [
+    | inl d ↦ inl d
+    | inr met ↦ inr (ap (λ (m : Held × Step). after_step sub.rules f (at None 1 false) m.0 m.1) met)
+  ]
 
-more_words : (f g h : Text) (rest : List Text) → level_fault sub [] nothing_held (f ∷ g ∷ h ∷ rest) false [] ≡ [] → ⊥
-unfolding clap_on_literals
-more_words f g h rest e =
-    let walks : walk_fault sub [] (at None 1 false) (f ∷ g ∷ h ∷ rest) ≡ [] = first_none _ _ e in
-    let more : walk_fault sub [] (walked sub.rules [] (at None 1 false) f) (g ∷ h ∷ rest) ≡ [] = then_none (turn_fault sub [] (at None 1 false) f) _ walks in
-    elim (first_word f (first_none (turn_fault sub [] (at None 1 false) f) _ walks)) [
-      | inl d ↦ never (subst (λ (w : Text). walk_fault sub [] (at None 1 false) (w ∷ g ∷ h ∷ rest) ≡ []) d walks)
-      | inr w ↦
-          let last : walk_fault sub [] (at (given f) 2 false) (g ∷ h ∷ rest) ≡ [] = subst (λ (x : Walk). walk_fault sub [] x (g ∷ h ∷ rest) ≡ []) w more in
-          let d : g ≡ dashes = second_word f g (first_none (turn_fault sub [] (at (given f) 2 false) g) _ last) in
-          never (subst (λ (x : Text). walk_fault sub [] (at (given f) 2 false) (x ∷ h ∷ rest) ≡ []) d last)
-    ]
+  second_word : (f g : Text) → turn_fault sub [] (at (given f) 2 false) g ≡ [] → g ≡ dashes
+  second_word f g e =
+      let met = word_met sub.rules [] false idle 2 g (holding (given f)) in
+      let stray : step_fault sub 2 met.0 met.1 ≡ [] = then_none (word_fault sub [] false idle g (holding (given f))) (step_fault sub 2 met.0 met.1) e in
+      elim (word_plain sub.rules sub_longs sub_shorts (given f) 2 g (first_none (word_fault sub [] false idle g (holding (given f))) _ e)) [
+        | inl d ↦ d
+        | inr is ↦ absurd (never (sym (ap (λ (m : Held × Step). step_fault sub 2 m.0 m.1) is) ∙ stray))
+      ]
 
-words_read : (words : List Text) → level_fault sub [] nothing_held words false [] ≡ [] → (file : Text) × IsRead words file
-unfolding clap_on_literals
-words_read [] e = absurd (never e)
-words_read (f ∷ []) e = (f, one_word f e)
-words_read (f ∷ g ∷ []) e = two_words f g e
-words_read (f ∷ g ∷ h ∷ rest) e = absurd (more_words f g h rest e)
+  -- and so they are read
+  abbrev IsRead : List Text → Text → Type 0
+  IsRead words file = HasFile words file × (first_of input (rows_after sub.rules [] words) ≡ Some file)
+
+  abbrev file_in : Walk → Option Text
+  file_in w = first_of input (finished sub.rules w.held)
+
+  one_word : (f : Text) → level_fault sub [] nothing_held (f ∷ []) false [] ≡ [] → IsRead (f ∷ []) f
+  unfolding clap_on_literals
+  one_word f e =
+      let walks : walk_fault sub [] (at None 1 false) (f ∷ []) ≡ [] = first_none _ _ e in
+      elim (first_word f (first_none (turn_fault sub [] (at None 1 false) f) _ walks)) [
+        | inl d ↦ absurd (never (subst (λ w. level_fault sub [] nothing_held (w ∷ []) false [] ≡ []) d e))
+        | inr w ↦ (inl refl, ap file_in w)
+      ]
+
+  two_words : (f g : Text) → level_fault sub [] nothing_held (f ∷ g ∷ []) false [] ≡ [] → (file : Text) × IsRead (f ∷ g ∷ []) file
+  unfolding clap_on_literals
+  two_words f g e =
+      let walks : walk_fault sub [] (at None 1 false) (f ∷ g ∷ []) ≡ [] = first_none _ _ e in
+      let more : walk_fault sub [] (walked sub.rules [] (at None 1 false) f) (g ∷ []) ≡ [] = then_none (turn_fault sub [] (at None 1 false) f) _ walks in
+      elim (first_word f (first_none (turn_fault sub [] (at None 1 false) f) _ walks)) [
+        | inl d ↦ (g, (inr (inl (ap (λ w. w ∷ g ∷ []) d)), ap (λ (w : Text). first_of input (rows_after sub.rules [] (w ∷ g ∷ []))) d))
+        | inr w ↦
+            let last : walk_fault sub [] (at (given f) 2 false) (g ∷ []) ≡ [] = subst (λ (x : Walk). walk_fault sub [] x (g ∷ []) ≡ []) w more in
+            let d : g ≡ dashes = second_word f g (first_none (turn_fault sub [] (at (given f) 2 false) g) _ last) in (
+              f,
+              (
+                inr (inr (ap (λ x. f ∷ x ∷ []) d)),
+                ap (λ (x : Walk). file_in (walked sub.rules [] x g)) w ∙ ap (λ (x : Text). file_in (walked sub.rules [] (at (given f) 2 false) x)) d,
+              ),
+            )
+      ]
+
+  more_words : (f g h : Text) (rest : List Text) → level_fault sub [] nothing_held (f ∷ g ∷ h ∷ rest) false [] ≡ [] → ⊥
+  unfolding clap_on_literals
+  more_words f g h rest e =
+      let walks : walk_fault sub [] (at None 1 false) (f ∷ g ∷ h ∷ rest) ≡ [] = first_none _ _ e in
+      let more : walk_fault sub [] (walked sub.rules [] (at None 1 false) f) (g ∷ h ∷ rest) ≡ [] = then_none (turn_fault sub [] (at None 1 false) f) _ walks in
+      elim (first_word f (first_none (turn_fault sub [] (at None 1 false) f) _ walks)) [
+        | inl d ↦ never (subst (λ (w : Text). walk_fault sub [] (at None 1 false) (w ∷ g ∷ h ∷ rest) ≡ []) d walks)
+        | inr w ↦
+            let last : walk_fault sub [] (at (given f) 2 false) (g ∷ h ∷ rest) ≡ [] = subst (λ (x : Walk). walk_fault sub [] x (g ∷ h ∷ rest) ≡ []) w more in
+            let d : g ≡ dashes = second_word f g (first_none (turn_fault sub [] (at (given f) 2 false) g) _ last) in
+            never (subst (λ (x : Text). walk_fault sub [] (at (given f) 2 false) (x ∷ h ∷ rest) ≡ []) d last)
+      ]
+
+  words_read : (words : List Text) → level_fault sub [] nothing_held words false [] ≡ [] → (file : Text) × IsRead words file
+  unfolding clap_on_literals
+  words_read [] e = absurd (never e)
+  words_read (f ∷ []) e = (f, one_word f e)
+  words_read (f ∷ g ∷ []) e = two_words f g e
+  words_read (f ∷ g ∷ h ∷ rest) e = absurd (more_words f g h rest e)
 
 -- ---- all words after the program's name
 
@@ -199,23 +200,34 @@ main_longs name = refl
 main_shorts : (x : ℕ) → arg_by_short main.rules x ≡ (if (104 == x) || false then Some help else None)
 main_shorts x = refl
 
--- the subcommand of a word that is `vat`, or `help`, or neither
-abbrev met_by : Bool → Bool → Option Text
-met_by is_vat is_help =
-    option_map (λ (s : Text × List Text). s.0) (if is_vat || false then Some (codes "vat", []) else (if is_help || false then Some (codes "help", []) else None))
+-- the commands that read one thing
+pub data Reader : Type 0 where
+  of_vat : Reader
+  of_frame : Reader
 
-abbrev turn_by : Text → Bool → Bool → Kinds
-turn_by w is_vat is_help =
-    let met = subcommand_or_other main.rules (met_by is_vat is_help) idle 1 w (holding None) in
-    or_else (other_fault main (met_by is_vat is_help) w (holding None)) (step_fault main 1 met.0 met.1)
+abbrev pub word_of : Reader → Text
+word_of of_vat = codes "vat"
+word_of of_frame = codes "frame"
 
-first_main : (w : Text) → turn_fault main names (at None 1 false) w ≡ [] → (w ≡ codes "vat") ⊎ (w ≡ dashes)
-first_main w e = go (bytes_eq (codes "vat") w) (bytes_eq (codes "help") w) refl e
+-- the subcommand of a word that is `vat`, or `frame`, or `help`, or none of them
+abbrev met_by : Bool → Bool → Bool → Option Text
+met_by is_vat is_frame is_help = option_map (λ (s : Text × List Text). s.0) (if is_vat || false then Some (codes "vat", [])
+    else (if is_frame || false then Some (codes "frame", []) else (if is_help || false then Some (codes "help", []) else None)))
+
+abbrev turn_by : Text → Bool → Bool → Bool → Kinds
+turn_by w is_vat is_frame is_help =
+    let met = subcommand_or_other main.rules (met_by is_vat is_frame is_help) idle 1 w (holding None) in
+    or_else (other_fault main (met_by is_vat is_frame is_help) w (holding None)) (step_fault main 1 met.0 met.1)
+
+first_main : (w : Text) → turn_fault main names (at None 1 false) w ≡ [] → ((r : Reader) × (w ≡ word_of r)) ⊎ (w ≡ dashes)
+first_main w e = go (bytes_eq (codes "vat") w) (bytes_eq (codes "frame") w) (bytes_eq (codes "help") w) refl refl e
   where
-    go : (is_vat is_help : Bool) → bytes_eq (codes "vat") w ≡ is_vat → turn_by w is_vat is_help ≡ [] → (w ≡ codes "vat") ⊎ (w ≡ dashes)
-    go true is_help is e = inl (sym ((bytes_eq-Decides (codes "vat") w).0 is))
-    go false true is e = absurd (never e)
-    go false false differs e =
+    go : (is_vat is_frame is_help : Bool) → bytes_eq (codes "vat") w ≡ is_vat → bytes_eq (codes "frame") w ≡ is_frame → turn_by w is_vat is_frame is_help ≡ []
+        → ((r : Reader) × (w ≡ word_of r)) ⊎ (w ≡ dashes)
+    go true is_frame is_help is differs e = inl (of_vat, sym ((bytes_eq-Decides (codes "vat") w).0 is))
+    go false true is_help differs is e = inl (of_frame, sym ((bytes_eq-Decides (codes "frame") w).0 is))
+    go false false true differs differ e = absurd (never e)
+    go false false false differs differ e =
         let met = word_met main.rules [] false idle 1 w (holding None) in
         let stray : step_fault main 1 met.0 met.1 ≡ [] = then_none (other_fault main None w (holding None)) (step_fault main 1 met.0 met.1) e in
         elim (word_plain main.rules main_longs main_shorts None 1 w (first_none (other_fault main None w (holding None)) _ e)) [
@@ -223,7 +235,7 @@ first_main w e = go (bytes_eq (codes "vat") w) (bytes_eq (codes "help") w) refl 
           | inr is ↦ absurd (never (sym (ap (λ (m : Held × Step). step_fault main 1 m.0 m.1) is) ∙ stray))
         ]
 
--- past `vat` the walk keeps the words
+-- past the name of a command the walk keeps the words
 stops : (h : Held) (waiting : Waiting) (n : ℕ) (ended : Bool) (name : Text) (seen words : List Text)
     → (fold (walked main.rules names) (record { held = h; waiting = waiting; position = n; is_trailing = ended; stopped = Some (name, seen) }) words).stopped ≡ Some (name, seen ++ words)
 unfolding walked
@@ -231,54 +243,78 @@ stops h waiting n ended name seen [] = ap (λ x. Some (name, x)) (sym (append-ni
 stops h waiting n ended name seen (word ∷ words) =
     stops h waiting n ended name (seen ++ word ∷ []) words ∙ ap (λ x. Some (name, x)) (append_assoc seen (word ∷ []) words)
 
-stop_vat : (words : List Text) → (walk main.rules names nothing_held (codes "vat" ∷ words)).stopped ≡ Some (codes "vat", words)
+stop_at : (r : Reader) (words : List Text) → (walk main.rules names nothing_held (word_of r ∷ words)).stopped ≡ Some (word_of r, words)
 unfolding walked
-stop_vat words = stops (holding None) idle 1 false (codes "vat") [] words
+stop_at of_vat words = stops (holding None) idle 1 false (codes "vat") [] words
+stop_at of_frame words = stops (holding None) idle 1 false (codes "frame") [] words
+
+-- the command that is entered reads the words that are left
+entered_level : (r : Reader) (words : List Text) → entered_fault (built program) (Some (word_of r, words)) ≡ level_fault (sub (word_of r)) [] nothing_held words false []
+entered_level of_vat words = refl
+entered_level of_frame words = refl
+
+entered_rows : (r : Reader) (words : List Text) → entered (built program) (Some (word_of r, words)) ≡ Some (word_of r, rows_after (sub (word_of r)).rules [] words)
+entered_rows of_vat words = refl
+entered_rows of_frame words = refl
 
 no_command : (rest : List Text) → built_fault (built program) nothing_held (dashes ∷ rest) ≡ [] → ⊥
 unfolding clap_on_literals
 no_command [] e = never e
 no_command (v ∷ vs) e = never e
 
-main_read : (words : List Text) → built_fault (built program) nothing_held words ≡ [] → (rest : List Text) × (words ≡ codes "vat" ∷ rest) × (level_fault sub [] nothing_held rest false [] ≡ [])
+main_read : (words : List Text) → built_fault (built program) nothing_held words ≡ []
+    → (r : Reader) × ((rest : List Text) × (words ≡ word_of r ∷ rest) × (level_fault (sub (word_of r)) [] nothing_held rest false [] ≡ []))
 unfolding clap_on_literals
 main_read [] e = absurd (never e)
 main_read (w ∷ rest) e =
     let walks : walk_fault main names (at None 1 false) (w ∷ rest) ≡ [] = first_none _ _ e in
     elim (first_main w (first_none (turn_fault main names (at None 1 false) w) _ walks)) [
       | inl v ↦
-          let whole : built_fault (built program) nothing_held (codes "vat" ∷ rest) ≡ [] = subst (λ (x : Text). built_fault (built program) nothing_held (x ∷ rest) ≡ []) v e in
-          let stop = (walk main.rules names nothing_held (codes "vat" ∷ rest)).stopped in
-          let below : entered_fault (built program) stop ≡ [] = first_none (entered_fault (built program) stop) _ (then_none (walk_fault main names (at None 1 false) (codes "vat" ∷ rest)) _ whole) in
-          (rest, ap (λ x. x ∷ rest) v, subst (λ (s : Option (Text × List Text)). entered_fault (built program) s ≡ []) (stop_vat rest) below)
+          let name = word_of v.0 in
+          let whole : built_fault (built program) nothing_held (name ∷ rest) ≡ [] = subst (λ (x : Text). built_fault (built program) nothing_held (x ∷ rest) ≡ []) v.1 e in
+          let stop = (walk main.rules names nothing_held (name ∷ rest)).stopped in
+          let below : entered_fault (built program) stop ≡ [] = first_none (entered_fault (built program) stop) _ (then_none (walk_fault main names (at None 1 false) (name ∷ rest)) _ whole) in (
+            v.0,
+            (
+              rest,
+              ap (λ x. x ∷ rest) v.1,
+              sym (entered_level v.0 rest) ∙ subst (λ (s : Option (Text × List Text)). entered_fault (built program) s ≡ []) (stop_at v.0 rest) below,
+            ),
+          )
       | inr d ↦ absurd (no_command rest (subst (λ (x : Text). built_fault (built program) nothing_held (x ∷ rest) ≡ []) d e))
     ]
 
--- FILE of the command that was entered
-abbrev file_read : Option (Text × List Row) → Option (Option Text)
-file_read = option_map (λ p. first_of (codes "file") p.1)
+-- the name of the command that was entered, and the one thing that it reads
+abbrev thing_read : Option (Text × List Row) → Option (Text × Option Text)
+thing_read = option_map (λ p. (p.0, first_of input p.1))
 
--- where clap finds no fault in the words, they spell FILE, and FILE is what it reads
+-- where clap finds no fault in the words, they spell a command and the one thing, which are what it reads
 reads : (words : List Text) → fault_of program words ≡ []
-    → (file : Text) × Spells words file × (file_read (subcommand_of program words) ≡ Some (Some file))
+    → (r : Reader) × ((file : Text) × SpellsOne (word_of r) words file × (thing_read (subcommand_of program words) ≡ Some (word_of r, Some file)))
 unfolding clap_on_literals
 reads [] e = absurd (never e)
 reads (first ∷ words) e =
     let m = main_read words e in
-    let r = words_read m.0 m.2 in
-    let spelled : HasFile m.0 r.0 → Spells (first ∷ words) r.0 = elim [
-      | inl a ↦ (first, inl (ap (λ x. first ∷ x) (m.1 ∙ ap (λ x. codes "vat" ∷ x) a)))
-      | inr (inl a) ↦ (first, inr (inl (ap (λ x. first ∷ x) (m.1 ∙ ap (λ x. codes "vat" ∷ x) a))))
-      | inr (inr a) ↦ (first, inr (inr (ap (λ x. first ∷ x) (m.1 ∙ ap (λ x. codes "vat" ∷ x) a))))
+    let name = word_of m.0 in
+    let rest = m.1.0 in
+    let r = words_read name rest m.1.2 in
+    let spelled : HasFile rest r.0 → SpellsOne name (first ∷ words) r.0 = elim [
+      | inl a ↦ (first, inl (ap (λ x. first ∷ x) (m.1.1 ∙ ap (λ x. name ∷ x) a)))
+      | inr (inl a) ↦ (first, inr (inl (ap (λ x. first ∷ x) (m.1.1 ∙ ap (λ x. name ∷ x) a))))
+      | inr (inr a) ↦ (first, inr (inr (ap (λ x. first ∷ x) (m.1.1 ∙ ap (λ x. name ∷ x) a))))
     ] in (
-      r.0,
-      spelled r.1.0,
-      ap (λ (ws : List Text). file_read (entered (built program) (stop_after main.rules names ws))) m.1
-          ∙ ap (λ (s : Option (Text × List Text)). file_read (entered (built program) s)) (stop_vat m.0)
-          ∙ ap (λ o. Some o) r.1.1,
+      m.0,
+      (
+        r.0,
+        spelled r.1.0,
+        ap (λ (ws : List Text). thing_read (entered (built program) (stop_after main.rules names ws))) m.1.1
+            ∙ ap (λ (s : Option (Text × List Text)). thing_read (entered (built program) s)) (stop_at m.0 rest)
+            ∙ ap thing_read (entered_rows m.0 rest)
+            ∙ ap (λ o. Some (name, o)) r.1.1,
+      ),
     )
 
--- ---- FILE that is no flag
+-- ---- a word that is no flag
 
 plain_word_is : (file : Text) → is_flag file ≡ false → (bytes_eq file dashes ≡ false) × (long_of file ≡ None) × (short_of file ≡ None)
 plain_word_is [] e = (refl, refl, refl)
@@ -290,53 +326,81 @@ plain_word_is (x ∷ []) e = go (x == 45)
     go false = (refl, refl, refl)
 plain_word_is (x ∷ y ∷ rest) e = (rw e refl, rw e refl, rw e refl)
 
-file_taken : (file : Text) → is_flag file ≡ false → level_fault sub [] nothing_held (file ∷ []) false [] ≡ []
+file_taken : (name file : Text) → is_flag file ≡ false → level_fault (sub name) [] nothing_held (file ∷ []) false [] ≡ []
 unfolding clap_on_literals
-file_taken file e =
+file_taken name file e =
     let is = plain_word_is file e in
-    let met : word_met sub.rules [] false idle 1 file (holding None) ≡ (holding None, value) = rw (is.0, is.1, is.2) refl in
-    let w : walked sub.rules [] (at None 1 false) file ≡ at (given file) 2 false = ap (λ (m : Held × Step). after_step sub.rules file (at None 1 false) m.0 m.1) met in
-    let word : word_fault sub [] false idle file (holding None) ≡ [] = rw (is.0, is.1, is.2) refl in
-    let turn : turn_fault sub [] (at None 1 false) file ≡ [] =
-    ap₂ (λ (k : Kinds) (m : Held × Step). or_else k (step_fault sub 1 m.0 m.1)) word met in
-    let walks : walk_fault sub [] (at None 1 false) (file ∷ []) ≡ [] = ap (λ k. or_else k []) turn in
-    ap₂ (λ (k : Kinds) (x : Walk). or_else k (or_else (settle_fault sub.rules false x.held)
-    (or_else (defaults_fault (settled sub.rules x.held).rows sub.rules) (check_fault sub (finished sub.rules x.held) false)))) walks w
+    let met : word_met (sub name).rules [] false idle 1 file (holding None) ≡ (holding None, value) = rw (is.0, is.1, is.2) refl in
+    let w : walked (sub name).rules [] (at None 1 false) file ≡ at (given file) 2 false = ap (λ (m : Held × Step). after_step (sub name).rules file (at None 1 false) m.0 m.1) met in
+    let word : word_fault (sub name) [] false idle file (holding None) ≡ [] = rw (is.0, is.1, is.2) refl in
+    let turn : turn_fault (sub name) [] (at None 1 false) file ≡ [] =
+    ap₂ (λ (k : Kinds) (m : Held × Step). or_else k (step_fault (sub name) 1 m.0 m.1)) word met in
+    let walks : walk_fault (sub name) [] (at None 1 false) (file ∷ []) ≡ [] = ap (λ k. or_else k []) turn in
+    ap₂ (λ (k : Kinds) (x : Walk). or_else k (or_else (settle_fault (sub name).rules false x.held)
+    (or_else (defaults_fault (settled (sub name).rules x.held).rows (sub name).rules) (check_fault (sub name) (finished (sub name).rules x.held) false)))) walks w
 
--- `vat FILE` has no fault, where FILE is no flag
-pub takes_file : (first file : Text) → is_flag file ≡ false → fault_of program (first ∷ codes "vat" ∷ file ∷ []) ≡ []
+taken_by : (r : Reader) (first file : Text) → is_flag file ≡ false → fault_of program (first ∷ word_of r ∷ file ∷ []) ≡ []
 unfolding clap_on_literals
-takes_file first file e = ap (λ (k : Kinds). or_else k []) (file_taken file e)
+taken_by of_vat first file e = ap (λ (k : Kinds). or_else k []) (file_taken (codes "vat") file e)
+taken_by of_frame first file e = ap (λ (k : Kinds). or_else k []) (file_taken (codes "frame") file e)
 
--- `vat -- FILE` has none, whatever FILE is
-pub takes_after_dashes : (first file : Text) → fault_of program (first ∷ codes "vat" ∷ dashes ∷ file ∷ []) ≡ []
+taken_after_by : (r : Reader) (first file : Text) → fault_of program (first ∷ word_of r ∷ dashes ∷ file ∷ []) ≡ []
 unfolding clap_on_literals
-takes_after_dashes first file = refl
+taken_after_by of_vat first file = refl
+taken_after_by of_frame first file = refl
+
+reader_of : (name : Text) → IsReader name → (r : Reader) × (name ≡ word_of r)
+reader_of name (inl is) = (of_vat, is)
+reader_of name (inr is) = (of_frame, is)
+
+-- the name of a command and one word have no fault, where the word is no flag
+pub takes_one : (first name file : Text) → IsReader name → is_flag file ≡ false → fault_of program (first ∷ name ∷ file ∷ []) ≡ []
+takes_one first name file reads e =
+    let r = reader_of name reads in
+    ap (λ (n : Text). fault_of program (first ∷ n ∷ file ∷ [])) r.1 ∙ taken_by r.0 first file e
+
+-- with `--` between them they have none, whatever the word is
+pub takes_after_dashes : (first name file : Text) → IsReader name → fault_of program (first ∷ name ∷ dashes ∷ file ∷ []) ≡ []
+takes_after_dashes first name file reads =
+    let r = reader_of name reads in
+    ap (λ (n : Text). fault_of program (first ∷ n ∷ dashes ∷ file ∷ [])) r.1 ∙ taken_after_by r.0 first file
 
 -- ---- the matches
 
-file_at : (read : Option (Text × List Row)) (rows : List Row) (file : Text) → Some rows ≡ option_map (λ p. p.1) read → file_read read ≡ Some (Some file)
-    → first_of (codes "file") rows ≡ Some file
-file_at None rows file same is = cc
-file_at (Some p) rows file same is =
-    let these : rows ≡ p.1 = cc in
-    let that : first_of (codes "file") p.1 ≡ Some file = cc in
-    ap (first_of (codes "file")) these ∙ that
+pub some_same : {A : Type 0} {x y : A} → Some x ≡ Some y → x ≡ y
+some_same e = cc
 
--- a parse that succeeds has FILE, and the words spell it
-pub has_file : (app : App) (words : List Text) (m of_vat : ArgMatches) → app ≡ program
+thing_at : (read : Option (Text × List Row)) (name word file : Text) (rows : List Row) → Some name ≡ option_map (λ p. p.0) read → Some rows ≡ option_map (λ p. p.1) read
+    → thing_read read ≡ Some (word, Some file) → (name ≡ word) × (first_of input rows ≡ Some file)
+thing_at None name word file rows named same is = absurd (cc)
+thing_at (Some p) name word file rows named same is =
+    let these : rows ≡ p.1 = cc in
+    let this : name ≡ p.0 = cc in
+    let pair : (p.0, first_of input p.1) ≡ (word, Some file) = some_same is in
+    (this ∙ ap (λ (q : Text × Option Text). q.0) pair, ap (first_of input) these ∙ ap (λ (q : Text × Option Text). q.1) pair)
+
+map_twice : {A B C : Type 0} (f : B → C) (g : A → B) (o : Option A) → option_map f (option_map g o) ≡ option_map (λ x. f (g x)) o
+map_twice f g None = refl
+map_twice f g (Some x) = refl
+
+name_in_rows : (m : ArgMatches) → subcommand_name_of m ≡ option_map (λ (p : Text × List Row). p.0) (subcommand_rows_of m)
+name_in_rows m = sym (map_twice (λ (p : Text × List Row). p.0) _ _)
+
+-- a parse that succeeds has a command and the one thing, and the words spell them
+pub has_thing : (app : App) (words : List Text) (m given : ArgMatches) (name : Text) → app ≡ program
     → (is_simple_and_free app ≡ true → fault_of app words ≡ []) → HasMatchesOf app words m
-    → Some (rows_of (found_of of_vat)) ≡ option_map (λ p. p.1) (subcommand_rows_of m)
-    → (file : Text) × Spells words file × (first_value (found_of of_vat) (codes "file") ≡ Some file)
+    → Some name ≡ subcommand_name_of m → Some (rows_of (found_of given)) ≡ option_map (λ p. p.1) (subcommand_rows_of m)
+    → (r : Reader) × ((file : Text) × SpellsOne (word_of r) words file × (name ≡ word_of r) × (first_value (found_of given) input ≡ Some file))
 unfolding clap_on_literals
-has_file app words m of_vat is faults matches rows =
+has_thing app words m given name is faults matches named rows =
     let free : is_simple_and_free app ≡ true = ap is_simple_and_free is in
     let simple : is_simple app ≡ true = ap is_simple is in
     let fault : fault_of program words ≡ [] = subst (λ (a : App). fault_of a words ≡ []) is (faults free) in
     let r = reads words fault in
-    let read : file_read (subcommand_rows_of m) ≡ Some (Some r.0) =
-    ap file_read ((matches simple).1 ∙ ap (λ (a : App). subcommand_of a words) is) ∙ r.2 in
-    (r.0, r.1, first_value-rows (found_of of_vat) (codes "file") ∙ file_at (subcommand_rows_of m) (rows_of (found_of of_vat)) r.0 rows read)
+    let read : thing_read (subcommand_rows_of m) ≡ Some (word_of r.0, Some r.1.0) =
+    ap thing_read ((matches simple).1 ∙ ap (λ (a : App). subcommand_of a words) is) ∙ r.1.2 in
+    let at = thing_at (subcommand_rows_of m) name (word_of r.0) r.1.0 (rows_of (found_of given)) (named ∙ name_in_rows m) rows read in
+    (r.0, (r.1.0, r.1.1, at.0, first_value-rows (found_of given) input ∙ at.1))
 
 -- and only want of memory fails where clap finds no fault in the words
 pub fails_by_memory : (app : App) (words others : List Text) (e : Error) → app ≡ program
@@ -349,3 +413,21 @@ fails_by_memory app words others e is faults same none =
 
 pub none_differs : (file : Text) → None ≡ Some file → ⊥
 none_differs file e = cc
+
+-- ---- which command it is
+
+pub same_text : (a b : Text) → true ≡ bytes_eq a b → a ≡ b
+same_text a b is = (bytes_eq-Decides a b).0 (sym is)
+
+pub other_text : (a b : Text) → false ≡ bytes_eq a b → a ≡ b → ⊥
+other_text a b differs is = let same : bytes_eq a b ≡ true = (bytes_eq-Decides a b).1 is in cc
+
+-- a command by its name
+pub spells_by : (r : Reader) (words : List Text) (name file thing wanted : Text) → SpellsOne (word_of r) words file → name ≡ word_of r → file ≡ thing → name ≡ wanted → SpellsOne wanted words thing
+spells_by r words name file thing wanted spelled named same is =
+    subst (λ (f : Text). SpellsOne wanted words f) same (subst (λ (n : Text). SpellsOne n words file) (sym named ∙ is) spelled)
+
+-- a command that isn't `vat` is `frame`
+pub other_reader : (r : Reader) (name : Text) → name ≡ word_of r → (name ≡ codes "vat" → ⊥) → name ≡ codes "frame"
+other_reader of_vat name named other = absurd (other named)
+other_reader of_frame name named other = named

@@ -4,6 +4,9 @@ use Rattle.std.specs.Io.KnownBytes.{Appends}
 use Rattle.vataudit.specs.declared.answer.Answer.{Answer}
 use Rattle.vataudit.specs.declared.source.SourceError.{SourceError}
 use Rattle.vataudit.specs.declared.source.SourceError.TheVariants.{CannotRead, OutOfMemory}
+use Rattle.vataudit.specs.declared.command.Command.{Command}
+use Rattle.vataudit.specs.declared.command.Command.TheVariants.{Vat, Frame}
+use Rattle.vataudit.specs.FrameLines.{AnswersHex}
 use Rattle.vataudit.specs.Lines.{AnswersLog, line}
 
 -- what a source gave makes this answer, or is this fault, or memory ran out over its bytes
@@ -21,6 +24,10 @@ AnswersSource (Ok bytes) text status = AnswersLog bytes text status ⊎ IsOutOfM
 AnswersSource (Err CannotRead) text status = (text ≡ line (codes "cannot read" ∷ [])) × (status ≡ 2)
 AnswersSource (Err OutOfMemory) text status = IsOutOfMemory text status
 
+-- a line and a status answer a frame in hexadecimal; memory may run out over it
+abbrev pub AnswersFrame : List ℕ → List ℕ → ℕ → Type 0
+AnswersFrame hex text status = AnswersHex hex text status ⊎ IsOutOfMemory text status
+
 -- an answer's line was written whole, and its status is the run's
 abbrev pub Prints : (List ℕ → ℕ → Type 0) → Option (List ℕ) → Option (List ℕ) → ℕ → Type 0
 Prints answers old new status = (text : List ℕ) × answers text status × Appends old new text
@@ -28,3 +35,9 @@ Prints answers old new status = (text : List ℕ) × answers text status × Appe
 -- the same, or a write failed and the status is 2
 abbrev pub PrintsOrFails : (List ℕ → ℕ → Type 0) → Option (List ℕ) → Option (List ℕ) → ℕ → Type 0
 PrintsOrFails answers old new status = Prints answers old new status ⊎ (status ≡ 2)
+
+-- What a run of a command takes from its source, which read_gives speaks of, and what it then prints: the log of a vat is
+-- read once, by its name, and a frame asks for nothing.
+abbrev pub Runs : {S : Type 0} → (S → List ℕ → Result (List ℕ) SourceError → S → Type 0) → Command → S → S → ((List ℕ → ℕ → Type 0) → Type 0) → Type 0
+Runs read_gives (Vat file) old new prints = (read : Result (List ℕ) SourceError) × read_gives old file.now read new × prints (AnswersSource read)
+Runs read_gives (Frame hex) old new prints = (new ≡ old) × prints (AnswersFrame hex.now)

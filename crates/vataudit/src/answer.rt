@@ -11,7 +11,7 @@ use vat_log::{LogError, parse_log};
 use vat_rules::{Outcome, Rule, Why, audit_vat};
 
 /// The limits within which frames are read.
-const LIMITS: Limits = Limits {
+pub const LIMITS: Limits = Limits {
     words: 8_388_608,
     depth: 64,
 };

@@ -1,8 +1,10 @@
-//! Audits what the vats of Cap'n Proto RPC recorded: `vataudit vat FILE` prints one line for the log of one vat.
+//! Audits what the vats of Cap'n Proto RPC recorded: `vataudit vat FILE` prints one line for the log of one vat, and
+//! `vataudit frame HEX` the message of a frame.
 //!
-//! A command line becomes a `Command` (command.rt), whose file a `Source` gives (source.rt, file.rt); the line and the exit
-//! status for its bytes are an `Answer` (answer.rt), which `run_on` prints (run.rt). What is printed is said by
-//! specs/Lines.antt and specs/Printed.antt, and which words spell a command by specs/Spelled.antt.
+//! A command line becomes a `Command` (command.rt, help.rt), whose file a `Source` gives (source.rt, file.rt); the line and
+//! the exit status are an `Answer` (answer.rt for a log, frame_answer.rt and message_text.rt for a frame), which `run_on`
+//! prints (run.rt). What is printed is said by specs/Lines.antt, specs/FrameLines.antt, specs/MessageText.antt and
+//! specs/Printed.antt, and which words spell a command by specs/Spelled.antt.
 #![tactic(auto)]
 
 ghost use Rattle.std.specs.Prelude.{◌≡◌, ◌≢◌, ◌⊎◌};
@@ -11,6 +13,9 @@ ghost use Rattle.clap.specs.Words.{kind_of};
 mod answer;
 mod command;
 mod file;
+mod frame_answer;
+mod help;
+mod message_text;
 mod run;
 mod source;
 #[cfg(test)]

@@ -3,17 +3,17 @@
 ghost use Rattle.std.specs.Prelude.{◌≡◌, List, ℕ, OnOk, IfOk, Result as Answered};
 ghost use Rattle.std.specs.Io.KnownBytes.{Appends};
 ghost use Rattle.vataudit.specs.declared.source.SourceError.{SourceError};
-ghost use Rattle.vataudit.specs.Printed.{GivesAnswer, AnswersSource, Prints, PrintsOrFails};
-ghost use Rattle.vataudit.specs.Spelled.{name_of};
+ghost use Rattle.vataudit.specs.Printed.{GivesAnswer, AnswersFrame, AnswersSource, Prints, PrintsOrFails, Runs};
 
 use crate::answer::{Answer, answer_of_log};
 use crate::command::Command;
+use crate::frame_answer::answer_of_frame;
 use crate::source::{Source, SourceError};
-use std::alloc::Global;
+use std::alloc::{AllocError, Global};
 use std::io;
 use std::io::Write;
 
-/// The exit status where a log can't be read, a line can't be written or the command line is wrong.
+/// The exit status where input is bad or can't be read, a line can't be written or the command line is wrong.
 pub const FAILED: u8 = 2;
 
 /// The exit status where memory ran out.
@@ -54,9 +54,20 @@ fn audit<S: Source, W: Write>(
     }
 }
 
-/// Runs a command: writes its one line to `out`, and answers the exit status. It is 0 where the log is good, 1 where a
-/// record breaks a rule, 2 where a record isn't judged, the log is bad, it can't be read or the line can't be written, and
-/// 3 where memory ran out. After a failed write nothing more is written. Nothing is written to `file`.
+/// Prints the message of a frame in hexadecimal, and gives the exit status.
+fn show<W: Write>(alloc: Global, hex: &str, out: &mut W) -> io::Result<u8>
+    ensures { IfOk result (Prints (AnswersFrame hex.now) (W.contents out.old) (W.contents out.new)) }
+{
+    match answer_of_frame(alloc, hex) {
+        Ok(answer) => print(out, answer.line.as_str(), answer.status),
+        Err(AllocError) => print(out, "out of memory\n", OUT_OF_MEMORY),
+    }
+}
+
+/// Runs a command: writes its one line to `out`, and answers the exit status. It is 0 where the log is good or the message
+/// of a frame is printed, 1 where a record breaks a rule, 2 where a record isn't judged, a message isn't read, the log, the
+/// frame or its digits are bad, the log can't be read or the line can't be written, and 3 where memory ran out. After a
+/// failed write nothing more is written. Nothing is written to `file`.
 pub fn run_on<S: Source, W: Write, F: Write>(
     alloc: Global,
     command: &Command<'_>,
@@ -64,10 +75,12 @@ pub fn run_on<S: Source, W: Write, F: Write>(
     out: &mut W,
     file: &mut F,
 ) -> u8
-    ensures printed { (read : Answered (List ℕ) SourceError) × S.read_gives source.old (name_of command.now) read source.new
-        × PrintsOrFails (AnswersSource read) (W.contents out.old) (W.contents out.new) result }
+    ensures printed { Runs S.read_gives command.now source.old source.new (λ answers. PrintsOrFails answers (W.contents out.old) (W.contents out.new) result) }
     ensures file { file.new ≡ file.old }
 {
-    let Command::Vat { file: name } = command;
-    audit(alloc, name, source, out).unwrap_or(FAILED)
+    let printed = match command {
+        Command::Vat { file } => audit(alloc, file, source, out),
+        Command::Frame { hex } => show(alloc, hex, out),
+    };
+    printed.unwrap_or(FAILED)
 }

@@ -52,6 +52,21 @@ const UNREAD: &str = "0a00000000000000000000000000002800000000000000040000000000
 00000100010004000000000000000000000001000000\
 0300000000000000";
 
+/// A Bootstrap.
+const BOOTSTRAP_FRAME: &str = "0000000005000000000000000100010008000000000000000000000001000100\
+00000000000000000000000000000000";
+
+/// A Call of a pipelined answer.
+const CALL_FRAME: &str = "000000000d000000000000000100010002000000000000000000000003000300\
+0100000002000000341200000000000000000000000000000800000001000100\
+0000000000000000000000000000000000000000010000000000000001000100\
+00000000000000000000000000000000";
+
+/// A Return with a capability.
+const RETURN_FRAME: &str = "000000000b000000000000000100010003000000000000000000000002000100\
+0000000000000000000000000000000000000000000002000300000000000000\
+0100000017000000040000000100010001000000000000000000000000000000";
+
 /// A source that has one log, under the name `log`: its bytes in hexadecimal, in pieces.
 #[derive(Drop)]
 struct Pieces<'a> {
@@ -199,6 +214,51 @@ fn audits_records(rt: HostRuntime) -> Result<(), Fail> {
     assert_line(&rt, alloc, &unread, "outside vat 1 record 0 NotYet", 2)
 }
 
+/// What is printed for a frame in hexadecimal, and the exit status.
+fn shown(alloc: Global, hex: &str) -> Result<(Vec<u8>, u8), AllocError> {
+    let mut out = Vec::with_capacity(alloc, 256)?;
+    let command = Command::Frame { hex };
+    let status = run_on(alloc, &command, &mut Poor, &mut out, &mut io::sink());
+    Ok((out, status))
+}
+
+/// Prints a frame twice where memory ran out the first time, and compares.
+fn assert_shown(
+    rt: &impl Abort,
+    alloc: Global,
+    hex: &str,
+    line: &str,
+    status: u8,
+) -> Result<(), Fail> {
+    let (out, met) = match shown(alloc, hex) {
+        Ok((out, met)) if met != 3 => (out, met),
+        _ => shown(alloc, hex)?,
+    };
+    let text = std::str::from_utf8(&out)?;
+    assert!(rt;
+        text.strip_suffix('\n') == Some(line),
+        "{text:?} for {line:?}"
+    );
+    assert_eq!(rt; met, status, "at {line:?}");
+    Ok(())
+}
+
+#[test]
+fn prints_frames(rt: HostRuntime) -> Result<(), Fail> {
+    let call =
+        "call question 1 target answer 0 [] interface 0000000000001234 method 2 caps [] fields []";
+    let results =
+        "return answer 0 releaseParamCaps true results caps [senderHosted 0] fields [[]=0]";
+    let far = "00000000010000000400000001000000";
+    let alloc = rt.alloc();
+    assert_shown(&rt, alloc, BOOTSTRAP_FRAME, "bootstrap question 0", 0)?;
+    assert_shown(&rt, alloc, CALL_FRAME, call, 0)?;
+    assert_shown(&rt, alloc, RETURN_FRAME, results, 0)?;
+    assert_shown(&rt, alloc, "00000000FFFFFFFF", "bad frame Short", 2)?;
+    assert_shown(&rt, alloc, far, "bad read OutOfSegment", 2)?;
+    assert_shown(&rt, alloc, "0g", "bad hex", 2)
+}
+
 #[test]
 fn names_faults(rt: HostRuntime) -> Result<(), Fail> {
     let rows = [
@@ -268,15 +328,28 @@ fn reads_whole_files(rt: HostRuntime) -> Result<(), Fail> {
     Ok(())
 }
 
-/// The file that the words name, or the kind of `clap`'s error; twice where memory ran out the first time.
-fn file_of<'a>(alloc: Global, words: &'a [&'a str]) -> Result<&'a str, ErrorKind> {
+/// The command that the words spell, or the kind of `clap`'s error; twice where memory ran out the first time.
+fn meant<'a>(alloc: Global, words: &'a [&'a str]) -> Result<Command<'a>, ErrorKind> {
     let command = match command_of(alloc, words) {
         Err(e) if e.kind() == ErrorKind::OutOfMemory => command_of(alloc, words),
         other => other,
     };
-    match command {
-        Ok(Command::Vat { file }) => Ok(file),
-        Err(e) => Err(e.kind()),
+    command.map_err(|e| e.kind())
+}
+
+/// The file that the words name for `vat`.
+fn file_of<'a>(alloc: Global, words: &'a [&'a str]) -> Result<&'a str, ErrorKind> {
+    match meant(alloc, words)? {
+        Command::Vat { file } => Ok(file),
+        Command::Frame { .. } => Err(ErrorKind::InvalidSubcommand),
+    }
+}
+
+/// The digits that the words give for `frame`.
+fn hex_of<'a>(alloc: Global, words: &'a [&'a str]) -> Result<&'a str, ErrorKind> {
+    match meant(alloc, words)? {
+        Command::Frame { hex } => Ok(hex),
+        Command::Vat { .. } => Err(ErrorKind::InvalidSubcommand),
     }
 }
 
@@ -290,17 +363,24 @@ fn takes_words(rt: HostRuntime) {
     assert!(rt; file_of(alloc, &["vataudit", "vat"]).is_err());
     assert!(rt; file_of(alloc, &["vataudit", "check", "a"]).is_err());
     assert!(rt; file_of(alloc, &["vataudit"]).is_err());
+    assert!(rt; hex_of(alloc, &["vataudit", "frame", "0g"]) == Ok("0g"));
+    assert!(rt; hex_of(alloc, &["vataudit", "frame", "--", "-x"]) == Ok("-x"));
+    assert!(rt; hex_of(alloc, &["vataudit", "frame"]).is_err());
     assert!(rt; file_of(alloc, &["vataudit", "--help"]) == Err(ErrorKind::DisplayHelp));
 }
 
 #[test]
 fn helps(rt: HostRuntime) -> Result<(), Fail> {
     let alloc = rt.alloc();
-    for command in ["vat", "--help"] {
+    for (command, line) in [
+        ("vat", "good vat 2 records 8 delivered 1"),
+        ("frame", "bootstrap question 0"),
+        ("--help", "good vat 2 records 8 delivered 1"),
+    ] {
         let words = ["vataudit", command, "--help"];
         let error = command_of(alloc, &words).err().ok_or("help")?;
         let text = error.to_string(alloc)?;
-        assert!(rt; text.contains("good vat 2 records 8 delivered 1"), "{text}");
+        assert!(rt; text.contains(line), "{text}");
         assert!(rt; text.contains("3  memory ran out"), "{text}");
     }
     Ok(())

@@ -1,34 +1,43 @@
-use Rattle.std.proofs.Common.{◌≡◌, ◌∙◌, subst, map, Some, List, [], ◌∷◌, ℕ, codes}
+use Rattle.std.proofs.Common.{◌≡◌, ◌∙◌, sym, map, [], ◌∷◌, codes}
 use Rattle.clap.specs.Words.{app_of, kind_of}
 use Rattle.clap.specs.declared.error.ErrorKind.TheVariants.{OutOfMemory}
 use Rattle.clap.proofs.TakesLemmas.{passed_up}
-use Rattle.vataudit.specs.Spelled.{Spells}
-use Rattle.vataudit.proofs.Reading.{fails_by_memory, has_file, none_differs, takes_after_dashes, takes_file}
+use Rattle.vataudit.proofs.Reading.{fails_by_memory, has_thing, none_differs, other_reader, other_text, same_text, some_same, spells_by, takes_after_dashes, takes_one}
 use Rattle.vataudit.proofs.command.command_of.Goals as goal
+
+pub returns-then-eq-clause-ok : goal.returns-then-eq-clause-ok
+returns-then-eq-clause-ok g c =
+    let words = map g.S.AsStr.text c.args.words.now in
+    let name = c.in-Some.name.now in
+    let thing = c.in-Some-get_str.input.now in
+    let r = has_thing (app_of c.in_ok-parser.field-0) words c.in_ok-matches.matches c.in-Some.given.now name
+    c.in_ok-parser.ensures c.in_ok-matches.ensures.kinds c.in_ok-matches.ensures.matches c.in-Some.ensures.name c.in-Some.ensures.rows in
+    spells_by r.0 words name r.1.0 thing (codes "vat") r.1.1 r.1.2 (some_same (sym r.1.3 ∙ sym c.in-Some-get_str.ensures)) (same_text name (codes "vat") c.if-eq.ensures)
 
 pub returns-clause-ok : goal.returns-clause-ok
 returns-clause-ok g c =
     let words = map g.S.AsStr.text c.args.words.now in
-    let r = has_file (app_of c.in_ok-parser.field-0) words c.in_ok-matches.matches c.in-Some.of_vat.now
-    c.in_ok-parser.ensures c.in_ok-matches.ensures.kinds c.in_ok-matches.ensures.matches c.in-Some.ensures.rows in
-    let file : Some c.in-Some-get_str.file.now ≡ Some r.0 = c.in-Some-get_str.ensures ∙ r.2 in
-    let same : r.0 ≡ c.in-Some-get_str.file.now = cc in
-    subst (λ (f : List ℕ). Spells words f) same r.1
+    let name = c.in-Some.name.now in
+    let thing = c.in-Some-get_str.input.now in
+    let r = has_thing (app_of c.in_ok-parser.field-0) words c.in_ok-matches.matches c.in-Some.given.now name
+    c.in_ok-parser.ensures c.in_ok-matches.ensures.kinds c.in_ok-matches.ensures.matches c.in-Some.ensures.name c.in-Some.ensures.rows in
+    spells_by r.0 words name r.1.0 thing (codes "frame") r.1.1 r.1.2 (some_same (sym r.1.3 ∙ sym c.in-Some-get_str.ensures))
+    (other_reader r.0 name r.1.2 (other_text name (codes "vat") c.if-eq.ensures))
 
 pub returns-in_err-matches-clause-taken : goal.returns-in_err-matches-clause-taken
-returns-in_err-matches-clause-taken g c first file spelled no_flag =
-    let memory = fails_by_memory (app_of c.in_ok-parser.field-0) (map g.S.AsStr.text c.args.words.now) (first ∷ codes "vat" ∷ file ∷ []) c.in_err-matches.field-0.0
-    c.in_ok-parser.ensures c.in_err-matches.ensures.kinds spelled (takes_file first file no_flag) in
+returns-in_err-matches-clause-taken g c first name thing reader spelled no_flag =
+    let memory = fails_by_memory (app_of c.in_ok-parser.field-0) (map g.S.AsStr.text c.args.words.now) (first ∷ name ∷ thing ∷ []) c.in_err-matches.field-0.0
+    c.in_ok-parser.ensures c.in_err-matches.ensures.kinds spelled (takes_one first name thing reader no_flag) in
     passed_up c.from_residual-in_err-matches.result c.in_err-matches.field-0.0 (λ e. kind_of e ≡ OutOfMemory) c.from_residual-in_err-matches.ensures.1 memory
 
 pub returns-in_err-matches-clause-taken_after : goal.returns-in_err-matches-clause-taken_after
-returns-in_err-matches-clause-taken_after g c first file spelled =
-    let memory = fails_by_memory (app_of c.in_ok-parser.field-0) (map g.S.AsStr.text c.args.words.now) (first ∷ codes "vat" ∷ codes "--" ∷ file ∷ []) c.in_err-matches.field-0.0
-    c.in_ok-parser.ensures c.in_err-matches.ensures.kinds spelled (takes_after_dashes first file) in
+returns-in_err-matches-clause-taken_after g c first name thing reader spelled =
+    let memory = fails_by_memory (app_of c.in_ok-parser.field-0) (map g.S.AsStr.text c.args.words.now) (first ∷ name ∷ codes "--" ∷ thing ∷ []) c.in_err-matches.field-0.0
+    c.in_ok-parser.ensures c.in_err-matches.ensures.kinds spelled (takes_after_dashes first name thing reader) in
     passed_up c.from_residual-in_err-matches.result c.in_err-matches.field-0.0 (λ e. kind_of e ≡ OutOfMemory) c.from_residual-in_err-matches.ensures.1 memory
 
 pub unreachable-requires-in_default-get_str : goal.unreachable-requires-in_default-get_str
 unreachable-requires-in_default-get_str g c =
-    let r = has_file (app_of c.in_ok-parser.field-0) (map g.S.AsStr.text c.args.words.now) c.in_ok-matches.matches c.in-Some.of_vat.now
-    c.in_ok-parser.ensures c.in_ok-matches.ensures.kinds c.in_ok-matches.ensures.matches c.in-Some.ensures.rows in
-    none_differs r.0 (c.in_default-get_str.ensures ∙ r.2)
+    let r = has_thing (app_of c.in_ok-parser.field-0) (map g.S.AsStr.text c.args.words.now) c.in_ok-matches.matches c.in-Some.given.now c.in-Some.name.now
+    c.in_ok-parser.ensures c.in_ok-matches.ensures.kinds c.in_ok-matches.ensures.matches c.in-Some.ensures.name c.in-Some.ensures.rows in
+    none_differs r.1.0 (c.in_default-get_str.ensures ∙ r.1.3)

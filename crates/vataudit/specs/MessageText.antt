@@ -1,0 +1,61 @@
+-- The text of a message. Numbers are decimal, but for an interface's.
+use Rattle.std.specs.Prelude.{ℕ, ◌-◌, Bool, false, if◌then◌else◌, List, ◌++◌, length, replicate, codes}
+use Rattle.std.specs.Fmt.{decimal, digits}
+use Rattle.std.specs.List.{join_by}
+use Rattle.rpc_view.specs.declared.message.Target.{Target}
+use Rattle.rpc_view.specs.declared.message.Target.TheVariants.{Imported, Promised}
+use Rattle.rpc_view.specs.declared.message.Descriptor.{Descriptor}
+use Rattle.rpc_view.specs.declared.message.Descriptor.TheVariants.{NoCap, SenderHosted}
+use Rattle.rpc_view.specs.declared.message.Payload.{Payload}
+use Rattle.rpc_view.specs.declared.message.Outcome.{Outcome}
+use Rattle.rpc_view.specs.declared.message.Outcome.TheVariants.{Results}
+use Rattle.rpc_view.specs.declared.message.RpcMessage.{RpcMessage}
+use Rattle.rpc_view.specs.declared.message.RpcMessage.TheVariants.{Bootstrap, Call, Return}
+
+-- a path's numbers, the outermost struct's first: [a,b]
+unfoldable pub path_text : List ℕ → List ℕ
+path_text path = codes "[" ++ (join_by decimal (codes ",") path ++ codes "]")
+
+-- what a call goes to: the receiver's export by its number, or an answer's field by its path
+unfoldable pub target_text : Target → List ℕ
+target_text (Imported number) = codes "import " ++ decimal number
+target_text (Promised question path) = codes "answer " ++ (decimal question ++ (codes " " ++ path_text path))
+
+-- an entry of a capability table
+unfoldable pub descriptor_text : Descriptor → List ℕ
+descriptor_text NoCap = codes "none"
+descriptor_text (SenderHosted number) = codes "senderHosted " ++ decimal number
+
+-- a capability of the content: its path, and its index in the table
+unfoldable pub field_text : (List ℕ × ℕ) → List ℕ
+field_text field = path_text field.0 ++ (codes "=" ++ decimal field.1)
+
+-- the capability table, and the capabilities of the content
+unfoldable pub payload_text : Payload → List ℕ
+payload_text payload = codes "caps [" ++ (join_by descriptor_text (codes ";") payload.descriptors
+    ++ (codes "] fields [" ++ (join_by field_text (codes ";") payload.fields ++ codes "]")))
+
+-- sixteen hexadecimal digits: zeros, and then those of the number
+unfoldable pub hexadecimal : ℕ → List ℕ
+hexadecimal number = replicate (16 - length (digits 16 false number)) 48 ++ digits 16 false number
+
+abbrev pub bool_text : Bool → List ℕ
+bool_text b = if b then codes "true" else codes "false"
+
+-- what a Return says of its call
+unfoldable pub outcome_text : Outcome → List ℕ
+outcome_text (Results results) = codes "results " ++ payload_text results
+
+-- what a Call has behind its question, and a Return behind its answer
+unfoldable pub call_text : Target → ℕ → ℕ → Payload → List ℕ
+call_text target interface method params = codes " target " ++ (target_text target ++ (codes " interface " ++ (hexadecimal interface
+    ++ (codes " method " ++ (decimal method ++ (codes " " ++ payload_text params))))))
+
+unfoldable pub return_text : Bool → Outcome → List ℕ
+return_text releases outcome = codes " releaseParamCaps " ++ (bool_text releases ++ (codes " " ++ outcome_text outcome))
+
+-- a message: its kind, and each of its fields behind its name
+unfoldable pub message_text : RpcMessage → List ℕ
+message_text (Bootstrap question) = codes "bootstrap question " ++ decimal question
+message_text (Call question target interface method params) = codes "call question " ++ (decimal question ++ call_text target interface method params)
+message_text (Return answer releases outcome) = codes "return answer " ++ (decimal answer ++ return_text releases outcome)

@@ -1,0 +1,94 @@
+//! What `--help` prints.
+
+/// The program.
+pub const PROGRAM: &str = "\
+Judges what the vats of Cap'n Proto RPC recorded.";
+
+/// Behind the list of commands.
+pub const PROGRAM_END: &str = "\
+Each command prints its answer in lines on standard output; its own --help has
+the lines, an example and the exit status.
+
+Examples:
+  $ vataudit vat vat2.log
+  good vat 2 records 8 delivered 1
+  $ vataudit frame 0g
+  bad hex
+
+Exit status:
+  0  good, or the message
+  1  no
+  2  outside of what is judged, bad input, a line that can't be written, or a
+     wrong command line
+  3  memory ran out";
+
+/// `vat`, in the list of commands.
+pub const VAT: &str = "Audits the log of one vat";
+
+pub const VAT_LONG: &str = "\
+Audits the log of one vat of Cap'n Proto RPC. Reads the log, in the format
+VATLOG01, and prints one line:
+
+  good vat V records N delivered N   every record keeps the rules
+  no vat V record I rule CODE        record I is the first that breaks a rule
+  outside vat V record I WHY         record I is the first that isn't audited
+  bad log NAME [OFFSET]              the bytes aren't a log: a fault at an offset
+  cannot read                        no such file, or over 1073741824 bytes
+  out of memory
+
+Records and offsets are counted from 0.";
+
+pub const VAT_END: &str = "\
+Example:
+  $ vataudit vat vat2.log
+  good vat 2 records 8 delivered 1
+
+Exit status:
+  0  the log is good
+  1  a record breaks a rule
+  2  a record isn't audited, the log is bad or can't be read, the line can't be
+     written, or the command line is wrong
+  3  memory ran out";
+
+/// FILE of `vat`.
+pub const FILE: &str = "The log, a file of the working directory; - is standard input";
+
+/// `frame`, in the list of commands.
+pub const FRAME: &str = "Prints the message of a frame";
+
+pub const FRAME_LONG: &str = "\
+Reads a frame of the Cap'n Proto stream framing, given in hexadecimal, as a
+message of rpc.capnp, and prints one line:
+
+  bootstrap question Q
+  call question Q target TARGET interface H method M PAYLOAD
+  return answer Q releaseParamCaps B results PAYLOAD
+  outside WHY      the message, or a part of it, isn't read
+  bad tag          a number that stands for no message or no part of one
+  bad read NAME    a pointer can't be followed: OutOfSegment, WrongKind, Reserved,
+                   TooDeep (over 64), TooMuch (over 8388608 words)
+  bad frame NAME   no frame: Short, TooManySegments, Trailing, NoRoot
+  bad hex          not two hexadecimal digits for each byte
+  out of memory
+
+TARGET is import N or answer Q PATH. PAYLOAD is caps [DESC;DESC] fields
+[PATH=J;PATH=J]: the capability table, and each path of the content to a
+capability with its place in the table, counted from 0. DESC is none or
+senderHosted N. PATH is [A,B], pointer fields counted from 0. H is 16 hexadecimal
+digits, B is true or false, and other numbers are decimal.";
+
+pub const FRAME_END: &str = "\
+Example:
+  $ vataudit frame 00000000050000000000000001000100\
+08000000000000000000000001000100\
+00000000000000000000000000000000
+  bootstrap question 0
+
+Exit status:
+  0  the message is printed
+  2  the message is outside of what is read, the frame or its digits are bad, the
+     line can't be written, or the command line is wrong
+  3  memory ran out";
+
+/// HEX of `frame`.
+pub const HEX: &str = "The frame, two digits a byte in either case, without blanks";

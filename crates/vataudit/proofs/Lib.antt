@@ -1,2 +1,4 @@
+pub mod CaseFiles
+pub mod CaseReadings
 pub mod Joined
 pub mod Reading

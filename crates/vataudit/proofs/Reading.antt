@@ -16,8 +16,8 @@ use Rattle.clap.specs.declared.Error.{Error}
 use Rattle.clap.specs.declared.ArgMatches.{ArgMatches}
 use Rattle.clap.proofs.WalkLemmas.{first_value-rows}
 use Rattle.clap.proofs.OnLiterals.{clap_on_literals}
-use Rattle.vataudit.specs.Parser.{input, program, reader}
-use Rattle.vataudit.specs.Spelled.{IsReader, SpellsOne, is_flag}
+use Rattle.vataudit.specs.Parser.{input, order, path, program, reader}
+use Rattle.vataudit.specs.Spelled.{IsReader, SpellsOne, is_flag, SpellsOrder}
 
 abbrev dashes : Text
 dashes = codes "--"
@@ -209,29 +209,34 @@ abbrev pub word_of : Reader → Text
 word_of of_vat = codes "vat"
 word_of of_frame = codes "frame"
 
--- the subcommand of a word that is `vat`, or `frame`, or `help`, or none of them
-abbrev met_by : Bool → Bool → Bool → Option Text
-met_by is_vat is_frame is_help = option_map (λ (s : Text × List Text). s.0) (if is_vat || false then Some (codes "vat", [])
-    else (if is_frame || false then Some (codes "frame", []) else (if is_help || false then Some (codes "help", []) else None)))
+-- the command that isn't one of them
+abbrev ordering : Text
+ordering = codes "order"
 
-abbrev turn_by : Text → Bool → Bool → Bool → Kinds
-turn_by w is_vat is_frame is_help =
-    let met = subcommand_or_other main.rules (met_by is_vat is_frame is_help) idle 1 w (holding None) in
-    or_else (other_fault main (met_by is_vat is_frame is_help) w (holding None)) (step_fault main 1 met.0 met.1)
+-- the subcommand of a word that is `vat`, or `frame`, or `order`, or `help`, or none of them
+abbrev met_by : Bool → Bool → Bool → Bool → Option Text
+met_by is_vat is_frame is_order is_help = option_map (λ (s : Text × List Text). s.0) (if is_vat || false then Some (codes "vat", [])
+    else (if is_frame || false then Some (codes "frame", []) else (if is_order || false then Some (ordering, []) else (if is_help || false then Some (codes "help", []) else None))))
 
-first_main : (w : Text) → turn_fault main names (at None 1 false) w ≡ [] → ((r : Reader) × (w ≡ word_of r)) ⊎ (w ≡ dashes)
-first_main w e = go (bytes_eq (codes "vat") w) (bytes_eq (codes "frame") w) (bytes_eq (codes "help") w) refl refl e
+abbrev turn_by : Text → Bool → Bool → Bool → Bool → Kinds
+turn_by w is_vat is_frame is_order is_help =
+    let met = subcommand_or_other main.rules (met_by is_vat is_frame is_order is_help) idle 1 w (holding None) in
+    or_else (other_fault main (met_by is_vat is_frame is_order is_help) w (holding None)) (step_fault main 1 met.0 met.1)
+
+first_main : (w : Text) → turn_fault main names (at None 1 false) w ≡ [] → ((r : Reader) × (w ≡ word_of r)) ⊎ ((w ≡ ordering) ⊎ (w ≡ dashes))
+first_main w e = go (bytes_eq (codes "vat") w) (bytes_eq (codes "frame") w) (bytes_eq ordering w) (bytes_eq (codes "help") w) refl refl refl e
   where
-    go : (is_vat is_frame is_help : Bool) → bytes_eq (codes "vat") w ≡ is_vat → bytes_eq (codes "frame") w ≡ is_frame → turn_by w is_vat is_frame is_help ≡ []
-        → ((r : Reader) × (w ≡ word_of r)) ⊎ (w ≡ dashes)
-    go true is_frame is_help is differs e = inl (of_vat, sym ((bytes_eq-Decides (codes "vat") w).0 is))
-    go false true is_help differs is e = inl (of_frame, sym ((bytes_eq-Decides (codes "frame") w).0 is))
-    go false false true differs differ e = absurd (never e)
-    go false false false differs differ e =
+    go : (is_vat is_frame is_order is_help : Bool) → bytes_eq (codes "vat") w ≡ is_vat → bytes_eq (codes "frame") w ≡ is_frame → bytes_eq ordering w ≡ is_order
+        → turn_by w is_vat is_frame is_order is_help ≡ [] → ((r : Reader) × (w ≡ word_of r)) ⊎ ((w ≡ ordering) ⊎ (w ≡ dashes))
+    go true is_frame is_order is_help is differs differ e = inl (of_vat, sym ((bytes_eq-Decides (codes "vat") w).0 is))
+    go false true is_order is_help differs is differ e = inl (of_frame, sym ((bytes_eq-Decides (codes "frame") w).0 is))
+    go false false true is_help differs differ is e = inr (inl (sym ((bytes_eq-Decides ordering w).0 is)))
+    go false false false true differs differ differed e = absurd (never e)
+    go false false false false differs differ differed e =
         let met = word_met main.rules [] false idle 1 w (holding None) in
         let stray : step_fault main 1 met.0 met.1 ≡ [] = then_none (other_fault main None w (holding None)) (step_fault main 1 met.0 met.1) e in
         elim (word_plain main.rules main_longs main_shorts None 1 w (first_none (other_fault main None w (holding None)) _ e)) [
-          | inl d ↦ inr d
+          | inl d ↦ inr (inr d)
           | inr is ↦ absurd (never (sym (ap (λ (m : Held × Step). step_fault main 1 m.0 m.1) is) ∙ stray))
         ]
 
@@ -248,6 +253,10 @@ unfolding walked
 stop_at of_vat words = stops (holding None) idle 1 false (codes "vat") [] words
 stop_at of_frame words = stops (holding None) idle 1 false (codes "frame") [] words
 
+stop_order : (words : List Text) → (walk main.rules names nothing_held (ordering ∷ words)).stopped ≡ Some (ordering, words)
+unfolding walked
+stop_order words = stops (holding None) idle 1 false ordering [] words
+
 -- the command that is entered reads the words that are left
 entered_level : (r : Reader) (words : List Text) → entered_fault (built program) (Some (word_of r, words)) ≡ level_fault (sub (word_of r)) [] nothing_held words false []
 entered_level of_vat words = refl
@@ -262,8 +271,15 @@ unfolding clap_on_literals
 no_command [] e = never e
 no_command (v ∷ vs) e = never e
 
-main_read : (words : List Text) → built_fault (built program) nothing_held words ≡ []
-    → (r : Reader) × ((rest : List Text) × (words ≡ word_of r ∷ rest) × (level_fault (sub (word_of r)) [] nothing_held rest false [] ≡ []))
+-- the words begin with the name of a command that reads one thing, and it reads the others
+abbrev IsOne : List Text → Type 0
+IsOne words = (r : Reader) × ((rest : List Text) × (words ≡ word_of r ∷ rest) × (level_fault (sub (word_of r)) [] nothing_held rest false [] ≡ []))
+
+-- they begin with `order`
+abbrev IsOrdering : List Text → Type 0
+IsOrdering words = (rest : List Text) × (words ≡ ordering ∷ rest)
+
+main_read : (words : List Text) → built_fault (built program) nothing_held words ≡ [] → IsOne words ⊎ IsOrdering words
 unfolding clap_on_literals
 main_read [] e = absurd (never e)
 main_read (w ∷ rest) e =
@@ -273,7 +289,8 @@ main_read (w ∷ rest) e =
           let name = word_of v.0 in
           let whole : built_fault (built program) nothing_held (name ∷ rest) ≡ [] = subst (λ (x : Text). built_fault (built program) nothing_held (x ∷ rest) ≡ []) v.1 e in
           let stop = (walk main.rules names nothing_held (name ∷ rest)).stopped in
-          let below : entered_fault (built program) stop ≡ [] = first_none (entered_fault (built program) stop) _ (then_none (walk_fault main names (at None 1 false) (name ∷ rest)) _ whole) in (
+          let below : entered_fault (built program) stop ≡ [] = first_none (entered_fault (built program) stop) _ (then_none (walk_fault main names (at None 1 false) (name ∷ rest)) _ whole) in
+          inl (
             v.0,
             (
               rest,
@@ -281,20 +298,25 @@ main_read (w ∷ rest) e =
               sym (entered_level v.0 rest) ∙ subst (λ (s : Option (Text × List Text)). entered_fault (built program) s ≡ []) (stop_at v.0 rest) below,
             ),
           )
-      | inr d ↦ absurd (no_command rest (subst (λ (x : Text). built_fault (built program) nothing_held (x ∷ rest) ≡ []) d e))
+      | inr (inl o) ↦ inr (rest, ap (λ x. x ∷ rest) o)
+      | inr (inr d) ↦ absurd (no_command rest (subst (λ (x : Text). built_fault (built program) nothing_held (x ∷ rest) ≡ []) d e))
     ]
 
 -- the name of the command that was entered, and the one thing that it reads
 abbrev thing_read : Option (Text × List Row) → Option (Text × Option Text)
 thing_read = option_map (λ p. (p.0, first_of input p.1))
 
--- where clap finds no fault in the words, they spell a command and the one thing, which are what it reads
-reads : (words : List Text) → fault_of program words ≡ []
-    → (r : Reader) × ((file : Text) × SpellsOne (word_of r) words file × (thing_read (subcommand_of program words) ≡ Some (word_of r, Some file)))
+-- the words spell a command and the one thing, which are what clap reads
+abbrev ReadsOne : List Text → Type 0
+ReadsOne words = (r : Reader) × ((file : Text) × SpellsOne (word_of r) words file × (thing_read (subcommand_of program words) ≡ Some (word_of r, Some file)))
+
+-- the name of the command that was entered
+abbrev name_read : Option (Text × List Row) → Option Text
+name_read = option_map (λ p. p.0)
+
+reads_one : (first : Text) (words : List Text) → IsOne words → ReadsOne (first ∷ words)
 unfolding clap_on_literals
-reads [] e = absurd (never e)
-reads (first ∷ words) e =
-    let m = main_read words e in
+reads_one first words m =
     let name = word_of m.0 in
     let rest = m.1.0 in
     let r = words_read name rest m.1.2 in
@@ -313,6 +335,18 @@ reads (first ∷ words) e =
             ∙ ap (λ o. Some (name, o)) r.1.1,
       ),
     )
+
+reads_order : (first : Text) (words : List Text) → IsOrdering words → name_read (subcommand_of program (first ∷ words)) ≡ Some ordering
+unfolding clap_on_literals
+reads_order first words m =
+    ap (λ (ws : List Text). name_read (entered (built program) (stop_after main.rules names ws))) m.1
+    ∙ ap (λ (s : Option (Text × List Text)). name_read (entered (built program) s)) (stop_order m.0)
+
+-- where clap finds no fault in the words, they spell a command and the one thing, or it reads `order`
+reads : (words : List Text) → fault_of program words ≡ [] → ReadsOne words ⊎ (name_read (subcommand_of program words) ≡ Some ordering)
+unfolding clap_on_literals
+reads [] e = absurd (never e)
+reads (first ∷ words) e = elim (main_read words e) [ inl m ↦ inl (reads_one first words m) | inr m ↦ inr (reads_order first words m) ]
 
 -- ---- a word that is no flag
 
@@ -365,6 +399,22 @@ takes_after_dashes first name file reads =
     let r = reader_of name reads in
     ap (λ (n : Text). fault_of program (first ∷ n ∷ dashes ∷ file ∷ [])) r.1 ∙ taken_after_by r.0 first file
 
+-- `order CASE --out FILE`
+abbrev order_sub : Shape
+order_sub = unwrap_or (slice_get (built program).subs 2) order.top
+
+order_words : (file out : Text) → is_flag file ≡ false → is_flag out ≡ false → level_fault order_sub [] nothing_held (file ∷ codes "--out" ∷ out ∷ []) false [] ≡ []
+unfolding clap_on_literals
+order_words file out e h =
+    let is = plain_word_is file e in
+    let are = plain_word_is out h in
+    rw (is.0, is.1, is.2, are.0, are.1, are.2) refl
+
+-- has no fault, where CASE and FILE are no flags
+pub takes_order : (first file out : Text) → is_flag file ≡ false → is_flag out ≡ false → fault_of program (first ∷ ordering ∷ file ∷ codes "--out" ∷ out ∷ []) ≡ []
+unfolding clap_on_literals
+takes_order first file out e h = ap (λ (k : Kinds). or_else k []) (order_words file out e h)
+
 -- ---- the matches
 
 pub some_same : {A : Type 0} {x y : A} → Some x ≡ Some y → x ≡ y
@@ -386,21 +436,61 @@ map_twice f g (Some x) = refl
 name_in_rows : (m : ArgMatches) → subcommand_name_of m ≡ option_map (λ (p : Text × List Row). p.0) (subcommand_rows_of m)
 name_in_rows m = sym (map_twice (λ (p : Text × List Row). p.0) _ _)
 
--- a parse that succeeds has a command and the one thing, and the words spell them
-pub has_thing : (app : App) (words : List Text) (m given : ArgMatches) (name : Text) → app ≡ program
+-- what clap read
+rows_read : (read : Option (Text × List Row)) (name : Text) (rows : List Row) → Some name ≡ option_map (λ p. p.0) read → Some rows ≡ option_map (λ p. p.1) read → read ≡ Some (name, rows)
+rows_read None name rows named same = absurd (cc)
+rows_read (Some p) name rows named same =
+    let this : name ≡ p.0 = cc in
+    let these : rows ≡ p.1 = cc in
+    ap₂ (λ (n : Text) (rs : List Row). Some (n, rs)) (sym this) (sym these)
+
+-- the words spell a command and the one thing, which were matched
+abbrev pub MatchesOne : List Text → Text → ArgMatches → Type 0
+MatchesOne words name given = (r : Reader) × ((file : Text) × SpellsOne (word_of r) words file × (name ≡ word_of r) × (first_value (found_of given) input ≡ Some file))
+
+-- a parse that succeeds has a command and the one thing, and the words spell them; or it has `order`
+has_command : (app : App) (words : List Text) (m given : ArgMatches) (name : Text) → app ≡ program
     → (is_simple_and_free app ≡ true → fault_of app words ≡ []) → HasMatchesOf app words m
     → Some name ≡ subcommand_name_of m → Some (rows_of (found_of given)) ≡ option_map (λ p. p.1) (subcommand_rows_of m)
-    → (r : Reader) × ((file : Text) × SpellsOne (word_of r) words file × (name ≡ word_of r) × (first_value (found_of given) input ≡ Some file))
+    → MatchesOne words name given ⊎ (name ≡ ordering)
 unfolding clap_on_literals
-has_thing app words m given name is faults matches named rows =
+has_command app words m given name is faults matches named rows =
     let free : is_simple_and_free app ≡ true = ap is_simple_and_free is in
     let simple : is_simple app ≡ true = ap is_simple is in
     let fault : fault_of program words ≡ [] = subst (λ (a : App). fault_of a words ≡ []) is (faults free) in
-    let r = reads words fault in
-    let read : thing_read (subcommand_rows_of m) ≡ Some (word_of r.0, Some r.1.0) =
-    ap thing_read ((matches simple).1 ∙ ap (λ (a : App). subcommand_of a words) is) ∙ r.1.2 in
-    let at = thing_at (subcommand_rows_of m) name (word_of r.0) r.1.0 (rows_of (found_of given)) (named ∙ name_in_rows m) rows read in
-    (r.0, (r.1.0, r.1.1, at.0, first_value-rows (found_of given) input ∙ at.1))
+    let same : subcommand_rows_of m ≡ subcommand_of program words = (matches simple).1 ∙ ap (λ (a : App). subcommand_of a words) is in
+    elim (reads words fault) [
+      | inl r ↦
+          let read : thing_read (subcommand_rows_of m) ≡ Some (word_of r.0, Some r.1.0) = ap thing_read same ∙ r.1.2 in
+          let at = thing_at (subcommand_rows_of m) name (word_of r.0) r.1.0 (rows_of (found_of given)) (named ∙ name_in_rows m) rows read in
+          inl (r.0, (r.1.0, r.1.1, at.0, first_value-rows (found_of given) input ∙ at.1))
+      | inr o ↦ inr (some_same (named ∙ name_in_rows m ∙ ap name_read same ∙ o))
+    ]
+
+-- where it isn't `order`
+pub has_thing : (app : App) (words : List Text) (m given : ArgMatches) (name : Text) → app ≡ program
+    → (is_simple_and_free app ≡ true → fault_of app words ≡ []) → HasMatchesOf app words m
+    → Some name ≡ subcommand_name_of m → Some (rows_of (found_of given)) ≡ option_map (λ p. p.1) (subcommand_rows_of m)
+    → (name ≡ ordering → ⊥) → MatchesOne words name given
+has_thing app words m given name is faults matches named rows other =
+    elim (has_command app words m given name is faults matches named rows) [ inl r ↦ r | inr o ↦ absurd (other o) ]
+
+-- where it is
+pub has_order : (app : App) (words : List Text) (m given : ArgMatches) (name file out : Text) → app ≡ program → HasMatchesOf app words m
+    → Some name ≡ subcommand_name_of m → Some (rows_of (found_of given)) ≡ option_map (λ p. p.1) (subcommand_rows_of m) → name ≡ ordering
+    → file ≡ unwrap_or (first_value (found_of given) input) [] → out ≡ unwrap_or (first_value (found_of given) path) [] → SpellsOrder words file out
+unfolding clap_on_literals
+has_order app words m given name file out is matches named rows this file_is out_is =
+    let simple : is_simple app ≡ true = ap is_simple is in
+    let same : subcommand_rows_of m ≡ subcommand_of program words = (matches simple).1 ∙ ap (λ (a : App). subcommand_of a words) is in
+    let read : subcommand_rows_of m ≡ Some (name, rows_of (found_of given)) = rows_read (subcommand_rows_of m) name (rows_of (found_of given)) (named ∙ name_in_rows m) rows in (
+      rows_of (found_of given),
+      (
+        sym same ∙ read ∙ ap (λ (n : Text). Some (n, rows_of (found_of given))) this,
+        file_is ∙ ap (λ o. unwrap_or o []) (first_value-rows (found_of given) input),
+        out_is ∙ ap (λ o. unwrap_or o []) (first_value-rows (found_of given) path),
+      ),
+    )
 
 -- and only want of memory fails where clap finds no fault in the words
 pub fails_by_memory : (app : App) (words others : List Text) (e : Error) → app ≡ program

@@ -5,7 +5,7 @@ use Rattle.vataudit.specs.declared.answer.Answer.{Answer}
 use Rattle.vataudit.specs.declared.source.SourceError.{SourceError}
 use Rattle.vataudit.specs.declared.source.SourceError.TheVariants.{CannotRead, OutOfMemory}
 use Rattle.vataudit.specs.declared.command.Command.{Command}
-use Rattle.vataudit.specs.declared.command.Command.TheVariants.{Vat, Frame}
+use Rattle.vataudit.specs.declared.command.Command.TheVariants.{Vat, Frame, Order}
 use Rattle.vataudit.specs.FrameLines.{AnswersHex}
 use Rattle.vataudit.specs.Lines.{AnswersLog, line}
 
@@ -37,7 +37,8 @@ abbrev pub PrintsOrFails : (List ℕ → ℕ → Type 0) → Option (List ℕ) �
 PrintsOrFails answers old new status = Prints answers old new status ⊎ (status ≡ 2)
 
 -- What a run of a command takes from its source, which read_gives speaks of, and what it then prints: the log of a vat is
--- read once, by its name, and a frame asks for nothing.
+-- read once, by its name, and a frame asks for nothing. Of the order of a case Leaves (specs/OrderRuns.antt) says all.
 abbrev pub Runs : {S : Type 0} → (S → List ℕ → Result (List ℕ) SourceError → S → Type 0) → Command → S → S → ((List ℕ → ℕ → Type 0) → Type 0) → Type 0
 Runs read_gives (Vat file) old new prints = (read : Result (List ℕ) SourceError) × read_gives old file.now read new × prints (AnswersSource read)
 Runs read_gives (Frame hex) old new prints = (new ≡ old) × prints (AnswersFrame hex.now)
+Runs read_gives (Order name out) old new prints = Unit {0}

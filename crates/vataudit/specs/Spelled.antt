@@ -1,7 +1,9 @@
 -- How words spell commands.
-use Rattle.std.specs.Prelude.{◌≡◌, ◌⊎◌, ◌==◌, ℕ, Bool, false, List, [], ◌∷◌, codes}
+use Rattle.std.specs.Prelude.{◌≡◌, ◌⊎◌, ◌==◌, ℕ, Bool, false, List, [], ◌∷◌, Some, codes, unwrap_or}
 use Rattle.vataudit.specs.declared.command.Command.{Command}
-use Rattle.vataudit.specs.declared.command.Command.TheVariants.{Vat, Frame}
+use Rattle.vataudit.specs.declared.command.Command.TheVariants.{Vat, Frame, Order}
+use Rattle.clap.specs.Words.{Row, first_of, subcommand_of}
+use Rattle.vataudit.specs.Parser.{input, path, program}
 
 -- a word that begins with a hyphen, but `-`
 abbrev pub is_flag : List ℕ → Bool
@@ -17,11 +19,23 @@ SpellsOne name words thing = (first : List ℕ) ×
     ⊎ ((words ≡ first ∷ name ∷ codes "--" ∷ thing ∷ [])
     ⊎ (words ≡ first ∷ name ∷ thing ∷ codes "--" ∷ [])))
 
+-- The words are read as `order CASE --out FILE`, by the rules of clap: CASE and FILE are what it finds, and both are required.
+abbrev pub SpellsOrder : List (List ℕ) → List ℕ → List ℕ → Type 0
+SpellsOrder words name out = (rows : List Row) ×
+    ((subcommand_of program words ≡ Some (codes "order", rows)) × (name ≡ unwrap_or (first_of input rows) []) × (out ≡ unwrap_or (first_of path rows) []))
+
 -- the words spell the command
 abbrev pub Spells : List (List ℕ) → Command → Type 0
 Spells words (Vat file) = SpellsOne (codes "vat") words file.now
 Spells words (Frame hex) = SpellsOne (codes "frame") words hex.now
+Spells words (Order name out) = SpellsOrder words name.now out.now
 
 -- the name of a command that reads one thing
 abbrev pub IsReader : List ℕ → Type 0
 IsReader name = (name ≡ codes "vat") ⊎ (name ≡ codes "frame")
+
+-- the name of the file that a command writes, empty where it writes none
+abbrev pub out_of : Command → List ℕ
+out_of (Vat name) = []
+out_of (Frame hex) = []
+out_of (Order name out) = out.now

@@ -93,7 +93,7 @@ fn outcome_status(outcome: &Outcome) -> u8
 }
 
 /// The name of a log's fault, with its offset where it has one.
-fn fault_name(alloc: Global, fault: LogError) -> Result<String, AllocError>
+pub fn fault_name(alloc: Global, fault: LogError) -> Result<String, AllocError>
     ensures { IfOk result (λ text. string_bytes text ≡ fault_name fault) }
 {
     match fault {

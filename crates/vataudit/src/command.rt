@@ -2,8 +2,8 @@
 
 ghost use Rattle.std.specs.Prelude.{◌≡◌, ℕ, List, [], ◌∷◌, codes, IfOk, IfErr, map, false};
 ghost use Rattle.clap.specs.Words.{app_of, kind_of, with_subcommand};
-ghost use Rattle.vataudit.specs.Parser.{program, reader};
-ghost use Rattle.vataudit.specs.Spelled.{IsReader, Spells, is_flag};
+ghost use Rattle.vataudit.specs.Parser.{order, program, reader};
+ghost use Rattle.vataudit.specs.Spelled.{IsReader, Spells, is_flag, out_of};
 
 use crate::help;
 use clap::error::ErrorKind;
@@ -14,6 +14,9 @@ use std::convert::AsStr;
 /// By what `clap` knows the one thing that a command reads.
 const INPUT: &str = "input";
 
+/// By what `clap` knows the file that is written.
+const OUT: &str = "out";
+
 /// What the program is asked to do.
 #[derive(Clone, Copy, Debug, PartialEq, Eq)]
 pub enum Command<'a> {
@@ -21,6 +24,20 @@ pub enum Command<'a> {
     Vat { file: &'a str },
     /// Print the message of a frame, which is given in hexadecimal.
     Frame { hex: &'a str },
+    /// Make the order of the case that the source has under this name, and write it to a file.
+    Order { case: &'a str, out: &'a str },
+}
+
+impl<'a> Command<'a> {
+    /// The name of the file that is written, empty where none is.
+    pub fn out(&self) -> &'a str
+        ensures { result.now ≡ out_of self.now }
+    {
+        match self {
+            Command::Order { out, .. } => out,
+            Command::Vat { .. } | Command::Frame { .. } => "",
+        }
+    }
 }
 
 /// The program with its command `vat FILE`.
@@ -66,6 +83,35 @@ fn with_frame<'a>(
     program.subcommand(frame)
 }
 
+/// The program with its command `order CASE --out FILE`.
+///
+/// # Errors
+///
+/// Want of memory.
+fn with_order<'a>(
+    alloc: Global,
+    program: clap::Command<'a>,
+) -> Result<clap::Command<'a>, AllocError>
+    ensures { IfOk result (λ c. app_of c ≡ with_subcommand (app_of program.entry) order.top) }
+{
+    let case = Arg::new(alloc, INPUT)
+        .value_name("CASE")
+        .required(true)
+        .help(help::CASE);
+    let out = Arg::new(alloc, OUT)
+        .long("out")
+        .value_name("FILE")
+        .required(true)
+        .help(help::OUT);
+    let order = clap::Command::new(alloc, "order")
+        .about(help::ORDER)
+        .long_about(help::ORDER_LONG)
+        .after_help(help::ORDER_END)
+        .arg(case)?
+        .arg(out)?;
+    program.subcommand(order)
+}
+
 /// The program's command line, with its help.
 ///
 /// # Errors
@@ -79,11 +125,12 @@ fn parser<'a>(alloc: Global) -> Result<clap::Command<'a>, AllocError>
         .after_help(help::PROGRAM_END)
         .subcommand_required(true)
         .arg_required_else_help(true);
-    with_frame(alloc, with_vat(alloc, top)?)
+    with_order(alloc, with_frame(alloc, with_vat(alloc, top)?)?)
 }
 
-/// The command that the words spell, of which the first is the program's name: `vat FILE` or `frame HEX`. Before or after
-/// the last of these may stand `--`, and it may begin with a hyphen only after that or where it is `-`.
+/// The command that the words spell, of which the first is the program's name: `vat FILE` or `frame HEX`, where before or
+/// after the last of these may stand `--`, and it may begin with a hyphen only after that or where it is `-`; or
+/// `order CASE --out FILE`, as `clap` reads it.
 ///
 /// # Errors
 ///
@@ -94,11 +141,19 @@ pub fn command_of<'a, S: AsStr>(alloc: Global, words: &'a [S]) -> Result<Command
         → IfErr result (λ e. kind_of e ≡ ErrorKind.OutOfMemory) }
     ensures taken_after { (first name thing : List ℕ) → IsReader name → map S.text words.entry.now ≡ first ∷ name ∷ codes "--" ∷ thing ∷ []
         → IfErr result (λ e. kind_of e ≡ ErrorKind.OutOfMemory) }
+    ensures taken_order { (first case out : List ℕ) → map S.text words.entry.now ≡ first ∷ codes "order" ∷ case ∷ codes "--out" ∷ out ∷ []
+        → is_flag case ≡ false → is_flag out ≡ false → IfErr result (λ e. kind_of e ≡ ErrorKind.OutOfMemory) }
 {
     let matches = parser(alloc)?.try_get_matches_from(words)?;
     let Some((name, given)) = matches.subcommand() else {
         unreachable!()
     };
+    if name == "order" {
+        return Ok(Command::Order {
+            case: given.get_str(INPUT).unwrap_or(""),
+            out: given.get_str(OUT).unwrap_or(""),
+        });
+    }
     let Some(input) = given.get_str(INPUT) else {
         unreachable!()
     };

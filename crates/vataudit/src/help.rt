@@ -16,10 +16,9 @@ Examples:
   abort
 
 Exit status:
-  0  good, or the message
+  0  good, the message, or an order
   1  no
-  2  outside of what is judged, bad input, a line that can't be written, or a
-     wrong command line
+  2  outside of what is judged, bad input, a failed write, or a wrong command line
   3  memory ran out";
 
 /// `vat`, in the list of commands.
@@ -98,3 +97,43 @@ Exit status:
 
 /// HEX of `frame`.
 pub const HEX: &str = "The frame, two digits a byte in either case, without blanks";
+
+/// `order`, in the list of commands.
+pub const ORDER: &str = "Makes an order of the records of a case";
+
+pub const ORDER_LONG: &str = "\
+Reads a case and the files that it names, makes an order of the records of its
+logs in which each frame is sent before it is received, taking the smallest vat
+number that may come at each step, writes it to FILE in the format VATORD01, and
+prints one line:
+
+  order steps N             an order of N steps is written
+  no order exists           none is, and FILE isn't made
+  bad case [NAME [NUMBER]]  no case file, or a case that doesn't hold together:
+                            TooManyVats, SameVat V, TooManyLinks, SameLink C,
+                            MissingLog C, SameEnds C
+  bad log NAME [OFFSET]     the bytes aren't a log: a fault at an offset
+  bad order NAME [OFFSET]   the order that the case names isn't one
+  cannot read               no such file, or over 1073741824 bytes
+  out of memory
+
+A case file is a JSON object with logs, a list of file names, links, a list of
+[CONNECTION, VAT, VAT], and, if wanted, order, a file name.";
+
+pub const ORDER_END: &str = "\
+Example:
+  $ vataudit order case.json --out made.order
+  order steps 8
+
+Exit status:
+  0  the order is written
+  1  no order exists
+  2  the case or a file of it is bad or can't be read, a write failed, or the
+     command line is wrong
+  3  memory ran out";
+
+/// CASE of `order`.
+pub const CASE: &str = "The case, a file of the working directory; - is standard input";
+
+/// FILE of `order`.
+pub const OUT: &str = "The file that the order is written to";

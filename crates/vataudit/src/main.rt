@@ -1,21 +1,30 @@
-//! Audits what the vats of Cap'n Proto RPC recorded: `vataudit vat FILE` prints one line for the log of one vat, and
-//! `vataudit frame HEX` the message of a frame.
+//! Audits what the vats of Cap'n Proto RPC recorded: `vataudit vat FILE` prints one line for the log of one vat,
+//! `vataudit frame HEX` the message of a frame, and `vataudit order CASE --out FILE` makes an order of the records of a case.
 //!
 //! A command line becomes a `Command` (command.rt, help.rt), whose file a `Source` gives (source.rt, file.rt); the line and
 //! the exit status are an `Answer` (answer.rt for a log, frame_answer.rt and message_text.rt for a frame), which `run_on`
-//! prints (run.rt). What is printed is said by specs/Lines.antt, specs/FrameLines.antt, specs/MessageText.antt and
-//! specs/Printed.antt, and which words spell a command by specs/Spelled.antt.
+//! prints (run.rt). A case is read from its files (case_file.rt, case_reading.rt, case_fault.rt); its order is answered
+//! (order_answer.rt), written to a file (new_file.rt) and told (order.rt), as specs/CaseFile.antt, specs/CaseReading.antt,
+//! specs/OrderLines.antt and specs/OrderRuns.antt say. What else is printed is said by specs/Lines.antt,
+//! specs/FrameLines.antt, specs/MessageText.antt and specs/Printed.antt, and which words spell a command by
+//! specs/Spelled.antt.
 #![tactic(auto)]
 
 ghost use Rattle.std.specs.Prelude.{◌≡◌, ◌≢◌, ◌⊎◌};
 ghost use Rattle.clap.specs.Words.{kind_of};
 
 mod answer;
+mod case_fault;
+mod case_file;
+mod case_reading;
 mod command;
 mod file;
 mod frame_answer;
 mod help;
 mod message_text;
+mod new_file;
+mod order;
+mod order_answer;
 mod run;
 mod source;
 #[cfg(test)]
@@ -24,6 +33,7 @@ mod tests;
 use clap::error::ErrorKind;
 use command::command_of;
 use file::Folder;
+use new_file::NewFile;
 use run::{FAILED, OUT_OF_MEMORY, run_on};
 use std::process::ExitCode;
 use std::{env, io};
@@ -58,7 +68,7 @@ fn start(rt: &HostRuntime, words: &[String]) -> u8 {
             &command,
             &mut Folder::new(rt),
             &mut rt.stdout(),
-            &mut io::sink(),
+            &mut NewFile::new(rt, command.out()),
         ),
         Err(error) => refuse(rt, &error),
     }

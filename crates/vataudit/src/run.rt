@@ -3,11 +3,13 @@
 ghost use Rattle.std.specs.Prelude.{◌≡◌, List, ℕ, OnOk, IfOk, Result as Answered};
 ghost use Rattle.std.specs.Io.KnownBytes.{Appends};
 ghost use Rattle.vataudit.specs.declared.source.SourceError.{SourceError};
+ghost use Rattle.vataudit.specs.OrderRuns.{Leaves};
 ghost use Rattle.vataudit.specs.Printed.{GivesAnswer, AnswersFrame, AnswersSource, Prints, PrintsOrFails, Runs};
 
 use crate::answer::{Answer, answer_of_log};
 use crate::command::Command;
 use crate::frame_answer::answer_of_frame;
+use crate::order::make_order_of;
 use crate::source::{Source, SourceError};
 use std::alloc::{AllocError, Global};
 use std::io;
@@ -28,7 +30,7 @@ fn answer_from<S: Source>(alloc: Global, source: &mut S, name: &str) -> Result<A
 }
 
 /// Writes a text, and gives back the status that goes with it.
-fn print<W: Write>(out: &mut W, text: &str, status: u8) -> io::Result<u8>
+pub fn print<W: Write>(out: &mut W, text: &str, status: u8) -> io::Result<u8>
     ensures status { IfOk result (λ s. s ≡ status) }
     ensures text { OnOk result (Appends (W.contents out.old) (W.contents out.new) text.now) }
 {
@@ -64,10 +66,10 @@ fn show<W: Write>(alloc: Global, hex: &str, out: &mut W) -> io::Result<u8>
     }
 }
 
-/// Runs a command: writes its one line to `out`, and answers the exit status. It is 0 where the log is good or the message
-/// of a frame is printed, 1 where a record breaks a rule, 2 where a record isn't judged, a message isn't read, the log, the
-/// frame or its digits are bad, the log can't be read or the line can't be written, and 3 where memory ran out. After a
-/// failed write nothing more is written. Nothing is written to `file`.
+/// Runs a command: writes its one line to `out`, and answers the exit status. It is 0 where the log is good, the message of
+/// a frame is printed or an order is made, 1 where a record breaks a rule or no order exists, 2 where a record isn't judged,
+/// a message isn't read, the input is bad or can't be read, or a write fails, and 3 where memory ran out. After a failed
+/// write nothing more is written. To `file` go the bytes of an order alone, before the line.
 pub fn run_on<S: Source, W: Write, F: Write>(
     alloc: Global,
     command: &Command<'_>,
@@ -76,11 +78,12 @@ pub fn run_on<S: Source, W: Write, F: Write>(
     file: &mut F,
 ) -> u8
     ensures printed { Runs S.read_gives command.now source.old source.new (λ answers. PrintsOrFails answers (W.contents out.old) (W.contents out.new) result) }
-    ensures file { file.new ≡ file.old }
+    ensures saved { Leaves S.read_gives F.contents W.contents command.now source.old source.new file.old file.new out.old out.new result }
 {
     let printed = match command {
-        Command::Vat { file } => audit(alloc, file, source, out),
+        Command::Vat { file: name } => audit(alloc, name, source, out),
         Command::Frame { hex } => show(alloc, hex, out),
+        Command::Order { case, .. } => return make_order_of(alloc, case, source, out, file),
     };
     printed.unwrap_or(FAILED)
 }

@@ -388,7 +388,7 @@ fn meant<'a>(alloc: Global, words: &'a [&'a str]) -> Result<Command<'a>, ErrorKi
 fn file_of<'a>(alloc: Global, words: &'a [&'a str]) -> Result<&'a str, ErrorKind> {
     match meant(alloc, words)? {
         Command::Vat { file } => Ok(file),
-        Command::Frame { .. } => Err(ErrorKind::InvalidSubcommand),
+        Command::Frame { .. } | Command::Order { .. } => Err(ErrorKind::InvalidSubcommand),
     }
 }
 
@@ -396,7 +396,7 @@ fn file_of<'a>(alloc: Global, words: &'a [&'a str]) -> Result<&'a str, ErrorKind
 fn hex_of<'a>(alloc: Global, words: &'a [&'a str]) -> Result<&'a str, ErrorKind> {
     match meant(alloc, words)? {
         Command::Frame { hex } => Ok(hex),
-        Command::Vat { .. } => Err(ErrorKind::InvalidSubcommand),
+        Command::Vat { .. } | Command::Order { .. } => Err(ErrorKind::InvalidSubcommand),
     }
 }
 

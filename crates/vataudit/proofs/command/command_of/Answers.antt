@@ -1,28 +1,26 @@
-use Rattle.std.proofs.Common.{◌≡◌, ◌∙◌, sym, map, [], ◌∷◌, codes}
+use Rattle.std.proofs.Common.{◌≡◌, ◌∙◌, ℕ, List, Option, None, Some, Bor, option_map, unwrap_or, refl, ap, sym, map, [], ◌∷◌, codes}
 use Rattle.clap.specs.Words.{app_of, kind_of}
 use Rattle.clap.specs.declared.error.ErrorKind.TheVariants.{OutOfMemory}
 use Rattle.clap.proofs.TakesLemmas.{passed_up}
-use Rattle.vataudit.proofs.Reading.{fails_by_memory, has_thing, none_differs, other_reader, other_text, same_text, some_same, spells_by, takes_after_dashes, takes_one}
+use Rattle.vataudit.proofs.Reading.{fails_by_memory, has_order, has_thing, none_differs, other_reader, other_text, same_text, some_same, spells_by, takes_after_dashes, takes_one, takes_order}
 use Rattle.vataudit.proofs.command.command_of.Goals as goal
+
+-- the text of a word, or none
+text_or : (o : Option (Bor (List ℕ))) (d : Bor (List ℕ)) → d.now ≡ [] → (unwrap_or o d).now ≡ unwrap_or (option_map (λ s. s.now) o) []
+text_or None d e = e
+text_or (Some x) d e = refl
+
+text_is : (o : Option (Bor (List ℕ))) (d r : Bor (List ℕ)) (found : Option (List ℕ)) → d.now ≡ [] → r ≡ unwrap_or o d → option_map (λ s. s.now) o ≡ found → r.now ≡ unwrap_or found []
+text_is o d r found e is same = ap (λ (x : Bor (List ℕ)). x.now) is ∙ text_or o d e ∙ ap (λ f. unwrap_or f []) same
 
 pub returns-then-eq-clause-ok : goal.returns-then-eq-clause-ok
 returns-then-eq-clause-ok g c =
-    let words = map g.S.AsStr.text c.args.words.now in
-    let name = c.in-Some.name.now in
-    let thing = c.in-Some-get_str.input.now in
-    let r = has_thing (app_of c.in_ok-parser.field-0) words c.in_ok-matches.matches c.in-Some.given.now name
-    c.in_ok-parser.ensures c.in_ok-matches.ensures.kinds c.in_ok-matches.ensures.matches c.in-Some.ensures.name c.in-Some.ensures.rows in
-    spells_by r.0 words name r.1.0 thing (codes "vat") r.1.1 r.1.2 (some_same (sym r.1.3 ∙ sym c.in-Some-get_str.ensures)) (same_text name (codes "vat") c.if-eq.ensures)
-
-pub returns-clause-ok : goal.returns-clause-ok
-returns-clause-ok g c =
-    let words = map g.S.AsStr.text c.args.words.now in
-    let name = c.in-Some.name.now in
-    let thing = c.in-Some-get_str.input.now in
-    let r = has_thing (app_of c.in_ok-parser.field-0) words c.in_ok-matches.matches c.in-Some.given.now name
-    c.in_ok-parser.ensures c.in_ok-matches.ensures.kinds c.in_ok-matches.ensures.matches c.in-Some.ensures.name c.in-Some.ensures.rows in
-    spells_by r.0 words name r.1.0 thing (codes "frame") r.1.1 r.1.2 (some_same (sym r.1.3 ∙ sym c.in-Some-get_str.ensures))
-    (other_reader r.0 name r.1.2 (other_text name (codes "vat") c.if-eq.ensures))
+    has_order (app_of c.in_ok-parser.field-0) (map g.S.AsStr.text c.args.words.now) c.in_ok-matches.matches c.in-Some.given.now c.in-Some.name.now
+    c.unwrap_or.result.now c.unwrap_or-then-eq.result.now
+    c.in_ok-parser.ensures c.in_ok-matches.ensures.matches c.in-Some.ensures.name c.in-Some.ensures.rows
+    (same_text c.in-Some.name.now (codes "order") c.if-eq.ensures)
+    (text_is c.get_str.result _ c.unwrap_or.result _ refl c.unwrap_or.ensures c.get_str.ensures)
+    (text_is c.get_str-then-eq.result _ c.unwrap_or-then-eq.result _ refl c.unwrap_or-then-eq.ensures c.get_str-then-eq.ensures)
 
 pub returns-in_err-matches-clause-taken : goal.returns-in_err-matches-clause-taken
 returns-in_err-matches-clause-taken g c first name thing reader spelled no_flag =
@@ -36,8 +34,36 @@ returns-in_err-matches-clause-taken_after g c first name thing reader spelled =
     c.in_ok-parser.ensures c.in_err-matches.ensures.kinds spelled (takes_after_dashes first name thing reader) in
     passed_up c.from_residual-in_err-matches.result c.in_err-matches.field-0.0 (λ e. kind_of e ≡ OutOfMemory) c.from_residual-in_err-matches.ensures.1 memory
 
+pub returns-in_err-matches-clause-taken_order : goal.returns-in_err-matches-clause-taken_order
+returns-in_err-matches-clause-taken_order g c first file out spelled file_plain out_plain =
+    let memory = fails_by_memory (app_of c.in_ok-parser.field-0) (map g.S.AsStr.text c.args.words.now) (first ∷ codes "order" ∷ file ∷ codes "--out" ∷ out ∷ []) c.in_err-matches.field-0.0
+    c.in_ok-parser.ensures c.in_err-matches.ensures.kinds spelled (takes_order first file out file_plain out_plain) in
+    passed_up c.from_residual-in_err-matches.result c.in_err-matches.field-0.0 (λ e. kind_of e ≡ OutOfMemory) c.from_residual-in_err-matches.ensures.1 memory
+
+pub returns-then-eq-2-clause-ok : goal.returns-then-eq-2-clause-ok
+returns-then-eq-2-clause-ok g c =
+    let words = map g.S.AsStr.text c.args.words.now in
+    let name = c.in-Some.name.now in
+    let thing = c.in-Some-get_str.input.now in
+    let r = has_thing (app_of c.in_ok-parser.field-0) (map g.S.AsStr.text c.args.words.now) c.in_ok-matches.matches c.in-Some.given.now c.in-Some.name.now
+    c.in_ok-parser.ensures c.in_ok-matches.ensures.kinds c.in_ok-matches.ensures.matches c.in-Some.ensures.name c.in-Some.ensures.rows
+    (other_text c.in-Some.name.now (codes "order") c.if-eq.ensures) in
+    spells_by r.0 words name r.1.0 thing (codes "vat") r.1.1 r.1.2 (some_same (sym r.1.3 ∙ sym c.in-Some-get_str.ensures)) (same_text name (codes "vat") c.if-eq-2.ensures)
+
+pub returns-clause-ok : goal.returns-clause-ok
+returns-clause-ok g c =
+    let words = map g.S.AsStr.text c.args.words.now in
+    let name = c.in-Some.name.now in
+    let thing = c.in-Some-get_str.input.now in
+    let r = has_thing (app_of c.in_ok-parser.field-0) (map g.S.AsStr.text c.args.words.now) c.in_ok-matches.matches c.in-Some.given.now c.in-Some.name.now
+    c.in_ok-parser.ensures c.in_ok-matches.ensures.kinds c.in_ok-matches.ensures.matches c.in-Some.ensures.name c.in-Some.ensures.rows
+    (other_text c.in-Some.name.now (codes "order") c.if-eq.ensures) in
+    spells_by r.0 words name r.1.0 thing (codes "frame") r.1.1 r.1.2 (some_same (sym r.1.3 ∙ sym c.in-Some-get_str.ensures))
+    (other_reader r.0 name r.1.2 (other_text name (codes "vat") c.if-eq-2.ensures))
+
 pub unreachable-requires-in_default-get_str : goal.unreachable-requires-in_default-get_str
 unreachable-requires-in_default-get_str g c =
     let r = has_thing (app_of c.in_ok-parser.field-0) (map g.S.AsStr.text c.args.words.now) c.in_ok-matches.matches c.in-Some.given.now c.in-Some.name.now
-    c.in_ok-parser.ensures c.in_ok-matches.ensures.kinds c.in_ok-matches.ensures.matches c.in-Some.ensures.name c.in-Some.ensures.rows in
+    c.in_ok-parser.ensures c.in_ok-matches.ensures.kinds c.in_ok-matches.ensures.matches c.in-Some.ensures.name c.in-Some.ensures.rows
+    (other_text c.in-Some.name.now (codes "order") c.if-eq.ensures) in
     none_differs r.1.0 (c.in_default-get_str.ensures ∙ r.1.3)

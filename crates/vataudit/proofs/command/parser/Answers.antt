@@ -2,7 +2,7 @@ use Rattle.std.proofs.Common.{◌≡◌, ◌∙◌, ap, codes, true}
 use Rattle.std.proofs.lemmas.Result.{IfOk-weaker}
 use Rattle.clap.specs.Words.{App, app_of, with_subcommand}
 use Rattle.clap.specs.Simple.{app_of_fields, on_top}
-use Rattle.vataudit.specs.Parser.{reader, top}
+use Rattle.vataudit.specs.Parser.{order, reader, top}
 use Rattle.vataudit.proofs.command.parser.Goals as goal
 
 pub returns : goal.returns
@@ -14,4 +14,5 @@ returns c =
     ∙ ap (λ f. on_top (λ s. record s { subcommand_required = true; arg_required_else_help = true }) (app_of_fields f)) c.about.ensures
     ∙ ap (on_top (λ s. record s { subcommand_required = true; arg_required_else_help = true })) c.new.ensures.app in
     let vat_is = c.in_ok-with_vat.ensures ∙ ap (λ (a : App). with_subcommand a (reader (codes "vat")).top) top_is in
-    IfOk-weaker c.with_frame.result _ _ (λ m h. h ∙ ap (λ (a : App). with_subcommand a (reader (codes "frame")).top) vat_is) c.with_frame.ensures
+    let frame_is = c.in_ok-with_frame.ensures ∙ ap (λ (a : App). with_subcommand a (reader (codes "frame")).top) vat_is in
+    IfOk-weaker c.with_order.result _ _ (λ m h. h ∙ ap (λ (a : App). with_subcommand a order.top) frame_is) c.with_order.ensures

@@ -9,7 +9,7 @@ use Rattle.rpc_view.specs.declared.message.RpcMessage.{RpcMessage}
 use Rattle.rpc_view.specs.declared.message.Loopback.TheVariants.{Sender, Receiver}
 use Rattle.rpc_view.specs.Reading.{part}
 use Rattle.rpc_view.specs.Message.{message_of, message_in, body_in, bootstrap_in, unless_refused, call_in, called_in, return_in, returned_in, outcome_in, finish_in, resolve_in, release_in, disembargo_in, disembargoed_in, target_in, promised_in, operations_in, payload_in, descriptors_in, descriptor_in, described_in}
-use Rattle.rpc_view.specs.Spelling.{Spells, bootstrap, call, results, finish, resolve, broken, release, disembargo, abort}
+use Rattle.rpc_view.specs.Spelling.{Spells, bootstrap, call, import_call, exception, canceled, results, finish, resolve, broken, release, disembargo, abort}
 use Rattle.rpc_view.proofs.Prices.{with_more}
 
 -- ---- numbers in their parts of a word
@@ -65,6 +65,56 @@ bit_not_set n lt = omega arith
 tag_not_set : (n : ℕ) → n < 2 ^ 32 → ((n + 0) / 2 ^ 32) % 2 ^ 16 ≡ 0
 tag_not_set n lt = omega arith
 
+-- the word of a Return without a pointer, by its tag and whether the bit of releaseParamCaps is set
+
+bare_tag_1_0 : (n : ℕ) → n < 2 ^ 32 → (((n + 0) + 281474976710656) / 2 ^ 48) % 2 ^ 16 ≡ 1
+bare_tag_1_0 n lt = omega arith
+
+bare_later_1_0 : (n : ℕ) → n < 2 ^ 32 → (((n + 0) + 281474976710656) / 2 ^ 33) % 2 ≡ 0
+bare_later_1_0 n lt = omega arith
+
+bare_kept_1_0 : (n : ℕ) → n < 2 ^ 32 → (((n + 0) + 281474976710656) / 2 ^ 32) % 2 ≡ 0
+bare_kept_1_0 n lt = omega arith
+
+bare_answer_1_0 : (n : ℕ) → n < 2 ^ 32 → (((n + 0) + 281474976710656) / 1) % 2 ^ 32 ≡ n
+bare_answer_1_0 n lt = omega arith
+
+bare_tag_1_1 : (n : ℕ) → n < 2 ^ 32 → (((n + 4294967296) + 281474976710656) / 2 ^ 48) % 2 ^ 16 ≡ 1
+bare_tag_1_1 n lt = omega arith
+
+bare_later_1_1 : (n : ℕ) → n < 2 ^ 32 → (((n + 4294967296) + 281474976710656) / 2 ^ 33) % 2 ≡ 0
+bare_later_1_1 n lt = omega arith
+
+bare_kept_1_1 : (n : ℕ) → n < 2 ^ 32 → (((n + 4294967296) + 281474976710656) / 2 ^ 32) % 2 ≡ 1
+bare_kept_1_1 n lt = omega arith
+
+bare_answer_1_1 : (n : ℕ) → n < 2 ^ 32 → (((n + 4294967296) + 281474976710656) / 1) % 2 ^ 32 ≡ n
+bare_answer_1_1 n lt = omega arith
+
+bare_tag_2_0 : (n : ℕ) → n < 2 ^ 32 → (((n + 0) + 562949953421312) / 2 ^ 48) % 2 ^ 16 ≡ 2
+bare_tag_2_0 n lt = omega arith
+
+bare_later_2_0 : (n : ℕ) → n < 2 ^ 32 → (((n + 0) + 562949953421312) / 2 ^ 33) % 2 ≡ 0
+bare_later_2_0 n lt = omega arith
+
+bare_kept_2_0 : (n : ℕ) → n < 2 ^ 32 → (((n + 0) + 562949953421312) / 2 ^ 32) % 2 ≡ 0
+bare_kept_2_0 n lt = omega arith
+
+bare_answer_2_0 : (n : ℕ) → n < 2 ^ 32 → (((n + 0) + 562949953421312) / 1) % 2 ^ 32 ≡ n
+bare_answer_2_0 n lt = omega arith
+
+bare_tag_2_1 : (n : ℕ) → n < 2 ^ 32 → (((n + 4294967296) + 562949953421312) / 2 ^ 48) % 2 ^ 16 ≡ 2
+bare_tag_2_1 n lt = omega arith
+
+bare_later_2_1 : (n : ℕ) → n < 2 ^ 32 → (((n + 4294967296) + 562949953421312) / 2 ^ 33) % 2 ≡ 0
+bare_later_2_1 n lt = omega arith
+
+bare_kept_2_1 : (n : ℕ) → n < 2 ^ 32 → (((n + 4294967296) + 562949953421312) / 2 ^ 32) % 2 ≡ 1
+bare_kept_2_1 n lt = omega arith
+
+bare_answer_2_1 : (n : ℕ) → n < 2 ^ 32 → (((n + 4294967296) + 562949953421312) / 1) % 2 ^ 32 ≡ n
+bare_answer_2_1 n lt = omega arith
+
 -- ---- with just the words that it costs
 
 at_price : (words : List ℕ) (message : RpcMessage) (cost least depth : ℕ) → Spells words message cost least → least ≤ depth → message_of (words ∷ []) (record { words = cost; depth = depth }) ≡ Ok message
@@ -75,6 +125,21 @@ at_price words message cost least depth (bootstrap {question} fits) deep =
 at_price words message cost least depth (call {question} {answer} {interface} {method} question_fits answer_fits method_fits) deep =
     let d : depth ≡ suc (suc (suc (suc (depth - 4)))) = omega arith in
     rw (d, message_of, last question method question_fits method_fits, before question method question_fits, third question method question_fits method_fits, first_of_32 answer answer_fits) refl
+at_price words message cost least depth (import_call {question} {export} {interface} {method} question_fits export_fits method_fits) deep =
+    let d : depth ≡ suc (suc (suc (depth - 3))) = omega arith in
+    rw (d, message_of, last question method question_fits method_fits, third_of_16 export export_fits, before question method question_fits, third question method question_fits method_fits, first_of_32 export export_fits) refl
+at_price words message cost least depth (exception {answer} {released = true} fits) deep =
+    let d : depth ≡ suc (suc (depth - 2)) = omega arith in
+    rw (d, message_of, bare_tag_1_0 answer fits, bare_later_1_0 answer fits, bare_kept_1_0 answer fits, bare_answer_1_0 answer fits) refl
+at_price words message cost least depth (exception {answer} {released = false} fits) deep =
+    let d : depth ≡ suc (suc (depth - 2)) = omega arith in
+    rw (d, message_of, bare_tag_1_1 answer fits, bare_later_1_1 answer fits, bare_kept_1_1 answer fits, bare_answer_1_1 answer fits) refl
+at_price words message cost least depth (canceled {answer} {released = true} fits) deep =
+    let d : depth ≡ suc (suc (depth - 2)) = omega arith in
+    rw (d, message_of, bare_tag_2_0 answer fits, bare_later_2_0 answer fits, bare_kept_2_0 answer fits, bare_answer_2_0 answer fits) refl
+at_price words message cost least depth (canceled {answer} {released = false} fits) deep =
+    let d : depth ≡ suc (suc (depth - 2)) = omega arith in
+    rw (d, message_of, bare_tag_2_1 answer fits, bare_later_2_1 answer fits, bare_kept_2_1 answer fits, bare_answer_2_1 answer fits) refl
 at_price words message cost least depth (results {answer} {export} answer_fits export_fits) deep =
     let d : depth ≡ suc (suc (suc (suc (depth - 4)))) = omega arith in
     rw (d, message_of, last_of_16 answer answer_fits, bit_33 answer answer_fits, tag_before export export_fits, bit_32 answer answer_fits, first_of_32 answer answer_fits, behind_tag export export_fits) refl

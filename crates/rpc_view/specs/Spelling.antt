@@ -1,11 +1,12 @@
--- Some messages from the writer's side, of each kind one form or two: a Bootstrap; a Call to an answer itself, without
--- parameters; a Return that gives the capabilities of the parameters back, and whose results are one senderHosted; a Finish;
--- a Resolve to a senderHosted, or to an exception; a Release; a Disembargo to an import; an Abort. Other forms, such as a
--- Return without results, a path, or another descriptor, aren't spelled here. The one segment of a frame holds nothing but
+-- Some messages from the writer's side, of each kind one form or a few: a Bootstrap; a Call to an answer itself or to an
+-- import, without parameters; a Return that gives the capabilities of the parameters back, and whose results are one
+-- senderHosted; a Return with an exception, or canceled; a Finish; a Resolve to a senderHosted, or to an exception; a Release;
+-- a Disembargo to an import; an Abort. Other forms, such as a path or another descriptor, aren't spelled here. The one segment of a frame holds nothing but
 -- the message, its structs one behind another in the order in which the pointers to them are met.
 use Rattle.std.specs.Prelude.{ℕ, ◌+◌, ◌*◌, ◌^◌, ◌<◌, Bool, true, if◌then◌else◌, List, [], ◌∷◌}
 use Rattle.rpc_view.specs.declared.message.Descriptor.TheVariants.{SenderHosted}
-use Rattle.rpc_view.specs.declared.message.Outcome.TheVariants.{Results}
+use Rattle.rpc_view.specs.declared.message.Outcome.TheVariants.{Results, Canceled}
+use Rattle.rpc_view.specs.declared.message.Outcome.TheVariants as outcomes
 use Rattle.rpc_view.specs.declared.message.RpcMessage.{RpcMessage}
 use Rattle.rpc_view.specs.declared.message.RpcMessage.TheVariants.{Bootstrap, Call, Return, Finish, Resolve, Release, Disembargo, Abort}
 use Rattle.rpc_view.specs.declared.message.Target.TheVariants.{Imported, Promised}
@@ -33,6 +34,23 @@ call_segment question answer interface method =
     ∷ (question + 2 ^ 32 * method) ∷ interface ∷ 0 ∷ struct_pointer 2 1 1 ∷ 0 ∷ 0
     ∷ (2 ^ 32) ∷ struct_pointer 0 1 1
     ∷ answer ∷ 0
+    ∷ []
+
+-- a Message, whose tag is 2, a Call without parameters, and a MessageTarget, whose tag is 0
+abbrev pub import_call_segment : ℕ → ℕ → ℕ → ℕ → List ℕ
+import_call_segment question export interface method =
+    struct_pointer 0 1 1
+    ∷ 2 ∷ struct_pointer 0 3 3
+    ∷ (question + 2 ^ 32 * method) ∷ interface ∷ 0 ∷ struct_pointer 2 1 1 ∷ 0 ∷ 0
+    ∷ export ∷ 0
+    ∷ []
+
+-- a Message, whose tag is 3, and a Return with a tag and no pointer; releaseParamCaps is stored as the exclusive or with true
+abbrev pub bare_return_segment : ℕ → Bool → ℕ → List ℕ
+bare_return_segment answer released tag =
+    struct_pointer 0 1 1
+    ∷ 3 ∷ struct_pointer 0 2 1
+    ∷ (answer + 2 ^ 32 * (if released then 0 else 1) + 2 ^ 48 * tag) ∷ 0 ∷ 0
     ∷ []
 
 -- a Message, whose tag is 3, a Return with results, a Payload, whose content is the first entry of the table, and that
@@ -105,6 +123,10 @@ pub data Spells : List ℕ → RpcMessage → ℕ → ℕ → Type 0 where
   bootstrap : {question : ℕ} → question < 2 ^ 32 → Spells (bootstrap_segment question) (Bootstrap question) 4 2
   call : {question answer interface method : ℕ} → question < 2 ^ 32 → answer < 2 ^ 32 → method < 2 ^ 16
       → Spells (call_segment question answer interface method) (Call question (Promised answer []) interface method (record { descriptors = []; fields = [] })) 12 4
+  import_call : {question export interface method : ℕ} → question < 2 ^ 32 → export < 2 ^ 32 → method < 2 ^ 16
+      → Spells (import_call_segment question export interface method) (Call question (Imported export) interface method (record { descriptors = []; fields = [] })) 10 3
+  exception : {answer : ℕ} {released : Bool} → answer < 2 ^ 32 → Spells (bare_return_segment answer released 1) (Return answer released outcomes.Exception) 5 2
+  canceled : {answer : ℕ} {released : Bool} → answer < 2 ^ 32 → Spells (bare_return_segment answer released 2) (Return answer released Canceled) 5 2
   results : {answer export : ℕ} → answer < 2 ^ 32 → export < 2 ^ 32
       → Spells (return_segment answer export) (Return answer true (Results (record { descriptors = SenderHosted export ∷ []; fields = ([], 0) ∷ [] }))) 9 4
   finish : {question : ℕ} {released : Bool} → question < 2 ^ 32 → Spells (finish_segment question released) (Finish question released) 3 2

@@ -25,6 +25,8 @@ mod message_text;
 mod new_file;
 mod order;
 mod order_answer;
+#[cfg(test)]
+mod order_tests;
 mod run;
 mod source;
 #[cfg(test)]

@@ -158,30 +158,6 @@ fn a_log_is_read(rt: HostRuntime) -> Result<(), Fail> {
     Ok(())
 }
 
-#[test]
-fn references_and_results_are_copied(rt: HostRuntime) -> Result<(), Fail> {
-    let log = parsed(rt.alloc(), SECOND_VAT)?;
-    let answer = log.get(3).ok_or("there is a record 3")?;
-    let Body::Answer { results, .. } = answer.body() else {
-        return Err("record 3 is an ANSWER".into());
-    };
-    let copied = match results.copy() {
-        Err(_) => results.copy(),
-        copied => copied,
-    }?;
-    assert!(rt; matches!(copied.as_slice(), [(1, path)] if path.as_slice().is_empty()));
-    let send = log.get(5).ok_or("there is a record 5")?;
-    let Body::Send { references, .. } = send.body() else {
-        return Err("record 5 is a SEND".into());
-    };
-    let copied = match references.copy() {
-        Err(_) => references.copy(),
-        copied => copied,
-    }?;
-    assert_eq!(rt; copied.as_slice(), [1].as_slice());
-    Ok(())
-}
-
 fn stored(body: Body) -> Result<Record, LogError> {
     Record::new(body).map_err(|(error, _)| error)
 }

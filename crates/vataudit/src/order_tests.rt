@@ -133,8 +133,17 @@ fn makes_orders(rt: HostRuntime) -> Result<(), Fail> {
     };
     let order =
         b"VATORD01\x01\0\0\0\x01\0\0\0\x02\0\0\0\x02\0\0\0\x02\0\0\0\x01\0\0\0\x01\0\0\0\x02\0\0\0";
-    assert_ordered(&rt, &mut source, "order steps 8", 0, order)?;
-    source.case = "{\"logs\": [], \"links\": []}";
+    assert_ordered(&rt, &mut source, "order steps 8", 0, order)
+}
+
+#[test]
+fn makes_the_order_of_no_logs(rt: HostRuntime) -> Result<(), Fail> {
+    let mut source = Files {
+        alloc: rt.alloc(),
+        case: "{\"logs\": [], \"links\": []}",
+        log_1: &[],
+        log_2: &[],
+    };
     assert_ordered(&rt, &mut source, "order steps 0", 0, b"VATORD01")
 }
 
@@ -151,16 +160,21 @@ fn finds_no_order(rt: HostRuntime) -> Result<(), Fail> {
     assert_ordered(&rt, &mut source, "no order exists", 1, b"")
 }
 
-#[test]
-fn finds_faults_in_order(rt: HostRuntime) -> Result<(), Fail> {
+/// Asks for the order of a case that has a fault: `log1` is the log of vat 1, `log2` is cut.
+fn assert_fault(rt: &impl Abort, alloc: Global, case: &str, line: &str) -> Result<(), Fail> {
     let vat_1 = [VAT_1, SEND_1, BOOTSTRAP];
     let vat_2 = [VAT_2, SEND_1];
     let mut source = Files {
-        alloc: rt.alloc(),
-        case: "",
+        alloc,
+        case,
         log_1: &vat_1,
         log_2: &vat_2,
     };
+    assert_ordered(rt, &mut source, line, 2, b"")
+}
+
+#[test]
+fn finds_faults_in_order(rt: HostRuntime) -> Result<(), Fail> {
     let rows = [
         (
             "{\"logs\": [\"none\"], \"links\": [], \"note\": 1}",
@@ -192,8 +206,7 @@ fn finds_faults_in_order(rt: HostRuntime) -> Result<(), Fail> {
         ),
     ];
     for (case, line) in rows {
-        source.case = case;
-        assert_ordered(&rt, &mut source, line, 2, b"")?;
+        assert_fault(&rt, rt.alloc(), case, line)?;
     }
     Ok(())
 }

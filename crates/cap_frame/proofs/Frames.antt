@@ -1,5 +1,5 @@
 -- What the tests of a frame say, and the places of its sizes and words.
-use Rattle.std.proofs.Common.{◌≡◌, ℕ, ◌+◌, ◌*◌, ◌<◌, ◌≤◌, Bool, true, false, cond, ltb, eqb, List, [], length, get_or, take, drop, Some, None, Ok, Err, refl, sym, ap, subst, ◌∙◌, arith}
+use Rattle.std.proofs.Common.{◌≡◌, ℕ, ◌+◌, ◌*◌, ◌<◌, ◌≤◌, Bool, true, false, cond, ltb, eqb, List, [], length, get_or, take, drop, Some, None, Result, Ok, Err, refl, sym, ap, subst, ◌∙◌, arith}
 use Rattle.std.specs.Prelude.{slice_get, sum}
 use Rattle.std.proofs.lemmas.Bool.{ltb-false, eqb-false, le-ltb, ne_eqb}
 use Rattle.std.proofs.lemmas.List.{drop-drop, get_or_past, take_all}
@@ -8,20 +8,43 @@ use Rattle.std.proofs.lemmas.Option.{slice_get-get_or, slice_get_past}
 use Rattle.byteorder.specs.Endian.{little_number}
 use Rattle.cap_frame.specs.declared.frame_error.FrameError.{FrameError}
 use Rattle.cap_frame.specs.declared.frame_error.FrameError.TheVariants.{Short, TooManySegments, Trailing, NoRoot}
-use Rattle.cap_frame.specs.Segments.{numbers, count_of, sizes_of, table_len, content, frame_len, segments_of, word_at}
+use Rattle.cap_frame.specs.Segments.{numbers, count_of, sizes_of, table_len, content, frame_len, first_len_of, segments_in, segments_of, word_at}
 use Rattle.cap_frame.proofs.Numbers.{length-numbers, get_or-numbers, length-cut, get_or-cut}
 
--- six tests that let the rest go on
-six_passed : {A : Type 0} (a b c d e f : Bool) (i j k l m n : FrameError) (x y : A)
-    → cond a (Err i) (cond b (Err j) (cond c (Err k) (cond d (Err l) (cond e (Err m) (cond f (Err n) (Ok x)))))) ≡ Ok y
-    → (a ≡ false) × (b ≡ false) × (c ≡ false) × (d ≡ false) × (e ≡ false) × (f ≡ false) × (x ≡ y)
-six_passed true b c d e f i j k l m n x y h = absurd cc
-six_passed false true c d e f i j k l m n x y h = absurd cc
-six_passed false false true d e f i j k l m n x y h = absurd cc
-six_passed false false false true e f i j k l m n x y h = absurd cc
-six_passed false false false false true f i j k l m n x y h = absurd cc
-six_passed false false false false false true i j k l m n x y h = absurd cc
-six_passed false false false false false false i j k l m n x y h = (refl, refl, refl, refl, refl, refl, cc)
+-- four tests that let the rest go on
+four_passed : (a b c d : Bool) (i j k l : FrameError) (x y : ℕ)
+    → cond a (Err i) (cond b (Err j) (cond c (Err k) (cond d (Err l) (Ok x)))) ≡ Ok y
+    → (a ≡ false) × (b ≡ false) × (c ≡ false) × (d ≡ false) × (x ≡ y)
+four_passed true b c d i j k l x y h = absurd cc
+four_passed false true c d i j k l x y h = absurd cc
+four_passed false false true d i j k l x y h = absurd cc
+four_passed false false false true i j k l x y h = absurd cc
+four_passed false false false false i j k l x y h = (refl, refl, refl, refl, cc)
+
+-- what the tests say of bytes that begin with a frame
+pub record StartsFrame (bytes : List ℕ) : Type 0 where
+  pub long : 4 ≤ length bytes
+  pub few : count_of bytes ≤ 512
+  pub table_fits : table_len (count_of bytes) ≤ length bytes
+  pub fits : frame_len bytes ≤ length bytes
+
+pub StartsFrame-from_len : (bytes : List ℕ) (len : ℕ) → first_len_of bytes ≡ Ok len → StartsFrame bytes × (frame_len bytes ≡ len)
+unfolding first_len_of
+StartsFrame-from_len bytes len e =
+    let t = four_passed (ltb (length bytes) 4) (ltb 512 (count_of bytes)) (ltb (length bytes) (table_len (count_of bytes))) (ltb (length bytes) (frame_len bytes)) Short TooManySegments Short Short (frame_len bytes) len e in (
+      record {
+        long = ltb-false _ _ t.0;
+        few = ltb-false _ _ t.1;
+        table_fits = ltb-false _ _ t.2;
+        fits = ltb-false _ _ t.3;
+      },
+      t.4,
+    )
+
+pub len_from-StartsFrame : (bytes : List ℕ) → StartsFrame bytes → first_len_of bytes ≡ Ok (frame_len bytes)
+unfolding first_len_of
+len_from-StartsFrame bytes h =
+    rw (le-ltb (length bytes) 4 h.long, le-ltb 512 (count_of bytes) h.few, le-ltb (length bytes) (table_len (count_of bytes)) h.table_fits, le-ltb (length bytes) (frame_len bytes) h.fits) refl
 
 -- what the tests say of the bytes of a frame
 pub record IsFrame (bytes : List ℕ) : Type 0 where
@@ -31,24 +54,36 @@ pub record IsFrame (bytes : List ℕ) : Type 0 where
   pub whole : frame_len bytes ≡ length bytes
   pub rooted : get_or (sizes_of bytes) 0 0 ≡ 0 → ⊥
 
+-- two tests that let the rest go on
+two_passed : {A : Type 0} (a b : Bool) (i j : FrameError) (x y : A) → cond a (Err i) (cond b (Err j) (Ok x)) ≡ Ok y → (a ≡ false) × (b ≡ false) × (x ≡ y)
+two_passed true b i j x y h = absurd cc
+two_passed false true i j x y h = absurd cc
+two_passed false false i j x y h = (refl, refl, cc)
+
+IsFrame-from_in : (bytes : List ℕ) (first : Result ℕ FrameError) (segments : List (List ℕ)) → first_len_of bytes ≡ first → segments_in bytes first ≡ Ok segments → IsFrame bytes × (content bytes ≡ segments)
+IsFrame-from_in bytes (Err fault) segments is e = absurd cc
+IsFrame-from_in bytes (Ok len) segments is e =
+    let starts = StartsFrame-from_len bytes len is in
+    let t = two_passed (ltb len (length bytes)) (eqb (get_or (sizes_of bytes) 0 0) 0) Trailing NoRoot (content bytes) segments e in (
+      record {
+        long = starts.0.long;
+        few = starts.0.few;
+        table_fits = starts.0.table_fits;
+        whole = omega (arith, starts.1, starts.0.fits, ltb-false _ _ t.0);
+        rooted = eqb-false _ _ t.1;
+      },
+      t.2,
+    )
+
 pub IsFrame-from_read : (bytes : List ℕ) (segments : List (List ℕ)) → segments_of bytes ≡ Ok segments → IsFrame bytes × (content bytes ≡ segments)
 unfolding segments_of
-IsFrame-from_read bytes segments e =
-    let t = six_passed (ltb (length bytes) 4) (ltb 512 (count_of bytes)) (ltb (length bytes) (table_len (count_of bytes))) (ltb (length bytes) (frame_len bytes)) (ltb (frame_len bytes) (length bytes)) (eqb (get_or (sizes_of bytes) 0 0) 0) Short TooManySegments Short Short Trailing NoRoot (content bytes) segments e in (
-      record {
-        long = ltb-false _ _ t.0;
-        few = ltb-false _ _ t.1;
-        table_fits = ltb-false _ _ t.2;
-        whole = omega (arith, ltb-false _ _ t.3, ltb-false _ _ t.4);
-        rooted = eqb-false _ _ t.5;
-      },
-      t.6,
-    )
+IsFrame-from_read bytes segments e = IsFrame-from_in bytes (first_len_of bytes) segments refl e
 
 pub read_from-IsFrame : (bytes : List ℕ) → IsFrame bytes → segments_of bytes ≡ Ok (content bytes)
 unfolding segments_of
 read_from-IsFrame bytes h =
-    rw (le-ltb (length bytes) 4 h.long, le-ltb 512 (count_of bytes) h.few, le-ltb (length bytes) (table_len (count_of bytes)) h.table_fits, le-ltb (length bytes) (frame_len bytes) (omega (arith, h.whole)), le-ltb (frame_len bytes) (length bytes) (omega (arith, h.whole)), ne_eqb (get_or (sizes_of bytes) 0 0) 0 h.rooted) refl
+    let starts : StartsFrame bytes = record { long = h.long; few = h.few; table_fits = h.table_fits; fits = omega (arith, h.whole) } in
+    rw (len_from-StartsFrame bytes starts, le-ltb (frame_len bytes) (length bytes) (omega (arith, h.whole)), ne_eqb (get_or (sizes_of bytes) 0 0) 0 h.rooted) refl
 
 -- a size stands after the count and the sizes before it
 pub size_place : (bytes : List ℕ) (s : ℕ) → s < count_of bytes → get_or (sizes_of bytes) s 0 ≡ little_number 4 (drop (4 * (s + 1)) bytes)

@@ -1,6 +1,6 @@
 -- What bytes spell by the stream framing of the Cap'n Proto encoding specification ("Serialization Over a Stream").
 -- A byte is a number below 256, a word is 8 bytes, and the lowest byte of a number comes first.
-use Rattle.std.specs.Prelude.{◌≡◌, ℕ, zero, suc, ◌+◌, ◌-◌, ◌*◌, ◌/◌, ◌%◌, ◌^◌, ◌<◌, ◌≤◌, ◌==◌, List, [], ◌∷◌, ◌++◌, length, map, drop, sum, Option, Result, Ok, Err, nat_lt, if◌then◌else◌, slice_get, slice_index, slice_index_or, All}
+use Rattle.std.specs.Prelude.{◌≡◌, ℕ, zero, suc, ◌+◌, ◌-◌, ◌*◌, ◌/◌, ◌%◌, ◌^◌, ◌<◌, ◌≤◌, ◌==◌, List, [], ◌∷◌, ◌++◌, length, map, drop, sum, Option, Result, Ok, Err, nat_lt, if◌then◌else◌, slice_get, slice_index, slice_index_or, All, ⊤}
 use Rattle.std.specs.List.{flat_map}
 use Rattle.byteorder.specs.Endian.{little_number, little_bytes}
 use Rattle.cap_frame.specs.declared.frame_error.FrameError.{FrameError}
@@ -36,17 +36,36 @@ content bytes = cut (sizes_of bytes) (drop (table_len (count_of bytes)) bytes)
 abbrev pub frame_len : List ℕ → ℕ
 frame_len bytes = table_len (count_of bytes) + 8 * sum (sizes_of bytes)
 
--- The segments that the bytes spell, each the list of its words, or the first fault. At most 512 segments are read, and
--- the first has the root pointer.
-unfoldable pub segments_of : List ℕ → Result (List (List ℕ)) FrameError
-segments_of bytes =
+-- The length in bytes of the frame that stands first in the bytes, or the first fault; whatever stands after it doesn't
+-- matter. At most 512 segments are read.
+unfoldable pub first_len_of : List ℕ → Result ℕ FrameError
+first_len_of bytes =
     if nat_lt (length bytes) 4 then Err Short
     else (if nat_lt 512 (count_of bytes) then Err TooManySegments
     else (if nat_lt (length bytes) (table_len (count_of bytes)) then Err Short
     else (if nat_lt (length bytes) (frame_len bytes) then Err Short
-    else (if nat_lt (frame_len bytes) (length bytes) then Err Trailing
+    else Ok (frame_len bytes))))
+
+-- The segments of bytes in which the frame that stands first has this length: nothing stands after it, and its first
+-- segment has the root pointer.
+abbrev pub segments_in : List ℕ → Result ℕ FrameError → Result (List (List ℕ)) FrameError
+segments_in bytes (Err fault) = Err fault
+segments_in bytes (Ok len) =
+    if nat_lt len (length bytes) then Err Trailing
     else (if slice_index (sizes_of bytes) 0 == 0 then Err NoRoot
-    else Ok (content bytes))))))
+    else Ok (content bytes))
+
+-- The segments that the bytes spell, each the list of its words, or the first fault.
+unfoldable pub segments_of : List ℕ → Result (List (List ℕ)) FrameError
+segments_of bytes = segments_in bytes (first_len_of bytes)
+
+-- Bytes that read so are one frame and nothing after it, whether or not its first segment has words.
+abbrev pub IsOneFrame : Result (List (List ℕ)) FrameError → Type 0
+IsOneFrame (Ok segments) = ⊤
+IsOneFrame (Err NoRoot) = ⊤
+IsOneFrame (Err Trailing) = ⊥
+IsOneFrame (Err Short) = ⊥
+IsOneFrame (Err TooManySegments) = ⊥
 
 -- the word at a place of a segment, both counted from 0
 abbrev pub word_at : List (List ℕ) → ℕ → ℕ → Option ℕ

@@ -1,10 +1,10 @@
 //! Frames of the stream framing.
 
-ghost use Rattle.std.specs.Prelude.{◌≡◌, ◌<◌, ◌≤◌, ◌^◌, List, [], ℕ, length, slice_index_or, IfOk, Ok};
-ghost use Rattle.cap_frame.specs.Segments.{word_at, segments_of, Spells};
+ghost use Rattle.std.specs.Prelude.{◌≡◌, ◌<◌, ◌≤◌, ◌^◌, List, [], ℕ, length, take, slice_index_or, IfOk, IfErr, Ok, Err};
+ghost use Rattle.cap_frame.specs.Segments.{word_at, first_len_of, segments_of, IsOneFrame, Spells};
 
 use crate::frame_error::FrameError;
-use crate::table::{check, count_in, size_in, table_len_for, words_before};
+use crate::table::{check, count_in, first_len_in, size_in, table_len_for, words_before};
 use byteorder::{ByteOrder, LittleEndian};
 use bytes::Bytes;
 use std::marker::Model;
@@ -42,6 +42,27 @@ impl Frame {
     {
         check(bytes.as_slice())?;
         Ok(Frame { bytes })
+    }
+
+    /// The length in bytes of the frame that stands first: its table with the padding, and its segments, by the stream framing
+    /// of the Cap'n Proto encoding specification ("Serialization Over a Stream"). Whatever stands after it doesn't matter.
+    /// Else the first fault: [`FrameError::Short`] with fewer than 4 bytes, [`FrameError::TooManySegments`], `Short` where
+    /// the sizes, the padding or the segments don't fit. A frame whose first segment has no words is as long as any other,
+    /// and [`Frame::read`] then refuses it. It takes no memory.
+    pub fn first_len(bytes: &[u8]) -> Result<usize, FrameError>
+        // Which length, or which fault.
+        ensures exact { result ≡ first_len_of bytes.now }
+        // So many bytes are there, and they are one frame and nothing after it.
+        ensures cut { IfOk result (λ len. (len ≤ length bytes.now) × IsOneFrame (segments_of (take len bytes.now))) }
+        // No other number of bytes from the start is one frame; where any is, none is refused.
+        ensures only { (len : ℕ) → len ≤ length bytes.now → IsOneFrame (segments_of (take len bytes.now)) → result ≡ Ok len }
+        // What is refused is what all of the bytes would be refused by.
+        ensures refused { IfErr result (λ fault. segments_of bytes.now ≡ Err fault) }
+        // A frame has a word or more, so what is left is shorter.
+        ensures some { IfOk result (λ len. 8 ≤ len) }
+    {
+        let len = first_len_in(bytes)?;
+        Ok(len as usize)
     }
 
     /// How many segments there are, 1 to 512. Each has fewer than 2^32 words.

@@ -1,7 +1,7 @@
 //! The table at the front of a frame: how many segments there are, and the size of each.
 
-ghost use Rattle.std.specs.Prelude.{◌≡◌, ◌<◌, ◌≤◌, ◌+◌, ◌*◌, ◌^◌, length, take, sum, slice_index, EachIndex, MatchResult, Ok, Err};
-ghost use Rattle.cap_frame.specs.Segments.{count_of, sizes_of, table_len, content, segments_of};
+ghost use Rattle.std.specs.Prelude.{◌≡◌, ◌<◌, ◌≤◌, ◌+◌, ◌*◌, ◌^◌, length, take, sum, slice_index, EachIndex, MatchResult, IfOk, OnOk, Ok, Err};
+ghost use Rattle.cap_frame.specs.Segments.{count_of, sizes_of, table_len, content, first_len_of, segments_of};
 
 use crate::frame_error::FrameError;
 use byteorder::{ByteOrder, LittleEndian};
@@ -54,12 +54,13 @@ pub fn words_before(bytes: &[u8], segment: u64) -> u64
     words
 }
 
-/// Finds the first fault of the bytes, if they aren't a frame.
-#[tactic(auto, using(crate::proofs::Frames::sum_all), unfolding(crate::specs::Segments::segments_of))]
-pub fn check(bytes: &[u8]) -> Result<(), FrameError>
-    ensures exact { MatchResult result (λ _. segments_of bytes.now ≡ Ok (content bytes.now))
-        (λ fault. segments_of bytes.now ≡ Err fault) }
-    ensures bytes { EachIndex bytes.now (λ i. slice_index bytes.now i < 256) }
+/// How many bytes the frame that stands first takes, or the first fault, whatever stands after it.
+#[tactic(auto, using(crate::proofs::Frames::sum_all), unfolding(crate::specs::Segments::first_len_of))]
+pub fn first_len_in(bytes: &[u8]) -> Result<u64, FrameError>
+    ensures exact { result ≡ first_len_of bytes.now }
+    ensures table { OnOk result (table_len (count_of bytes.now) ≤ length bytes.now) }
+    ensures within { IfOk result (λ len. len ≤ length bytes.now) }
+    ensures bytes { OnOk result (EachIndex bytes.now (λ i. slice_index bytes.now i < 256)) }
 {
     if bytes.len() < 4 {
         return Err(FrameError::Short);
@@ -77,7 +78,18 @@ pub fn check(bytes: &[u8]) -> Result<(), FrameError>
     if len < end {
         return Err(FrameError::Short);
     }
-    if end < len {
+    Ok(end)
+}
+
+/// Finds the first fault of the bytes, if they aren't a frame.
+#[tactic(auto, unfolding(crate::specs::Segments::segments_of))]
+pub fn check(bytes: &[u8]) -> Result<(), FrameError>
+    ensures exact { MatchResult result (λ _. segments_of bytes.now ≡ Ok (content bytes.now))
+        (λ fault. segments_of bytes.now ≡ Err fault) }
+    ensures bytes { OnOk result (EachIndex bytes.now (λ i. slice_index bytes.now i < 256)) }
+{
+    let end = first_len_in(bytes)?;
+    if end < bytes.len() as u64 {
         return Err(FrameError::Trailing);
     }
     if size_in(bytes, 0) == 0 {

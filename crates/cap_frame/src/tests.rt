@@ -39,6 +39,19 @@ static AND_ONE_MORE: [u8; 41] = [
     3, 0, 0, 0, 2, 0, 0, 0, 0,
 ];
 
+/// The Release in two segments, and behind it the one in one segment.
+static TWO_FRAMES: [u8; 96] = [
+    1, 0, 0, 0, 1, 0, 0, 0, 4, 0, 0, 0, 0, 0, 0, 0, 2, 0, 0, 0, 1, 0, 0, 0, 0, 0, 0, 0, 1, 0, 1, 0,
+    6, 0, 0, 0, 0, 0, 0, 0, 0, 0, 0, 0, 1, 0, 0, 0, 3, 0, 0, 0, 2, 0, 0, 0, 0, 0, 0, 0, 4, 0, 0, 0,
+    0, 0, 0, 0, 1, 0, 1, 0, 6, 0, 0, 0, 0, 0, 0, 0, 0, 0, 0, 0, 1, 0, 0, 0, 3, 0, 0, 0, 2, 0, 0, 0,
+];
+
+/// A frame whose only segment has no words, and behind it the Release.
+static NO_ROOT_FIRST: [u8; 48] = [
+    0, 0, 0, 0, 0, 0, 0, 0, 0, 0, 0, 0, 4, 0, 0, 0, 0, 0, 0, 0, 1, 0, 1, 0, 6, 0, 0, 0, 0, 0, 0, 0,
+    0, 0, 0, 0, 1, 0, 0, 0, 3, 0, 0, 0, 2, 0, 0, 0,
+];
+
 fn is_fault(bytes: &'static [u8], fault: FrameError) -> bool {
     match Frame::read(Bytes::from_static(bytes)) {
         Ok(_) => false,
@@ -112,4 +125,42 @@ fn paths(rt: HostRuntime) -> Result<(), Fail> {
     assert_eq!(rt; path.as_slice(), [0, 3].as_slice());
     assert_eq!(rt; copy.as_slice(), [0, 3].as_slice());
     Ok(())
+}
+
+#[test]
+fn first_of_two(rt: HostRuntime) -> Result<(), Fail> {
+    let len = Frame::first_len(&TWO_FRAMES)?;
+    assert_eq!(rt; len, 56);
+    let (first, second) = TWO_FRAMES.split_at(56);
+    assert_eq!(rt; Frame::first_len(first), Ok(56));
+    assert_eq!(rt; Frame::first_len(second), Ok(40));
+    let frame = Frame::read(Bytes::from_static(first))?;
+    assert_eq!(rt; frame.segments(), 2);
+    let frame = Frame::read(Bytes::from_static(second))?;
+    assert_eq!(rt; frame.segments(), 1);
+    assert_eq!(rt; Frame::first_len(&CALL_IN_THREE), Ok(144));
+    Ok(())
+}
+
+#[test]
+fn first_without_root(rt: HostRuntime) {
+    assert_eq!(rt; Frame::first_len(&NO_ROOT_FIRST), Ok(8));
+    let (first, second) = NO_ROOT_FIRST.split_at(8);
+    assert_eq!(rt; Frame::first_len(second), Ok(40));
+    assert!(rt; is_fault(first, FrameError::NoRoot));
+}
+
+#[test]
+fn no_first(rt: HostRuntime) {
+    let (cut, _) = TWO_FRAMES.split_at(55);
+    let (table, _) = TWO_FRAMES.split_at(12);
+    assert_eq!(rt; Frame::first_len(cut), Err(FrameError::Short));
+    assert_eq!(rt; Frame::first_len(table), Err(FrameError::Short));
+    assert_eq!(rt; Frame::first_len(&WITHOUT_LAST), Err(FrameError::Short));
+    assert_eq!(rt; Frame::first_len(&[]), Err(FrameError::Short));
+    assert_eq!(rt;
+        Frame::first_len(&[0, 2, 0, 0]),
+        Err(FrameError::TooManySegments)
+    );
+    assert_eq!(rt; Frame::first_len(&AND_ONE_MORE), Ok(40));
 }

@@ -7,7 +7,7 @@ returns-in_err-check-clause-only c segments h =
 
 pub returns-clause-found : goal.returns-clause-found
 returns-clause-found c =
-    spelled_by c.args.bytes c.as_slice.result.now c.as_slice.ensures c.check.ensures.bytes c.in_ok-check.ensures.exact
+    spelled_by c.args.bytes c.as_slice.result.now c.as_slice.ensures c.in_ok-check.ensures.bytes c.in_ok-check.ensures.exact
 
 pub returns-clause-only : goal.returns-clause-only
 returns-clause-only c =

@@ -1,0 +1,52 @@
+//! Measures how fast frames are read. `reader_bench FILE` reads a file of frames one after another, reads the message of each
+//! within the default limits, and in the same run sums the file's words, each a little-endian number of 8 bytes. It prints
+//! how many frames there are, how long reading took for each, how long the sum took for each, and how many times the sum
+//! reading took.
+#![tactic(auto)]
+
+mod reading;
+mod report;
+mod word_sum;
+
+use bytes::Bytes;
+use reading::read_frames;
+use report::Report;
+use std::alloc::Global;
+use std::rt::{Clock, Files};
+use std::time::Instant;
+use std::{env, fs, io};
+use word_sum::word_sum;
+
+/// All bytes of a file.
+fn read_file<R: Files + AllocGlobal>(rt: &R, name: &str) -> io::Result<Bytes> {
+    let bytes = fs::read(rt, name)?;
+    Ok(Bytes::from_vec(bytes)?)
+}
+
+/// Sums the words, reads the frames, and says how long each took.
+fn measure(alloc: Global, clock: &impl Clock, bytes: Bytes) -> io::Result<Report> {
+    let start = Instant::now(clock)?;
+    let sum = word_sum(bytes.as_slice());
+    let summing = start.elapsed(clock)?;
+    let start = Instant::now(clock)?;
+    let frames = read_frames(alloc, bytes)?;
+    let reading = start.elapsed(clock)?;
+    Ok(Report {
+        frames,
+        sum,
+        reading: reading.as_nanos(),
+        summing: summing.as_nanos(),
+    })
+}
+
+fn main(rt: HostRuntime) -> io::Result<()> {
+    let words: Vec<String> = env::args(&rt)?.collect(rt.alloc())?;
+    let Some(name) = words.get(1) else {
+        println!(rt; "usage: reader_bench FILE")?;
+        return Ok(());
+    };
+    let bytes = read_file(&rt, name.as_str())?;
+    let report = measure(rt.alloc(), &rt, bytes)?;
+    println!(rt; "{report}")?;
+    Ok(())
+}

@@ -1,0 +1,50 @@
+//! What is printed.
+
+use crate::reading::Frames;
+use std::fmt;
+use std::fmt::{Display, Formatter, Write};
+
+/// What was read and summed, and how long each took.
+#[derive(Debug, Drop)]
+pub struct Report {
+    pub frames: Frames,
+    /// The sum of the file's words.
+    pub sum: u64,
+    /// How many nanoseconds reading the frames took.
+    pub reading: u128,
+    /// How many nanoseconds the sum took.
+    pub summing: u128,
+}
+
+/// A number of tenths.
+#[derive(Clone, Copy, Debug)]
+struct Tenths(u128);
+
+/// So many tenths as one number has of another; none where that is 0.
+fn ratio(part: u128, whole: u128) -> Tenths {
+    Tenths((part.saturating_mul(10)).checked_div(whole).unwrap_or(0))
+}
+
+impl Display for Tenths {
+    fn fmt<W: Write>(&self, f: &mut Formatter<W>) -> fmt::Result {
+        write!(f, "{}.{}", self.0 / 10, self.0 % 10)
+    }
+}
+
+impl Display for Report {
+    fn fmt<W: Write>(&self, f: &mut Formatter<W>) -> fmt::Result {
+        let count = u128::from(self.frames.count);
+        write!(
+            f,
+            "frames {} refused {} bytes {} left {} sum {:016x} frame {} ns words {} ns times {}",
+            self.frames.count,
+            self.frames.refused,
+            self.frames.bytes,
+            self.frames.left,
+            self.sum,
+            ratio(self.reading, count),
+            ratio(self.summing, count),
+            ratio(self.reading, self.summing)
+        )
+    }
+}

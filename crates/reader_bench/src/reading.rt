@@ -1,5 +1,8 @@
 //! Reading frames one after another.
 
+ghost use Rattle.std.specs.Prelude.{◌≡◌, ◌+◌, ◌*◌, ◌≤◌, length, drop, IfOk, IsErr};
+ghost use Rattle.cap_frame.specs.Segments.{first_len_of};
+
 use bytes::Bytes;
 use cap_frame::Frame;
 use cap_reader::Limits;
@@ -20,7 +23,15 @@ pub struct Frames {
 }
 
 /// Cuts off frame after frame, and reads the message of each within the default limits.
-pub fn read_frames(alloc: Global, bytes: Bytes) -> Result<Frames, AllocError> {
+pub fn read_frames(alloc: Global, bytes: Bytes) -> Result<Frames, AllocError>
+    // All bytes are those of the frames, or are left.
+    ensures bytes { IfOk result (λ found. found.bytes + found.left ≡ length bytes) }
+    // No frame stands first in what is left.
+    ensures ended { IfOk result (λ found. IsErr (first_len_of (drop found.bytes bytes))) }
+    // A frame has 8 bytes or more.
+    ensures count { IfOk result (λ found. 8 * found.count ≤ found.bytes) }
+    ensures refused { IfOk result (λ found. found.refused ≤ found.count) }
+{
     let total = bytes.len();
     let mut rest = bytes;
     let mut count: u64 = 0;

@@ -1,8 +1,14 @@
-use Rattle.std.proofs.Common.{◌+◌, ◌*◌, ◌<◌, ◌≤◌, ◌^◌, length}
+use Rattle.std.proofs.Common.{◌≡◌, ◌+◌, ◌-◌, ◌*◌, ◌<◌, ◌≤◌, ◌^◌, length, drop}
 use Rattle.reader_bench.proofs.reading.read_frames.Given as goal
 
 abbrev pub invariant-loop-len : goal.invariant-loop-len
-invariant-loop-len l = (l.refused ≤ l.count) × (8 * l.count + length l.rest ≤ l.total) × (l.total < 2 ^ 63)
+invariant-loop-len l = record {
+  refused : l.refused ≤ l.count;
+  counted : 8 * l.count + length l.rest ≤ l.total;
+  small : l.total < 2 ^ 63;
+  all : l.total ≡ length l.fn.bytes;
+  behind : l.rest ≡ drop (l.total - length l.rest) l.fn.bytes;
+}
 
 abbrev pub decreases-loop-len : goal.decreases-loop-len
 decreases-loop-len l = length l.rest

@@ -1,7 +1,7 @@
 //! Measures how fast frames are read. `reader_bench FILE` reads a file of frames one after another, reads the message of each
 //! within the default limits, and in the same run sums the file's words, each a little-endian number of 8 bytes. It prints
-//! how many frames there are, how long reading took for each, how long the sum took for each, and how many times the sum
-//! reading took.
+//! how many frames there are, how many nanoseconds of processor time reading took for each, how many the sum took for each,
+//! and how many times the sum reading took.
 #![tactic(auto)]
 
 mod reading;
@@ -12,8 +12,8 @@ use bytes::Bytes;
 use reading::read_frames;
 use report::Report;
 use std::alloc::Global;
-use std::rt::{Clock, Files};
-use std::time::Instant;
+use std::rt::Files;
+use std::time::CpuClock;
 use std::{env, fs, io};
 use word_sum::word_sum;
 
@@ -23,19 +23,18 @@ fn read_file<R: Files + AllocGlobal>(rt: &R, name: &str) -> io::Result<Bytes> {
     Ok(Bytes::from_vec(bytes)?)
 }
 
-/// Sums the words, reads the frames, and says how long each took.
-fn measure(alloc: Global, clock: &impl Clock, bytes: Bytes) -> io::Result<Report> {
-    let start = Instant::now(clock)?;
+/// Sums the words, reads the frames, and says how much processor time each took.
+fn measure(alloc: Global, clock: &impl CpuClock, bytes: Bytes) -> io::Result<Report> {
+    let start = clock.thread_cpu_time()?;
     let sum = word_sum(bytes.as_slice());
-    let summing = start.elapsed(clock)?;
-    let start = Instant::now(clock)?;
+    let between = clock.thread_cpu_time()?;
     let frames = read_frames(alloc, bytes)?;
-    let reading = start.elapsed(clock)?;
+    let end = clock.thread_cpu_time()?;
     Ok(Report {
         frames,
         sum,
-        reading: reading.as_nanos(),
-        summing: summing.as_nanos(),
+        reading: end.saturating_sub(between).as_nanos(),
+        summing: between.saturating_sub(start).as_nanos(),
     })
 }
 

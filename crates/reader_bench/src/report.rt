@@ -4,15 +4,15 @@ use crate::reading::Frames;
 use std::fmt;
 use std::fmt::{Display, Formatter, Write};
 
-/// What was read and summed, and how long each took.
+/// What was read and summed, and how much processor time each took.
 #[derive(Debug, Drop)]
 pub struct Report {
     pub frames: Frames,
     /// The sum of the file's words.
     pub sum: u64,
-    /// How many nanoseconds reading the frames took.
+    /// How many nanoseconds of processor time reading the frames took.
     pub reading: u128,
-    /// How many nanoseconds the sum took.
+    /// How many nanoseconds of processor time the sum took.
     pub summing: u128,
 }
 

@@ -1,4 +1,3 @@
 pub mod CaseFiles
 pub mod CaseReadings
-pub mod Joined
 pub mod Reading

@@ -1,9 +1,6 @@
 pub mod CaseFaults
 pub mod CaseFile
 pub mod CaseReading
-pub mod FrameLines
-pub mod Lines
-pub mod MessageText
 pub mod OrderLines
 pub mod OrderRuns
 pub mod Parser

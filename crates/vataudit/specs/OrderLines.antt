@@ -13,7 +13,7 @@ use Rattle.case_book.specs.declared.ties.TieFault.{TieFault}
 use Rattle.case_book.specs.declared.ties.TieFault.TheVariants.{MissingLog, SameEnds}
 use Rattle.vataudit.specs.declared.case_fault.CaseFault.{CaseFault}
 use Rattle.vataudit.specs.declared.case_fault.CaseFault.TheVariants as fault
-use Rattle.vataudit.specs.Lines.{fault_name, line}
+use Rattle.report_lines.specs.Lines.{fault_name, line}
 
 -- the name of an order's fault, with its offset where it has one
 abbrev pub order_fault_name : OrderError → List ℕ

@@ -1,13 +1,13 @@
 -- What a run prints, and the status with which it ends.
 use Rattle.std.specs.Prelude.{◌≡◌, ◌⊎◌, ℕ, List, [], ◌∷◌, codes, Option, Result, Ok, Err, IsOk, string_bytes}
 use Rattle.std.specs.Io.KnownBytes.{Appends}
-use Rattle.vataudit.specs.declared.answer.Answer.{Answer}
+use Rattle.report_lines.specs.declared.answer.Answer.{Answer}
 use Rattle.vataudit.specs.declared.source.SourceError.{SourceError}
 use Rattle.vataudit.specs.declared.source.SourceError.TheVariants.{CannotRead, OutOfMemory}
 use Rattle.vataudit.specs.declared.command.Command.{Command}
 use Rattle.vataudit.specs.declared.command.Command.TheVariants.{Vat, Frame, Order}
-use Rattle.vataudit.specs.FrameLines.{AnswersHex}
-use Rattle.vataudit.specs.Lines.{AnswersLog, line}
+use Rattle.report_lines.specs.FrameLines.{AnswersHex}
+use Rattle.report_lines.specs.Lines.{AnswersLog, line}
 
 -- what a source gave makes this answer, or is this fault, or memory ran out over its bytes
 abbrev pub GivesAnswer : Result (List ℕ) SourceError → Result Answer SourceError → Type 0

@@ -13,15 +13,12 @@
 ghost use Rattle.std.specs.Prelude.{◌≡◌, ◌≢◌, ◌⊎◌};
 ghost use Rattle.clap.specs.Words.{kind_of};
 
-mod answer;
 mod case_fault;
 mod case_file;
 mod case_reading;
 mod command;
 mod file;
-mod frame_answer;
 mod help;
-mod message_text;
 mod new_file;
 mod order;
 mod order_answer;

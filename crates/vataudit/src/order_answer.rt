@@ -6,13 +6,13 @@ ghost use Rattle.vataudit.specs.declared.case_fault.CaseFault.{CaseFault};
 ghost use Rattle.vataudit.specs.CaseReading.{ComesOfCase};
 ghost use Rattle.vataudit.specs.OrderLines.{AnswersCase, AnswersLogs, case_fault_line, order_fault_name, refusal_name, tie_fault_name};
 
-use crate::answer::fault_name;
 use crate::case_fault::CaseFault;
 use crate::case_reading::read_case;
 use crate::source::Source;
 use bytes::Bytes;
 use case_book::{Case, CaseError, TieFault};
 use merge_order::{OrderError, make_order, write_order};
+use report_lines::fault_name;
 use std::alloc::{AllocError, Global};
 
 /// A line with its end, the exit status that goes with it, and the bytes of the order, if there is one.

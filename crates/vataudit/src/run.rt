@@ -6,11 +6,10 @@ ghost use Rattle.vataudit.specs.declared.source.SourceError.{SourceError};
 ghost use Rattle.vataudit.specs.OrderRuns.{Leaves};
 ghost use Rattle.vataudit.specs.Printed.{GivesAnswer, AnswersFrame, AnswersSource, Prints, PrintsOrFails, Runs};
 
-use crate::answer::{Answer, answer_of_log};
 use crate::command::Command;
-use crate::frame_answer::answer_of_frame;
 use crate::order::make_order_of;
 use crate::source::{Source, SourceError};
+use report_lines::{Answer, answer_of_frame, answer_of_log};
 use std::alloc::{AllocError, Global};
 use std::io;
 use std::io::Write;

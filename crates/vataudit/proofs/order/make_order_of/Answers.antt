@@ -1,7 +1,7 @@
 use Rattle.std.proofs.Common.{◌≡◌, ◌⊎◌, ◌∙◌, ℕ, List, [], ◌∷◌, codes, string_bytes, option_map, Option, None, Result, Ok, Err, IfOk, OnOk, refl, inl, inr, rules}
 use Rattle.std.specs.Io.KnownBytes.{Appends}
 use Rattle.std.specs.Result.{result_unwrap_or}
-use Rattle.vataudit.specs.Lines.{line}
+use Rattle.report_lines.specs.Lines.{line}
 use Rattle.vataudit.specs.OrderRuns.{Delivers}
 use Rattle.vataudit.proofs.order.make_order_of.Goals as goal
 

@@ -1,0 +1,3 @@
+pub mod FrameLines
+pub mod Lines
+pub mod MessageText

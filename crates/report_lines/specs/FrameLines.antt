@@ -48,10 +48,18 @@ fault_line faults.BadTag = line (codes "bad tag" ∷ [])
 fault_line faults.OutOfMemory = line (codes "out of memory" ∷ [])
 fault_line (faults.Frame fault) = line (codes "bad frame " ∷ frame_fault_name fault ∷ [])
 
--- a line and a status answer what a frame's bytes read as: the message, or the first fault
+-- the line for what a frame's bytes read as, the message or the first fault; and its status
+abbrev pub view_line : Result RpcMessage ViewError → List ℕ
+view_line (Ok message) = line (message_text message ∷ [])
+view_line (Err fault) = fault_line fault
+
+abbrev pub view_status : Result RpcMessage ViewError → ℕ
+view_status (Ok message) = 0
+view_status (Err fault) = 2
+
+-- a line and a status answer what a frame's bytes read as
 abbrev pub AnswersView : Result RpcMessage ViewError → List ℕ → ℕ → Type 0
-AnswersView (Ok message) text status = (text ≡ line (message_text message ∷ [])) × (status ≡ 0)
-AnswersView (Err fault) text status = (text ≡ fault_line fault) × (status ≡ 2)
+AnswersView view text status = (text ≡ view_line view) × (status ≡ view_status view)
 
 -- a line and a status answer what hexadecimal digits give: a frame's bytes, or nothing
 abbrev pub AnswersDigits : Result (List ℕ) FromHexError → List ℕ → ℕ → Type 0

@@ -1,3 +1,4 @@
 pub mod FrameLines
 pub mod Lines
 pub mod MessageText
+pub mod Pieces

@@ -204,35 +204,38 @@ main_shorts x = refl
 pub data Reader : Type 0 where
   of_vat : Reader
   of_frame : Reader
+  of_frames : Reader
 
 abbrev pub word_of : Reader → Text
 word_of of_vat = codes "vat"
 word_of of_frame = codes "frame"
+word_of of_frames = codes "frames"
 
 -- the command that isn't one of them
 abbrev ordering : Text
 ordering = codes "order"
 
--- the subcommand of a word that is `vat`, or `frame`, or `order`, or `help`, or none of them
-abbrev met_by : Bool → Bool → Bool → Bool → Option Text
-met_by is_vat is_frame is_order is_help = option_map (λ (s : Text × List Text). s.0) (if is_vat || false then Some (codes "vat", [])
-    else (if is_frame || false then Some (codes "frame", []) else (if is_order || false then Some (ordering, []) else (if is_help || false then Some (codes "help", []) else None))))
+-- the subcommand of a word that is `vat`, or `frame`, or `frames`, or `order`, or `help`, or none of them
+abbrev met_by : Bool → Bool → Bool → Bool → Bool → Option Text
+met_by is_vat is_frame is_frames is_order is_help = option_map (λ (s : Text × List Text). s.0) (if is_vat || false then Some (codes "vat", [])
+    else (if is_frame || false then Some (codes "frame", []) else (if is_frames || false then Some (codes "frames", []) else (if is_order || false then Some (ordering, []) else (if is_help || false then Some (codes "help", []) else None)))))
 
-abbrev turn_by : Text → Bool → Bool → Bool → Bool → Kinds
-turn_by w is_vat is_frame is_order is_help =
-    let met = subcommand_or_other main.rules (met_by is_vat is_frame is_order is_help) idle 1 w (holding None) in
-    or_else (other_fault main (met_by is_vat is_frame is_order is_help) w (holding None)) (step_fault main 1 met.0 met.1)
+abbrev turn_by : Text → Bool → Bool → Bool → Bool → Bool → Kinds
+turn_by w is_vat is_frame is_frames is_order is_help =
+    let met = subcommand_or_other main.rules (met_by is_vat is_frame is_frames is_order is_help) idle 1 w (holding None) in
+    or_else (other_fault main (met_by is_vat is_frame is_frames is_order is_help) w (holding None)) (step_fault main 1 met.0 met.1)
 
 first_main : (w : Text) → turn_fault main names (at None 1 false) w ≡ [] → ((r : Reader) × (w ≡ word_of r)) ⊎ ((w ≡ ordering) ⊎ (w ≡ dashes))
-first_main w e = go (bytes_eq (codes "vat") w) (bytes_eq (codes "frame") w) (bytes_eq ordering w) (bytes_eq (codes "help") w) refl refl refl e
+first_main w e = go (bytes_eq (codes "vat") w) (bytes_eq (codes "frame") w) (bytes_eq (codes "frames") w) (bytes_eq ordering w) (bytes_eq (codes "help") w) refl refl refl refl e
   where
-    go : (is_vat is_frame is_order is_help : Bool) → bytes_eq (codes "vat") w ≡ is_vat → bytes_eq (codes "frame") w ≡ is_frame → bytes_eq ordering w ≡ is_order
-        → turn_by w is_vat is_frame is_order is_help ≡ [] → ((r : Reader) × (w ≡ word_of r)) ⊎ ((w ≡ ordering) ⊎ (w ≡ dashes))
-    go true is_frame is_order is_help is differs differ e = inl (of_vat, sym ((bytes_eq-Decides (codes "vat") w).0 is))
-    go false true is_order is_help differs is differ e = inl (of_frame, sym ((bytes_eq-Decides (codes "frame") w).0 is))
-    go false false true is_help differs differ is e = inr (inl (sym ((bytes_eq-Decides ordering w).0 is)))
-    go false false false true differs differ differed e = absurd (never e)
-    go false false false false differs differ differed e =
+    go : (is_vat is_frame is_frames is_order is_help : Bool) → bytes_eq (codes "vat") w ≡ is_vat → bytes_eq (codes "frame") w ≡ is_frame → bytes_eq (codes "frames") w ≡ is_frames
+        → bytes_eq ordering w ≡ is_order → turn_by w is_vat is_frame is_frames is_order is_help ≡ [] → ((r : Reader) × (w ≡ word_of r)) ⊎ ((w ≡ ordering) ⊎ (w ≡ dashes))
+    go true is_frame is_frames is_order is_help is framed many ordered e = inl (of_vat, sym ((bytes_eq-Decides (codes "vat") w).0 is))
+    go false true is_frames is_order is_help vatted is many ordered e = inl (of_frame, sym ((bytes_eq-Decides (codes "frame") w).0 is))
+    go false false true is_order is_help vatted framed is ordered e = inl (of_frames, sym ((bytes_eq-Decides (codes "frames") w).0 is))
+    go false false false true is_help vatted framed many is e = inr (inl (sym ((bytes_eq-Decides ordering w).0 is)))
+    go false false false false true vatted framed many ordered e = absurd (never e)
+    go false false false false false vatted framed many ordered e =
         let met = word_met main.rules [] false idle 1 w (holding None) in
         let stray : step_fault main 1 met.0 met.1 ≡ [] = then_none (other_fault main None w (holding None)) (step_fault main 1 met.0 met.1) e in
         elim (word_plain main.rules main_longs main_shorts None 1 w (first_none (other_fault main None w (holding None)) _ e)) [
@@ -252,6 +255,7 @@ stop_at : (r : Reader) (words : List Text) → (walk main.rules names nothing_he
 unfolding walked
 stop_at of_vat words = stops (holding None) idle 1 false (codes "vat") [] words
 stop_at of_frame words = stops (holding None) idle 1 false (codes "frame") [] words
+stop_at of_frames words = stops (holding None) idle 1 false (codes "frames") [] words
 
 stop_order : (words : List Text) → (walk main.rules names nothing_held (ordering ∷ words)).stopped ≡ Some (ordering, words)
 unfolding walked
@@ -261,10 +265,12 @@ stop_order words = stops (holding None) idle 1 false ordering [] words
 entered_level : (r : Reader) (words : List Text) → entered_fault (built program) (Some (word_of r, words)) ≡ level_fault (sub (word_of r)) [] nothing_held words false []
 entered_level of_vat words = refl
 entered_level of_frame words = refl
+entered_level of_frames words = refl
 
 entered_rows : (r : Reader) (words : List Text) → entered (built program) (Some (word_of r, words)) ≡ Some (word_of r, rows_after (sub (word_of r)).rules [] words)
 entered_rows of_vat words = refl
 entered_rows of_frame words = refl
+entered_rows of_frames words = refl
 
 no_command : (rest : List Text) → built_fault (built program) nothing_held (dashes ∷ rest) ≡ [] → ⊥
 unfolding clap_on_literals
@@ -377,15 +383,18 @@ taken_by : (r : Reader) (first file : Text) → is_flag file ≡ false → fault
 unfolding clap_on_literals
 taken_by of_vat first file e = ap (λ (k : Kinds). or_else k []) (file_taken (codes "vat") file e)
 taken_by of_frame first file e = ap (λ (k : Kinds). or_else k []) (file_taken (codes "frame") file e)
+taken_by of_frames first file e = ap (λ (k : Kinds). or_else k []) (file_taken (codes "frames") file e)
 
 taken_after_by : (r : Reader) (first file : Text) → fault_of program (first ∷ word_of r ∷ dashes ∷ file ∷ []) ≡ []
 unfolding clap_on_literals
 taken_after_by of_vat first file = refl
 taken_after_by of_frame first file = refl
+taken_after_by of_frames first file = refl
 
 reader_of : (name : Text) → IsReader name → (r : Reader) × (name ≡ word_of r)
 reader_of name (inl is) = (of_vat, is)
-reader_of name (inr is) = (of_frame, is)
+reader_of name (inr (inl is)) = (of_frame, is)
+reader_of name (inr (inr is)) = (of_frames, is)
 
 -- the name of a command and one word have no fault, where the word is no flag
 pub takes_one : (first name file : Text) → IsReader name → is_flag file ≡ false → fault_of program (first ∷ name ∷ file ∷ []) ≡ []
@@ -401,7 +410,7 @@ takes_after_dashes first name file reads =
 
 -- `order CASE --out FILE`
 abbrev order_sub : Shape
-order_sub = unwrap_or (slice_get (built program).subs 2) order.top
+order_sub = unwrap_or (slice_get (built program).subs 3) order.top
 
 order_words : (file out : Text) → is_flag file ≡ false → is_flag out ≡ false → level_fault order_sub [] nothing_held (file ∷ codes "--out" ∷ out ∷ []) false [] ≡ []
 unfolding clap_on_literals
@@ -517,7 +526,8 @@ pub spells_by : (r : Reader) (words : List Text) (name file thing wanted : Text)
 spells_by r words name file thing wanted spelled named same is =
     subst (λ (f : Text). SpellsOne wanted words f) same (subst (λ (n : Text). SpellsOne n words file) (sym named ∙ is) spelled)
 
--- a command that isn't `vat` is `frame`
-pub other_reader : (r : Reader) (name : Text) → name ≡ word_of r → (name ≡ codes "vat" → ⊥) → name ≡ codes "frame"
-other_reader of_vat name named other = absurd (other named)
-other_reader of_frame name named other = named
+-- a command that is neither `vat` nor `frame` is `frames`
+pub other_reader : (r : Reader) (name : Text) → name ≡ word_of r → (name ≡ codes "vat" → ⊥) → (name ≡ codes "frame" → ⊥) → name ≡ codes "frames"
+other_reader of_vat name named no_vat no_frame = absurd (no_vat named)
+other_reader of_frame name named no_vat no_frame = absurd (no_frame named)
+other_reader of_frames name named no_vat no_frame = named

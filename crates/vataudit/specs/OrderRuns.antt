@@ -5,7 +5,7 @@ use Rattle.case_book.specs.Case.{Contents}
 use Rattle.vataudit.specs.CaseReading.{ComesOfCase, Read}
 use Rattle.vataudit.specs.declared.case_fault.CaseFault.{CaseFault}
 use Rattle.vataudit.specs.declared.command.Command.{Command}
-use Rattle.vataudit.specs.declared.command.Command.TheVariants.{Vat, Frame, Order}
+use Rattle.vataudit.specs.declared.command.Command.TheVariants.{Vat, Frame, Frames, Order}
 use Rattle.vataudit.specs.OrderLines.{AnswersCase}
 use Rattle.vataudit.specs.Printed.{IsOutOfMemory}
 
@@ -37,5 +37,6 @@ MakesOrder gives in_file in_out name old new file file_new out out_new ended =
 abbrev pub Leaves : {S F W : Type 0} → (S → List ℕ → Read → S → Type 0) → (F → Option (List ℕ)) → (W → Option (List ℕ)) → Command → S → S → F → F → W → W → ℕ → Type 0
 Leaves gives in_file in_out (Vat name) old new file file_new out out_new ended = file_new ≡ file
 Leaves gives in_file in_out (Frame hex) old new file file_new out out_new ended = file_new ≡ file
+Leaves gives in_file in_out (Frames name) old new file file_new out out_new ended = file_new ≡ file
 Leaves gives in_file in_out (Order name path) old new file file_new out out_new ended =
     MakesOrder gives in_file in_out name.now old new file file_new out out_new ended

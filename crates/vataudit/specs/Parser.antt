@@ -11,7 +11,7 @@ input = codes "input"
 abbrev pub input_rule : Rule
 input_rule = record (new_rule input) { value_names = 1; required = true }
 
--- a command that reads one thing: `vat FILE`, `frame HEX`
+-- a command that reads one thing: `vat FILE`, `frame HEX`, `frames FILE`
 abbrev pub reader : List ℕ → App
 reader name = with_rule (new_app name) input_rule
 
@@ -32,4 +32,6 @@ top = on_top (λ s. record s { subcommand_required = true; arg_required_else_hel
 
 -- the program with its commands
 abbrev pub program : App
-program = with_subcommand (with_subcommand (with_subcommand top (reader (codes "vat")).top) (reader (codes "frame")).top) order.top
+program =
+    with_subcommand (with_subcommand (with_subcommand (with_subcommand top (reader (codes "vat")).top) (reader (codes "frame")).top) (reader (codes "frames")).top)
+    order.top

@@ -1,13 +1,14 @@
 -- What a run prints, and the status with which it ends.
-use Rattle.std.specs.Prelude.{◌≡◌, ◌⊎◌, ℕ, List, [], ◌∷◌, codes, Option, Result, Ok, Err, IsOk, string_bytes}
+use Rattle.std.specs.Prelude.{◌≡◌, ◌⊎◌, ℕ, List, [], ◌∷◌, ◌++◌, codes, Option, Result, Ok, Err, IsOk, string_bytes}
 use Rattle.std.specs.Io.KnownBytes.{Appends}
 use Rattle.report_lines.specs.declared.answer.Answer.{Answer}
 use Rattle.vataudit.specs.declared.source.SourceError.{SourceError}
 use Rattle.vataudit.specs.declared.source.SourceError.TheVariants.{CannotRead, OutOfMemory}
 use Rattle.vataudit.specs.declared.command.Command.{Command}
-use Rattle.vataudit.specs.declared.command.Command.TheVariants.{Vat, Frame, Order}
+use Rattle.vataudit.specs.declared.command.Command.TheVariants.{Vat, Frame, Frames, Order}
 use Rattle.report_lines.specs.FrameLines.{AnswersHex}
 use Rattle.report_lines.specs.Lines.{AnswersLog, line}
+use Rattle.report_lines.specs.Pieces.{AnswersFrames, Falls, lines}
 
 -- what a source gave makes this answer, or is this fault, or memory ran out over its bytes
 abbrev pub GivesAnswer : Result (List ℕ) SourceError → Result Answer SourceError → Type 0
@@ -28,6 +29,21 @@ AnswersSource (Err OutOfMemory) text status = IsOutOfMemory text status
 abbrev pub AnswersFrame : List ℕ → List ℕ → ℕ → Type 0
 AnswersFrame hex text status = AnswersHex hex text status ⊎ IsOutOfMemory text status
 
+-- the lines and the status where memory ran out over a file of frames: those of its first pieces, and then that of this
+abbrev pub StopsShort : List ℕ → List ℕ → ℕ → Type 0
+StopsShort bytes text status = (pieces : List (List ℕ)) × ((rest : List ℕ) × (Falls bytes pieces rest
+    × (text ≡ lines pieces ++ line (codes "out of memory" ∷ [])) × (status ≡ 3)))
+
+-- lines and a status answer the bytes of a file of frames, or memory ran out over them
+abbrev pub AnswersBytes : List ℕ → List ℕ → ℕ → Type 0
+AnswersBytes bytes text status = AnswersFrames bytes text status ⊎ StopsShort bytes text status
+
+-- lines and a status answer what a source gave as a file of frames
+abbrev pub AnswersFile : Result (List ℕ) SourceError → List ℕ → ℕ → Type 0
+AnswersFile (Ok bytes) text status = AnswersBytes bytes text status
+AnswersFile (Err CannotRead) text status = (text ≡ line (codes "cannot read" ∷ [])) × (status ≡ 2)
+AnswersFile (Err OutOfMemory) text status = IsOutOfMemory text status
+
 -- an answer's line was written whole, and its status is the run's
 abbrev pub Prints : (List ℕ → ℕ → Type 0) → Option (List ℕ) → Option (List ℕ) → ℕ → Type 0
 Prints answers old new status = (text : List ℕ) × answers text status × Appends old new text
@@ -37,8 +53,9 @@ abbrev pub PrintsOrFails : (List ℕ → ℕ → Type 0) → Option (List ℕ) �
 PrintsOrFails answers old new status = Prints answers old new status ⊎ (status ≡ 2)
 
 -- What a run of a command takes from its source, which read_gives speaks of, and what it then prints: the log of a vat is
--- read once, by its name, and a frame asks for nothing. Of the order of a case Leaves (specs/OrderRuns.antt) says all.
+-- read once, by its name, as a file of frames is, and a frame asks for nothing. Of the order of a case Leaves (specs/OrderRuns.antt) says all.
 abbrev pub Runs : {S : Type 0} → (S → List ℕ → Result (List ℕ) SourceError → S → Type 0) → Command → S → S → ((List ℕ → ℕ → Type 0) → Type 0) → Type 0
 Runs read_gives (Vat file) old new prints = (read : Result (List ℕ) SourceError) × read_gives old file.now read new × prints (AnswersSource read)
 Runs read_gives (Frame hex) old new prints = (new ≡ old) × prints (AnswersFrame hex.now)
+Runs read_gives (Frames file) old new prints = (read : Result (List ℕ) SourceError) × read_gives old file.now read new × prints (AnswersFile read)
 Runs read_gives (Order name out) old new prints = Unit {0}

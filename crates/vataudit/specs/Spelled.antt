@@ -1,7 +1,7 @@
 -- How words spell commands.
 use Rattle.std.specs.Prelude.{◌≡◌, ◌⊎◌, ◌==◌, ℕ, Bool, false, List, [], ◌∷◌, Some, codes, unwrap_or}
 use Rattle.vataudit.specs.declared.command.Command.{Command}
-use Rattle.vataudit.specs.declared.command.Command.TheVariants.{Vat, Frame, Order}
+use Rattle.vataudit.specs.declared.command.Command.TheVariants.{Vat, Frame, Frames, Order}
 use Rattle.clap.specs.Words.{Row, first_of, subcommand_of}
 use Rattle.vataudit.specs.Parser.{input, path, program}
 
@@ -28,14 +28,16 @@ SpellsOrder words name out = (rows : List Row) ×
 abbrev pub Spells : List (List ℕ) → Command → Type 0
 Spells words (Vat file) = SpellsOne (codes "vat") words file.now
 Spells words (Frame hex) = SpellsOne (codes "frame") words hex.now
+Spells words (Frames file) = SpellsOne (codes "frames") words file.now
 Spells words (Order name out) = SpellsOrder words name.now out.now
 
 -- the name of a command that reads one thing
 abbrev pub IsReader : List ℕ → Type 0
-IsReader name = (name ≡ codes "vat") ⊎ (name ≡ codes "frame")
+IsReader name = (name ≡ codes "vat") ⊎ ((name ≡ codes "frame") ⊎ (name ≡ codes "frames"))
 
 -- the name of the file that a command writes, empty where it writes none
 abbrev pub out_of : Command → List ℕ
 out_of (Vat name) = []
 out_of (Frame hex) = []
+out_of (Frames name) = []
 out_of (Order name out) = out.now

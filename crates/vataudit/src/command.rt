@@ -24,6 +24,8 @@ pub enum Command<'a> {
     Vat { file: &'a str },
     /// Print the message of a frame, which is given in hexadecimal.
     Frame { hex: &'a str },
+    /// Print the messages of a file of frames, one after another, which the source has under this name.
+    Frames { file: &'a str },
     /// Make the order of the case that the source has under this name, and write it to a file.
     Order { case: &'a str, out: &'a str },
 }
@@ -35,7 +37,7 @@ impl<'a> Command<'a> {
     {
         match self {
             Command::Order { out, .. } => out,
-            Command::Vat { .. } | Command::Frame { .. } => "",
+            Command::Vat { .. } | Command::Frame { .. } | Command::Frames { .. } => "",
         }
     }
 }
@@ -83,6 +85,29 @@ fn with_frame<'a>(
     program.subcommand(frame)
 }
 
+/// The program with its command `frames FILE`.
+///
+/// # Errors
+///
+/// Want of memory.
+fn with_frames<'a>(
+    alloc: Global,
+    program: clap::Command<'a>,
+) -> Result<clap::Command<'a>, AllocError>
+    ensures { IfOk result (λ c. app_of c ≡ with_subcommand (app_of program.entry) (reader (codes "frames")).top) }
+{
+    let file = Arg::new(alloc, INPUT)
+        .value_name("FILE")
+        .required(true)
+        .help(help::FRAMES_FILE);
+    let frames = clap::Command::new(alloc, "frames")
+        .about(help::FRAMES)
+        .long_about(help::FRAMES_LONG)
+        .after_help(help::FRAMES_END)
+        .arg(file)?;
+    program.subcommand(frames)
+}
+
 /// The program with its command `order CASE --out FILE`.
 ///
 /// # Errors
@@ -125,10 +150,11 @@ fn parser<'a>(alloc: Global) -> Result<clap::Command<'a>, AllocError>
         .after_help(help::PROGRAM_END)
         .subcommand_required(true)
         .arg_required_else_help(true);
-    with_order(alloc, with_frame(alloc, with_vat(alloc, top)?)?)
+    let readers = with_frames(alloc, with_frame(alloc, with_vat(alloc, top)?)?)?;
+    with_order(alloc, readers)
 }
 
-/// The command that the words spell, of which the first is the program's name: `vat FILE` or `frame HEX`, where before or
+/// The command that the words spell, of which the first is the program's name: `vat FILE`, `frame HEX` or `frames FILE`, where before or
 /// after the last of these may stand `--`, and it may begin with a hyphen only after that or where it is `-`; or
 /// `order CASE --out FILE`, as `clap` reads it.
 ///
@@ -159,7 +185,9 @@ pub fn command_of<'a, S: AsStr>(alloc: Global, words: &'a [S]) -> Result<Command
     };
     if name == "vat" {
         Ok(Command::Vat { file: input })
-    } else {
+    } else if name == "frame" {
         Ok(Command::Frame { hex: input })
+    } else {
+        Ok(Command::Frames { file: input })
     }
 }

@@ -98,6 +98,38 @@ Exit status:
 /// HEX of `frame`.
 pub const HEX: &str = "The frame, two digits a byte in either case, without blanks";
 
+/// `frames`, in the list of commands.
+pub const FRAMES: &str = "Prints the messages of a file of frames";
+
+pub const FRAMES_LONG: &str = "\
+Reads a file of frames of the Cap'n Proto stream framing, one after another, as a
+connection's bytes have them, and prints a line for each in order, as frame does
+(vataudit frame --help has the lines). A frame that isn't read has its line too,
+and the next follows. Where no frame can be cut, bad frame NAME is the last line:
+
+  bad frame Short             the bytes end inside a frame
+  bad frame TooManySegments   more than 512 segments
+
+An empty file has no lines. In the place of them, or after some, may stand:
+
+  cannot read      no such file, or over 1073741824 bytes
+  out of memory";
+
+pub const FRAMES_END: &str = "\
+Example:
+  $ vataudit frames sent.frames
+  bootstrap question 0
+  finish question 0 releaseResultCaps true
+
+Exit status:
+  0  each line is a message
+  2  a message is outside of this profile, a frame is bad, the file can't be read,
+     a line can't be written, or the command line is wrong
+  3  memory ran out";
+
+/// FILE of `frames`.
+pub const FRAMES_FILE: &str = "The frames, a file of the working directory; - is standard input";
+
 /// `order`, in the list of commands.
 pub const ORDER: &str = "Makes an order of the records of a case";
 

@@ -18,6 +18,7 @@ mod case_file;
 mod case_reading;
 mod command;
 mod file;
+mod frames;
 mod help;
 mod new_file;
 mod order;

@@ -7,6 +7,7 @@ ghost use Rattle.vataudit.specs.OrderRuns.{Leaves};
 ghost use Rattle.vataudit.specs.Printed.{GivesAnswer, AnswersFrame, AnswersSource, Prints, PrintsOrFails, Runs};
 
 use crate::command::Command;
+use crate::frames::show_frames;
 use crate::order::make_order_of;
 use crate::source::{Source, SourceError};
 use report_lines::{Answer, answer_of_frame, answer_of_log};
@@ -65,8 +66,8 @@ fn show<W: Write>(alloc: Global, hex: &str, out: &mut W) -> io::Result<u8>
     }
 }
 
-/// Runs a command: writes its one line to `out`, and answers the exit status. It is 0 where the log is good, the message of
-/// a frame is printed or an order is made, 1 where a record breaks a rule or no order exists, 2 where a record isn't judged,
+/// Runs a command: writes its line, or its lines, to `out`, and answers the exit status. It is 0 where the log is good, the
+/// message of each frame is printed or an order is made, 1 where a record breaks a rule or no order exists, 2 where a record isn't judged,
 /// a message isn't read, the input is bad or can't be read, or a write fails, and 3 where memory ran out. After a failed
 /// write nothing more is written. To `file` go the bytes of an order alone, before the line.
 pub fn run_on<S: Source, W: Write, F: Write>(
@@ -82,6 +83,7 @@ pub fn run_on<S: Source, W: Write, F: Write>(
     let printed = match command {
         Command::Vat { file: name } => audit(alloc, name, source, out),
         Command::Frame { hex } => show(alloc, hex, out),
+        Command::Frames { file: name } => show_frames(alloc, name, source, out),
         Command::Order { case, .. } => return make_order_of(alloc, case, source, out, file),
     };
     printed.unwrap_or(FAILED)

@@ -26,6 +26,16 @@ const UNREAD: &str = "0a00000000000000000000000000002800000000000000040000000000
 const BOOTSTRAP_FRAME: &str = "0000000005000000000000000100010008000000000000000000000001000100\
 00000000000000000000000000000000";
 
+/// A Finish that keeps the capabilities.
+const FINISH_FRAME: &str = "0000000004000000000000000100010004000000000000000000000001000000\
+0500000001000000";
+
+/// A Message whose tag is of another level.
+const PROVIDE_FRAME: &str = "000000000300000000000000010001000a000000000000000000000000000000";
+
+/// A frame of one segment without words.
+const NO_ROOT_FRAME: &str = "0000000000000000";
+
 /// A source that has one log, under the name `log`: its bytes in hexadecimal, in pieces.
 #[derive(Drop)]
 struct Pieces<'a> {
@@ -183,6 +193,57 @@ fn prints_frames(rt: HostRuntime) -> Result<(), Fail> {
     assert_shown(&rt, alloc, "0g", "bad hex", 2)
 }
 
+/// What is printed for the file of frames `log`, and the exit status.
+fn listed(alloc: Global, source: &mut impl Source) -> Result<(Vec<u8>, u8), AllocError> {
+    let mut out = Vec::with_capacity(alloc, 256)?;
+    let command = Command::Frames { file: "log" };
+    let status = run_on(alloc, &command, source, &mut out, &mut io::sink());
+    Ok((out, status))
+}
+
+/// Prints a file of frames twice where memory ran out the first time, and compares.
+fn assert_listed(
+    rt: &impl Abort,
+    alloc: Global,
+    pieces: &[&str],
+    lines: &str,
+    status: u8,
+) -> Result<(), Fail> {
+    let (out, met) = match listed(alloc, &mut Pieces { alloc, pieces }) {
+        Ok((out, met)) if met != 3 => (out, met),
+        _ => listed(alloc, &mut Pieces { alloc, pieces })?,
+    };
+    let text = std::str::from_utf8(&out)?;
+    assert!(rt; text == lines, "{text:?} for {lines:?}");
+    assert_eq!(rt; met, status, "at {lines:?}");
+    Ok(())
+}
+
+#[test]
+fn prints_files_of_frames(rt: HostRuntime) -> Result<(), Fail> {
+    let alloc = rt.alloc();
+    let good = "bootstrap question 0\nfinish question 5 releaseResultCaps false\n";
+    let mixed = "outside Level\nbad frame NoRoot\nbootstrap question 0\nbad frame Short\n";
+    let cut = [PROVIDE_FRAME, NO_ROOT_FRAME, BOOTSTRAP_FRAME, "0000"];
+    let many = [BOOTSTRAP_FRAME, "ffffffff"];
+    let much = "bootstrap question 0\nbad frame TooManySegments\n";
+    assert_listed(&rt, alloc, &[BOOTSTRAP_FRAME, FINISH_FRAME], good, 0)?;
+    assert_listed(&rt, alloc, &cut, mixed, 2)?;
+    assert_listed(&rt, alloc, &many, much, 2)?;
+    assert_listed(&rt, alloc, &[], "", 0)
+}
+
+#[test]
+fn says_why_no_frames_are_printed(rt: HostRuntime) -> Result<(), Fail> {
+    let alloc = rt.alloc();
+    let pieces: &[&str] = &["0g"];
+    let (out, status) = listed(alloc, &mut Pieces { alloc, pieces })?;
+    assert!(rt; out.as_slice() == b"cannot read\n".as_slice() && status == 2);
+    let (out, status) = listed(alloc, &mut Poor)?;
+    assert!(rt; out.as_slice() == b"out of memory\n".as_slice() && status == 3);
+    Ok(())
+}
+
 #[test]
 fn says_why_nothing_is_audited(rt: HostRuntime) -> Result<(), Fail> {
     let alloc = rt.alloc();
@@ -236,7 +297,9 @@ fn meant<'a>(alloc: Global, words: &'a [&'a str]) -> Result<Command<'a>, ErrorKi
 fn file_of<'a>(alloc: Global, words: &'a [&'a str]) -> Result<&'a str, ErrorKind> {
     match meant(alloc, words)? {
         Command::Vat { file } => Ok(file),
-        Command::Frame { .. } | Command::Order { .. } => Err(ErrorKind::InvalidSubcommand),
+        Command::Frame { .. } | Command::Frames { .. } | Command::Order { .. } => {
+            Err(ErrorKind::InvalidSubcommand)
+        }
     }
 }
 
@@ -244,7 +307,19 @@ fn file_of<'a>(alloc: Global, words: &'a [&'a str]) -> Result<&'a str, ErrorKind
 fn hex_of<'a>(alloc: Global, words: &'a [&'a str]) -> Result<&'a str, ErrorKind> {
     match meant(alloc, words)? {
         Command::Frame { hex } => Ok(hex),
-        Command::Vat { .. } | Command::Order { .. } => Err(ErrorKind::InvalidSubcommand),
+        Command::Vat { .. } | Command::Frames { .. } | Command::Order { .. } => {
+            Err(ErrorKind::InvalidSubcommand)
+        }
+    }
+}
+
+/// The file that the words name for `frames`.
+fn frames_of<'a>(alloc: Global, words: &'a [&'a str]) -> Result<&'a str, ErrorKind> {
+    match meant(alloc, words)? {
+        Command::Frames { file } => Ok(file),
+        Command::Vat { .. } | Command::Frame { .. } | Command::Order { .. } => {
+            Err(ErrorKind::InvalidSubcommand)
+        }
     }
 }
 
@@ -261,6 +336,8 @@ fn takes_words(rt: HostRuntime) {
     assert!(rt; hex_of(alloc, &["vataudit", "frame", "0g"]) == Ok("0g"));
     assert!(rt; hex_of(alloc, &["vataudit", "frame", "--", "-x"]) == Ok("-x"));
     assert!(rt; hex_of(alloc, &["vataudit", "frame"]).is_err());
+    assert!(rt; frames_of(alloc, &["vataudit", "frames", "-"]) == Ok("-"));
+    assert!(rt; frames_of(alloc, &["vataudit", "frames", "--", "-x"]) == Ok("-x"));
     assert!(rt; file_of(alloc, &["vataudit", "--help"]) == Err(ErrorKind::DisplayHelp));
 }
 
@@ -270,6 +347,7 @@ fn helps(rt: HostRuntime) -> Result<(), Fail> {
     for (command, line) in [
         ("vat", "good vat 2 records 8 delivered 1"),
         ("frame", "abort"),
+        ("frames", "bootstrap question 0"),
         ("--help", "good vat 2 records 8 delivered 1"),
     ] {
         let words = ["vataudit", command, "--help"];

@@ -50,6 +50,16 @@ returns-then-eq-2-clause-ok g c =
     (other_text c.in-Some.name.now (codes "order") c.if-eq.ensures) in
     spells_by r.0 words name r.1.0 thing (codes "vat") r.1.1 r.1.2 (some_same (sym r.1.3 ∙ sym c.in-Some-get_str.ensures)) (same_text name (codes "vat") c.if-eq-2.ensures)
 
+pub returns-then-eq-3-clause-ok : goal.returns-then-eq-3-clause-ok
+returns-then-eq-3-clause-ok g c =
+    let words = map g.S.AsStr.text c.args.words.now in
+    let name = c.in-Some.name.now in
+    let thing = c.in-Some-get_str.input.now in
+    let r = has_thing (app_of c.in_ok-parser.field-0) (map g.S.AsStr.text c.args.words.now) c.in_ok-matches.matches c.in-Some.given.now c.in-Some.name.now
+    c.in_ok-parser.ensures c.in_ok-matches.ensures.kinds c.in_ok-matches.ensures.matches c.in-Some.ensures.name c.in-Some.ensures.rows
+    (other_text c.in-Some.name.now (codes "order") c.if-eq.ensures) in
+    spells_by r.0 words name r.1.0 thing (codes "frame") r.1.1 r.1.2 (some_same (sym r.1.3 ∙ sym c.in-Some-get_str.ensures)) (same_text name (codes "frame") c.if-eq-3.ensures)
+
 pub returns-clause-ok : goal.returns-clause-ok
 returns-clause-ok g c =
     let words = map g.S.AsStr.text c.args.words.now in
@@ -58,8 +68,8 @@ returns-clause-ok g c =
     let r = has_thing (app_of c.in_ok-parser.field-0) (map g.S.AsStr.text c.args.words.now) c.in_ok-matches.matches c.in-Some.given.now c.in-Some.name.now
     c.in_ok-parser.ensures c.in_ok-matches.ensures.kinds c.in_ok-matches.ensures.matches c.in-Some.ensures.name c.in-Some.ensures.rows
     (other_text c.in-Some.name.now (codes "order") c.if-eq.ensures) in
-    spells_by r.0 words name r.1.0 thing (codes "frame") r.1.1 r.1.2 (some_same (sym r.1.3 ∙ sym c.in-Some-get_str.ensures))
-    (other_reader r.0 name r.1.2 (other_text name (codes "vat") c.if-eq-2.ensures))
+    spells_by r.0 words name r.1.0 thing (codes "frames") r.1.1 r.1.2 (some_same (sym r.1.3 ∙ sym c.in-Some-get_str.ensures))
+    (other_reader r.0 name r.1.2 (other_text name (codes "vat") c.if-eq-2.ensures) (other_text name (codes "frame") c.if-eq-3.ensures))
 
 pub unreachable-requires-in_default-get_str : goal.unreachable-requires-in_default-get_str
 unreachable-requires-in_default-get_str g c =

@@ -15,4 +15,5 @@ returns c =
     ∙ ap (on_top (λ s. record s { subcommand_required = true; arg_required_else_help = true })) c.new.ensures.app in
     let vat_is = c.in_ok-with_vat.ensures ∙ ap (λ (a : App). with_subcommand a (reader (codes "vat")).top) top_is in
     let frame_is = c.in_ok-with_frame.ensures ∙ ap (λ (a : App). with_subcommand a (reader (codes "frame")).top) vat_is in
-    IfOk-weaker c.with_order.result _ _ (λ m h. h ∙ ap (λ (a : App). with_subcommand a order.top) frame_is) c.with_order.ensures
+    let frames_is = c.in_ok-readers.ensures ∙ ap (λ (a : App). with_subcommand a (reader (codes "frames")).top) frame_is in
+    IfOk-weaker c.with_order.result _ _ (λ m h. h ∙ ap (λ (a : App). with_subcommand a order.top) frames_is) c.with_order.ensures

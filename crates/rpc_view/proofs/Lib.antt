@@ -4,3 +4,4 @@ pub mod Loops
 pub mod Prices
 pub mod Spelled
 pub mod Judged
+pub mod Memory

@@ -1,12 +1,14 @@
 //! Reading messages.
 
-ghost use Rattle.std.specs.Prelude.{◌≡◌, ◌≤◌, List, [], ◌∷◌, ℕ, IfOk, Ok};
+ghost use Rattle.std.specs.Prelude.{◌≡◌, ◌≢◌, ◌≤◌, List, [], ◌∷◌, ℕ, IfOk, Ok, Err};
+ghost use Rattle.cap_reader.specs.declared.read_error.ReadError.TheVariants.{OutOfMemory};
 ghost use Rattle.cap_reader.specs.Tree.{root_tree};
 ghost use Rattle.rpc_view.specs.Reading.{Answers, Runs, run, sections_of};
 ghost use Rattle.rpc_view.specs.Message.{body_in, message_in, message_of, message_of_bytes, HasPrice};
 ghost use Rattle.rpc_view.specs.Layouts.{message_tag, message_body};
 ghost use Rattle.rpc_view.specs.Spelling.{Spells};
 ghost use Rattle.rpc_view.specs.declared.message.RpcMessage.{RpcMessage};
+ghost use Rattle.rpc_view.specs.declared.view_error.ViewError.TheVariants.{Read};
 
 use crate::bodies::{answer, bootstrap, call, disembargo, finish, release, resolve};
 use crate::layouts::MESSAGE_TAG;
@@ -67,6 +69,8 @@ pub fn read_message(alloc: Global, frame: &Frame, limits: Limits) -> Result<RpcM
     ensures spelled { (words : List ℕ) (message : RpcMessage) (cost depth : ℕ) → Spells words message cost depth → frame.now ≡ words ∷ [] → cost ≤ limits.words → depth ≤ limits.depth → Answers (λ message. message) result (Ok message) }
     // More words never change a message, and with fewer than it costs it isn't read.
     ensures priced { IfOk result (λ message. (cost : ℕ) × (cost ≤ limits.words) × HasPrice frame.now limits.depth message cost) }
+    // Want of memory is `OutOfMemory` alone, and never a pointer's fault.
+    ensures memory { result ≢ Err (Read OutOfMemory) }
 {
     let mut limits = limits;
     message(alloc, frame, &mut limits)
@@ -74,7 +78,10 @@ pub fn read_message(alloc: Global, frame: &Frame, limits: Limits) -> Result<RpcM
 
 /// The message of a frame's bytes, within limits: [`read_message`] after the frame was read, whose fault is `Frame`.
 pub fn read_bytes(alloc: Global, bytes: Bytes, limits: Limits) -> Result<RpcMessage, ViewError>
-    ensures { Answers (λ message. message) result (message_of_bytes bytes limits) }
+    // Which message, or which fault.
+    ensures exact { Answers (λ message. message) result (message_of_bytes bytes limits) }
+    // Want of memory is `OutOfMemory` alone, and never a pointer's fault.
+    ensures memory { result ≢ Err (Read OutOfMemory) }
 {
     let frame = Frame::read(bytes)?;
     read_message(alloc, &frame, limits)

@@ -243,10 +243,10 @@ static DISEMBARGO_ACCEPT: [u8; 64] = [
     0,
 ];
 
-/// Disembargo whose context is provide.
+/// Disembargo whose context is provide, and whose target is a pointer of a reserved kind, which isn't followed.
 static DISEMBARGO_PROVIDE: [u8; 64] = [
     0, 0, 0, 0, 7, 0, 0, 0, 0, 0, 0, 0, 1, 0, 1, 0, 13, 0, 0, 0, 0, 0, 0, 0, 0, 0, 0, 0, 1, 0, 1,
-    0, 2, 0, 0, 0, 3, 0, 0, 0, 0, 0, 0, 0, 1, 0, 1, 0, 4, 0, 0, 0, 0, 0, 0, 0, 0, 0, 0, 0, 0, 0, 0,
+    0, 2, 0, 0, 0, 3, 0, 0, 0, 7, 0, 0, 0, 0, 0, 0, 0, 4, 0, 0, 0, 0, 0, 0, 0, 0, 0, 0, 0, 0, 0, 0,
     0,
 ];
 

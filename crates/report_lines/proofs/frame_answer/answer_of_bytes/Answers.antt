@@ -20,4 +20,4 @@ answered (faults.Frame e) read text is known fails = rw fails (is, refl)
 pub returns-in_ok-line-in-Err : goal.returns-in_ok-line-in-Err
 returns-in_ok-line-in-Err c =
     let lined = c.in_ok-line-in-Err.ensures in
-    answered c.in-Err.fault (message_of_bytes c.args.bytes default_limits) (string_bytes c.in_ok-line-in-Err.line) lined.line lined.memory c.in-Err.ensures
+    answered c.in-Err.fault (message_of_bytes c.args.bytes default_limits) (string_bytes c.in_ok-line-in-Err.line) lined.line lined.memory c.in-Err.ensures.exact

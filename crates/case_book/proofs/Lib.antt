@@ -1,3 +1,4 @@
 pub mod Numbers
 pub mod Rest
+pub mod Search
 pub mod Sorted

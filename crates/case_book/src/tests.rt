@@ -196,3 +196,30 @@ fn what_does_not_tie_up_is_found(rt: HostRuntime) -> Result<(), Fail> {
     );
     Ok(())
 }
+
+#[test]
+fn each_of_many_links_is_found(rt: HostRuntime) -> Result<(), Fail> {
+    let alloc = rt.alloc();
+    let mut links = [(0, 1, 2); 256];
+    for (number, link) in (0..=255u8).zip(links.iter_mut()) {
+        link.0 = 2 * u32::from(number) + 1;
+    }
+    let second: (u32, &[Use]) = (2, &[]);
+    for connection in [1, 3, 255, 257, 259, 509, 511] {
+        let first: (u32, &[Use]) = (1, &[Use::Sends(connection)]);
+        assert_eq!(rt; fault(alloc, &[first, second], &links)?, None);
+        let third: (u32, &[Use]) = (3, &[Use::Receives(connection)]);
+        assert_eq!(rt;
+            fault(alloc, &[first, second, third], &links)?,
+            Some(TieFault::MissingLog(connection))
+        );
+    }
+    for connection in [0, 2, 256, 510, 512] {
+        let first: (u32, &[Use]) = (1, &[Use::Sends(511), Use::Sends(connection)]);
+        assert_eq!(rt;
+            fault(alloc, &[first, second], &links)?,
+            Some(TieFault::MissingLog(connection))
+        );
+    }
+    Ok(())
+}

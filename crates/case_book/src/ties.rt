@@ -3,7 +3,9 @@
 ghost use Rattle.std.specs.Prelude.{◌≡◌, ◌&&◌, ◌||◌, ◌==◌, None, fold, map, option_and_then, slice_get};
 ghost use Rattle.std.specs.Arc.{arc_value};
 ghost use Rattle.std.specs.List.{flat_map};
+ghost use Rattle.std.specs.List.Sorted.{IsStrictlyIncreasing};
 ghost use Rattle.case_book.specs.Least.{lower, least};
+ghost use Rattle.case_book.specs.Case.{connections_of};
 ghost use Rattle.case_book.specs.Ties.{used_by, is_linked, unlinked_in, has_log, lacks_log, missing, unlogged, same_ended};
 
 use crate::link::Link;
@@ -39,15 +41,20 @@ fn used_at(log: &VatLog, index: usize) -> Option<u32>
     }
 }
 
-/// Whether a connection has a link with this vat as an end.
+/// Whether a connection has a link with this vat as an end. The links stand by rising connection, and are searched so.
 fn has_link(links: &[Link], vat: u32, connection: u32) -> bool
+    requires { IsStrictlyIncreasing (connections_of links.now) }
     ensures { result ≡ is_linked links.now vat connection }
 {
-    links.iter().any(|link| link.conn == connection && (link.a == vat || link.b == vat))
+    match links.binary_search_by_key(&connection, |link| link.conn) {
+        Ok(at) => links[at].a == vat || links[at].b == vat,
+        Err(_) => false,
+    }
 }
 
 /// The least of the connections that a log uses without a link, and of one found before.
 fn least_unlinked_in(found: Option<u32>, log: &VatLog, links: &[Link]) -> Option<u32>
+    requires { IsStrictlyIncreasing (connections_of links.now) }
     ensures { result ≡ fold lower found (unlinked_in links.now log.now) }
 {
     let mut found = found;
@@ -63,6 +70,7 @@ fn least_unlinked_in(found: Option<u32>, log: &VatLog, links: &[Link]) -> Option
 
 /// The least of the connections that the logs use without a link.
 fn least_unlinked(logs: &[Arc<VatLog>], links: &[Link]) -> Option<u32>
+    requires { IsStrictlyIncreasing (connections_of links.now) }
     ensures { result ≡ least (flat_map (unlinked_in links.now) (map arc_value logs.now)) }
 {
     let mut found = None;
@@ -97,8 +105,9 @@ fn least_unlogged(found: Option<u32>, logs: &[Arc<VatLog>], links: &[Link]) -> O
     found
 }
 
-/// The least connection for which a log is missing.
+/// The least connection for which a log is missing, of links by rising connection.
 pub fn least_missing(logs: &[Arc<VatLog>], links: &[Link]) -> Option<u32>
+    requires { IsStrictlyIncreasing (connections_of links.now) }
     ensures { result ≡ least (missing (record { logs = map arc_value logs.now; links = links.now })) }
 {
     least_unlogged(least_unlinked(logs, links), logs, links)

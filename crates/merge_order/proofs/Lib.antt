@@ -2,3 +2,4 @@ pub mod Greedy
 pub mod Steps
 pub mod Reading
 pub mod Tables
+pub mod Totals

@@ -171,7 +171,7 @@ finding_fits logs order =
 
 -- ---- the least vat
 
-rising_tail : (x : ℕ) (xs : List ℕ) → IsStrictlyIncreasing (x ∷ xs) → IsStrictlyIncreasing xs
+pub rising_tail : (x : ℕ) (xs : List ℕ) → IsStrictlyIncreasing (x ∷ xs) → IsStrictlyIncreasing xs
 rising_tail x xs rising k h =
     let e : suc k + 1 ≡ suc (k + 1) = omega arith in
     let P : ℕ → Type 0 = λ j. get_or xs k 0 < get_or (x ∷ xs) j 0 in
@@ -240,13 +240,17 @@ may_receive ps v own b connection call references frame n r part next kind count
 
 -- ---- a step of all parts
 
+pub taken_items : (kept old items : List Part) (n : ℕ) → old ≡ kept → length old ≡ n → length items ≡ length old → take n (items ++ drop (length items) kept) ≡ items
+taken_items kept old items n same len lens =
+    let rest : drop (length items) kept ≡ [] = drop_all (length items) kept (omega (arith, lens, ap length same)) in
+    let whole : items ++ drop (length items) kept ≡ items = ap (λ (l : List Part). items ++ l) rest ∙ append-nil items in
+    ap (take n) whole ∙ take_all n items (omega (arith, len, lens))
+
 pub taken_all : (v : ℕ) (kept old items now : List Part) (n i : ℕ) → old ≡ kept → kept ≡ now → length old ≡ n → length items ≡ length old → items ≡ after v (take i old) ++ drop i old → length old ≤ i
     → take n (items ++ drop (length items) kept) ≡ after v now
 taken_all v kept old items now n i same is len lens e le =
     let done : items ≡ after v old = e ∙ ap (λ (l : List Part). after v l ++ drop i old) (take_all i old le) ∙ ap (λ (l : List Part). after v old ++ l) (drop_all i old le) ∙ append-nil (after v old) in
-    let rest : drop (length items) kept ≡ [] = drop_all (length items) kept (omega (arith, lens, ap length same)) in
-    let whole : items ++ drop (length items) kept ≡ items = ap (λ (l : List Part). items ++ l) rest ∙ append-nil items in
-    ap (take n) whole ∙ take_all n items (omega (arith, len, lens)) ∙ done ∙ ap (after v) (same ∙ is)
+    taken_items kept old items n same len lens ∙ done ∙ ap (after v) (same ∙ is)
 
 -- ---- the order of the vat numbers stays
 

@@ -8,7 +8,7 @@ use Rattle.vat_log.specs.declared.body.Body.{Body}
 use Rattle.vat_log.specs.declared.body.Body.TheVariants.{Send, Receive}
 use Rattle.merge_order.specs.declared.counts.Counts.{Counts}
 use Rattle.merge_order.specs.Fits.{Part, sends, receives}
-use Rattle.merge_order.specs.Tables.{count_of, IsCounted, IsRaised}
+use Rattle.merge_order.specs.Tables.{count_of, IsCounted, IsRaised, RisesWith}
 use Rattle.merge_order.proofs.Greedy.{bool_cases}
 
 none_more : (n : ℕ) → n ≡ n + 0
@@ -74,3 +74,13 @@ counted_other part b out into before next not_send not_receive =
     counted part b out into out into before next
     (λ connection. none_more (count_of out connection) ∙ ap (λ (t : Bool). count_of out connection + cond t 1 0) (sym (neither b not_send not_receive connection).0))
     (λ connection. none_more (count_of into connection) ∙ ap (λ (t : Bool). count_of into connection + cond t 1 0) (sym (neither b not_send not_receive connection).1))
+
+-- ---- the totals rise with what a part sends
+
+pub rises_send : (part next : Part) (connection : ℕ) (out into later into_later totals totals_later : Counts) → IsCounted part out into → IsCounted next later into_later → IsRaised connection out later → IsRaised connection totals totals_later
+    → RisesWith part next totals totals_later
+rises_send part next connection out into later into_later totals totals_later before now raised totals_raised other =
+    omega (arith, before.went other, now.went other, raised other, totals_raised other)
+
+pub rises_not : (part next : Part) (out into into_later totals : Counts) → IsCounted part out into → IsCounted next out into_later → RisesWith part next totals totals
+rises_not part next out into into_later totals before now other = omega (arith, before.went other, now.went other)

@@ -1,5 +1,7 @@
--- Tables of how often connections came up, and when they are those of a log.
-use Rattle.std.specs.Prelude.{◌≡◌, ℕ, ◌+◌, ◌≤◌, ◌==◌, length, unwrap_or, if◌then◌else◌}
+-- Tables of how often connections came up, and when they are those of a log or of several.
+use Rattle.std.specs.Prelude.{◌≡◌, ℕ, ◌+◌, ◌≤◌, ◌==◌, List, length, map, unwrap_or, if◌then◌else◌}
+use Rattle.std.specs.List.{sum_by}
+use Rattle.std.specs.List.Sorted.{IsStrictlyIncreasing}
 use Rattle.std.specs.Ordering.{nat_cmp}
 use Rattle.std.specs.BTreeMap.{get}
 use Rattle.merge_order.specs.Fits.{Part, sent, received}
@@ -26,3 +28,16 @@ pub record IsCounted (part : Part) (out into : Counts) : Type 0 where
   pub within : part.came ≤ length part.log.records
   pub went : (connection : ℕ) → count_of out connection ≡ sent connection part
   pub came : (connection : ℕ) → count_of into connection ≡ received connection part
+
+-- the totals rise by what a part sent more
+abbrev pub RisesWith : Part → Part → Counts → Counts → Type 0
+RisesWith old new totals later = (connection : ℕ) → count_of later connection + sent connection old ≡ count_of totals connection + sent connection new
+
+-- the frames that all vats sent on the connection before
+abbrev pub sent_by_all : ℕ → List Part → ℕ
+sent_by_all connection parts = sum_by (sent connection) parts
+
+-- what a progress keeps: the vat numbers rise, and the table says how many frames all vats sent on each connection by now
+pub record IsTotalled (parts : List Part) (totals : Counts) : Type 0 where
+  pub rising : IsStrictlyIncreasing (map (λ part. part.log.vat) parts)
+  pub sum : (connection : ℕ) → count_of totals connection ≡ sent_by_all connection parts

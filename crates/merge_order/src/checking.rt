@@ -21,6 +21,7 @@ pub enum OrderFinding {
 
 /// What is found of an order.
 fn find(alloc: Global, logs: &[Arc<VatLog>], order: &Order) -> Result<OrderFinding, AllocError>
+    requires { IsRising (map arc_value logs.now) }
     ensures { IfOk result (λ finding. finding ≡ finding_of (map arc_value logs.now) order.now) }
 {
     let mut progress = Progress::new(alloc, logs)?;
@@ -29,7 +30,7 @@ fn find(alloc: Global, logs: &[Arc<VatLog>], order: &Order) -> Result<OrderFindi
         if !progress.may_come(*vat) {
             return Ok(OrderFinding::Fails(step as u64));
         }
-        progress.take(*vat)?;
+        progress = progress.take(*vat)?;
     }
     if progress.is_used_up() {
         Ok(OrderFinding::Fits)

@@ -33,6 +33,7 @@ impl Model for Cursor {
 
 impl Cursor {
     ghost use Rattle.merge_order.specs.Fits.{sent, received, further};
+    ghost use Rattle.merge_order.specs.Tables.{RisesWith};
 
     /// At the log's begin.
     pub fn new(alloc: Global, log: &Arc<VatLog>) -> Result<Cursor, AllocError>
@@ -81,10 +82,11 @@ impl Cursor {
         self.received_counts.of(connection)
     }
 
-    /// Goes one record further, if the log is this vat's and a record is left.
+    /// Goes one record further, if the log is this vat's and a record is left; the totals rise with what it sends.
     #[tactic(auto, unfolding(crate::specs::Fits::further))]
-    pub fn go_on(&mut self, vat: u32) -> Result<(), AllocError>
-        ensures { OnOk result (self.new ≡ further vat self.old) }
+    pub fn go_on(&mut self, vat: u32, totals: &mut Counts) -> Result<(), AllocError>
+        ensures goes { OnOk result (self.new ≡ further vat self.old) }
+        ensures adds { OnOk result (RisesWith self.old self.new totals.old totals.new) }
     {
         if self.log.vat() != vat || self.log.len() <= self.came {
             return Ok(());
@@ -93,7 +95,10 @@ impl Cursor {
             return Ok(());
         };
         match event.body() {
-            Body::Send { connection, .. } => self.sent_counts.raise(*connection)?,
+            Body::Send { connection, .. } => {
+                totals.raise(*connection)?;
+                self.sent_counts.raise(*connection)?;
+            }
             Body::Receive { connection, .. } => self.received_counts.raise(*connection)?,
             _ => {}
         }

@@ -25,7 +25,7 @@ pub fn make_order(alloc: Global, logs: &[Arc<VatLog>]) -> Result<Option<Order>, 
     let mut vats = Vec::new(alloc);
     while let Some(vat) = progress.least() {
         vats.push(vat)?;
-        progress.take(vat)?;
+        progress = progress.take(vat)?;
     }
     if progress.is_used_up() {
         Ok(Some(Order::new(vats)))

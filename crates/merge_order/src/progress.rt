@@ -1,43 +1,52 @@
 //! Several logs, each with how many of its records came already.
 
-ghost use Rattle.std.specs.Prelude.{◌≡◌, ◌<◌, ℕ, false, true, length, map, IfOk, OnOk, MatchOption, nat_lt};
+ghost use Rattle.std.specs.Prelude.{◌≡◌, ◌<◌, ℕ, false, true, Some, map, IfOk, MatchOption};
 ghost use Rattle.std.specs.Arc.{arc_value};
 ghost use Rattle.std.specs.Option.{option_copied};
-ghost use Rattle.std.specs.List.Sorted.{IsStrictlyIncreasing};
 
+use crate::counts::Counts;
 use crate::cursor::Cursor;
 use std::alloc::{AllocError, Global};
 use std::marker::Model;
 use std::sync::Arc;
 use vat_log::{Body, VatLog};
 
-/// Several logs, each with how many of its records came already.
+/// Several logs by rising vat numbers, each with how many of its records came already, and how many frames all the vats
+/// sent on each connection by then.
 #[derive(Debug, Drop)]
 pub struct Progress {
     cursors: Vec<Cursor>,
+    totals: Counts,
 }
 
 impl Model for Progress {
     ghost use Rattle.std.specs.Prelude.{List};
     ghost use Rattle.merge_order.specs.Fits.{Part};
+    ghost use Rattle.merge_order.specs.Tables.{IsTotalled};
 
     ghost Value = { List Part };
 
     ghost view = { λ progress. progress.cursors.items };
+
+    ghost invariant = { λ progress. IsTotalled progress.cursors.items progress.totals };
 }
 
 impl Progress {
-    ghost use Rattle.merge_order.specs.Fits.{begin, part_of, sent_by_others, may_come, after, used_up};
+    ghost use Rattle.merge_order.specs.Fits.{IsRising, begin, part_of, sent_by_others, may_come, after, used_up};
 
     /// Before the first step.
     pub fn new(alloc: Global, logs: &[Arc<VatLog>]) -> Result<Progress, AllocError>
+        requires { IsRising (map arc_value logs.now) }
         ensures { IfOk result (λ progress. progress ≡ begin (map arc_value logs.now)) }
     {
         let mut cursors = Vec::new(alloc);
         for log in logs {
             cursors.push(Cursor::new(alloc, log)?)?;
         }
-        Ok(Progress { cursors })
+        Ok(Progress {
+            cursors,
+            totals: Counts::new(alloc),
+        })
     }
 
     fn find(&self, vat: u32) -> Option<&Cursor>
@@ -51,21 +60,29 @@ impl Progress {
         None
     }
 
-    /// Whether the other vats sent more frames on the connection than so many.
-    fn others_sent_more(&self, vat: u32, connection: u32, than: u64) -> bool
-        ensures { result ≡ nat_lt than (sent_by_others vat connection self.now) }
+    /// How many frames the other vats sent on the connection. The vat's own cursor is one of these.
+    fn sent_by_others(&self, own: &Cursor, connection: u32) -> u64
+        requires { part_of own.now.log.vat self.now ≡ Some own.now }
+        ensures { result ≡ sent_by_others own.now.log.vat connection self.now }
     {
-        let mut left = than;
-        for cursor in &self.cursors {
-            if cursor.vat() != vat {
-                let sent = cursor.sent(connection);
-                if left < sent {
-                    return true;
-                }
-                left -= sent;
+        self.totals.of(connection) - own.sent(connection)
+    }
+
+    /// Whether the next record of this cursor, which is one of these, may come.
+    #[tactic(auto, unfolding(crate::specs::Fits::may_come))]
+    fn may_go_on(&self, own: &Cursor) -> bool
+        requires { part_of own.now.log.vat self.now ≡ Some own.now }
+        ensures { result ≡ may_come self.now own.now.log.vat }
+    {
+        let Some(event) = own.next() else {
+            return false;
+        };
+        match event.body() {
+            Body::Receive { connection, .. } => {
+                own.received(*connection) < self.sent_by_others(own, *connection)
             }
+            _ => true,
         }
-        false
     }
 
     /// Whether the next record of this vat may come.
@@ -76,25 +93,21 @@ impl Progress {
         let Some(own) = self.find(vat) else {
             return false;
         };
-        let Some(event) = own.next() else {
-            return false;
-        };
-        match event.body() {
-            Body::Receive { connection, .. } => {
-                self.others_sent_more(vat, *connection, own.received(*connection))
-            }
-            _ => true,
-        }
+        self.may_go_on(own)
     }
 
-    /// Takes the next record of this vat.
-    pub fn take(&mut self, vat: u32) -> Result<(), AllocError>
-        ensures { OnOk result (self.new ≡ after vat self.old) }
+    /// Takes the next record of this vat. Where memory is refused, nothing is left of the progress.
+    pub fn take(self, vat: u32) -> Result<Progress, AllocError>
+        ensures { IfOk result (λ later. later ≡ after vat self) }
     {
-        for cursor in self.cursors.iter_mut() {
-            cursor.go_on(vat)?;
+        let Progress {
+            mut cursors,
+            mut totals,
+        } = self;
+        for cursor in cursors.iter_mut() {
+            cursor.go_on(vat, &mut totals)?;
         }
-        Ok(())
+        Ok(Progress { cursors, totals })
     }
 
     /// Whether all records came.
@@ -107,14 +120,12 @@ impl Progress {
 
     /// The smallest vat number whose next record may come.
     pub fn least(&self) -> Option<u32>
-        requires { IsStrictlyIncreasing (map (λ part. part.log.vat) self.now) }
         ensures { MatchOption result ((vat : ℕ) → may_come self.now vat ≡ false)
             (λ least. (may_come self.now least ≡ true) × ((vat : ℕ) → vat < least → may_come self.now vat ≡ false)) }
     {
-        for cursor in &self.cursors {
-            let vat = cursor.vat();
-            if self.may_come(vat) {
-                return Some(vat);
+        for own in &self.cursors {
+            if self.may_go_on(own) {
+                return Some(own.vat());
             }
         }
         None

@@ -18,7 +18,7 @@ loop-step-preserved c =
     let vats = c.as_slice-vats.result.now in
     let at = c.loop-step.step in
     let front = drop_more vats at 0 (omega (arith, c.loop-step-test.true)) in
-    rw c.in_ok-take.ensures (checked_more c.loop-step.progress at (get_or vats at 0) (drop at vats) (drop (at + 1) vats) _ c.loop-step.invariant front (sym c.may_come.ensures ∙ c.if-not-may_come.false))
+    rw c.in_ok-progress-2.ensures (checked_more c.loop-step.progress at (get_or vats at 0) (drop at vats) (drop (at + 1) vats) _ c.loop-step.invariant front (sym c.may_come.ensures ∙ c.if-not-may_come.false))
 
 pub returns-then-is_used_up : goal.returns-then-is_used_up
 returns-then-is_used_up c =

@@ -1,12 +1,11 @@
 use Rattle.std.specs.Prelude.{map}
 use Rattle.std.specs.Arc.{arc_value}
-use Rattle.std.specs.List.Sorted.{IsStrictlyIncreasing}
 use Rattle.merge_order.specs.Fits.{begin}
 use Rattle.merge_order.proofs.Steps.{IsMade, left}
 use Rattle.merge_order.proofs.making.make_order.Given as goal
 
 abbrev pub invariant-loop-vat : goal.invariant-loop-vat
-invariant-loop-vat l = IsMade (begin (map arc_value l.logs)) l.progress l.vats.items × IsStrictlyIncreasing (map (λ part. part.log.vat) l.progress)
+invariant-loop-vat l = IsMade (begin (map arc_value l.logs)) l.progress l.vats.items
 
 abbrev pub decreases-loop-vat : goal.decreases-loop-vat
 decreases-loop-vat l = left l.progress

@@ -1,8 +1,13 @@
-use Rattle.std.proofs.Common.{◌∙◌, sym}
-use Rattle.merge_order.proofs.Steps.{may_receive}
+use Rattle.std.proofs.Common.{ℕ, ◌∙◌, sym, ap}
+use Rattle.merge_order.specs.Fits.{part_of, may_come}
+use Rattle.merge_order.proofs.Totals.{part_vat}
 use Rattle.merge_order.proofs.progress.Progress.may_come.Goals as goal
 
-pub returns-in-Receive : goal.returns-in-Receive
-returns-in-Receive c =
-    may_receive c.args.self.now c.args.vat c.in-Some.own.now c.in-Some-next.event.now c.in-Receive.connection c.in-Receive.call c.in-Receive.references c.in-Receive.frame c.received.result c.others_sent_more.result
-    c.in-Some.ensures c.in-Some-next.ensures (sym c.body.ensures.value ∙ c.in-Receive.is) c.received.ensures c.others_sent_more.ensures
+pub may_go_on-requires : goal.may_go_on-requires
+may_go_on-requires c =
+    let ps = c.args.self.now in
+    let part = sym c.in-Some.ensures in
+    ap (λ (u : ℕ). part_of u ps) (part_vat c.args.vat ps c.in-Some.own.now part) ∙ part
+
+pub returns : goal.returns
+returns c = c.may_go_on.ensures ∙ ap (may_come c.args.self.now) (part_vat c.args.vat c.args.self.now c.in-Some.own.now (sym c.in-Some.ensures))

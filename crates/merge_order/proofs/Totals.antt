@@ -1,0 +1,89 @@
+-- The table of the frames that all vats sent: at the begin, after a step, and against those that one vat sent.
+use Rattle.std.proofs.Common.{◌≡◌, ℕ, zero, suc, ◌+◌, ◌<◌, List, [], ◌∷◌, length, get_or, set, Some, None, refl, sym, ap, subst, ◌∙◌, inl, inr, arith}
+use Rattle.std.specs.Prelude.{◌==◌, map}
+use Rattle.std.specs.List.Sorted.{IsStrictlyIncreasing}
+use Rattle.std.proofs.lemmas.Bool.{eq-eqb, eqb-true, cases_eq}
+use Rattle.std.proofs.lemmas.List.Sums.{sum_by-cons, sum_by-set}
+use Rattle.vat_log.specs.Log.{Log}
+use Rattle.merge_order.specs.declared.counts.Counts.{Counts}
+use Rattle.merge_order.specs.Fits.{Part, sent, part_of, sent_by_others, begin}
+use Rattle.merge_order.specs.Tables.{count_of, IsEmpty, RisesWith, sent_by_all, IsTotalled}
+use Rattle.merge_order.proofs.Greedy.{bool_cases, some_is, eqb_apart}
+use Rattle.merge_order.proofs.Steps.{rising_tail, none_smaller, others_own, others_more}
+
+none_some_part : (p : Part) → None ≡ Some p → ⊥
+none_some_part p e = cc
+
+-- ---- the vat numbers rise, so each vat has one part
+
+own_not_again : (p : Part) (ps : List Part) → IsStrictlyIncreasing (map (λ q. q.log.vat) (p ∷ ps)) → part_of p.log.vat ps ≡ None
+own_not_again p [] rising = refl
+own_not_again p (q ∷ ps) rising =
+    none_smaller q ps p.log.vat (rising_tail p.log.vat (map (λ r. r.log.vat) (q ∷ ps)) rising) (rising 0 (omega arith))
+
+part_there : (ps : List Part) (i : ℕ) (d : Part) → IsStrictlyIncreasing (map (λ q. q.log.vat) ps) → i < length ps → part_of (get_or ps i d).log.vat ps ≡ Some (get_or ps i d)
+part_there [] i d rising lt = absurd (omega arith)
+part_there (p ∷ ps) zero d rising lt = rw (eq-eqb p.log.vat p.log.vat refl) refl
+part_there (p ∷ ps) (suc i) d rising lt =
+    let later = part_there ps i d (rising_tail p.log.vat (map (λ q. q.log.vat) ps) rising) (omega arith) in
+    let own = get_or ps i d in
+    elim (cases_eq p.log.vat own.log.vat) [
+      | inl same ↦ absurd (none_some_part own (sym (own_not_again p ps rising) ∙ ap (λ (u : ℕ). part_of u ps) same ∙ later))
+      | inr other ↦ rw (eqb_apart _ _ other) later
+    ]
+
+pub part_at : (ps : List Part) (i : ℕ) (p : Part) → IsStrictlyIncreasing (map (λ q. q.log.vat) ps) → i < length ps → p ≡ get_or ps i p → part_of p.log.vat ps ≡ Some p
+part_at ps i p rising lt is = subst (λ (q : Part). part_of q.log.vat ps ≡ Some q) (sym is) (part_there ps i p rising lt)
+
+pub part_vat : (v : ℕ) (ps : List Part) (own : Part) → part_of v ps ≡ Some own → own.log.vat ≡ v
+part_vat v [] own e = absurd (none_some_part own e)
+part_vat v (p ∷ ps) own e =
+    elim (bool_cases (p.log.vat == v)) [
+      | inl same ↦ let is : p ≡ own = some_is p own (rw same at e) in sym (ap (λ (q : Part). q.log.vat) is) ∙ eqb-true _ _ same
+      | inr other ↦ part_vat v ps own (rw other at e)
+    ]
+
+-- ---- all vats, and all but one
+
+others_are_all : (v connection : ℕ) (ps : List Part) → part_of v ps ≡ None → sent_by_others v connection ps ≡ sent_by_all connection ps
+others_are_all v connection [] e = refl
+others_are_all v connection (p ∷ ps) e =
+    elim (cases_eq p.log.vat v) [
+      | inl same ↦ absurd (none_some_part p (sym e ∙ rw (eq-eqb _ _ same) refl))
+      | inr other ↦
+          let later = others_are_all v connection ps (rw (eqb_apart _ _ other) at e) in
+          others_more v connection p ps other ∙ ap (λ (n : ℕ). sent connection p + n) later ∙ sym (sum_by-cons (sent connection) p ps)
+    ]
+
+own_and_others : (v connection : ℕ) (ps : List Part) (own : Part) → IsStrictlyIncreasing (map (λ q. q.log.vat) ps) → part_of v ps ≡ Some own → sent_by_all connection ps ≡ sent connection own + sent_by_others v connection ps
+own_and_others v connection [] own rising e = absurd (none_some_part own e)
+own_and_others v connection (p ∷ ps) own rising e =
+    let whole = sum_by-cons (sent connection) p ps in
+    elim (cases_eq p.log.vat v) [
+      | inl same ↦
+          let is : p ≡ own = some_is p own (rw (eq-eqb _ _ same) at e) in
+          let rest = others_are_all v connection ps (ap (λ (u : ℕ). part_of u ps) (sym same) ∙ own_not_again p ps rising) in
+          omega (arith, whole, ap (sent connection) is, rest, others_own v connection p ps same)
+      | inr other ↦
+          let later = own_and_others v connection ps own (rising_tail p.log.vat (map (λ q. q.log.vat) ps) rising) (rw (eqb_apart _ _ other) at e) in
+          omega (arith, whole, later, others_more v connection p ps other)
+    ]
+
+-- the table says what the vat sent and what the others sent
+pub totalled : (v connection : ℕ) (ps : List Part) (own : Part) (totals : Counts) → IsTotalled ps totals → part_of v ps ≡ Some own → count_of totals connection ≡ sent connection own + sent_by_others v connection ps
+totalled v connection ps own totals kept part = kept.sum connection ∙ own_and_others v connection ps own kept.rising part
+
+-- ---- at the begin, and after a step
+
+total_begin : (logs : List Log) (connection : ℕ) → sent_by_all connection (begin logs) ≡ 0
+total_begin [] connection = refl
+total_begin (log ∷ logs) connection =
+    omega (arith, sum_by-cons (sent connection) (record { log = log; came = 0 }) (begin logs), total_begin logs connection)
+
+pub totals_begin : (logs : List Log) (ps : List Part) (totals : Counts) → ps ≡ begin logs → IsEmpty totals → (connection : ℕ) → count_of totals connection ≡ sent_by_all connection ps
+totals_begin logs ps totals is empty connection = empty connection ∙ sym (ap (sent_by_all connection) is ∙ total_begin logs connection)
+
+-- one part goes on, and the totals rise with what it sends
+pub totals_set : (ps : List Part) (i : ℕ) (new d : Part) (totals later : Counts) → i < length ps → RisesWith (get_or ps i d) new totals later → ((connection : ℕ) → count_of totals connection ≡ sent_by_all connection ps)
+    → (connection : ℕ) → count_of later connection ≡ sent_by_all connection (set ps i new)
+totals_set ps i new d totals later lt rises sum connection = omega (arith, sum_by-set (sent connection) ps i new d lt, rises connection, sum connection)

@@ -158,6 +158,51 @@ fn a_log_is_read(rt: HostRuntime) -> Result<(), Fail> {
     Ok(())
 }
 
+/// Two results: one reference at the root, another at path 0, 258.
+fn two_results(alloc: Global) -> Result<Results, AllocError> {
+    let at_root = (9, Path::new(Vec::new(alloc)));
+    let below = (4, Path::new(Vec::from_slice(alloc, &[0, 258])?));
+    Ok(Results::new(vec![in alloc; at_root, below]?))
+}
+
+fn results_copied(alloc: Global) -> Result<Results, AllocError> {
+    two_results(alloc)?.copy()
+}
+
+/// Whether this is the result of this number.
+fn is_result(results: &Results, index: usize, reference: u64, path: &[u16]) -> bool {
+    match results.as_slice().get(index) {
+        Some(answered) => answered.0 == reference && answered.1.as_slice() == path,
+        None => false,
+    }
+}
+
+#[test]
+fn results_are_copied(rt: HostRuntime) -> Result<(), Fail> {
+    let copied = match results_copied(rt.alloc()) {
+        Err(_) => results_copied(rt.alloc()),
+        copied => copied,
+    }?;
+    assert_eq!(rt; copied.as_slice().len(), 2);
+    assert!(rt; is_result(&copied, 0, 9, &[]));
+    assert!(rt; is_result(&copied, 1, 4, &[0, 258]));
+    Ok(())
+}
+
+fn references_copied(alloc: Global) -> Result<References, AllocError> {
+    references(alloc, &[7, 1, u64::MAX])?.copy()
+}
+
+#[test]
+fn references_are_copied(rt: HostRuntime) -> Result<(), Fail> {
+    let copied = match references_copied(rt.alloc()) {
+        Err(_) => references_copied(rt.alloc()),
+        copied => copied,
+    }?;
+    assert_eq!(rt; copied.as_slice(), [7, 1, u64::MAX].as_slice());
+    Ok(())
+}
+
 fn stored(body: Body) -> Result<Record, LogError> {
     Record::new(body).map_err(|(error, _)| error)
 }

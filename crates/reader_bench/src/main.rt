@@ -6,6 +6,8 @@
 
 mod reading;
 mod report;
+#[cfg(test)]
+mod tests;
 mod word_sum;
 
 use bytes::Bytes;

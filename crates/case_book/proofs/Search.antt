@@ -1,5 +1,5 @@
 -- A link found by its connection, among links by rising connection.
-use Rattle.std.proofs.Common.{◌≡◌, ◌≢◌, ℕ, ◌<◌, ◌≤◌, Bool, true, false, List, length, get_or, sym, ap, ◌∙◌, inl, inr, arith}
+use Rattle.std.proofs.Common.{◌≡◌, ◌≢◌, ℕ, ◌<◌, Bool, false, List, length, get_or, sym, ap, ◌∙◌, inl, inr, arith}
 use Rattle.std.specs.Prelude.{◌==◌, ◌&&◌, ◌||◌}
 use Rattle.std.specs.List.{list_any}
 use Rattle.std.specs.List.Sorted.{IsStrictlyIncreasing, IsNonDecreasingBy, IsPartitionPoint}
@@ -14,7 +14,7 @@ use Rattle.std.proofs.lemmas.List.Kept.{AllPairs-from_increasing}
 use Rattle.case_book.specs.Case.{connections_of}
 use Rattle.case_book.specs.Ties.{is_linked}
 use Rattle.case_book.specs.declared.link.Link.{Link}
-use Rattle.case_book.proofs.Numbers.{bool_cases, apart}
+use Rattle.case_book.proofs.Numbers.{bool_cases}
 
 -- where all elements but one fail a test, that one settles whether any passes
 settled : {X : Type 0} (p : X → Bool) (xs : List X) (i : ℕ) (d : X) → i < length xs → ((j : ℕ) (e : X) → j < length xs → j ≢ i → p (get_or xs j e) ≡ false) → list_any p xs ≡ p (get_or xs i d)

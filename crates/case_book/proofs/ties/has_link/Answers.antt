@@ -1,9 +1,7 @@
-use Rattle.std.proofs.Common.{◌≡◌, sym, arith, rules}
+use Rattle.std.proofs.Common.{sym, arith, rules}
 use Rattle.std.proofs.lemmas.Bool.Decides.{nat_tests}
 use Rattle.std.proofs.lemmas.Cmp.{ranked}
-use Rattle.std.proofs.lemmas.Grind.{common_steps}
 use Rattle.std.proofs.lemmas.List.Sorted.{answers_always}
-use Rattle.case_book.specs.Ties.{is_linked}
 use Rattle.case_book.specs.declared.link.Link.{Link}
 use Rattle.case_book.proofs.Search.{comparisons_rise, found_at, found_nowhere}
 use Rattle.case_book.proofs.ties.has_link.Goals as goal

@@ -288,3 +288,24 @@ fn answers_bytes(rt: HostRuntime) -> Result<(), Fail> {
     assert_answer(&rt, &answer, "bad frame Short", 2);
     Ok(())
 }
+
+/// The first piece of the bytes, twice where memory ran out the first time.
+fn cut(bytes: &mut Bytes) -> Result<Bytes, AllocError> {
+    match cut_piece(bytes) {
+        Ok(piece) => Ok(piece),
+        Err(AllocError) => cut_piece(bytes),
+    }
+}
+
+#[test]
+fn cuts_frames_off(rt: HostRuntime) -> Result<(), Fail> {
+    let mut bytes = Bytes::from_static(b"\0\0\0\0\0\0\0\0\0\0\0\0\0\0\0\0\x07\x07\x07");
+    let lengths = [
+        cut(&mut bytes)?.len(),
+        cut(&mut bytes)?.len(),
+        cut(&mut bytes)?.len(),
+        bytes.len(),
+    ];
+    assert_eq!(rt; lengths, [8, 8, 3, 0]);
+    Ok(())
+}

@@ -1,5 +1,5 @@
 -- The line, the exit status and the bytes for the file that answer a case whose order is asked for.
-use Rattle.std.specs.Prelude.{◌≡◌, ℕ, List, [], ◌∷◌, ◌++◌, length, codes, Option, Some, None, Result, Ok, Err}
+use Rattle.std.specs.Prelude.{◌≡◌, ◌≢◌, ℕ, List, [], ◌∷◌, ◌++◌, length, codes, Option, Some, None, Result, Ok, Err}
 use Rattle.std.specs.Fmt.{decimal}
 use Rattle.vat_log.specs.Log.{Log}
 use Rattle.merge_order.specs.Fits.{IsFitting, TakesLeast}
@@ -53,7 +53,8 @@ AnswersLogs logs text status (Some bytes) =
 AnswersLogs logs text status None =
     ((order : List ℕ) → IsFitting logs order → ⊥) × (text ≡ line (codes "no order exists" ∷ [])) × (status ≡ 1)
 
--- a line, a status and the bytes for the file answer what came of a case
+-- A line, a status and the bytes for the file answer what came of a case. Want of memory is no answer of a case; what is
+-- printed then AnswersOrder says.
 abbrev pub AnswersCase : Result Contents CaseFault → List ℕ → ℕ → Option (List ℕ) → Type 0
 AnswersCase (Ok held) text status bytes = AnswersLogs held.logs text status bytes
-AnswersCase (Err found) text status bytes = (text ≡ case_fault_line found) × (status ≡ 2) × (bytes ≡ None)
+AnswersCase (Err found) text status bytes = (found ≢ fault.OutOfMemory) × (text ≡ case_fault_line found) × (status ≡ 2) × (bytes ≡ None)

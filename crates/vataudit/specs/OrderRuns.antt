@@ -20,8 +20,8 @@ abbrev pub Saves : {F : Type 0} → (F → Option (List ℕ)) → Option (List �
 Saves contents None old new = new ≡ old
 Saves contents (Some bytes) old new = Appends (contents old) (contents new) bytes
 
--- Bytes were written to the file and then the line to the output; or a write failed: that of the line, or that of the bytes,
--- and then the output is as it was.
+-- Bytes were written to the file and then the line to the output; or the status is 2, and nothing is said of the output, but
+-- that it is as it was where the bytes weren't all written.
 abbrev pub Delivers : {F W : Type 0} → (F → Option (List ℕ)) → (W → Option (List ℕ)) → List ℕ → ℕ → Option (List ℕ) → F → F → W → W → ℕ → Type 0
 Delivers in_file in_out text status bytes file file_new out out_new ended =
     (Saves in_file bytes file file_new × Appends (in_out out) (in_out out_new) text × (ended ≡ status))

@@ -1,5 +1,5 @@
 -- What a run prints, and the status with which it ends.
-use Rattle.std.specs.Prelude.{◌≡◌, ◌⊎◌, ℕ, List, [], ◌∷◌, ◌++◌, codes, Option, Result, Ok, Err, IsOk, string_bytes}
+use Rattle.std.specs.Prelude.{◌≡◌, ◌≢◌, ◌⊎◌, ℕ, List, [], ◌∷◌, ◌++◌, codes, Option, Result, Ok, Err, IsOk, string_bytes}
 use Rattle.std.specs.Io.KnownBytes.{Appends}
 use Rattle.report_lines.specs.declared.answer.Answer.{Answer}
 use Rattle.vataudit.specs.declared.source.SourceError.{SourceError}
@@ -29,9 +29,10 @@ AnswersSource (Err OutOfMemory) text status = IsOutOfMemory text status
 abbrev pub AnswersFrame : List ℕ → List ℕ → ℕ → Type 0
 AnswersFrame hex text status = AnswersHex hex text status ⊎ IsOutOfMemory text status
 
--- the lines and the status where memory ran out over a file of frames: those of its first pieces, and then that of this
+-- the lines and the status where memory ran out over a piece of a file of frames: those of the pieces before it, and then
+-- that of this
 abbrev pub StopsShort : List ℕ → List ℕ → ℕ → Type 0
-StopsShort bytes text status = (pieces : List (List ℕ)) × ((rest : List ℕ) × (Falls bytes pieces rest
+StopsShort bytes text status = (pieces : List (List ℕ)) × ((rest : List ℕ) × (Falls bytes pieces rest × (rest ≢ [])
     × (text ≡ lines pieces ++ line (codes "out of memory" ∷ [])) × (status ≡ 3)))
 
 -- lines and a status answer the bytes of a file of frames, or memory ran out over them
@@ -48,7 +49,8 @@ AnswersFile (Err OutOfMemory) text status = IsOutOfMemory text status
 abbrev pub Prints : (List ℕ → ℕ → Type 0) → Option (List ℕ) → Option (List ℕ) → ℕ → Type 0
 Prints answers old new status = (text : List ℕ) × answers text status × Appends old new text
 
--- the same, or a write failed and the status is 2
+-- The same; or the status is 2, and nothing is said of what was written. So it is where a write fails; that it is so only
+-- then is tested.
 abbrev pub PrintsOrFails : (List ℕ → ℕ → Type 0) → Option (List ℕ) → Option (List ℕ) → ℕ → Type 0
 PrintsOrFails answers old new status = Prints answers old new status ⊎ (status ≡ 2)
 

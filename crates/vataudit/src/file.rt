@@ -9,7 +9,7 @@ use std::fs;
 use std::io::{ErrorKind, Read};
 use std::rt::Files;
 
-/// How many bytes a log may have, at most.
+/// How many bytes a file that is read may have, at most.
 const LIMIT: usize = 1_073_741_824;
 
 /// All bytes of a reader, where they are at most the limit; one more is read, to see that there are no more.

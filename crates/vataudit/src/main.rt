@@ -1,13 +1,16 @@
 //! Audits what the vats of Cap'n Proto RPC recorded: `vataudit vat FILE` prints one line for the log of one vat,
-//! `vataudit frame HEX` the message of a frame, and `vataudit order CASE --out FILE` makes an order of the records of a case.
+//! `vataudit frame HEX` the message of a frame, `vataudit frames FILE` that of each frame of a file, and
+//! `vataudit order CASE --out FILE` makes an order of the records of a case.
 //!
-//! A command line becomes a `Command` (command.rt, help.rt), whose file a `Source` gives (source.rt, file.rt); the line and
-//! the exit status are an `Answer` (answer.rt for a log, frame_answer.rt and message_text.rt for a frame), which `run_on`
-//! prints (run.rt). A case is read from its files (case_file.rt, case_reading.rt, case_fault.rt); its order is answered
-//! (order_answer.rt), written to a file (new_file.rt) and told (order.rt), as specs/CaseFile.antt, specs/CaseReading.antt,
-//! specs/OrderLines.antt and specs/OrderRuns.antt say. What else is printed is said by specs/Lines.antt,
-//! specs/FrameLines.antt, specs/MessageText.antt and specs/Printed.antt, and which words spell a command by
-//! specs/Spelled.antt.
+//! It stands on `report_lines`, which answers logs and frames, on `case_book` and `merge_order`, and on `clap` and
+//! `serde_json`. A command line becomes a `Command` (command.rt, help.rt), whose files a `Source` gives (source.rt, file.rt);
+//! `run_on` prints the answer (run.rt, and frames.rt for a file of frames). A case is read from its files (case_file.rt,
+//! case_reading.rt, case_fault.rt); its order is answered (order_answer.rt), written to a file (new_file.rt) and told
+//! (order.rt).
+//!
+//! What a run prints is said by specs/Printed.antt, over the lines that `report_lines` defines; what comes of a case and of
+//! its order by specs/CaseFile.antt, specs/CaseReading.antt, specs/OrderLines.antt and specs/OrderRuns.antt; which words
+//! spell a command by specs/Spelled.antt.
 #![tactic(auto)]
 
 ghost use Rattle.std.specs.Prelude.{◌≡◌, ◌≢◌, ◌⊎◌};

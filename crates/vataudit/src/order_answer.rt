@@ -1,6 +1,6 @@
 //! Answers where an order of the records of a case is asked for.
 
-ghost use Rattle.std.specs.Prelude.{◌≡◌, IfOk, None, Some, option_map, string_bytes, Result as Answered};
+ghost use Rattle.std.specs.Prelude.{◌≡◌, ◌≢◌, IfOk, None, Some, option_map, string_bytes, Result as Answered};
 ghost use Rattle.case_book.specs.Case.{Contents};
 ghost use Rattle.vataudit.specs.declared.case_fault.CaseFault.{CaseFault};
 ghost use Rattle.vataudit.specs.CaseReading.{ComesOfCase};
@@ -59,7 +59,8 @@ fn tie_fault_name(alloc: Global, fault: TieFault) -> Result<String, AllocError>
 
 /// The line for a fault of a case.
 fn case_fault_line(alloc: Global, fault: CaseFault) -> Result<String, AllocError>
-    ensures { IfOk result (λ text. string_bytes text ≡ case_fault_line fault) }
+    ensures line { IfOk result (λ text. string_bytes text ≡ case_fault_line fault) }
+    ensures memory { IfOk result (λ _. fault ≢ CaseFault.OutOfMemory) }
 {
     match fault {
         CaseFault::CannotRead => format!(in alloc; "cannot read\n"),
@@ -80,7 +81,7 @@ fn case_fault_line(alloc: Global, fault: CaseFault) -> Result<String, AllocError
             let name = tie_fault_name(alloc, fault)?;
             format!(in alloc; "bad case {name}\n")
         }
-        CaseFault::OutOfMemory => format!(in alloc; "out of memory\n"),
+        CaseFault::OutOfMemory => Err(AllocError),
     }
 }
 
@@ -118,7 +119,6 @@ pub fn order_answer<S: Source>(
 {
     match read_case(alloc, source, name) {
         Ok(case) => answer_of_case(alloc, &case),
-        Err(CaseFault::OutOfMemory) => Err(AllocError),
         Err(fault) => Ok(OrderAnswer {
             line: case_fault_line(alloc, fault)?,
             status: 2,

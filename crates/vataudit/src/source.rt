@@ -1,4 +1,4 @@
-//! Where logs come from.
+//! Where files come from.
 
 ghost use Rattle.std.specs.Prelude.{◌≡◌, ℕ, List, ⊤};
 ghost use Rattle.std.specs.Prelude.{Result as Answered};
@@ -41,7 +41,7 @@ pub trait Source {
     // What may come of reading a name: the source, the name, the bytes or why there are none, and the source afterwards.
     ghost read_gives: { Self → List ℕ → Answered (List ℕ) SourceError → Self → Type 0 } = { λ _ _ _ _. ⊤ };
 
-    /// All bytes that stand under the name.
+    /// All bytes that stand under the name, or why there are none.
     fn read(&mut self, name: &str) -> Result<Bytes, SourceError>
         ensures { read_gives self.old name.now result self.new };
 }

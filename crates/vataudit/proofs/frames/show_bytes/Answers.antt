@@ -13,24 +13,25 @@ pub loop-alloc-init : goal.loop-alloc-init
 loop-alloc-init g c = none_shown c.args.bytes (g.W.Write.contents c.args.out.now)
 
 -- memory ran out, and this is said, or not
-stopped : {E : Type 0} (bytes rest : List ℕ) (old now new : Option (List ℕ)) (status : ℕ) (r : Result ℕ E) → AreShown bytes old now rest status
+stopped : {E : Type 0} (bytes rest : List ℕ) (old now new : Option (List ℕ)) (status : ℕ) (r : Result ℕ E) → AreShown bytes old now rest status → rest ≢ []
     → IfOk r (λ s. s ≡ 3) → OnOk r (Appends now new (line (codes "out of memory" ∷ []))) → IfOk r (Prints (AnswersBytes bytes) old new)
-stopped bytes rest old now new status (Err e) shown is wrote = tt
-stopped bytes rest old now new status (Ok s) shown is wrote = (
+stopped bytes rest old now new status (Err e) shown some is wrote = tt
+stopped bytes rest old now new status (Ok s) shown some is wrote = (
   lines shown.pieces ++ line (codes "out of memory" ∷ []),
-  inr (shown.pieces, (rest, (shown.falls, refl, is))),
+  inr (shown.pieces, (rest, (shown.falls, some, refl, is))),
   Appends-trans old now new (lines shown.pieces) (line (codes "out of memory" ∷ [])) shown.shown wrote,
 )
-
-pub returns-in_default : goal.returns-in_default
-returns-in_default g c =
-    stopped c.args.bytes c.loop-alloc.rest (g.W.Write.contents c.args.out.now) (g.W.Write.contents c.loop-alloc.out) (g.W.Write.contents c.print.new.out)
-    c.loop-alloc.status c.print.result c.loop-alloc.invariant c.print.ensures.status c.print.ensures.text
 
 -- there is a rest
 some_left : (rest : List ℕ) (empty : Bool) → empty ≡ (length rest == 0) → empty ≡ false → rest ≢ []
 some_left [] empty is more none = absurd (cc)
 some_left (x ∷ xs) empty is more none = absurd (cc)
+
+pub returns-in_default : goal.returns-in_default
+returns-in_default g c =
+    stopped c.args.bytes c.loop-alloc.rest (g.W.Write.contents c.args.out.now) (g.W.Write.contents c.loop-alloc.out) (g.W.Write.contents c.print.new.out)
+    c.loop-alloc.status c.print.result c.loop-alloc.invariant (some_left c.loop-alloc.rest c.is_empty.result c.is_empty.ensures c.loop-alloc-test.true)
+    c.print.ensures.status c.print.ensures.text
 
 -- there is none
 none_left : (rest : List ℕ) (empty : Bool) → empty ≡ (length rest == 0) → empty ≡ true → rest ≡ []

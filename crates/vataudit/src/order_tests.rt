@@ -274,7 +274,7 @@ fn prints_nothing_of_an_order_that_is_not_written(rt: HostRuntime) -> Result<(),
         case: "case",
         out: "made",
     };
-    let mut out = Vec::with_capacity(alloc, 256)?;
+    let mut out = Vec::new(alloc);
     let mut status = run_on(alloc, &command, &mut source, &mut out, &mut Shut);
     if status == 3 {
         out.clear();

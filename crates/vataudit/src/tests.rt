@@ -236,10 +236,11 @@ fn prints_files_of_frames(rt: HostRuntime) -> Result<(), Fail> {
 #[test]
 fn says_why_no_frames_are_printed(rt: HostRuntime) -> Result<(), Fail> {
     let alloc = rt.alloc();
-    let pieces: &[&str] = &["0g"];
-    let (out, status) = listed(alloc, &mut Pieces { alloc, pieces })?;
-    assert!(rt; out.as_slice() == b"cannot read\n".as_slice() && status == 2);
-    let (out, status) = listed(alloc, &mut Poor)?;
+    assert_listed(&rt, alloc, &["0g"], "cannot read\n", 2)?;
+    let (out, status) = match listed(alloc, &mut Poor) {
+        Ok(told) => told,
+        Err(AllocError) => listed(alloc, &mut Poor)?,
+    };
     assert!(rt; out.as_slice() == b"out of memory\n".as_slice() && status == 3);
     Ok(())
 }
@@ -247,15 +248,11 @@ fn says_why_no_frames_are_printed(rt: HostRuntime) -> Result<(), Fail> {
 #[test]
 fn says_why_nothing_is_audited(rt: HostRuntime) -> Result<(), Fail> {
     let alloc = rt.alloc();
-    let (out, status) = printed(
-        alloc,
-        &mut Pieces {
-            alloc,
-            pieces: &["0g"],
-        },
-    )?;
-    assert!(rt; out.as_slice() == b"cannot read\n".as_slice() && status == 2);
-    let (out, status) = printed(alloc, &mut Poor)?;
+    assert_line(&rt, alloc, &["0g"], "cannot read", 2)?;
+    let (out, status) = match printed(alloc, &mut Poor) {
+        Ok(told) => told,
+        Err(AllocError) => printed(alloc, &mut Poor)?,
+    };
     assert!(rt; out.as_slice() == b"out of memory\n".as_slice() && status == 3);
     Ok(())
 }
@@ -351,8 +348,15 @@ fn helps(rt: HostRuntime) -> Result<(), Fail> {
         ("--help", "good vat 2 records 8 delivered 1"),
     ] {
         let words = ["vataudit", command, "--help"];
-        let error = command_of(alloc, &words).err().ok_or("help")?;
-        let text = error.to_string(alloc)?;
+        let error = match command_of(alloc, &words).err() {
+            Some(e) if e.kind() == ErrorKind::OutOfMemory => command_of(alloc, &words).err(),
+            other => other,
+        };
+        let error = error.ok_or("help")?;
+        let text = match error.to_string(alloc) {
+            Ok(text) => text,
+            Err(_) => error.to_string(alloc)?,
+        };
         assert!(rt; text.contains(line), "{text}");
         assert!(rt; text.contains("3  memory ran out"), "{text}");
     }

@@ -108,7 +108,7 @@ abbrev pub structure_found : ℕ → List (List ℕ) → ℕ → Option ℕ → 
 structure_found depth segments segment start data_words pointer_count =
     structure_there (λ at. structure_at depth segments segment at data_words pointer_count) (extent segments segment start (data_words + pointer_count))
 
-below_there : (path : List ℕ) (depth : ℕ) (segments : List (List ℕ)) (segment data_words pointer_count : ℕ) (place : Option ℕ)
+pub below_there : (path : List ℕ) (depth : ℕ) (segments : List (List ℕ)) (segment data_words pointer_count : ℕ) (place : Option ℕ)
     → fields_in path (structure_there (λ at. structure_at depth segments segment at data_words pointer_count) place) ≡ and_then (structure_in (structure_there (λ at. structure_at depth segments segment at data_words pointer_count) place)) (fields_below path)
 unfolding fields_in structure_at and_then
 below_there path depth segments segment data_words pointer_count None = refl
@@ -172,7 +172,7 @@ module _ (front : List (List ℕ × ℕ)) (path : List ℕ) (depth : ℕ) (segme
 
 -- ---- one pointer of a struct after another
 
-child_is : (segments : List (List ℕ)) (content : StructAt) (n : ℕ) → n < content.pointer_count → child_at segments content n ≡ tree_at content.below segments content.segment (content.start + content.data_words + n)
+pub child_is : (segments : List (List ℕ)) (content : StructAt) (n : ℕ) → n < content.pointer_count → child_at segments content n ≡ tree_at content.below segments content.segment (content.start + content.data_words + n)
 child_is segments content n lt = rw (lt-ltb n content.pointer_count lt) refl
 
 module _ (path : List ℕ) (segments : List (List ℕ)) (content : StructAt) where

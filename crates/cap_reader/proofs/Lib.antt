@@ -4,6 +4,7 @@ pub mod Running
 pub mod Loops
 pub mod Adding
 pub mod Prices
+pub mod Kept
 pub mod Paths
 pub mod Rising
 pub mod Paid

@@ -1,6 +1,6 @@
 //! The capabilities at and below a pointer.
 
-ghost use Rattle.std.specs.Prelude.{◌≡◌, ◌<◌, ◌≤◌, ◌-◌, ◌^◌, ◌++◌, ◌↔◌, List, ℕ, [], Some, OnOk, IfOk};
+ghost use Rattle.std.specs.Prelude.{◌≡◌, ◌<◌, ◌≤◌, ◌+◌, ◌-◌, ◌^◌, ◌++◌, ◌↔◌, List, ℕ, [], Some, OnOk, IfOk};
 ghost use Rattle.std.specs.Ordering.{nat_cmp};
 ghost use Rattle.std.specs.Cmp.Lexicographic.{slice_cmp};
 ghost use Rattle.std.specs.List.{Contains};
@@ -86,6 +86,7 @@ fn add_fields(
     requires { at < 2 ^ 40 }
     ensures value { RunsInMemory (λ _. found.new.items) result limits.new.words (with_front found.old.items (run (fields_in path.old.items (tree_at depth frame.now segment at)) limits.old.words)) }
     ensures path { OnOk result (path.new.items ≡ path.old.items) }
+    ensures kept { limits.old.words ≤ limits.new.words + price (fields_in path.old.items (tree_at depth frame.now segment at)) }
     ensures words { limits.new.words ≤ limits.old.words }
     ensures depth { limits.new.depth ≡ limits.old.depth }
 {
@@ -139,6 +140,7 @@ fn listed(
     limits: &mut Limits,
 ) -> Result<Fields, ReadError>
     ensures value { RunsInMemory (λ fields. fields) result limits.new.words (run (fields_in [] ((sections_at frame.now place.now).child n)) limits.old.words) }
+    ensures kept { limits.old.words ≤ limits.new.words + price (fields_in [] ((sections_at frame.now place.now).child n)) }
     ensures words { limits.new.words ≤ limits.old.words }
     ensures depth { limits.new.depth ≡ limits.old.depth }
 {
@@ -186,7 +188,8 @@ pub fn fields(
         → RunsInMemory (λ fields. fields) result limits.new.words (ending reading, limits.old.words - price reading) }
     // Else it is too much.
     ensures too_dear { limits.old.words < price (fields_in [] ((sections_at frame.now place.now).child n)) → IsTooMuch result }
-    // Whatever it answers, want of memory too, no words are won.
+    // Whatever it answers, want of memory too, no more words are gone than the visits cost together, and none are won.
+    ensures kept { limits.old.words ≤ limits.new.words + price (fields_in [] ((sections_at frame.now place.now).child n)) }
     ensures words { limits.new.words ≤ limits.old.words }
     ensures depth { limits.new.depth ≡ limits.old.depth }
 {

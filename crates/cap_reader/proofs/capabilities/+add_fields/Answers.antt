@@ -4,7 +4,9 @@ use Rattle.cap_reader.specs.declared.pointee.Pointee.{Pointee}
 use Rattle.cap_reader.specs.declared.pointee.Pointee.TheVariants as leads
 use Rattle.cap_reader.specs.Pointers.{followed}
 use Rattle.cap_reader.specs.Places.{sections_at}
-use Rattle.cap_reader.proofs.Adding.{unfollowed_refuses, null_adds, capability_adds, reserved_adds, list_adds, struct_refuses, struct_begins, field_ends, field_goes_on, field_done, popped}
+use Rattle.cap_reader.proofs.Adding.{structure_found, unfollowed_refuses, null_adds, capability_adds, reserved_adds, list_adds, struct_refuses, struct_begins, field_ends, field_goes_on, field_done, popped}
+use Rattle.cap_reader.proofs.Kept.{struct_paid, field_paid, field_costs}
+use Rattle.cap_reader.proofs.Visited.{refusal_is_free}
 use Rattle.cap_reader.proofs.capabilities.+add_fields.Goals as goal
 
 pub returns-in_err-follow-clause-value : goal.returns-in_err-follow-clause-value
@@ -24,6 +26,7 @@ loop-number-init t c =
     let e : followed c.args.frame.now c.args.segment c.args.at ≡ Ok (leads.Struct c.in-Struct.segment c.in-Struct.start c.in-Struct.data_words c.in-Struct.pointer_count) = sym c.in_ok-follow.ensures ∙ ap (λ (p : Pointee). Ok p) c.in-Struct.is in
     record {
       so_far = struct_begins c.args.found.now.items c.args.path.now.items c.args.depth c.args.frame.now c.args.segment c.args.at c.args.limits.now.words c.in-Struct.segment c.in-Struct.start c.in-Struct.data_words c.in-Struct.pointer_count e (sections_at c.args.frame.now c.in_ok-content-in-Struct.content) c.enter.new.limits.words c.in_ok-content-in-Struct.ensures.value;
+      paid = struct_paid c.args.path.now.items c.args.depth c.args.frame.now c.args.segment c.args.at c.args.limits.now.words c.in-Struct.segment c.in-Struct.start c.in-Struct.data_words c.in-Struct.pointer_count e (sections_at c.args.frame.now c.in_ok-content-in-Struct.content) c.enter.new.limits.words c.in_ok-content-in-Struct.ensures.value;
       fewer_words = c.in_ok-content-in-Struct.ensures.words;
       same_path = refl;
       same_depth = c.in_ok-content-in-Struct.ensures.depth;
@@ -36,12 +39,27 @@ returns-in_err-add_fields-in-Struct-clause-value t c =
     let there : c.from.result + c.from-in-Struct.result + c.from-in-loop-number.result ≡ c.in_ok-content-in-Struct.content.start + c.in_ok-content-in-Struct.content.data_words + c.loop-number.number = rw (c.from.ensures, c.from-in-Struct.ensures, c.from-in-loop-number.ensures) refl in
     rw (p.1, p.2) (field_ends c.args.path.now.items c.args.frame.now c.in_ok-content-in-Struct.content c.in_err-add_fields-in-Struct.field-0.0 c.loop-number.found.items c.push-in-loop-number.new.self.items c.loop-number.number (c.from.result + c.from-in-Struct.result + c.from-in-loop-number.result) c.loop-number.limits.words c.add_fields.new.limits.words _ c.loop-number-test.true same there c.in_err-add_fields-in-Struct.ensures.value c.loop-number.invariant.so_far)
 
+pub returns-in_err-content-in-Struct-clause-kept : goal.returns-in_err-content-in-Struct-clause-kept
+returns-in_err-content-in-Struct-clause-kept t c =
+    let free = refusal_is_free (structure_found c.args.depth c.args.frame.now c.in-Struct.segment c.in-Struct.start c.in-Struct.data_words c.in-Struct.pointer_count) c.args.limits.now.words c.enter.new.limits.words c.in_err-content-in-Struct.field-0.0 c.in_err-content-in-Struct.ensures.value in
+    omega (arith, free)
+
+pub returns-in_err-add_fields-in-Struct-clause-kept : goal.returns-in_err-add_fields-in-Struct-clause-kept
+returns-in_err-add_fields-in-Struct-clause-kept t c =
+    let same : c.push-in-loop-number.new.self.items ≡ c.args.path.now.items ++ c.loop-number.number ∷ [] = rw (c.in_ok-push-in-Struct.ensures.items, c.loop-number.invariant.same_path) refl in
+    let there : c.from.result + c.from-in-Struct.result + c.from-in-loop-number.result ≡ c.in_ok-content-in-Struct.content.start + c.in_ok-content-in-Struct.content.data_words + c.loop-number.number = rw (c.from.ensures, c.from-in-Struct.ensures, c.from-in-loop-number.ensures) refl in
+    let first = field_costs c.args.path.now.items c.args.frame.now c.in_ok-content-in-Struct.content c.push-in-loop-number.new.self.items c.loop-number.number (c.from.result + c.from-in-Struct.result + c.from-in-loop-number.result) c.loop-number-test.true same there in
+    omega (arith, first, c.in_err-add_fields-in-Struct.ensures.kept, c.loop-number.invariant.paid)
+
 pub loop-number-preserved : goal.loop-number-preserved
 loop-number-preserved t c =
     let same : c.push-in-loop-number.new.self.items ≡ c.args.path.now.items ++ c.loop-number.number ∷ [] = rw (c.in_ok-push-in-Struct.ensures.items, c.loop-number.invariant.same_path) refl in
     let there : c.from.result + c.from-in-Struct.result + c.from-in-loop-number.result ≡ c.in_ok-content-in-Struct.content.start + c.in_ok-content-in-Struct.content.data_words + c.loop-number.number = rw (c.from.ensures, c.from-in-Struct.ensures, c.from-in-loop-number.ensures) refl in
     record {
       so_far = field_goes_on c.args.path.now.items c.args.frame.now c.in_ok-content-in-Struct.content c.loop-number.found.items c.add_fields.new.found.items c.push-in-loop-number.new.self.items c.loop-number.number (c.from.result + c.from-in-Struct.result + c.from-in-loop-number.result) c.loop-number.limits.words c.add_fields.new.limits.words _ c.loop-number-test.true same there c.in_ok-add_fields-in-Struct.ensures.value c.loop-number.invariant.so_far;
+      paid =
+          let more = field_paid c.args.path.now.items c.args.frame.now c.in_ok-content-in-Struct.content c.loop-number.found.items c.add_fields.new.found.items c.push-in-loop-number.new.self.items c.loop-number.number (c.from.result + c.from-in-Struct.result + c.from-in-loop-number.result) c.loop-number.limits.words c.add_fields.new.limits.words c.loop-number-test.true same there c.in_ok-add_fields-in-Struct.ensures.value in
+          omega (arith, more, c.loop-number.invariant.paid);
       fewer_words = omega (arith, c.in_ok-add_fields-in-Struct.ensures.words, c.loop-number.invariant.fewer_words);
       same_path = popped c.args.path.now.items c.add_fields.new.path.items c.pop.new.self.items c.loop-number.number (vec_len c.add_fields.new.path) (c.in_ok-add_fields-in-Struct.ensures.path ∙ same) c.pop.ensures.rest c.add_fields.new.path.ok.0;
       same_depth = c.in_ok-add_fields-in-Struct.ensures.depth ∙ c.loop-number.invariant.same_depth;

@@ -1,6 +1,8 @@
 //! Reading messages.
 
 ghost use Rattle.std.specs.Prelude.{◌≡◌, ◌≢◌, ◌≤◌, List, [], ◌∷◌, ℕ, IfOk, Ok, Err};
+ghost use Rattle.cap_frame.specs.declared.frame_error.FrameError.{FrameError};
+ghost use Rattle.cap_frame.specs.Segments.{segments_of};
 ghost use Rattle.cap_reader.specs.declared.read_error.ReadError.TheVariants.{OutOfMemory};
 ghost use Rattle.cap_reader.specs.Tree.{root_tree};
 ghost use Rattle.rpc_view.specs.Reading.{Answers, Runs, run, sections_of};
@@ -8,7 +10,7 @@ ghost use Rattle.rpc_view.specs.Message.{body_in, message_in, message_of, messag
 ghost use Rattle.rpc_view.specs.Layouts.{message_tag, message_body};
 ghost use Rattle.rpc_view.specs.Spelling.{Spells};
 ghost use Rattle.rpc_view.specs.declared.message.RpcMessage.{RpcMessage};
-ghost use Rattle.rpc_view.specs.declared.view_error.ViewError.TheVariants.{Read};
+ghost use Rattle.rpc_view.specs.declared.view_error.ViewError.TheVariants.{Read, Frame as NoFrame};
 
 use crate::bodies::{answer, bootstrap, call, disembargo, finish, release, resolve};
 use crate::layouts::MESSAGE_TAG;
@@ -80,6 +82,8 @@ pub fn read_message(alloc: Global, frame: &Frame, limits: Limits) -> Result<RpcM
 pub fn read_bytes(alloc: Global, bytes: Bytes, limits: Limits) -> Result<RpcMessage, ViewError>
     // Which message, or which fault.
     ensures exact { Answers (λ message. message) result (message_of_bytes bytes limits) }
+    // Bytes that aren't a frame are refused by the fault of the frame, and never for want of memory.
+    ensures frame { (fault : FrameError) → segments_of bytes ≡ Err fault → result ≡ Err (NoFrame fault) }
     // Want of memory is `OutOfMemory` alone, and never a pointer's fault.
     ensures memory { result ≢ Err (Read OutOfMemory) }
 {

@@ -1,6 +1,6 @@
 //! Logs.
 
-ghost use Rattle.std.specs.Prelude.{◌≡◌, ◌<◌, ◌≤◌, ◌^◌, List, ℕ, Ok, true, nat_eq, length, slice_get, All, IfOk};
+ghost use Rattle.std.specs.Prelude.{◌≡◌, ◌<◌, ◌≤◌, ◌^◌, List, ℕ, Ok, true, nat_eq, length, slice_get, All, IfErr, IfOk};
 ghost use Rattle.std.specs.List.{starts_with};
 ghost use Rattle.std.specs.Option.{option_copied};
 ghost use Rattle.vat_log.specs.Reading.{Gives, records_at, log_within, log_of};
@@ -152,7 +152,10 @@ pub fn parse_log(alloc: Global, bytes: Bytes) -> Result<VatLog, LogError>
 /// `TooLong` where there are more than 1,048,576 records; or `OutOfMemory`, where a growth was refused.
 #[tactic(auto, unfolding(crate::specs::Fits::record_limit))]
 pub fn write_log(alloc: Global, vat: u32, records: &[Record]) -> Result<VatLog, LogError>
-    ensures { Gives (λ log. log) result (stored (record { vat = vat; records = records.now })) }
+    // Which log, or that there are too many records.
+    ensures exact { Gives (λ log. log) result (stored (record { vat = vat; records = records.now })) }
+    // Too many records are refused as such before memory is asked for.
+    ensures too_many { record_limit < length records.now → IfErr result (λ e. e ≡ LogError.TooLong) }
 {
     if records.len() > MAX_RECORDS {
         return Err(LogError::TooLong);

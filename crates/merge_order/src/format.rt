@@ -1,8 +1,9 @@
 //! Orders as bytes.
 
-ghost use Rattle.std.specs.Prelude.{◌≡◌, ◌<◌, ◌+◌, ◌^◌, ℕ, List, Ok, length, All, IfOk, EachIndex, slice_index};
+ghost use Rattle.std.specs.Prelude.{◌≡◌, ◌<◌, ◌+◌, ◌^◌, ℕ, List, Ok, false, length, nat_eq, All, IfErr, IfOk, EachIndex, slice_index};
+ghost use Rattle.std.specs.List.{starts_with};
 ghost use Rattle.std.specs.Int.{w32, from_le_bytes};
-ghost use Rattle.merge_order.specs.Spelling.{spelling, AreVats, steps_at, order_of, Gives};
+ghost use Rattle.merge_order.specs.Spelling.{magic, spelling, AreVats, steps_at, order_of, Gives};
 
 use crate::error::OrderError;
 use crate::order::Order;
@@ -45,6 +46,7 @@ fn steps_of(alloc: Global, bytes: &[u8]) -> Result<Vec<u32>, OrderError>
 fn order_in(alloc: Global, bytes: &[u8]) -> Result<Order, OrderError>
     ensures exact { Gives (λ order. order) result (order_of bytes.now) }
     ensures octets { EachIndex bytes.now (λ i. slice_index bytes.now i < 256) }
+    ensures early { starts_with nat_eq bytes.now magic ≡ false → IfErr result (λ e. e ≡ OrderError.BadMagic) }
 {
     if !bytes.starts_with(MAGIC) {
         return Err(OrderError::BadMagic);
@@ -66,6 +68,8 @@ pub fn read_order(alloc: Global, bytes: Bytes) -> Result<Order, OrderError>
     ensures found { IfOk result (λ order. AreVats order × (bytes ≡ spelling order)) }
     // What is spelled so is read, unless memory runs out.
     ensures only { (vats : List ℕ) → AreVats vats → bytes ≡ spelling vats → Gives (λ order. order) result (Ok vats) }
+    // Another magic is refused as such before memory is asked for.
+    ensures early { starts_with nat_eq bytes magic ≡ false → IfErr result (λ e. e ≡ OrderError.BadMagic) }
 {
     order_in(alloc, bytes.as_slice())
 }

@@ -1,6 +1,6 @@
 //! Files and standard input.
 
-ghost use Rattle.std.specs.Prelude.{◌≡◌, ◌≤◌, length, IfOk, IfSome};
+ghost use Rattle.std.specs.Prelude.{◌≡◌, ◌<◌, ◌≤◌, length, IfErr, IfOk, IfSome};
 
 use crate::source::{Source, SourceError};
 use bytes::Bytes;
@@ -12,6 +12,19 @@ use std::rt::Files;
 /// How many bytes a file that is read may have, at most.
 const LIMIT: usize = 1_073_741_824;
 
+/// All that was read, where it is at most the limit.
+fn within_limit(bytes: Vec<u8>) -> Result<Bytes, SourceError>
+    ensures limit { IfOk result (λ kept. length kept ≤ LIMIT) }
+    ensures whole { IfOk result (λ kept. kept ≡ bytes.items) }
+    // What is at most the limit isn't refused as too long.
+    ensures long { IfErr result (λ fault. fault ≡ SourceError.CannotRead → LIMIT < length bytes.items) }
+{
+    if bytes.len() > LIMIT {
+        return Err(SourceError::CannotRead);
+    }
+    Ok(Bytes::from_vec(bytes)?)
+}
+
 /// All bytes of a reader, where they are at most the limit; one more is read, to see that there are no more.
 pub fn read_all<R: Read + Drop>(alloc: Global, reader: R) -> Result<Bytes, SourceError>
     ensures limit { IfOk result (λ bytes. length bytes ≤ LIMIT) }
@@ -19,9 +32,9 @@ pub fn read_all<R: Read + Drop>(alloc: Global, reader: R) -> Result<Bytes, Sourc
 {
     let mut bytes = Vec::new(alloc);
     match reader.take(LIMIT as u64 + 1).read_to_end(&mut bytes) {
-        Ok(count) if count <= LIMIT => Ok(Bytes::from_vec(bytes)?),
+        Ok(_) => within_limit(bytes),
         Err(e) if e.kind() == ErrorKind::OutOfMemory => Err(SourceError::OutOfMemory),
-        _ => Err(SourceError::CannotRead),
+        Err(_) => Err(SourceError::CannotRead),
     }
 }
 

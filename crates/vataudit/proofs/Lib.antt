@@ -1,3 +1,1 @@
-pub mod CaseFiles
-pub mod CaseReadings
 pub mod Reading

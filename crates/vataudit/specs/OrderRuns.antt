@@ -2,11 +2,11 @@
 use Rattle.std.specs.Prelude.{◌≡◌, ◌⊎◌, ℕ, List, Option, Some, None, Result, IsSome}
 use Rattle.std.specs.Io.KnownBytes.{Appends}
 use Rattle.case_book.specs.Case.{Contents}
-use Rattle.vataudit.specs.CaseReading.{ComesOfCase, Read}
-use Rattle.vataudit.specs.declared.case_fault.CaseFault.{CaseFault}
+use Rattle.case_files.specs.CaseReading.{ComesOfCase, Read}
+use Rattle.case_files.specs.declared.case_fault.CaseFault.{CaseFault}
 use Rattle.vataudit.specs.declared.command.Command.{Command}
 use Rattle.vataudit.specs.declared.command.Command.TheVariants.{Vat, Frame, Frames, Order}
-use Rattle.vataudit.specs.OrderLines.{AnswersCase}
+use Rattle.case_files.specs.OrderLines.{AnswersCase}
 use Rattle.vataudit.specs.Printed.{IsOutOfMemory}
 
 -- a line, a status and the bytes for the file answer the case that a source has under a name, or memory ran out

@@ -2,8 +2,8 @@
 use Rattle.std.specs.Prelude.{◌≡◌, ◌≢◌, ◌⊎◌, ℕ, List, [], ◌∷◌, ◌++◌, codes, Option, Result, Ok, Err, IsOk, string_bytes}
 use Rattle.std.specs.Io.KnownBytes.{Appends}
 use Rattle.report_lines.specs.declared.answer.Answer.{Answer}
-use Rattle.vataudit.specs.declared.source.SourceError.{SourceError}
-use Rattle.vataudit.specs.declared.source.SourceError.TheVariants.{CannotRead, OutOfMemory}
+use Rattle.case_files.specs.declared.source.SourceError.{SourceError}
+use Rattle.case_files.specs.declared.source.SourceError.TheVariants.{CannotRead, OutOfMemory}
 use Rattle.vataudit.specs.declared.command.Command.{Command}
 use Rattle.vataudit.specs.declared.command.Command.TheVariants.{Vat, Frame, Frames, Order}
 use Rattle.report_lines.specs.FrameLines.{AnswersHex}

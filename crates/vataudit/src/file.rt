@@ -2,8 +2,8 @@
 
 ghost use Rattle.std.specs.Prelude.{◌≡◌, ◌<◌, ◌≤◌, length, IfErr, IfOk, IfSome};
 
-use crate::source::{Source, SourceError};
 use bytes::Bytes;
+use case_files::{Source, SourceError};
 use std::alloc::Global;
 use std::fs;
 use std::io::{ErrorKind, Read};

@@ -2,12 +2,12 @@
 
 ghost use Rattle.std.specs.Prelude.{◌≡◌, ◌≢◌, ◌<◌, List, [], ℕ, length, take, drop, OnOk, IfOk, string_bytes, Result as Answered};
 ghost use Rattle.report_lines.specs.Pieces.{piece_len, piece_line, piece_status};
-ghost use Rattle.vataudit.specs.declared.source.SourceError.{SourceError};
+ghost use Rattle.case_files.specs.declared.source.SourceError.{SourceError};
 ghost use Rattle.vataudit.specs.Printed.{AnswersBytes, AnswersFile, Prints};
 
 use crate::run::{FAILED, OUT_OF_MEMORY, print};
-use crate::source::{Source, SourceError};
 use bytes::Bytes;
+use case_files::{Source, SourceError};
 use report_lines::{Answer, answer_of_bytes, cut_piece};
 use std::alloc::{AllocError, Global};
 use std::io;

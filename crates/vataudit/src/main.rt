@@ -2,34 +2,27 @@
 //! `vataudit frame HEX` the message of a frame, `vataudit frames FILE` that of each frame of a file, and
 //! `vataudit order CASE --out FILE` makes an order of the records of a case.
 //!
-//! It stands on `report_lines`, which answers logs and frames, on `case_book` and `merge_order`, and on `clap` and
-//! `serde_json`. A command line becomes a `Command` (command.rt, help.rt), whose files a `Source` gives (source.rt, file.rt);
-//! `run_on` prints the answer (run.rt, and frames.rt for a file of frames). A case is read from its files (case_file.rt,
-//! case_reading.rt, case_fault.rt); its order is answered (order_answer.rt), written to a file (new_file.rt) and told
-//! (order.rt).
+//! It stands on `report_lines`, which answers logs and frames, on `case_files`, which reads a case and answers it with an
+//! order, and on `clap`. A command line becomes a `Command` (command.rt, help.rt), whose files are read as a `Source` of
+//! `case_files` (file.rt); `run_on` prints the answer (run.rt, and frames.rt for a file of frames). The order of a case is
+//! written to a file (new_file.rt) and told (order.rt).
 //!
-//! What a run prints is said by specs/Printed.antt, over the lines that `report_lines` defines; what comes of a case and of
-//! its order by specs/CaseFile.antt, specs/CaseReading.antt, specs/OrderLines.antt and specs/OrderRuns.antt; which words
-//! spell a command by specs/Spelled.antt.
+//! What a run prints is said by specs/Printed.antt, over the lines that `report_lines` defines, and by specs/OrderRuns.antt,
+//! over what `case_files` says of a case and its order; which words spell a command by specs/Spelled.antt.
 #![tactic(auto)]
 
 ghost use Rattle.std.specs.Prelude.{◌≡◌, ◌≢◌, ◌⊎◌};
 ghost use Rattle.clap.specs.Words.{kind_of};
 
-mod case_fault;
-mod case_file;
-mod case_reading;
 mod command;
 mod file;
 mod frames;
 mod help;
 mod new_file;
 mod order;
-mod order_answer;
 #[cfg(test)]
 mod order_tests;
 mod run;
-mod source;
 #[cfg(test)]
 mod tests;
 

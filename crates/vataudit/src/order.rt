@@ -3,10 +3,9 @@
 ghost use Rattle.std.specs.Prelude.{OnOk, OnErr, IsSome, option_map, string_bytes};
 ghost use Rattle.vataudit.specs.OrderRuns.{Delivers, MakesOrder, Saves};
 
-use crate::order_answer::{OrderAnswer, order_answer};
 use crate::run::{FAILED, OUT_OF_MEMORY, print};
-use crate::source::Source;
 use bytes::Bytes;
+use case_files::{OrderAnswer, Source, order_answer};
 use std::alloc::{AllocError, Global};
 use std::io;
 use std::io::Write;

@@ -1,90 +1,39 @@
-use crate::case_fault::CaseFault;
-use crate::case_file::case_file_of;
+//! Runs that make the order of a case, and what they leave in a file.
+
 use crate::command::{Command, command_of};
 use crate::file::Folder;
 use crate::new_file::NewFile;
 use crate::run::run_on;
-use crate::source::{Source, SourceError};
 use bytes::Bytes;
+use case_files::{Source, SourceError};
 use clap::error::ErrorKind;
-use hex::FromHexError;
 use std::alloc::{AllocError, Global};
 use std::io::Write;
 use std::process::Abort;
 use std::test::Fail;
 use std::{fs, io};
 
-// ---- the logs of reused_question and of two vats that both receive first, by their records
+/// A case without logs.
+const EMPTY: &str = "{\"logs\": [], \"links\": []}";
 
-const VAT_1: &str = "5641544c4f47303101000000";
-
-const VAT_2: &str = "5641544c4f47303102000000";
-
-const SEND_1: &str = "0a000000000100000000000000";
-
-const SEND_2: &str = "0a000000000200000000000000";
-
-const SEND: &str = "0a000000000000000000000000";
-
-const RECV_1: &str = "0b000000000100000000000000";
-
-const RECV_2: &str = "0b000000000200000000000000";
-
-const RECV: &str = "0b000000000000000000000000";
-
-/// A Bootstrap of question 7.
-const BOOTSTRAP: &str = "000030000000000000000500000000000000010001000800000000000000\
-000000000100010007000000000000000000000000000000";
-
-/// A Finish of question 7.
-const FINISH: &str = "000028000000000000000400000000000000010001000400000000000000\
-00000000010000000700000000000000";
-
-/// A Return of question 7, canceled.
-const CANCELED: &str = "000038000000000000000600000000000000010001000300000000000000\
-0000000002000100070000000000020000000000000000000000000000000000";
-
-const LINKED: &str = "{\"logs\": [\"log1\", \"log2\"], \"links\": [[0, 1, 2]]}";
-
-/// A source that has a case file and two logs by their records in hexadecimal, under the names `case`, `log1` and `log2`.
+/// A source that has one file, a case, under the name `case`.
 #[derive(Drop)]
-struct Files<'a> {
+struct One<'a> {
     alloc: Global,
     case: &'a str,
-    log_1: &'a [&'a str],
-    log_2: &'a [&'a str],
 }
 
-impl Source for Files<'_> {
+impl Source for One<'_> {
     fn read(&mut self, name: &str) -> Result<Bytes, SourceError> {
-        if name == "case" {
-            return Ok(Bytes::copy_from_slice(self.alloc, self.case.as_bytes())?);
+        if name != "case" {
+            return Err(SourceError::CannotRead);
         }
-        if name == "log1" {
-            return joined(self.alloc, self.log_1);
-        }
-        if name == "log2" {
-            return joined(self.alloc, self.log_2);
-        }
-        Err(SourceError::CannotRead)
-    }
-}
-
-/// The bytes of pieces in hexadecimal.
-fn joined(alloc: Global, pieces: &[&str]) -> Result<Bytes, SourceError> {
-    let mut text = String::new(alloc);
-    for piece in pieces {
-        text.push_str(piece)?;
-    }
-    match hex::decode(alloc, text.as_str()) {
-        Ok(bytes) => Ok(Bytes::from_vec(bytes)?),
-        Err(FromHexError::OutOfMemory) => Err(SourceError::OutOfMemory),
-        Err(_) => Err(SourceError::CannotRead),
+        Ok(Bytes::copy_from_slice(self.alloc, self.case.as_bytes())?)
     }
 }
 
 /// What is printed where the order of the case is asked for, the exit status and what is written to the file.
-fn ordered(alloc: Global, source: &mut Files) -> Result<(Vec<u8>, u8, Vec<u8>), AllocError> {
+fn ordered(alloc: Global, source: &mut One) -> Result<(Vec<u8>, u8, Vec<u8>), AllocError> {
     let mut out = Vec::with_capacity(alloc, 256)?;
     let mut file = Vec::with_capacity(alloc, 256)?;
     let command = Command::Order {
@@ -98,7 +47,7 @@ fn ordered(alloc: Global, source: &mut Files) -> Result<(Vec<u8>, u8, Vec<u8>), 
 /// Asks for the order twice where memory ran out the first time, and compares.
 fn assert_ordered(
     rt: &impl Abort,
-    source: &mut Files,
+    source: &mut One,
     line: &str,
     status: u8,
     order: &[u8],
@@ -118,133 +67,28 @@ fn assert_ordered(
 }
 
 #[test]
-fn makes_orders(rt: HostRuntime) -> Result<(), Fail> {
-    let vat_1 = [
-        VAT_1, SEND_1, BOOTSTRAP, SEND, FINISH, RECV, CANCELED, SEND_2, BOOTSTRAP,
-    ];
-    let vat_2 = [
-        VAT_2, RECV_1, BOOTSTRAP, RECV, FINISH, SEND, CANCELED, RECV_2, BOOTSTRAP,
-    ];
-    let mut source = Files {
-        alloc: rt.alloc(),
-        case: LINKED,
-        log_1: &vat_1,
-        log_2: &vat_2,
-    };
-    let order =
-        b"VATORD01\x01\0\0\0\x01\0\0\0\x02\0\0\0\x02\0\0\0\x02\0\0\0\x01\0\0\0\x01\0\0\0\x02\0\0\0";
-    assert_ordered(&rt, &mut source, "order steps 8", 0, order)
-}
-
-#[test]
 fn makes_the_order_of_no_logs(rt: HostRuntime) -> Result<(), Fail> {
-    let mut source = Files {
-        alloc: rt.alloc(),
-        case: "{\"logs\": [], \"links\": []}",
-        log_1: &[],
-        log_2: &[],
-    };
+    let alloc = rt.alloc();
+    let mut source = One { alloc, case: EMPTY };
     assert_ordered(&rt, &mut source, "order steps 0", 0, b"VATORD01")
 }
 
 #[test]
-fn finds_no_order(rt: HostRuntime) -> Result<(), Fail> {
-    let vat_1 = [VAT_1, RECV_1, BOOTSTRAP, SEND_2, BOOTSTRAP];
-    let vat_2 = [VAT_2, RECV_1, BOOTSTRAP, SEND_2, BOOTSTRAP];
-    let mut source = Files {
-        alloc: rt.alloc(),
-        case: LINKED,
-        log_1: &vat_1,
-        log_2: &vat_2,
-    };
-    assert_ordered(&rt, &mut source, "no order exists", 1, b"")
-}
-
-/// Asks for the order of a case that has a fault: `log1` is the log of vat 1, `log2` is cut.
-fn assert_fault(rt: &impl Abort, alloc: Global, case: &str, line: &str) -> Result<(), Fail> {
-    let vat_1 = [VAT_1, SEND_1, BOOTSTRAP];
-    let vat_2 = [VAT_2, SEND_1];
-    let mut source = Files {
-        alloc,
-        case,
-        log_1: &vat_1,
-        log_2: &vat_2,
-    };
-    assert_ordered(rt, &mut source, line, 2, b"")
-}
-
-#[test]
-fn finds_faults_in_order(rt: HostRuntime) -> Result<(), Fail> {
+fn prints_the_fault_of_a_case(rt: HostRuntime) -> Result<(), Fail> {
+    let alloc = rt.alloc();
     let rows = [
+        ("{\"logs\": []}", "bad case"),
+        ("{\"logs\": [\"none\"], \"links\": []}", "cannot read"),
+        ("{\"logs\": [\"case\"], \"links\": []}", "bad log BadMagic"),
         (
-            "{\"logs\": [\"none\"], \"links\": [], \"note\": 1}",
-            "bad case",
-        ),
-        (
-            "{\"logs\": [\"log2\", \"none\"], \"links\": []}",
-            "bad log Short 25",
-        ),
-        (
-            "{\"logs\": [\"none\", \"log2\"], \"links\": [], \"order\": \"log1\"}",
-            "cannot read",
-        ),
-        (
-            "{\"logs\": [\"log1\", \"log1\"], \"links\": [], \"order\": \"log1\"}",
-            "bad order BadMagic",
-        ),
-        (
-            "{\"logs\": [\"log1\", \"log1\"], \"links\": []}",
-            "bad case SameVat 1",
-        ),
-        (
-            "{\"logs\": [\"log1\"], \"links\": [[0, 1, 2]]}",
+            "{\"logs\": [], \"links\": [[0, 1, 2]]}",
             "bad case MissingLog 0",
-        ),
-        (
-            "{\"logs\": [\"log1\"], \"links\": [[0, 1, 1]]}",
-            "bad case SameEnds 0",
         ),
     ];
     for (case, line) in rows {
-        assert_fault(&rt, rt.alloc(), case, line)?;
+        assert_ordered(&rt, &mut One { alloc, case }, line, 2, b"")?;
     }
     Ok(())
-}
-
-/// Whether a text is a case file, asked twice where memory ran out the first time.
-fn is_case_file(alloc: Global, text: &str) -> bool {
-    match case_file_of(alloc, text.as_bytes()) {
-        Err(CaseFault::OutOfMemory) => case_file_of(alloc, text.as_bytes()).is_ok(),
-        read => read.is_ok(),
-    }
-}
-
-#[test]
-fn reads_case_files(rt: HostRuntime) {
-    let alloc = rt.alloc();
-    let good = [
-        "{\"logs\": [\"a\"], \"links\": [[4294967295, 0, 1]], \"order\": \"b\"}",
-        "{\"logs\": 1, \"links\": [], \"logs\": []}",
-    ];
-    let bad = [
-        "",
-        "[]",
-        "{\"logs\": []}",
-        "{\"logs\": [], \"links\": [], \"order\": null}",
-        "{\"logs\": [], \"links\": [[4294967296, 0, 1]]}",
-        "{\"logs\": [], \"links\": [[1.0, 0, 1]]}",
-        "{\"logs\": [], \"links\": [[-0, 0, 1]]}",
-        "{\"logs\": [], \"links\": [[0, 1]]}",
-        "{\"logs\": [], \"links\": [[0, 1, 2, 3]]}",
-        "{\"logs\": [1], \"links\": []}",
-        "{\"logs\": [], \"links\": [], \"logs\": 1}",
-    ];
-    for text in good {
-        assert!(rt; is_case_file(alloc, text), "{text}");
-    }
-    for text in bad {
-        assert!(rt; !is_case_file(alloc, text), "{text}");
-    }
 }
 
 /// A writer that refuses all.
@@ -264,12 +108,7 @@ impl Write for Shut {
 #[test]
 fn prints_nothing_of_an_order_that_is_not_written(rt: HostRuntime) -> Result<(), Fail> {
     let alloc = rt.alloc();
-    let mut source = Files {
-        alloc,
-        case: "{\"logs\": [], \"links\": []}",
-        log_1: &[],
-        log_2: &[],
-    };
+    let mut source = One { alloc, case: EMPTY };
     let command = Command::Order {
         case: "case",
         out: "made",

@@ -2,14 +2,14 @@
 
 ghost use Rattle.std.specs.Prelude.{◌≡◌, List, ℕ, OnOk, IfOk, Result as Answered};
 ghost use Rattle.std.specs.Io.KnownBytes.{Appends};
-ghost use Rattle.vataudit.specs.declared.source.SourceError.{SourceError};
+ghost use Rattle.case_files.specs.declared.source.SourceError.{SourceError};
 ghost use Rattle.vataudit.specs.OrderRuns.{Leaves};
 ghost use Rattle.vataudit.specs.Printed.{GivesAnswer, AnswersFrame, AnswersSource, Prints, PrintsOrFails, Runs};
 
 use crate::command::Command;
 use crate::frames::show_frames;
 use crate::order::make_order_of;
-use crate::source::{Source, SourceError};
+use case_files::{Source, SourceError};
 use report_lines::{Answer, answer_of_frame, answer_of_log};
 use std::alloc::{AllocError, Global};
 use std::io;

@@ -1,8 +1,8 @@
 use crate::command::{Command, command_of};
 use crate::file::{Folder, read_all};
 use crate::run::run_on;
-use crate::source::{Source, SourceError};
 use bytes::Bytes;
+use case_files::{Source, SourceError};
 use clap::error::ErrorKind;
 use hex::FromHexError;
 use std::alloc::{AllocError, Global};

@@ -1,4 +1,4 @@
-use Rattle.std.proofs.Common.{◌≡◌, ◌⊎◌, ◌∙◌, ℕ, List, [], ◌∷◌, codes, string_bytes, option_map, Option, None, Result, Ok, Err, IfOk, OnOk, refl, inl, inr, rules}
+use Rattle.std.proofs.Common.{◌≡◌, ◌∙◌, ℕ, List, [], ◌∷◌, codes, string_bytes, option_map, Option, None, Result, Ok, Err, IfOk, OnOk, refl, inl, inr}
 use Rattle.std.specs.Io.KnownBytes.{Appends}
 use Rattle.std.specs.Result.{result_unwrap_or}
 use Rattle.report_lines.specs.Lines.{line}

@@ -1,0 +1,26 @@
+-- Faults of files as faults of a case.
+use Rattle.case_files.specs.declared.source.SourceError.{SourceError}
+use Rattle.case_files.specs.declared.source.SourceError.TheVariants as source
+use Rattle.vat_log.specs.declared.error.LogError.{LogError}
+use Rattle.vat_log.specs.declared.error.LogError.TheVariants as log
+use Rattle.merge_order.specs.declared.error.OrderError.{OrderError}
+use Rattle.merge_order.specs.declared.error.OrderError.TheVariants as order
+use Rattle.case_files.specs.declared.case_fault.CaseFault.{CaseFault}
+use Rattle.case_files.specs.declared.case_fault.CaseFault.TheVariants.{CannotRead, Log, Order, OutOfMemory}
+
+abbrev pub of_source : SourceError → CaseFault
+of_source source.CannotRead = CannotRead
+of_source source.OutOfMemory = OutOfMemory
+
+abbrev pub of_log : LogError → CaseFault
+of_log log.BadMagic = Log log.BadMagic
+of_log (log.Short at) = Log (log.Short at)
+of_log (log.BadKind at) = Log (log.BadKind at)
+of_log (log.ZeroNumber at) = Log (log.ZeroNumber at)
+of_log log.TooLong = Log log.TooLong
+of_log log.OutOfMemory = OutOfMemory
+
+abbrev pub of_order : OrderError → CaseFault
+of_order order.BadMagic = Order order.BadMagic
+of_order (order.Short at) = Order (order.Short at)
+of_order order.OutOfMemory = OutOfMemory

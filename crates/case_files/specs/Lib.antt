@@ -1,0 +1,4 @@
+pub mod CaseFaults
+pub mod CaseFile
+pub mod CaseReading
+pub mod OrderLines

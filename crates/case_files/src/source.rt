@@ -1,0 +1,51 @@
+//! Where files come from.
+
+ghost use Rattle.std.specs.Prelude.{◌≡◌, ℕ, List, ⊤};
+ghost use Rattle.std.specs.Prelude.{Result as Answered};
+ghost use Rattle.case_files.specs.declared.source.SourceError.{SourceError};
+ghost use Rattle.case_files.specs.declared.source.SourceError.TheVariants.{OutOfMemory};
+
+use bytes::Bytes;
+use std::alloc::{AllocError, AllocFailed};
+use thiserror::Error;
+
+/// Why a source gives nothing under a name.
+#[derive(Debug, Drop, Error)]
+pub enum SourceError {
+    /// There is nothing to read, it can't be read, or it is longer than what is read.
+    #[error("cannot read")]
+    CannotRead,
+    /// A growth of memory was refused.
+    #[error("out of memory")]
+    OutOfMemory,
+}
+
+impl From<AllocError> for SourceError {
+    ghost from_gives = { λ _ e. e ≡ OutOfMemory };
+
+    fn from(_e: AllocError) -> SourceError {
+        SourceError::OutOfMemory
+    }
+}
+
+impl<T: Drop> From<AllocFailed<T>> for SourceError {
+    ghost from_gives = { λ _ e. e ≡ OutOfMemory };
+
+    fn from(_e: AllocFailed<T>) -> SourceError {
+        SourceError::OutOfMemory
+    }
+}
+
+/// What gives bytes by name, as files do.
+pub trait Source {
+    // What may come of reading a name: the source, the name, the bytes or why there are none, and the source afterwards.
+    ghost read_gives: { Self → List ℕ → Answered (List ℕ) SourceError → Self → Type 0 } = { λ _ _ _ _. ⊤ };
+
+    /// All bytes that stand under the name.
+    ///
+    /// # Errors
+    ///
+    /// `CannotRead` where there is nothing that can be read under it, or want of memory.
+    fn read(&mut self, name: &str) -> Result<Bytes, SourceError>
+        ensures { read_gives self.old name.now result self.new };
+}

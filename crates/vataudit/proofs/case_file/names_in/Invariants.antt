@@ -1,7 +1,0 @@
-use Rattle.std.proofs.Common.{map, string_bytes}
-use Rattle.serde_json.specs.Find.{as_str}
-use Rattle.vataudit.proofs.CaseFiles.{Goes}
-use Rattle.vataudit.proofs.case_file.names_in.Given as goal
-
-abbrev pub invariant-loop-item : goal.invariant-loop-item
-invariant-loop-item l = Goes as_str l.item-items l.item-index (map string_bytes l.names.items)

@@ -9,7 +9,8 @@ use Rattle.vat_rules.specs.Past.{Past, id, is, last_answer}
 use Rattle.vat_rules.specs.Questions.{call_of}
 use Rattle.vat_rules.specs.Lives.{Birth, birth, descriptors}
 use Rattle.vat_rules.specs.Views.{noted, view_given, described, at_place, binds, view, stands}
-use Rattle.vat_rules.specs.Walks.{fields, result_at, answers, turn, reached, Leads}
+use Rattle.vat_rules.specs.ReturnParts.{fields}
+use Rattle.vat_rules.specs.Walks.{result_at, answers, turn, reached, Leads}
 use Rattle.vat_rules.proofs.Viewing.{picked, unpicked}
 
 -- what a Return brought, by its fields

@@ -5,6 +5,7 @@ pub mod Lives
 pub mod Views
 pub mod Origins
 pub mod Walks
+pub mod ReturnParts
 pub mod Calls
 pub mod Rules
 pub mod Refers

@@ -1,5 +1,4 @@
--- For the code's contracts, and no part of the meaning: parts of the rule REF, as the code tests them.
--- The parts of the rule REF for a message that passed.
+-- For the code's contracts, and no part of the meaning: the rule REF for a message that passed, part by part as the code tests it.
 use Rattle.std.specs.Prelude.{ℕ, ◌==◌, List, Bool, true, false, not, ◌&&◌}
 use Rattle.std.specs.List.{list_all}
 use Rattle.vat_rules.specs.Types.{RpcMessage, Bootstrap, Call}

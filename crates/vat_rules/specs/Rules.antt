@@ -1,5 +1,5 @@
 -- The rules. Each says of a record, by those before it, that it is good.
-use Rattle.std.specs.Prelude.{◌≡◌, ℕ, ◌==◌, ◌≤◌, length, List, [], ◌∷◌, map, Bool, true, false, not, ◌&&◌, Some, None, IsTrue, IfSome, IsSomeAnd, ⊤, if◌then◌else◌, is_none, is_some}
+use Rattle.std.specs.Prelude.{◌≡◌, ℕ, ◌==◌, ◌≤◌, length, List, [], ◌∷◌, map, Bool, true, false, not, ◌&&◌, ◌||◌, Some, IsTrue, IfSome, IsSomeAnd, ⊤, is_none}
 use Rattle.std.specs.List.{list_any, list_all, AllByRecursion}
 use Rattle.std.specs.Bool.{beq}
 use Rattle.std.specs.Str.{bytes_eq as same_path}
@@ -7,7 +7,7 @@ use Rattle.vat_rules.specs.Types.{Imported, Promised, Results, Bootstrap, Call, 
 use Rattle.vat_rules.specs.declared.rule.Rule.{Rule}
 use Rattle.vat_rules.specs.declared.rule.Rule.TheVariants as rule
 use Rattle.vat_rules.specs.declared.id.Id.{Id}
-use Rattle.vat_rules.specs.Past.{Past, id, is, last_answer}
+use Rattle.vat_rules.specs.Past.{Past, id, is}
 use Rattle.vat_rules.specs.Questions.{opened, is_opened, is_returned, is_free, opening_call, call_of}
 use Rattle.vat_rules.specs.Lives.{gives_back, held, is_in_life}
 use Rattle.vat_rules.specs.Views.{places, noted, view, stands, target_view}
@@ -143,9 +143,10 @@ knows call before (Answer c results) = c == call
 knows call before (Wire false k c rs (Return q release (Results payload))) = is call (call_of (id k true q) before)
 knows call before _ = false
 
--- a call's results are known
+-- a call's results are known where a record makes them so
 abbrev pub is_known : ℕ → Past → Bool
-is_known call past = is_some (last_answer (λ before e. if knows call before e then Some true else None) past)
+is_known call [] = false
+is_known call (e ∷ before) = knows call before e || is_known call before
 
 -- at a path whose index is a descriptor that isn't none, the known result leads to what that stands for
 abbrev pub ReturnsField : Past → Event → ℕ → List ℕ × ℕ → Type 0

@@ -1,21 +1,10 @@
 -- Where views turn, and where that leads (rpc.capnp, the comments of PromisedAnswer and Payload).
-use Rattle.std.specs.Prelude.{◌≡◌, ℕ, zero, suc, ◌==◌, List, [], true, false, Option, Some, None, if◌then◌else◌, unwrap_or, option_and_then, find}
+use Rattle.std.specs.Prelude.{◌≡◌, ℕ, zero, suc, ◌==◌, List, true, false, Option, Some, None, if◌then◌else◌, unwrap_or, option_and_then, find}
 use Rattle.std.specs.Str.{bytes_eq as same_path}
 use Rattle.vat_rules.specs.Types.{Results, Return, Event, Answer, Wire, View, FieldOf}
-use Rattle.vat_rules.specs.declared.id.Id.{Id}
 use Rattle.vat_rules.specs.Past.{Past, id, is, last_answer}
 use Rattle.vat_rules.specs.Questions.{call_of}
 use Rattle.vat_rules.specs.Views.{view, stands}
-
--- where the results of a record have capabilities
-abbrev pub fields : Event → List (List ℕ × ℕ)
-fields (Wire sent k c rs (Return q release (Results payload))) = payload.fields
-fields _ = []
-
--- the question of ours that a received Return answers
-abbrev pub answered : Event → Option Id
-answered (Wire false k c rs (Return q release outcome)) = Some (id k true q)
-answered _ = None
 
 -- what a Return brought at a path
 abbrev pub result_at : List ℕ → Past → Event → Option View

@@ -5,7 +5,8 @@ ghost use Rattle.std.specs.Str.{bytes_eq as same_path};
 ghost use Rattle.vat_rules.specs.Past.{is};
 ghost use Rattle.vat_rules.specs.Questions.{call_of};
 ghost use Rattle.vat_rules.specs.Views.{view};
-ghost use Rattle.vat_rules.specs.Walks.{fields, answered, result_at, answers, turn, Leads, LeadsByTurns};
+ghost use Rattle.vat_rules.specs.ReturnParts.{fields, answered};
+ghost use Rattle.vat_rules.specs.Walks.{result_at, answers, turn, Leads, LeadsByTurns};
 
 use crate::event::Event;
 use crate::id::Id;

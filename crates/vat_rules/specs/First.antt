@@ -29,8 +29,8 @@ is_hosted NoCap = true
 is_hosted (SenderHosted n) = true
 is_hosted _ = false
 
--- the messages that are audited: a Bootstrap; a Call without capabilities, to an import or to the whole of a result; and a
--- Return with results, whose capabilities are each none or senderHosted. No other is audited yet
+-- the messages that are audited: a Bootstrap; a Call with an empty capability table, to an import or to the whole of a
+-- result; and a Return with results, whose capabilities are each none or senderHosted. No other is audited yet
 abbrev pub is_audited : RpcMessage → Bool
 is_audited (Bootstrap q) = true
 is_audited (Call q target interface method params) = is_whole target && (length params.descriptors == 0)

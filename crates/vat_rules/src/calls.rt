@@ -13,11 +13,14 @@ use crate::views::{target_view, view};
 use rpc_view::{Outcome, RpcMessage};
 use std::alloc::{AllocError, Global};
 
-/// Where a call is to go, and by which method.
+/// What a call asks for when it comes to the vat (rpc.capnp, the comments of Call).
 #[derive(Debug, Drop)]
 pub struct Request {
+    /// Where it is to go: the view of the reference of its MAKE, or what the target of the received Call stands for.
     pub goal: Option<View>,
+    /// The interface that is called, by its 64-bit id.
     pub interface: u64,
+    /// The method of the interface that is called, counted from 0.
     pub method: u16,
 }
 

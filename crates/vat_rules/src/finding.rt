@@ -48,14 +48,15 @@ impl VatFinding {
         &self.log
     }
 
-    /// The limits within which its frames were read.
+    /// The limits within which its frames were read: words of 8 bytes to be paid for each frame, and structs within one
+    /// another.
     pub fn limits(&self) -> Limits
         ensures { result ≡ self.now.limits }
     {
         self.limits
     }
 
-    /// What the rules say of the log.
+    /// What the rules say of the log, within the limits.
     pub fn outcome(&self) -> &Outcome
         ensures value { result.now ≡ self.now.outcome }
         ensures of_the_log { IsTrueOf self.now.log self.now.limits result.now }

@@ -9,11 +9,14 @@ use crate::event::Event;
 use crate::id::Id;
 use rpc_view::{Descriptor, Outcome, RpcMessage};
 
-/// The descriptor that began a life: its record, that one's number, and the place in its table.
+/// The descriptor that began a life.
 #[derive(Clone, Copy)]
 pub(crate) struct Origin<'a> {
+    /// Its record.
     pub event: &'a Event,
+    /// The record's number in the log, counted from 0.
     pub number: usize,
+    /// The descriptor's place in the record's table, counted from 0.
     pub place: usize,
 }
 

@@ -3,7 +3,7 @@
 use crate::rule::Rule;
 use crate::story::Story;
 
-/// Why a record isn't judged.
+/// Why a record isn't judged. The first four are what rpc_view has as outside of what it reads.
 #[derive(Clone, Copy, Debug, PartialEq, Eq)]
 pub enum Why {
     /// Its message is part of a level above 1.
@@ -14,19 +14,30 @@ pub enum Why {
     LaterField,
     /// Its message sends results elsewhere than to the caller, or takes them from another question.
     TailCall,
-    /// Its frame isn't read as a message.
+    /// Its frame isn't read as a message: its bytes aren't a frame, it has a tag that isn't known, or a pointer that can't be
+    /// followed within the limits.
     Unread,
     /// It is read, and isn't audited yet.
     NotYet,
 }
 
-/// What the audit of one log finds. Records are counted from 0.
+/// What the audit of one log finds (docs/RULES.md).
 #[derive(Debug, Drop)]
 pub enum Outcome {
     /// Every record is good, and this is what the log tells.
     Good(Story),
-    /// The first record that is bad, and the first rule that it breaks.
-    Broken { at: u64, rule: Rule },
-    /// The first record that isn't judged, and why.
-    Outside { at: u64, why: Why },
+    /// The first record that isn't good, all before it being good, breaks a rule.
+    Broken {
+        /// The record's number, counted from 0.
+        at: u64,
+        /// The first rule that it breaks, in the order of [`Rule`].
+        rule: Rule,
+    },
+    /// The first record that isn't good, all before it being good, isn't judged.
+    Outside {
+        /// The record's number, counted from 0.
+        at: u64,
+        /// The reason.
+        why: Why,
+    },
 }

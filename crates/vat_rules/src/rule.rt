@@ -1,6 +1,7 @@
 //! The rules, by name.
 
-/// The rules that a record may break, in the order in which they are tried.
+/// The rules that a record may break, in the order in which they are tried. What each says, and by which comment of
+/// rpc.capnp, stands in `specs/Rules.antt`; docs/RULES.md has an example for each.
 #[derive(Clone, Copy, Debug, PartialEq, Eq)]
 pub enum Rule {
     /// Numbers newly bound are unused and distinct, the others are bound, and a call is noted just beside a Bootstrap or Call.

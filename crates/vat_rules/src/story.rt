@@ -6,7 +6,8 @@ use crate::event::Event;
 use crate::view::View;
 use std::marker::Model;
 
-/// What the descriptors of a message stand for, by place; `None` where a descriptor is none.
+/// What the descriptors of a message stand for, by place, counted from 0; `None` where a descriptor is none, and where it
+/// stands for nothing.
 #[derive(Debug, Drop)]
 pub struct Caps {
     items: Vec<Option<View>>,
@@ -29,6 +30,7 @@ impl Caps {
         Caps { items }
     }
 
+    /// What the descriptors stand for, in the order of their places.
     pub fn as_slice(&self) -> &[Option<View>]
         ensures { result.now ≡ self.now }
     {
@@ -36,14 +38,15 @@ impl Caps {
     }
 }
 
-/// What the numbers of one record stand for.
+/// What the numbers of one record stand for, by it and the records before it (rpc.capnp, the comments of CapDescriptor,
+/// MessageTarget and PromisedAnswer). `None` where it has no such number, or one that stands for nothing.
 #[derive(Debug, Drop)]
 pub struct Seen {
     /// What the question that a Return answers stands for: its call, as the field at the empty path.
     pub question: Option<View>,
     /// What the target of a Call stands for.
     pub target: Option<View>,
-    /// What the descriptors of its table stand for.
+    /// What the descriptors of its capability table stand for, by place.
     pub caps: Caps,
 }
 

@@ -37,20 +37,14 @@ IsNumbered (Receive connection call references frame) =
 
 -- No list is past the limit of its count, and no frame past that of its bytes.
 abbrev pub IsCounted : Body → Type 0
-IsCounted (Host reference object) = Unit {0}
-IsCounted (Vow reference) = Unit {0}
-IsCounted (Fulfil reference to) = Unit {0}
-IsCounted (Break reference) = Unit {0}
-IsCounted (Make call reference interface method) = Unit {0}
 IsCounted (Field reference call path) = length path ≤ count_limit
-IsCounted (Deliver call object) = Unit {0}
 IsCounted (Answer call results) =
     (length results ≤ count_limit) × All (λ answered. length answered.1 ≤ count_limit) results
-IsCounted (Fault call) = Unit {0}
 IsCounted (Send connection call references frame) =
     (length references ≤ count_limit) × (length frame ≤ frame_limit)
 IsCounted (Receive connection call references frame) =
     (length references ≤ count_limit) × (length frame ≤ frame_limit)
+IsCounted _ = Unit {0}
 
 -- Each number is within the width of its field, as the types of the fields keep it.
 abbrev pub IsWide : Body → Type 0

@@ -7,7 +7,7 @@ use cap_frame::Path;
 use std::alloc::AllocError;
 use std::marker::Model;
 
-/// References noted beside a frame, in the order of the descriptors that aren't none.
+/// References noted beside a frame, in the order of the descriptors that aren't none (docs/FORMATS.md).
 #[derive(Debug, Drop)]
 pub struct References {
     items: Vec<u64>,
@@ -36,7 +36,7 @@ impl References {
         &self.items
     }
 
-    /// A second list of the same references.
+    /// A second list of the same references. The only error is want of memory.
     pub fn copy(&self) -> Result<References, AllocError>
         ensures { IfOk result (λ copied. copied ≡ self.now) }
     {
@@ -45,7 +45,7 @@ impl References {
     }
 }
 
-/// The results of a call: references, each with the path at which it stands.
+/// The results of a call: references, each with the path at which it stands (docs/FORMATS.md).
 #[derive(Debug, Drop)]
 pub struct Results {
     items: Vec<(u64, Path)>,
@@ -74,7 +74,7 @@ impl Results {
         self.items.as_slice()
     }
 
-    /// A second list of the same results.
+    /// A second list of the same results. The only error is want of memory.
     pub fn copy(&self) -> Result<Results, AllocError>
         ensures { IfOk result (λ copied. copied ≡ self.now) }
     {
@@ -86,7 +86,7 @@ impl Results {
     }
 }
 
-/// What a record says. References and calls are the vat's own numbers.
+/// What a record says (docs/FORMATS.md). References and calls are the vat's own numbers.
 #[derive(Debug, Drop)]
 pub enum Body {
     /// The vat hosts an object of its own under a reference.

@@ -1,6 +1,6 @@
 //! Reading one field of a record. A reader takes a place in the bytes, and gives the value there and the place after it.
 
-ghost use Rattle.std.specs.Prelude.{◌≡◌, ◌≤◌, length, IfOk};
+ghost use Rattle.std.specs.Prelude.{◌≤◌, length, IfOk};
 ghost use Rattle.std.specs.Int.{w16, w32, w64};
 ghost use Rattle.vat_log.specs.Reading.{Gives, number_at, nonzero_at, many_at, list_at, path_at, answered_at, frame_at};
 

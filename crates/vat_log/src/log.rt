@@ -1,6 +1,6 @@
 //! Logs.
 
-ghost use Rattle.std.specs.Prelude.{◌≡◌, ◌<◌, ◌≤◌, ◌^◌, List, ℕ, Ok, true, nat_eq, length, slice_get, All, IfErr, IfOk};
+ghost use Rattle.std.specs.Prelude.{◌≡◌, ◌<◌, ◌≤◌, ◌^◌, Ok, true, false, nat_eq, length, slice_get, All, IfErr, IfOk};
 ghost use Rattle.std.specs.List.{starts_with};
 ghost use Rattle.std.specs.Option.{option_copied};
 ghost use Rattle.vat_log.specs.Reading.{Gives, records_at, log_within, log_of};
@@ -18,7 +18,7 @@ use bytes::Bytes;
 use std::alloc::Global;
 use std::marker::Model;
 
-/// The log of one vat, as it was parsed from its bytes.
+/// The log of one vat, as it was parsed from its bytes (docs/FORMATS.md).
 #[derive(Debug, Drop)]
 pub struct VatLog {
     bytes: Bytes,
@@ -112,6 +112,7 @@ fn parts_of(alloc: Global, bytes: &Bytes, limit: usize) -> Result<(u32, Vec<Reco
     ensures gives { Gives (λ x. record { vat = x.0; records = x.1.items }) result
         (log_within limit bytes.now) }
     ensures octets { All (λ octet. octet < 2 ^ 8) bytes.now }
+    ensures early { starts_with nat_eq bytes.now magic ≡ false → IfErr result (λ e. e ≡ LogError.BadMagic) }
 {
     if !begins_log(bytes.as_slice()) {
         return Err(LogError::BadMagic);
@@ -121,7 +122,8 @@ fn parts_of(alloc: Global, bytes: &Bytes, limit: usize) -> Result<(u32, Vec<Reco
     Ok((vat, records))
 }
 
-/// The log that these bytes spell.
+/// The log that these bytes spell: the magic `VATLOG01`, then the vat's number of 4 bytes, then the records one after
+/// another (docs/FORMATS.md).
 ///
 /// # Errors
 ///
@@ -136,6 +138,8 @@ pub fn parse_log(alloc: Global, bytes: Bytes) -> Result<VatLog, LogError>
     // What is spelled so is read, unless memory runs out.
     ensures only { (log : Log) → LogFits record_limit log → bytes ≡ log_bytes log
         → Gives (λ read. read) result (Ok log) }
+    // Another magic is refused as such before memory is asked for.
+    ensures early { starts_with nat_eq bytes magic ≡ false → IfErr result (λ e. e ≡ LogError.BadMagic) }
 {
     let (vat, records) = parts_of(alloc, &bytes, MAX_RECORDS)?;
     Ok(VatLog {

@@ -1,7 +1,6 @@
 //! Reading records.
 
-ghost use Rattle.std.specs.Prelude.{◌≡◌, ◌≤◌, length, IfOk};
-ghost use Rattle.std.specs.List.{starts_with};
+ghost use Rattle.std.specs.Prelude.{◌≤◌, length, IfOk};
 ghost use Rattle.vat_log.specs.Reading.{Gives, passage_at, host_at, vow_at, fulfil_at, break_at, make_at, field_at, deliver_at, answer_at, fault_at, send_at, receive_at, fields_at};
 
 use crate::body::Body;

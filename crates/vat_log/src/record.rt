@@ -14,7 +14,7 @@ use cap_frame::Path;
 use std::alloc::Global;
 use std::marker::Model;
 
-/// A record of a log: a body whose numbers and counts a log can hold.
+/// A record of a log: a body whose numbers and counts a log can hold (docs/FORMATS.md).
 #[derive(Debug, Drop)]
 pub struct Record {
     body: Body,

@@ -1,9 +1,9 @@
 //! Writing records.
 
-ghost use Rattle.std.specs.Prelude.{◌≡◌, ◌<◌, ◌≤◌, ◌^◌, ◌++◌, List, ℕ, length, All, OnOk, IfOk};
+ghost use Rattle.std.specs.Prelude.{◌≡◌, ◌<◌, ◌≤◌, ◌^◌, ◌++◌, length, All, OnOk, IfOk};
 ghost use Rattle.std.specs.Int.{w16, w32, w64};
 ghost use Rattle.vat_log.specs.Fits.{count_limit, frame_limit, Fits, IsWide};
-ghost use Rattle.vat_log.specs.Spelling.{number_bytes, references_bytes, path_bytes, answered_bytes, listed, frame_bytes, passage_bytes, kind_byte, kind_in, fields_bytes, record_bytes, log_bytes};
+ghost use Rattle.vat_log.specs.Spelling.{number_bytes, references_bytes, path_bytes, answered_bytes, listed, passage_bytes, kind_byte, kind_in, fields_bytes, record_bytes, log_bytes};
 
 use crate::body::Body;
 use crate::record::Record;

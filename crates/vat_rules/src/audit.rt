@@ -16,7 +16,7 @@ use bytes::Bytes;
 use rpc_view::{Limits, Outside, RpcMessage, ViewError, read_bytes};
 use std::alloc::{AllocError, Global};
 use std::sync::Arc;
-use vat_log::{Body, References, Results, VatLog};
+use vat_log::{Body, References, VatLog};
 
 /// Why a record is outside whose message is outside of what is read.
 fn why_outside(reason: Outside) -> Why

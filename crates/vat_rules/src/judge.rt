@@ -1,6 +1,6 @@
 //! The first rule that a record breaks.
 
-ghost use Rattle.std.specs.Prelude.{◌≡◌, reverse, IfOk, MatchOption};
+ghost use Rattle.std.specs.Prelude.{reverse, IfOk, MatchOption};
 ghost use Rattle.vat_rules.specs.Rules.{rules};
 ghost use Rattle.vat_rules.specs.First.{IsGood, BreaksFirst};
 

@@ -1,17 +1,18 @@
--- What the computed outcome of a link means.
+-- What the outcome of a link means, and that a link has one.
 use Rattle.std.proofs.Common.{◌≡◌, ℕ, zero, suc, ◌+◌, ◌-◌, ◌<◌, ◌≤◌, Bool, true, false, cond, List, [], ◌∷◌, ◌++◌, length, Option, Some, None, refl, sym, ap, subst, ◌∙◌, inl, inr, arith, length-append}
 use Rattle.std.specs.Prelude.{◌⊎◌, ◌==◌, not, slice_get}
 use Rattle.std.specs.Option.{option_map, option_to_list}
 use Rattle.std.specs.List.{filter_map, cons_option}
 use Rattle.vat_log.specs.Log.{Log}
 use Rattle.std.specs.Str.{bytes_eq}
-use Rattle.std.proofs.lemmas.Bool.{false≢true}
+use Rattle.std.proofs.lemmas.Bool.{false≢true, cases_lt}
 use Rattle.std.proofs.lemmas.Slice.Eq.{bytes_eq-Decides}
 use Rattle.vat_log.specs.declared.body.Body.{Body}
 use Rattle.vat_log.specs.declared.body.Body.TheVariants.{Send, Receive}
 use Rattle.link_check.specs.declared.outcome.LinkOutcome.{LinkOutcome}
 use Rattle.link_check.specs.declared.outcome.LinkOutcome.TheVariants.{Good, Broken}
-use Rattle.link_check.specs.Prefix.{sent_by, received_by, sent, received, Ends, IsPrefix, IsLeastFault, IsOutcome, first_fault, told, outcome_of}
+use Rattle.link_check.specs.Prefix.{sent_by, received_by, sent, received, Ends, IsPrefix, IsLeastFault, IsGood, IsBrokenAtFirst, IsBrokenAtSecond, IsOutcome}
+use Rattle.link_check.specs.Walk.{first_fault}
 
 none_same : (b : Bool) (o : Option ℕ) → cond b (option_map suc o) (Some 0) ≡ None → (b ≡ true) × (o ≡ None)
 none_same true None e = (refl, refl)
@@ -65,20 +66,51 @@ least_from_some (x ∷ r) (y ∷ s) m e =
 pub length_prefix : (r s : List (List ℕ)) → IsPrefix r s → length r ≤ length s
 length_prefix r s h = omega (arith, ap length h.1, length-append r h.0)
 
-told_means : (link : Ends) (a b : Option ℕ) → first_fault (received link.connection link.first) (sent link.connection link.second) ≡ a → first_fault (received link.connection link.second) (sent link.connection link.first) ≡ b
-    → IsOutcome link (told link.first.vat a link.second.vat b (Good (length (received link.connection link.first) + length (received link.connection link.second)) (length (sent link.connection link.first) + length (sent link.connection link.second) - (length (received link.connection link.first) + length (received link.connection link.second)))))
-told_means link (Some m) b e f = inl (record { end = refl; fault = least_from_some _ _ m e })
-told_means link None (Some m) e f = inr (record { end = refl; at_first = prefix_from_none _ _ e; fault = least_from_some _ _ m f })
-told_means link None None e f =
-    let p = prefix_from_none _ _ e in
-    let q = prefix_from_none _ _ f in
-    record { at_first = p; at_second = q; came = refl; went = omega (arith, length_prefix _ _ p, length_prefix _ _ q) }
+-- ---- a link has one outcome
 
-pub means : (link seen : Ends) (outcome : LinkOutcome) → seen ≡ link → outcome ≡ outcome_of seen → IsOutcome link outcome
-unfolding outcome_of
-means link seen outcome same e =
-    let P : LinkOutcome → Type 0 = λ o. IsOutcome link o in
-    subst P (sym (e ∙ ap outcome_of same)) (told_means link _ _ refl refl)
+prefix_at : (r rest : List (List ℕ)) (n : ℕ) → n < length r → slice_get (r ++ rest) n ≡ slice_get r n
+prefix_at [] rest n lt = absurd (omega arith)
+prefix_at (x ∷ r) rest zero lt = refl
+prefix_at (x ∷ r) rest (suc n) lt = prefix_at r rest n (omega arith)
+
+-- what is a prefix has no fault
+faultless : (r s : List (List ℕ)) (m : ℕ) → IsPrefix r s → IsLeastFault r s m → ⊥
+faultless r s m h fault = fault.differs (ap (λ (l : List (List ℕ)). slice_get l m) h.1 ∙ prefix_at r h.0 m fault.came)
+
+same_fault : (r s : List (List ℕ)) (m n : ℕ) → IsLeastFault r s m → IsLeastFault r s n → m ≡ n
+same_fault r s m n one other =
+    elim (cases_lt m n) [
+      | inl lt ↦ absurd (one.differs (other.least m lt))
+      | inr ge ↦ elim (cases_lt n m) [
+        | inl lt ↦ absurd (other.differs (one.least n lt))
+        | inr le ↦ omega arith
+      ]
+    ]
+
+broken_is : (v w m n : ℕ) → v ≡ w → m ≡ n → Broken v m ≡ Broken w n
+broken_is v w m n e f = rw (e, f) refl
+
+good_is : (d e f g : ℕ) → d ≡ e → f ≡ g → Good d f ≡ Good e g
+good_is d e f g same left = rw (same, left) refl
+
+goods_same : (link : Ends) (d f e g : ℕ) → IsGood link d f → IsGood link e g → Good d f ≡ Good e g
+goods_same link d f e g one other = good_is d e f g (omega (arith, one.came, other.came)) (omega (arith, one.came, other.came, one.went, other.went))
+
+not_good : (link : Ends) (d f v m : ℕ) → IsGood link d f → IsBrokenAtFirst link v m ⊎ IsBrokenAtSecond link v m → ⊥
+not_good link d f v m good (inl at) = faultless _ _ m good.at_first at.fault
+not_good link d f v m good (inr at) = faultless _ _ m good.at_second at.fault
+
+breaks_same : (link : Ends) (v m w n : ℕ) → IsBrokenAtFirst link v m ⊎ IsBrokenAtSecond link v m → IsBrokenAtFirst link w n ⊎ IsBrokenAtSecond link w n → Broken v m ≡ Broken w n
+breaks_same link v m w n (inl a) (inl b) = broken_is v w m n (a.end ∙ sym b.end) (same_fault _ _ m n a.fault b.fault)
+breaks_same link v m w n (inl a) (inr b) = absurd (faultless _ _ m b.at_first a.fault)
+breaks_same link v m w n (inr a) (inl b) = absurd (faultless _ _ n a.at_first b.fault)
+breaks_same link v m w n (inr a) (inr b) = broken_is v w m n (a.end ∙ sym b.end) (same_fault _ _ m n a.fault b.fault)
+
+pub one_outcome : (link : Ends) (a b : LinkOutcome) → IsOutcome link a → IsOutcome link b → a ≡ b
+one_outcome link (Good d f) (Good e g) one other = goods_same link d f e g one other
+one_outcome link (Good d f) (Broken v m) one other = absurd (not_good link d f v m one other)
+one_outcome link (Broken v m) (Good d f) one other = absurd (not_good link d f v m other one)
+one_outcome link (Broken v m) (Broken w n) one other = breaks_same link v m w n one other
 
 -- a record sends a frame or receives one, and not both
 at_most_one : (connection : ℕ) (b : Body) → length (option_to_list (sent_by connection b)) + length (option_to_list (received_by connection b)) ≤ 1
@@ -142,24 +174,17 @@ goes_on r s m total x y rs ss b so_far e f is holds =
 
 -- ---- the outcome, by what was found
 
-pub broken_at_first : (link : Ends) (v m : ℕ) → v ≡ link.first.vat → Some m ≡ first_fault (received link.connection link.first) (sent link.connection link.second) → Broken v m ≡ outcome_of link
-unfolding outcome_of
-broken_at_first link v m vat fault = rw (← fault, vat) refl
+pub broken_at_first : (link : Ends) (v m : ℕ) → v ≡ link.first.vat → Some m ≡ first_fault (received link.connection link.first) (sent link.connection link.second) → IsOutcome link (Broken v m)
+broken_at_first link v m vat fault = inl (record { end = vat; fault = least_from_some _ _ m (sym fault) })
 
 pub broken_at_second : (link : Ends) (v m : ℕ) → v ≡ link.second.vat → None ≡ first_fault (received link.connection link.first) (sent link.connection link.second)
-    → Some m ≡ first_fault (received link.connection link.second) (sent link.connection link.first) → Broken v m ≡ outcome_of link
-unfolding outcome_of
-broken_at_second link v m vat none fault = rw (← none, ← fault, vat) refl
+    → Some m ≡ first_fault (received link.connection link.second) (sent link.connection link.first) → IsOutcome link (Broken v m)
+broken_at_second link v m vat none fault = inr (record { end = vat; at_first = prefix_from_none _ _ (sym none); fault = least_from_some _ _ m (sym fault) })
 
-good_is : (d f e : ℕ) → f ≡ e → Good d f ≡ Good d e
-good_is d f e same = ap (Good d) same
-
-pub good_link : (link : Ends) (r1 r2 s1 s2 left : ℕ) → None ≡ first_fault (received link.connection link.first) (sent link.connection link.second) → None ≡ first_fault (received link.connection link.second) (sent link.connection link.first)
+pub good_link : (link : Ends) (r1 r2 s1 s2 : ℕ) → None ≡ first_fault (received link.connection link.first) (sent link.connection link.second) → None ≡ first_fault (received link.connection link.second) (sent link.connection link.first)
     → r1 ≡ length (received link.connection link.first) → r2 ≡ length (received link.connection link.second) → s1 ≡ length (sent link.connection link.first) → s2 ≡ length (sent link.connection link.second)
-    → left ≡ s1 - r2 + (s2 - r1) → Good (r1 + r2) left ≡ outcome_of link
-unfolding outcome_of
-good_link link r1 r2 s1 s2 left first second er1 er2 es1 es2 e =
-    let p = length_prefix _ _ (prefix_from_none _ _ (sym first)) in
-    let q = length_prefix _ _ (prefix_from_none _ _ (sym second)) in
-    let sums : left ≡ s1 + s2 - (r1 + r2) = omega (arith, p, q) in
-    rw (← first, ← second, ← er1, ← er2, ← es1, ← es2) (good_is (r1 + r2) left (s1 + s2 - (r1 + r2)) sums)
+    → IsOutcome link (Good (r1 + r2) (s1 - r2 + (s2 - r1)))
+good_link link r1 r2 s1 s2 first second er1 er2 es1 es2 =
+    let p = prefix_from_none _ _ (sym first) in
+    let q = prefix_from_none _ _ (sym second) in
+    record { at_first = p; at_second = q; came = omega (arith, er1, er2); went = omega (arith, length_prefix _ _ p, length_prefix _ _ q, er1, er2, es1, es2) }

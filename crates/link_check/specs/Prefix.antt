@@ -1,9 +1,7 @@
 -- Frames on a connection, as the logs of its two ends have them. A link is first in, first out: what one vat received is a
 -- prefix, byte for byte, of what the other sent.
-use Rattle.std.specs.Prelude.{◌≡◌, ◌≢◌, ◌⊎◌, ℕ, suc, ◌+◌, ◌-◌, ◌<◌, ◌==◌, List, [], ◌∷◌, ◌++◌, length, Option, Some, None, if◌then◌else◌, nat_lt, slice_get}
+use Rattle.std.specs.Prelude.{◌≡◌, ◌≢◌, ◌⊎◌, ℕ, ◌+◌, ◌<◌, ◌==◌, List, ◌++◌, length, Option, Some, None, if◌then◌else◌, nat_lt, slice_get}
 use Rattle.std.specs.List.{filter_map}
-use Rattle.std.specs.Option.{option_map}
-use Rattle.std.specs.Str.{bytes_eq}
 use Rattle.vat_log.specs.Log.{Log}
 use Rattle.vat_log.specs.declared.body.Body.{Body}
 use Rattle.vat_log.specs.declared.body.Body.TheVariants.{Send, Receive}
@@ -71,26 +69,7 @@ abbrev pub IsOutcome : Ends → LinkOutcome → Type 0
 IsOutcome link (Good delivered in_flight) = IsGood link delivered in_flight
 IsOutcome link (Broken at message) = IsBrokenAtFirst link at message ⊎ IsBrokenAtSecond link at message
 
--- the least message that was received and isn't the one sent
-unfoldable pub first_fault : List (List ℕ) → List (List ℕ) → Option ℕ
-first_fault [] sent = None
-first_fault (r ∷ received) [] = Some 0
-first_fault (r ∷ received) (s ∷ sent) = if bytes_eq r s then option_map suc (first_fault received sent) else Some 0
-
--- the first end's fault, else the second's, else the outcome of a good link
-abbrev pub told : ℕ → Option ℕ → ℕ → Option ℕ → LinkOutcome → LinkOutcome
-told first (Some message) second _ good = Broken first message
-told first None second (Some message) good = Broken second message
-told first None second None good = good
-
--- the outcome of a link, computed
-unfoldable pub outcome_of : Ends → LinkOutcome
-outcome_of link =
-    let delivered = length (received link.connection link.first) + length (received link.connection link.second) in
-    let went_out = length (sent link.connection link.first) + length (sent link.connection link.second) in
-    told link.first.vat (first_fault (received link.connection link.first) (sent link.connection link.second)) link.second.vat (first_fault (received link.connection link.second) (sent link.connection link.first)) (Good delivered (went_out - delivered))
-
 -- what a finding carries: its ends are in order, and the outcome is theirs
 pub record IsFinding (link : Ends) (outcome : LinkOutcome) : Type 0 where
   pub ordered : link.first.vat < link.second.vat
-  pub exact : outcome ≡ outcome_of link
+  pub means : IsOutcome link outcome

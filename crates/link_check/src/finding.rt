@@ -2,7 +2,7 @@
 
 ghost use Rattle.std.specs.Prelude.{◌≡◌, ◌≢◌, ◌<◌, IfOk};
 ghost use Rattle.std.specs.Arc.{arc_value};
-ghost use Rattle.link_check.specs.Prefix.{outcome_of, ends_of};
+ghost use Rattle.link_check.specs.Prefix.{IsOutcome, ends_of};
 
 use crate::frames::{count_received, count_sent, find_fault};
 use crate::outcome::LinkOutcome;
@@ -33,9 +33,7 @@ impl Model for LinkFinding {
 }
 
 impl LinkFinding {
-    ghost use Rattle.link_check.specs.Prefix.{IsOutcome, outcome_of};
-
-    /// The connection.
+    /// The connection's number, the same in both logs.
     pub fn connection(&self) -> u32
         ensures { result ≡ self.now.connection }
     {
@@ -57,20 +55,20 @@ impl LinkFinding {
         &self.second
     }
 
-    /// What is found.
+    /// What is found: what the two logs say of the connection.
     pub fn outcome(&self) -> LinkOutcome
-        // Which outcome.
-        ensures exact { result ≡ outcome_of self.now }
         // What it means.
         ensures meaning { IsOutcome self.now result }
+        // A link has one outcome.
+        ensures only { (other : LinkOutcome) → IsOutcome self.now other → other ≡ result }
     {
         self.outcome
     }
 }
 
-/// The outcome of a link.
+/// What the logs of two ends say of the connection.
 fn outcome_between(connection: u32, first: &VatLog, second: &VatLog) -> LinkOutcome
-    ensures { result ≡ outcome_of (record { connection = connection; first = first.now; second = second.now }) }
+    ensures { IsOutcome (record { connection = connection; first = first.now; second = second.now }) result }
 {
     if let Some(message) = find_fault(first, second, connection) {
         return LinkOutcome::Broken {
@@ -100,6 +98,7 @@ fn outcome_between(connection: u32, first: &VatLog, second: &VatLog) -> LinkOutc
     }
 }
 
+/// What is found, where the first log has the smaller vat number.
 fn ordered(
     connection: u32,
     first: &Arc<VatLog>,
@@ -117,8 +116,9 @@ fn ordered(
     })
 }
 
-/// What is found of a connection between the vats of two logs, in either order. The only error is want of memory, where a
-/// log has too many owners to count.
+/// What is found of a connection between the vats of two logs, in either order. The two logs are of different vats. The end
+/// with the smaller vat number is tried first, then the least message. The only error is want of memory, where a log has
+/// too many owners to count.
 pub fn check_link(
     connection: u32,
     a: &Arc<VatLog>,

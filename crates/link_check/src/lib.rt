@@ -1,8 +1,9 @@
 //! Two ends of a connection: the frames that one vat received are to be a prefix, byte for byte, of those that the other
 //! sent.
 //!
-//! It stands on `vat_log`. What a good link is, and the least fault of another, is said in `specs/Prefix.antt`. Nothing
-//! here allocates; the only refusal is an `Arc` with too many owners to count.
+//! It stands on `vat_log`, and on `bytes` for its frames. What a good link is, and the least fault of another, is said in
+//! `specs/Prefix.antt`; a link has one outcome by it, and [`check_link`] finds that one. Nothing here allocates; the only
+//! refusal is an `Arc` with too many owners to count.
 #![tactic(auto)]
 
 mod finding;

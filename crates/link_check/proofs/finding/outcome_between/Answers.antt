@@ -1,4 +1,4 @@
-use Rattle.std.proofs.Common.{sym, refl, arith}
+use Rattle.std.proofs.Common.{sym, arith}
 use Rattle.link_check.proofs.Faults.{length_prefix, prefix_from_none, broken_at_first, broken_at_second, good_link}
 use Rattle.link_check.proofs.finding.outcome_between.Goals as goal
 
@@ -25,4 +25,4 @@ overflow_sub-in_flight-2 c =
 
 pub returns : goal.returns
 returns c =
-    good_link _ _ _ _ _ _ c.in_default.ensures c.in_default-find_fault.ensures c.count_received.ensures.count c.count_received-2.ensures.count c.count_sent.ensures.count c.count_sent-2.ensures.count refl
+    good_link _ _ _ _ _ c.in_default.ensures c.in_default-find_fault.ensures c.count_received.ensures.count c.count_received-2.ensures.count c.count_sent.ensures.count c.count_sent-2.ensures.count

@@ -1,5 +1,5 @@
 -- The least number of a list, and the least that stands there more than once.
-use Rattle.std.specs.Prelude.{ℕ, ◌==◌, Bool, List, count_by, filter, fold, Option, Some, None, if◌then◌else◌, nat_lt}
+use Rattle.std.specs.Prelude.{◌≡◌, ℕ, ◌≤◌, ◌==◌, Bool, List, [], Contains, count_by, filter, fold, Option, Some, None, if◌then◌else◌, nat_lt}
 
 -- the smaller of a number, if there is one, and another
 abbrev pub lower : Option ℕ → ℕ → Option ℕ
@@ -9,6 +9,12 @@ lower (Some m) n = Some (if nat_lt n m then n else m)
 -- the least number of a list
 abbrev pub least : List ℕ → Option ℕ
 least ns = fold lower None ns
+
+-- What it is, as the law `least_is_least` promises: none where the list is empty, else a number of the list that no other is
+-- below.
+abbrev pub IsLeast : List ℕ → Option ℕ → Type 0
+IsLeast ns None = ns ≡ []
+IsLeast ns (Some n) = Contains ns n × ((other : ℕ) → Contains ns other → n ≤ other)
 
 -- a number stands more than once in a list
 abbrev pub is_repeated : List ℕ → ℕ → Bool

@@ -12,7 +12,8 @@ use crate::link::Link;
 use std::sync::Arc;
 use vat_log::{Body, VatLog};
 
-/// Why the logs and links of a case don't tie up.
+/// Why the logs and links of a case don't tie up: the least connection for which a log is missing, or, where there is none,
+/// the least whose two ends are one vat.
 #[derive(Clone, Copy, Debug, PartialEq, Eq)]
 pub enum TieFault {
     /// A log uses this connection, and it has no link with that vat as an end; or its link names a vat without a log.

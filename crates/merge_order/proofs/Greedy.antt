@@ -1,11 +1,11 @@
 -- Taking a record that may come never loses an order that fits. A record that may come may still come after a step of
 -- another vat: its own vat's part stays, and the others only sent more. So in any order that fits, the vat's first step can
 -- be moved to the front.
-use Rattle.std.proofs.Common.{◌≡◌, ℕ, ◌+◌, ◌<◌, ◌≤◌, Bool, true, false, cond, ◌&&◌, List, [], ◌∷◌, length, get_or, take, Option, Some, None, refl, sym, ap, subst, ◌∙◌, inl, inr, arith}
-use Rattle.std.specs.Prelude.{◌≢◌, ◌⊎◌, ◌==◌, slice_get, count_by, nat_lt}
+use Rattle.std.proofs.Common.{◌≡◌, ℕ, ◌+◌, ◌<◌, ◌≤◌, Bool, true, false, ◌&&◌, List, [], ◌∷◌, length, get_or, take, Option, Some, None, refl, sym, ap, subst, ◌∙◌, inl, inr, arith}
+use Rattle.std.specs.Prelude.{◌≢◌, ◌⊎◌, ◌==◌, not, slice_get, count_by, filter, nat_lt}
 use Rattle.std.proofs.lemmas.Bool.{false≢true, eqb-true, eq-eqb, cases_eq, cases_lt, ltb-true, lt-ltb, leb-true}
 use Rattle.std.proofs.lemmas.List.{take_all}
-use Rattle.std.proofs.lemmas.List.Sums.{count_by_more_yes, count_by_more_no}
+use Rattle.std.proofs.lemmas.List.Sums.{count_by_more_yes, count_by_more_no, sum_by-cons}
 use Rattle.std.proofs.lemmas.Option.{slice_get_past}
 use Rattle.vat_log.specs.Log.{Log}
 use Rattle.vat_log.specs.declared.body.Body.{Body}
@@ -36,7 +36,7 @@ count_step p [] n lt = absurd (omega arith)
 count_step p (x ∷ xs) n lt =
     elim (bool_cases (p (get_or (x ∷ xs) n x))) [
       | inl counts ↦ omega (arith, count_by_more_yes p (x ∷ xs) n x lt counts)
-      | inr not ↦ omega (arith, count_by_more_no p (x ∷ xs) n x lt not)
+      | inr fails ↦ omega (arith, count_by_more_no p (x ∷ xs) n x lt fails)
     ]
 
 -- ---- one part
@@ -112,12 +112,22 @@ sent_grows connection w p =
       | inr moves ↦ omega (arith, ap (sent connection) moves.0, count_grows (sends connection) p.log.records p.came)
     ]
 
+-- a vat's own part isn't among the others, and any other is
+pub others_own : (v connection : ℕ) (p : Part) (ps : List Part) → p.log.vat ≡ v → sent_by_others v connection (p ∷ ps) ≡ sent_by_others v connection ps
+others_own v connection p ps same = rw (eq-eqb _ _ same) refl
+
+pub others_more : (v connection : ℕ) (p : Part) (ps : List Part) → p.log.vat ≢ v → sent_by_others v connection (p ∷ ps) ≡ sent connection p + sent_by_others v connection ps
+others_more v connection p ps other = rw (eqb_apart _ _ other) (sum_by-cons (sent connection) p (filter (λ (q : Part). not (q.log.vat == v)) ps))
+
 pub others_grow : (v connection w : ℕ) (ps : List Part) → sent_by_others v connection ps ≤ sent_by_others v connection (after w ps)
 others_grow v connection w [] = omega arith
 others_grow v connection w (p ∷ ps) =
-    let vat : ((further w p).log.vat == v) ≡ (p.log.vat == v) = ap (λ (l : Log). l.vat == v) (further_log w p) in
-    let one : cond (p.log.vat == v) 0 (sent connection p) ≤ cond (p.log.vat == v) 0 (sent connection (further w p)) = elim (p.log.vat == v) as (λ b. cond b 0 (sent connection p) ≤ cond b 0 (sent connection (further w p))) [ true ↦ omega arith | false ↦ sent_grows connection w p ] in
-    rw vat (omega (arith, one, others_grow v connection w ps))
+    let later = others_grow v connection w ps in
+    let vat : (further w p).log.vat ≡ p.log.vat = ap (λ (l : Log). l.vat) (further_log w p) in
+    elim (cases_eq p.log.vat v) [
+      | inl same ↦ omega (arith, later, others_own v connection p ps same, others_own v connection (further w p) (after w ps) (vat ∙ same))
+      | inr other ↦ omega (arith, later, sent_grows connection w p, others_more v connection p ps other, others_more v connection (further w p) (after w ps) (λ e. other (sym vat ∙ e)))
+    ]
 
 -- ---- what may come may still come
 

@@ -1,16 +1,16 @@
 -- Going on by one step, as the loops do.
 use Rattle.std.proofs.Common.{◌≡◌, ℕ, suc, ◌+◌, ◌-◌, ◌<◌, ◌≤◌, Bool, true, false, List, [], ◌∷◌, ◌++◌, length, get_or, take, drop, Option, Some, None, refl, sym, ap, subst, ◌∙◌, inl, inr, arith, append_assoc}
-use Rattle.std.specs.Prelude.{◌≢◌, ◌==◌, ◌↔◌, map, slice_get, nat_lt}
+use Rattle.std.specs.Prelude.{◌==◌, ◌↔◌, map, slice_get, nat_lt}
 use Rattle.std.specs.Option.{option_map}
 use Rattle.std.specs.List.Sorted.{IsStrictlyIncreasing}
-use Rattle.std.proofs.lemmas.Bool.{false≢true, eq-eqb, cases_eq, cases_lt, lt-ltb, le-ltb}
+use Rattle.std.proofs.lemmas.Bool.{false≢true, cases_eq, lt-ltb}
 use Rattle.std.proofs.lemmas.List.{append-nil, drop_more, drop-map, get_or-drop, length-drop, take_all, drop_all}
 use Rattle.vat_log.specs.declared.body.Body.{Body}
 use Rattle.vat_log.specs.declared.body.Body.TheVariants.{Receive}
 use Rattle.vat_log.specs.Log.{Log}
 use Rattle.merge_order.specs.declared.checking.OrderFinding.{OrderFinding}
 use Rattle.merge_order.specs.declared.checking.OrderFinding.TheVariants as findings
-use Rattle.merge_order.specs.Fits.{Part, sent, received, part_of, sent_by_others, may_come_from, may_come, further, after, used_up, begin, FitsFrom, IsFitting, TakesLeastFrom, fault_from, finding, finding_of}
+use Rattle.merge_order.specs.Fits.{Part, received, part_of, sent_by_others, may_come_from, may_come, further, after, used_up, begin, FitsFrom, IsFitting, TakesLeastFrom, fault_from, finding, finding_of}
 use Rattle.merge_order.proofs.Greedy.{bool_cases, some_is, eqb_apart, further_cases, further_log, left_from, front}
 
 -- ---- how many records are left
@@ -206,21 +206,6 @@ passed ps rest p from e may before u none =
 pub all_passed : (ps : List Part) (u : ℕ) → part_of u ps ≡ None → may_come ps u ≡ false
 unfolding may_come
 all_passed ps u none = ap (may_come_from u ps) none
-
--- ---- frames of the others
-
-pub others_own : (v connection : ℕ) (p : Part) (ps : List Part) → p.log.vat ≡ v → sent_by_others v connection (p ∷ ps) ≡ sent_by_others v connection ps
-others_own v connection p ps same = rw (eq-eqb _ _ same) (omega arith)
-
-pub others_more : (v connection : ℕ) (p : Part) (ps : List Part) → p.log.vat ≢ v → sent_by_others v connection (p ∷ ps) ≡ sent connection p + sent_by_others v connection ps
-others_more v connection p ps other = rw (eqb_apart _ _ other) refl
-
-pub takes_off : (m n rest : ℕ) → n ≤ m → nat_lt m (n + rest) ≡ nat_lt (m - n) rest
-takes_off m n rest le =
-    elim (cases_lt m (n + rest)) [
-      | inl lt ↦ lt-ltb _ _ lt ∙ sym (lt-ltb (m - n) rest (omega arith))
-      | inr ge ↦ le-ltb _ _ ge ∙ sym (le-ltb (m - n) rest (omega arith))
-    ]
 
 -- none before the first that may come, may
 pub smaller_may_not : (ps : List Part) (i : ℕ) (p : Part) (v : ℕ) → i < length ps → p ≡ get_or ps i p → IsStrictlyIncreasing (map (λ q. q.log.vat) ps) → v ≡ p.log.vat

@@ -8,8 +8,8 @@ use Rattle.vat_log.specs.Log.{Log}
 use Rattle.merge_order.specs.declared.counts.Counts.{Counts}
 use Rattle.merge_order.specs.Fits.{Part, sent, part_of, sent_by_others, begin}
 use Rattle.merge_order.specs.Tables.{count_of, IsEmpty, RisesWith, sent_by_all, IsTotalled}
-use Rattle.merge_order.proofs.Greedy.{bool_cases, some_is, eqb_apart}
-use Rattle.merge_order.proofs.Steps.{rising_tail, none_smaller, others_own, others_more}
+use Rattle.merge_order.proofs.Greedy.{bool_cases, some_is, eqb_apart, others_own, others_more}
+use Rattle.merge_order.proofs.Steps.{rising_tail, none_smaller}
 
 none_some_part : (p : Part) → None ≡ Some p → ⊥
 none_some_part p e = cc

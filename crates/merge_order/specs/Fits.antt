@@ -1,6 +1,6 @@
 -- When an order of the records of several logs fits: each step takes the next record of the vat that it names, no frame is
 -- received before it is sent, and all records are used up.
-use Rattle.std.specs.Prelude.{◌≡◌, ℕ, ◌+◌, ◌<◌, ◌==◌, suc, Bool, true, false, ◌&&◌, IsTrue, List, [], ◌∷◌, length, map, take, count_by, find, Option, Some, None, if◌then◌else◌, nat_lt, nat_le, slice_get}
+use Rattle.std.specs.Prelude.{◌≡◌, ℕ, ◌+◌, ◌<◌, ◌==◌, suc, Bool, true, false, not, ◌&&◌, IsTrue, List, [], ◌∷◌, length, map, take, count_by, filter, find, sum_by, Option, Some, None, if◌then◌else◌, nat_lt, nat_le, slice_get}
 use Rattle.std.specs.List.{list_all}
 use Rattle.std.specs.List.Sorted.{IsStrictlyIncreasing}
 use Rattle.std.specs.Option.{option_map}
@@ -39,8 +39,7 @@ part_of vat parts = find (λ part. part.log.vat == vat) parts
 
 -- the frames that all vats but this one sent on the connection before
 abbrev pub sent_by_others : ℕ → ℕ → List Part → ℕ
-sent_by_others vat connection [] = 0
-sent_by_others vat connection (part ∷ parts) = (if part.log.vat == vat then 0 else sent connection part) + sent_by_others vat connection parts
+sent_by_others vat connection parts = sum_by (sent connection) (filter (λ part. not (part.log.vat == vat)) parts)
 
 -- The next record of a vat may come, if there is one: a RECV where the others sent more frames on the connection than the
 -- vat received there, any other record always.

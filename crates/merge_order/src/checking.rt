@@ -39,15 +39,16 @@ fn find(alloc: Global, logs: &[Arc<VatLog>], order: &Order) -> Result<OrderFindi
     }
 }
 
-/// Whether an order of the records of these logs fits. The first step fails that names no log, a log without a record left,
-/// or a RECV before which that vat received on the connection as many frames as the other vats sent on it. Where no step
-/// fails and records are left, the order's length does. The only error is want of memory.
+/// Whether an order of the records of these logs fits. The logs come by rising vat numbers, no two the same. The first step
+/// fails that names no log, a log without a record left, or a RECV before which that vat received on the connection as many
+/// frames as the other vats sent on it. Where no step fails and records are left, the order's length does. The only error
+/// is want of memory.
 pub fn check_order(
     alloc: Global,
     logs: &[Arc<VatLog>],
     order: &Order,
 ) -> Result<OrderFinding, AllocError>
-    // The logs come by rising vat numbers.
+    // The logs come by rising vat numbers, no two the same.
     requires { IsRising (map arc_value logs.now) }
     // Which finding.
     ensures exact { IfOk result (λ finding. finding ≡ finding_of (map arc_value logs.now) order.now) }

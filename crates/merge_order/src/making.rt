@@ -11,9 +11,10 @@ use std::sync::Arc;
 use vat_log::VatLog;
 
 /// An order of the records of these logs that fits, wherever one does: at each step the smallest vat number whose next
-/// record may come. None where no order fits. The only error is want of memory.
+/// record may come. None where no order fits. The logs come by rising vat numbers, no two the same. The only error is want
+/// of memory.
 pub fn make_order(alloc: Global, logs: &[Arc<VatLog>]) -> Result<Option<Order>, AllocError>
-    // The logs come by rising vat numbers.
+    // The logs come by rising vat numbers, no two the same.
     requires { IsRising (map arc_value logs.now) }
     // The order that is made fits, and takes the smallest vat number that may come at each step.
     ensures fits { IfOk result (λ made. IfSome made (λ order. IsFitting (map arc_value logs.now) order)) }

@@ -19,10 +19,10 @@ enum Entry {
     Hosts,
 }
 
-/// What vat 1 records in given_orders.
+/// What vat 1 records: it sends two frames, receives one of vat 2, and sends a third.
 const FIRST: [Entry; 4] = [Entry::Sends, Entry::Sends, Entry::Receives, Entry::Sends];
 
-/// What vat 2 records in given_orders.
+/// What vat 2 records: it receives two of these frames, sends its own, and receives the third.
 const SECOND: [Entry; 4] = [
     Entry::Receives,
     Entry::Receives,
@@ -114,7 +114,7 @@ fn made(alloc: Global, first: &[Entry], second: &[Entry]) -> Result<Option<Order
 }
 
 #[test]
-fn given_orders_are_checked(rt: HostRuntime) -> Result<(), Fail> {
+fn an_order_fails_at_its_first_step_that_may_not_come(rt: HostRuntime) -> Result<(), Fail> {
     let fails = OrderFinding::Fails;
     let orders: [(&[u32], OrderFinding); 5] = [
         (&[1, 2, 1, 1, 2, 2, 1, 2], fails(3)),

@@ -2,7 +2,7 @@
 -- another vat: its own vat's part stays, and the others only sent more. So in any order that fits, the vat's first step can
 -- be moved to the front.
 use Rattle.std.proofs.Common.{◌≡◌, ℕ, ◌+◌, ◌<◌, ◌≤◌, Bool, true, false, ◌&&◌, List, [], ◌∷◌, length, get_or, take, Option, Some, None, refl, sym, ap, subst, ◌∙◌, inl, inr, arith}
-use Rattle.std.specs.Prelude.{◌≢◌, ◌⊎◌, ◌==◌, not, slice_get, count_by, filter, nat_lt}
+use Rattle.std.specs.Prelude.{◌≢◌, ◌⊎◌, ◌==◌, not, slice_get, count_by, filter}
 use Rattle.std.proofs.lemmas.Bool.{false≢true, eqb-true, eq-eqb, cases_eq, cases_lt, ltb-true, lt-ltb, leb-true}
 use Rattle.std.proofs.lemmas.List.{take_all}
 use Rattle.std.proofs.lemmas.List.Sums.{count_by_more_yes, count_by_more_no, sum_by-cons}
@@ -42,15 +42,12 @@ count_step p (x ∷ xs) n lt =
 -- ---- one part
 
 -- a step leaves a part, or takes one record of it
-pub further_cases : (w : ℕ) (p : Part) → ((further w p ≡ p) × ((p.log.vat == w) && nat_lt p.came (length p.log.records) ≡ false)) ⊎ ((further w p ≡ record { log = p.log; came = p.came + 1 }) × (p.log.vat ≡ w) × (p.came < length p.log.records))
+pub further_cases : (w : ℕ) (p : Part) → ((further w p ≡ p) × ((p.log.vat == w) ≡ false)) ⊎ ((further w p ≡ record { log = p.log; came = p.came + 1 }) × (p.log.vat ≡ w))
 unfolding further
 further_cases w p =
     elim (bool_cases (p.log.vat == w)) [
-      | inl same ↦ elim (bool_cases (nat_lt p.came (length p.log.records))) [
-        | inl left ↦ inr (rw (same, left) refl, eqb-true _ _ same, ltb-true _ _ left)
-        | inr none ↦ inl (rw (same, none) refl, rw (same, none) refl)
-      ]
-      | inr other ↦ inl (rw other refl, rw other refl)
+      | inl same ↦ inr (rw same refl, eqb-true _ _ same)
+      | inr other ↦ inl (rw other refl, other)
     ]
 
 pub further_log : (w : ℕ) (p : Part) → (further w p).log ≡ p.log
@@ -178,6 +175,10 @@ left_from v ps own may =
       | inl lt ↦ lt
       | inr le ↦ absurd (follows_left v ps own (slice_get own.log.records own.came) may (slice_get_past own.log.records own.came le))
     ]
+
+pub has_left : (v : ℕ) (ps : List Part) (own : Part) → may_come ps v ≡ true → part_of v ps ≡ Some own → own.came < length own.log.records
+unfolding may_come
+has_left v ps own may part = left_from v ps own (sym (ap (may_come_from v ps) part) ∙ may)
 
 used_from : (v : ℕ) (ps : List Part) (o : Option Part) → part_of v ps ≡ o → used_up ps ≡ true → may_come_from v ps o ≡ true → ⊥
 used_from v ps None e used may = false≢true may

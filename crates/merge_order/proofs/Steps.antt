@@ -3,7 +3,7 @@ use Rattle.std.proofs.Common.{◌≡◌, ℕ, suc, ◌+◌, ◌-◌, ◌<◌, �
 use Rattle.std.specs.Prelude.{◌==◌, ◌↔◌, map, slice_get, nat_lt}
 use Rattle.std.specs.Option.{option_map}
 use Rattle.std.specs.List.Sorted.{IsStrictlyIncreasing}
-use Rattle.std.proofs.lemmas.Bool.{false≢true, cases_eq, lt-ltb}
+use Rattle.std.proofs.lemmas.Bool.{false≢true, cases_eq}
 use Rattle.std.proofs.lemmas.List.{append-nil, drop_more, drop-map, get_or-drop, length-drop, take_all, drop_all}
 use Rattle.vat_log.specs.declared.body.Body.{Body}
 use Rattle.vat_log.specs.declared.body.Body.TheVariants.{Receive}
@@ -30,10 +30,10 @@ left_le : (w : ℕ) (ps : List Part) → left (after w ps) ≤ left ps
 left_le w [] = omega arith
 left_le w (p ∷ ps) = omega (arith, left_one w p, left_le w ps)
 
-moves_own : (v : ℕ) (p : Part) → (p.log.vat == v) ≡ true → p.came < length p.log.records → further v p ≡ record { log = p.log; came = p.came + 1 }
-moves_own v p same lt =
+moves_own : (v : ℕ) (p : Part) → (p.log.vat == v) ≡ true → further v p ≡ record { log = p.log; came = p.came + 1 }
+moves_own v p same =
     elim (further_cases v p) [
-      | inl stays ↦ absurd (false≢true (sym stays.1 ∙ rw (same, lt-ltb p.came (length p.log.records) lt) refl))
+      | inl stays ↦ absurd (false≢true (sym stays.1 ∙ same))
       | inr moves ↦ moves.0
     ]
 
@@ -45,7 +45,7 @@ left_lt v (p ∷ ps) own e lt =
           let is : p ≡ own = some_is p own (rw same at e) in
           let P : Part → Type 0 = λ q. q.came < length q.log.records in
           let own_lt : p.came < length p.log.records = subst P (sym is) lt in
-          let moved = moves_own v p same own_lt in
+          let moved = moves_own v p same in
           rw moved (omega (arith, own_lt, left_le v ps))
       | inr other ↦ let later = left_lt v ps own (rw other at e) lt in omega (arith, left_one v p, later)
     ]

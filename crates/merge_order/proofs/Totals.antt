@@ -1,14 +1,15 @@
 -- The table of the frames that all vats sent: at the begin, after a step, and against those that one vat sent.
-use Rattle.std.proofs.Common.{◌≡◌, ℕ, zero, suc, ◌+◌, ◌<◌, List, [], ◌∷◌, length, get_or, set, Some, None, refl, sym, ap, subst, ◌∙◌, inl, inr, arith}
+use Rattle.std.proofs.Common.{◌≡◌, ℕ, zero, suc, ◌+◌, ◌-◌, ◌<◌, true, List, [], ◌∷◌, ◌++◌, length, get_or, set, take, drop, Some, None, refl, sym, ap, subst, ◌∙◌, inl, inr, arith}
 use Rattle.std.specs.Prelude.{◌==◌, map}
 use Rattle.std.specs.List.Sorted.{IsStrictlyIncreasing}
 use Rattle.std.proofs.lemmas.Bool.{eq-eqb, eqb-true, cases_eq}
+use Rattle.std.proofs.lemmas.List.{get_or-drop, get_or-append_right, length-map, length-take-le}
 use Rattle.std.proofs.lemmas.List.Sums.{sum_by-cons, sum_by-set}
 use Rattle.vat_log.specs.Log.{Log}
 use Rattle.merge_order.specs.declared.counts.Counts.{Counts}
-use Rattle.merge_order.specs.Fits.{Part, sent, part_of, sent_by_others, begin}
+use Rattle.merge_order.specs.Fits.{Part, sent, part_of, sent_by_others, may_come, further, after, begin}
 use Rattle.merge_order.specs.Tables.{count_of, IsEmpty, RisesWith, sent_by_all, IsTotalled}
-use Rattle.merge_order.proofs.Greedy.{bool_cases, some_is, eqb_apart, others_own, others_more}
+use Rattle.merge_order.proofs.Greedy.{bool_cases, some_is, eqb_apart, has_left, others_own, others_more}
 use Rattle.merge_order.proofs.Steps.{rising_tail, none_smaller}
 
 none_some_part : (p : Part) → None ≡ Some p → ⊥
@@ -42,6 +43,17 @@ part_vat v (p ∷ ps) own e =
       | inl same ↦ let is : p ≡ own = some_is p own (rw same at e) in sym (ap (λ (q : Part). q.log.vat) is) ∙ eqb-true _ _ same
       | inr other ↦ part_vat v ps own (rw other at e)
     ]
+
+-- a step that may come has a record left where the loop over the parts comes to it
+pub step_left : (v : ℕ) (ps items : List Part) (i : ℕ) (d : Part) → IsStrictlyIncreasing (map (λ q. q.log.vat) ps) → may_come ps v ≡ true → items ≡ after v (take i ps) ++ drop i ps → i < length ps → (get_or items i d).log.vat ≡ v
+    → (get_or items i d).came < length (get_or items i d).log.records
+step_left v ps items i d rising may is lt vat =
+    let before : length (after v (take i ps)) ≡ i = length-map (take i ps) (further v) ∙ length-take-le i ps (omega arith) in
+    let at : i + (i - i) ≡ i = omega arith in
+    let stays : get_or items i d ≡ get_or ps i d = ap (λ (l : List Part). get_or l i d) is ∙ get_or-append_right (after v (take i ps)) (drop i ps) i i d before (omega arith) ∙ get_or-drop i ps (i - i) d ∙ ap (λ (k : ℕ). get_or ps k d) at in
+    let own : (get_or ps i d).log.vat ≡ v = sym (ap (λ (q : Part). q.log.vat) stays) ∙ vat in
+    let left = has_left v ps (get_or ps i d) may (subst (λ (u : ℕ). part_of u ps ≡ Some (get_or ps i d)) own (part_there ps i d rising lt)) in
+    subst (λ (q : Part). q.came < length q.log.records) (sym stays) left
 
 -- ---- all vats, and all but one
 

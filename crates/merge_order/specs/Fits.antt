@@ -1,6 +1,6 @@
 -- When an order of the records of several logs fits: each step takes the next record of the vat that it names, no frame is
 -- received before it is sent, and all records are used up.
-use Rattle.std.specs.Prelude.{◌≡◌, ℕ, ◌+◌, ◌<◌, ◌==◌, suc, Bool, true, false, not, ◌&&◌, IsTrue, List, [], ◌∷◌, length, map, take, count_by, filter, find, sum_by, Option, Some, None, if◌then◌else◌, nat_lt, nat_le, slice_get}
+use Rattle.std.specs.Prelude.{◌≡◌, ℕ, ◌+◌, ◌<◌, ◌==◌, suc, Bool, true, false, not, IsTrue, List, [], ◌∷◌, length, map, take, count_by, filter, find, sum_by, Option, Some, None, if◌then◌else◌, nat_lt, nat_le, slice_get}
 use Rattle.std.specs.List.{list_all}
 use Rattle.std.specs.List.Sorted.{IsStrictlyIncreasing}
 use Rattle.std.specs.Option.{option_map}
@@ -57,11 +57,11 @@ may_come_from vat parts (Some own) = may_follow vat parts own (slice_get own.log
 unfoldable pub may_come : List Part → ℕ → Bool
 may_come parts vat = may_come_from vat parts (part_of vat parts)
 
--- one record further, if the part is the vat's and a record is left
+-- one record further, if the part is the vat's
 unfoldable pub further : ℕ → Part → Part
-further vat part = if (part.log.vat == vat) && nat_lt part.came (length part.log.records) then record { log = part.log; came = part.came + 1 } else part
+further vat part = if part.log.vat == vat then record { log = part.log; came = part.came + 1 } else part
 
--- the parts after a step of this vat
+-- the parts after a step of this vat, which may come
 abbrev pub after : ℕ → List Part → List Part
 after vat parts = map (further vat) parts
 

@@ -1,6 +1,6 @@
 //! A log, and how many of its records came already.
 
-ghost use Rattle.std.specs.Prelude.{◌≡◌, length, IfOk, OnOk, nat_le, slice_get};
+ghost use Rattle.std.specs.Prelude.{◌≡◌, ◌<◌, length, IfOk, OnOk, nat_le, slice_get};
 ghost use Rattle.std.specs.Arc.{arc_value};
 ghost use Rattle.std.specs.Option.{option_copied};
 
@@ -82,9 +82,10 @@ impl Cursor {
         self.received_counts.of(connection)
     }
 
-    /// Goes one record further, if the log is this vat's and a record is left; the totals rise with what it sends.
+    /// Goes one record further, if the log is this vat's, which then has a record left; the totals rise with what it sends.
     #[tactic(auto, unfolding(crate::specs::Fits::further))]
     pub fn go_on(&mut self, vat: u32, totals: &mut Counts) -> Result<(), AllocError>
+        requires { self.old.log.vat ≡ vat → self.old.came < length self.old.log.records }
         ensures goes { OnOk result (self.new ≡ further vat self.old) }
         ensures adds { OnOk result (RisesWith self.old self.new totals.old totals.new) }
     {

@@ -96,8 +96,9 @@ impl Progress {
         self.may_go_on(own)
     }
 
-    /// Takes the next record of this vat. Where memory is refused, nothing is left of the progress.
+    /// Takes the next record of this vat, which may come. Where memory is refused, nothing is left of the progress.
     pub fn take(self, vat: u32) -> Result<Progress, AllocError>
+        requires { may_come self vat ≡ true }
         ensures { IfOk result (λ later. later ≡ after vat self) }
     {
         let Progress {

@@ -1,13 +1,23 @@
-use Rattle.std.proofs.Common.{◌∙◌, refl, sym, ap, set, arith}
+use Rattle.std.proofs.Common.{◌∙◌, List, refl, sym, ap, subst, set, arith}
+use Rattle.std.specs.Prelude.{map}
+use Rattle.std.specs.List.Sorted.{IsStrictlyIncreasing}
 use Rattle.std.proofs.lemmas.List.Edits.{map_over_more}
-use Rattle.merge_order.specs.Fits.{further}
+use Rattle.merge_order.specs.Fits.{Part, may_come, further}
 use Rattle.merge_order.specs.Tables.{sent_by_all}
 use Rattle.merge_order.proofs.Steps.{taken_items, taken_all, rising_after}
-use Rattle.merge_order.proofs.Totals.{totals_set}
+use Rattle.merge_order.proofs.Totals.{step_left, totals_set}
 use Rattle.merge_order.proofs.progress.Progress.take.Goals as goal
 
 pub loop-cursor-init : goal.loop-cursor-init
 loop-cursor-init c = (refl, λ connection. c.self.invariant.sum connection ∙ sym (ap (sent_by_all connection) c.deref_mut-cursor-items.ensures.value))
+
+pub go_on-requires : goal.go_on-requires
+go_on-requires c =
+    let lent = c.deref_mut-cursor-items in
+    let kept = c.self.inside.cursors.items in
+    let may = ap (λ (ps : List Part). may_come ps c.args.vat) (lent.ensures.value ∙ c.self.view_is) ∙ c.requires in
+    let rising = subst (λ (ps : List Part). IsStrictlyIncreasing (map (λ q. q.log.vat) ps)) (sym lent.ensures.value) c.self.invariant.rising in
+    λ vat. step_left c.args.vat lent.result.now c.loop-cursor.cursor-items c.loop-cursor.cursor-index c.cursor-item.result rising may c.loop-cursor.invariant.0 (omega (arith, c.loop-cursor-test.true)) vat
 
 pub loop-cursor-preserved : goal.loop-cursor-preserved
 loop-cursor-preserved c =

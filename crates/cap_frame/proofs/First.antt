@@ -1,5 +1,5 @@
 -- The frame that stands first is one frame when it is cut off, and no other prefix is.
-use Rattle.std.proofs.Common.{◌≡◌, ℕ, zero, suc, ◌+◌, ◌-◌, ◌*◌, ◌≤◌, Bool, true, false, cond, ltb, eqb, List, length, get_or, take, drop, Result, Ok, Err, refl, sym, ap, subst, ◌∙◌, arith}
+use Rattle.std.proofs.Common.{◌≡◌, ℕ, zero, suc, ◌+◌, ◌-◌, ◌*◌, ◌≤◌, Bool, true, false, cond, ltb, eqb, List, length, get_or, take, drop, Result, Ok, Err, refl, sym, ap, subst, inl, inr, ◌∙◌, arith}
 use Rattle.std.specs.Prelude.{sum}
 use Rattle.std.proofs.lemmas.Bool.{ltb-false, le-ltb}
 use Rattle.std.proofs.lemmas.List.{length-take-le}
@@ -41,8 +41,8 @@ frame_len-take len bytes le =
 -- ---- what is cut off is one frame
 
 one_or_none : (b : Bool) (segments : List (List ℕ)) → IsOneFrame (cond b (Err NoRoot) (Ok segments))
-one_or_none true segments = tt
-one_or_none false segments = tt
+one_or_none true segments = inr refl
+one_or_none false segments = inl refl
 
 -- with nothing after the frame only the root may be wanting
 one_in : (bytes : List ℕ) → frame_len bytes ≡ length bytes → IsOneFrame (segments_in bytes (Ok (frame_len bytes)))
@@ -62,7 +62,6 @@ cut_off bytes len e =
     let again : StartsFrame front = record {
       long = omega (arith, starts.1, long);
       few = omega (arith, count, starts.0.few);
-      table_fits = omega (arith, ap table_len count, starts.1, long);
       fits = omega (arith, same, starts.1, long);
     } in
     let P : Result ℕ FrameError → Type 0 = λ first. IsOneFrame (segments_in front first) in
@@ -71,27 +70,25 @@ cut_off bytes len e =
 -- ---- nothing else is
 
 -- a first frame that is cut off needs no root
-no_root : (a b c d : Bool) (x : ℕ) → cond a (Err Short) (cond b (Err TooManySegments) (cond c (Err Short) (cond d (Err Short) (Ok x)))) ≡ Err NoRoot → ⊥
-no_root true b c d x h = cc
-no_root false true c d x h = cc
-no_root false false true d x h = cc
-no_root false false false true x h = cc
-no_root false false false false x h = cc
+no_root : (a b c : Bool) (x : ℕ) → cond a (Err Short) (cond b (Err TooManySegments) (cond c (Err Short) (Ok x))) ≡ Err NoRoot → ⊥
+no_root true b c x h = cc
+no_root false true c x h = cc
+no_root false false true x h = cc
+no_root false false false x h = cc
 
 never_no_root : (bytes : List ℕ) → first_len_of bytes ≡ Err NoRoot → ⊥
 unfolding first_len_of
 never_no_root bytes h =
-    no_root (ltb (length bytes) 4) (ltb 512 (count_of bytes)) (ltb (length bytes) (table_len (count_of bytes))) (ltb (length bytes) (frame_len bytes)) (frame_len bytes) h
+    no_root (ltb (length bytes) 4) (ltb 512 (count_of bytes)) (ltb (length bytes) (frame_len bytes)) (frame_len bytes) h
 
 not_trailing : (longer : Bool) (other : Result (List (List ℕ)) FrameError) → IsOneFrame (cond longer (Err Trailing) other) → longer ≡ false
-not_trailing true other one = absurd one
+not_trailing true other (inl ok) = absurd cc
+not_trailing true other (inr none) = absurd cc
 not_trailing false other one = refl
 
 one_ends : (bytes : List ℕ) (first : Result ℕ FrameError) → first_len_of bytes ≡ first → IsOneFrame (segments_in bytes first) → StartsFrame bytes × (frame_len bytes ≡ length bytes)
-one_ends bytes (Err Short) is one = absurd one
-one_ends bytes (Err TooManySegments) is one = absurd one
-one_ends bytes (Err Trailing) is one = absurd one
-one_ends bytes (Err NoRoot) is one = absurd (never_no_root bytes is)
+one_ends bytes (Err fault) is (inl ok) = absurd cc
+one_ends bytes (Err fault) is (inr none) = absurd (never_no_root bytes (is ∙ ap (λ (f : FrameError). Err f) cc))
 one_ends bytes (Ok len) is one =
     let starts = StartsFrame-from_len bytes len is in
     let ends = ltb-false _ _ (not_trailing (ltb len (length bytes)) (cond (eqb (get_or (sizes_of bytes) 0 0) 0) (Err NoRoot) (Ok (content bytes))) one) in
@@ -104,12 +101,11 @@ only_cut bytes len within one =
     let ends = one_ends front (first_len_of front) refl one in
     let long : length front ≡ len = length-take-le len bytes within in
     let count : count_of front ≡ count_of bytes = count-take len bytes (omega (arith, ends.0.long, long)) in
-    let table : table_len (count_of bytes) ≤ len = omega (arith, ap table_len count, ends.0.table_fits, long) in
+    let table : table_len (count_of bytes) ≤ len = omega (arith, ap table_len count, ends.0.fits, long) in
     let same : frame_len front ≡ frame_len bytes = frame_len-take len bytes table in
     let starts : StartsFrame bytes = record {
       long = omega (arith, ends.0.long, long);
       few = omega (arith, count, ends.0.few);
-      table_fits = omega (arith, table);
       fits = omega (arith, same, ends.1, long);
     } in
     len_from-StartsFrame bytes starts ∙ ap (λ (n : ℕ). Ok n) (omega (arith, same, ends.1, long))

@@ -11,40 +11,36 @@ use Rattle.cap_frame.specs.declared.frame_error.FrameError.TheVariants.{Short, T
 use Rattle.cap_frame.specs.Segments.{numbers, count_of, sizes_of, table_len, content, frame_len, first_len_of, segments_in, segments_of, word_at}
 use Rattle.cap_frame.proofs.Numbers.{length-numbers, get_or-numbers, length-cut, get_or-cut}
 
--- four tests that let the rest go on
-four_passed : (a b c d : Bool) (i j k l : FrameError) (x y : ℕ)
-    → cond a (Err i) (cond b (Err j) (cond c (Err k) (cond d (Err l) (Ok x)))) ≡ Ok y
-    → (a ≡ false) × (b ≡ false) × (c ≡ false) × (d ≡ false) × (x ≡ y)
-four_passed true b c d i j k l x y h = absurd cc
-four_passed false true c d i j k l x y h = absurd cc
-four_passed false false true d i j k l x y h = absurd cc
-four_passed false false false true i j k l x y h = absurd cc
-four_passed false false false false i j k l x y h = (refl, refl, refl, refl, cc)
+-- three tests that let the rest go on
+three_passed : (a b c : Bool) (i j k : FrameError) (x y : ℕ)
+    → cond a (Err i) (cond b (Err j) (cond c (Err k) (Ok x))) ≡ Ok y → (a ≡ false) × (b ≡ false) × (c ≡ false) × (x ≡ y)
+three_passed true b c i j k x y h = absurd cc
+three_passed false true c i j k x y h = absurd cc
+three_passed false false true i j k x y h = absurd cc
+three_passed false false false i j k x y h = (refl, refl, refl, cc)
 
 -- what the tests say of bytes that begin with a frame
 pub record StartsFrame (bytes : List ℕ) : Type 0 where
   pub long : 4 ≤ length bytes
   pub few : count_of bytes ≤ 512
-  pub table_fits : table_len (count_of bytes) ≤ length bytes
   pub fits : frame_len bytes ≤ length bytes
 
 pub StartsFrame-from_len : (bytes : List ℕ) (len : ℕ) → first_len_of bytes ≡ Ok len → StartsFrame bytes × (frame_len bytes ≡ len)
 unfolding first_len_of
 StartsFrame-from_len bytes len e =
-    let t = four_passed (ltb (length bytes) 4) (ltb 512 (count_of bytes)) (ltb (length bytes) (table_len (count_of bytes))) (ltb (length bytes) (frame_len bytes)) Short TooManySegments Short Short (frame_len bytes) len e in (
+    let t = three_passed (ltb (length bytes) 4) (ltb 512 (count_of bytes)) (ltb (length bytes) (frame_len bytes)) Short TooManySegments Short (frame_len bytes) len e in (
       record {
         long = ltb-false _ _ t.0;
         few = ltb-false _ _ t.1;
-        table_fits = ltb-false _ _ t.2;
-        fits = ltb-false _ _ t.3;
+        fits = ltb-false _ _ t.2;
       },
-      t.4,
+      t.3,
     )
 
 pub len_from-StartsFrame : (bytes : List ℕ) → StartsFrame bytes → first_len_of bytes ≡ Ok (frame_len bytes)
 unfolding first_len_of
 len_from-StartsFrame bytes h =
-    rw (le-ltb (length bytes) 4 h.long, le-ltb 512 (count_of bytes) h.few, le-ltb (length bytes) (table_len (count_of bytes)) h.table_fits, le-ltb (length bytes) (frame_len bytes) h.fits) refl
+    rw (le-ltb (length bytes) 4 h.long, le-ltb 512 (count_of bytes) h.few, le-ltb (length bytes) (frame_len bytes) h.fits) refl
 
 -- what the tests say of the bytes of a frame
 pub record IsFrame (bytes : List ℕ) : Type 0 where
@@ -68,7 +64,7 @@ IsFrame-from_in bytes (Ok len) segments is e =
       record {
         long = starts.0.long;
         few = starts.0.few;
-        table_fits = starts.0.table_fits;
+        table_fits = omega (arith, starts.0.fits);
         whole = omega (arith, starts.1, starts.0.fits, ltb-false _ _ t.0);
         rooted = eqb-false _ _ t.1;
       },
@@ -82,7 +78,7 @@ IsFrame-from_read bytes segments e = IsFrame-from_in bytes (first_len_of bytes) 
 pub read_from-IsFrame : (bytes : List ℕ) → IsFrame bytes → segments_of bytes ≡ Ok (content bytes)
 unfolding segments_of
 read_from-IsFrame bytes h =
-    let starts : StartsFrame bytes = record { long = h.long; few = h.few; table_fits = h.table_fits; fits = omega (arith, h.whole) } in
+    let starts : StartsFrame bytes = record { long = h.long; few = h.few; fits = omega (arith, h.whole) } in
     rw (len_from-StartsFrame bytes starts, le-ltb (frame_len bytes) (length bytes) (omega (arith, h.whole)), ne_eqb (get_or (sizes_of bytes) 0 0) 0 h.rooted) refl
 
 -- a size stands after the count and the sizes before it

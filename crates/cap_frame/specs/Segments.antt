@@ -1,6 +1,6 @@
 -- What bytes spell by the stream framing of the Cap'n Proto encoding specification ("Serialization Over a Stream").
 -- A byte is a number below 256, a word is 8 bytes, and the lowest byte of a number comes first.
-use Rattle.std.specs.Prelude.{◌≡◌, ℕ, zero, suc, ◌+◌, ◌-◌, ◌*◌, ◌/◌, ◌%◌, ◌^◌, ◌<◌, ◌≤◌, ◌==◌, List, [], ◌∷◌, ◌++◌, length, map, drop, sum, Option, Result, Ok, Err, nat_lt, if◌then◌else◌, slice_get, slice_index, slice_index_or, All, ⊤}
+use Rattle.std.specs.Prelude.{◌≡◌, ◌⊎◌, ℕ, zero, suc, ◌+◌, ◌-◌, ◌*◌, ◌/◌, ◌%◌, ◌^◌, ◌<◌, ◌≤◌, ◌==◌, List, [], ◌∷◌, ◌++◌, length, map, drop, sum, Option, Result, Ok, Err, IsOk, nat_lt, if◌then◌else◌, slice_get, slice_index, slice_index_or, All}
 use Rattle.std.specs.List.{flat_map}
 use Rattle.byteorder.specs.Endian.{little_number, little_bytes}
 use Rattle.cap_frame.specs.declared.frame_error.FrameError.{FrameError}
@@ -42,9 +42,8 @@ unfoldable pub first_len_of : List ℕ → Result ℕ FrameError
 first_len_of bytes =
     if nat_lt (length bytes) 4 then Err Short
     else (if nat_lt 512 (count_of bytes) then Err TooManySegments
-    else (if nat_lt (length bytes) (table_len (count_of bytes)) then Err Short
     else (if nat_lt (length bytes) (frame_len bytes) then Err Short
-    else Ok (frame_len bytes))))
+    else Ok (frame_len bytes)))
 
 -- The segments of bytes in which the frame that stands first has this length: nothing stands after it, and its first
 -- segment has the root pointer.
@@ -61,11 +60,7 @@ segments_of bytes = segments_in bytes (first_len_of bytes)
 
 -- Bytes that read so are one frame and nothing after it, whether or not its first segment has words.
 abbrev pub IsOneFrame : Result (List (List ℕ)) FrameError → Type 0
-IsOneFrame (Ok segments) = ⊤
-IsOneFrame (Err NoRoot) = ⊤
-IsOneFrame (Err Trailing) = ⊥
-IsOneFrame (Err Short) = ⊥
-IsOneFrame (Err TooManySegments) = ⊥
+IsOneFrame read = IsOk read ⊎ (read ≡ Err NoRoot)
 
 -- the word at a place of a segment, both counted from 0
 abbrev pub word_at : List (List ℕ) → ℕ → ℕ → Option ℕ

@@ -2,12 +2,13 @@
 
 ghost use Rattle.std.specs.Prelude.{◌≡◌};
 
-/// Why bytes aren't a frame: the first fault that is met.
+/// Why bytes aren't a frame of the stream framing (encoding specification, "Serialization Over a Stream"): the first fault
+/// that is met.
 #[derive(Clone, Copy, Debug, PartialEq, Eq)]
 pub enum FrameError {
     /// The count of segments, their sizes, the padding or a segment passes the end of the bytes.
     Short,
-    /// More than 512 segments.
+    /// More than 512 segments, the most that are read here.
     TooManySegments,
     /// Bytes stand after the last segment.
     Trailing,

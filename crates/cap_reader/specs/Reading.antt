@@ -126,7 +126,7 @@ unfoldable pub each : {E A : Type 0} → (ℕ → Reading E (List A)) → ℕ �
 each reading from zero = done []
 each reading from (suc n) = reading from >>= λ first. each reading (from + 1) n >>= λ others. done (first ++ others)
 
--- what a reading of a list answered, behind a list that was there
+-- For the code's contracts, and no part of the meaning: what a reading of a list answered, behind a list that was there.
 abbrev pub with_front : {E A : Type 0} → List A → Result (List A) E × ℕ → Result (List A) E × ℕ
 with_front {E} {A} front ran = (behind ran.0, ran.1)
   where

@@ -5,7 +5,8 @@ ghost use Rattle.std.specs.Prelude.{◌≡◌};
 use cap_frame::Path;
 use std::marker::Model;
 
-/// Capabilities, each by its path and with its index into the capability table. Contracts see them as the list of these.
+/// Capabilities, each by its path and with its index into the capability table, counted from 0 (encoding specification,
+/// "Capabilities"). Contracts see them as the list of these.
 #[derive(Debug, Drop)]
 pub struct Fields {
     items: Vec<(Path, u32)>,
@@ -27,7 +28,7 @@ impl Fields {
         Fields { items }
     }
 
-    /// The paths with their indices.
+    /// The paths with their indices, in their order.
     pub fn as_slice(&self) -> &[(Path, u32)]
         ensures { result.now ≡ self.now }
     {

@@ -3,7 +3,8 @@
 ghost use Rattle.std.specs.Prelude.{◌≡◌};
 
 /// How much of a frame may be read: the words that visits may cost together, and how many structs may stand within one
-/// another, the root being the first. A visit of a struct costs its words, and at least 1.
+/// another, the root being the first. A visit of a struct costs its words, and at least 1 (encoding specification, "Security
+/// Considerations").
 #[derive(Clone, Copy, Debug, PartialEq, Eq)]
 pub struct Limits {
     /// Words of 8 bytes that are left to be paid for visits.
@@ -13,6 +14,7 @@ pub struct Limits {
 }
 
 impl Default for Limits {
+    /// 8,388,608 words, which are 64 MiB, and 64 structs (encoding specification, "Security Considerations").
     fn default() -> Limits
         ensures words { result.words ≡ 8388608 }
         ensures depth { result.depth ≡ 64 }

@@ -3,7 +3,9 @@
 /// What a pointer leads to, once its pads are followed: where it begins, None before its segment.
 #[derive(Clone, Copy, Debug)]
 pub enum Pointee {
+    /// All zeros.
     Null,
+    /// The sizes of its data section and of its pointer section are in words.
     Struct {
         segment: u32,
         start: Option<u64>,
@@ -17,7 +19,7 @@ pub enum Pointee {
         element_size: u8,
         count: u32,
     },
-    /// An index into the capability table.
+    /// An index into the capability table, counted from 0.
     Capability {
         index: u32,
     },

@@ -9,6 +9,7 @@ ghost use Rattle.cap_reader.specs.Pointers.{offset_bits, data_bits, pointer_bits
 pub enum Pointer {
     /// All zeros.
     Null,
+    /// The sizes of its data section and of its pointer section.
     Struct {
         offset: u32,
         data_words: u16,
@@ -26,7 +27,7 @@ pub enum Pointer {
         offset: u32,
         segment: u32,
     },
-    /// An index into the capability table.
+    /// An index into the capability table, counted from 0.
     Capability {
         index: u32,
     },

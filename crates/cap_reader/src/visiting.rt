@@ -1,12 +1,12 @@
 //! Visiting the structs and the lists of structs of a frame. Each call answers what the reading of the tree at its place
 //! gives within the words left, and lowers them by what its visit costs; a refusal leaves them as they were.
 
-ghost use Rattle.std.specs.Prelude.{◌≡◌, ◌<◌, ◌≤◌, ◌+◌, ◌^◌, List, ℕ, Option, Some, IfSome, IfOk};
+ghost use Rattle.std.specs.Prelude.{◌≡◌, ◌<◌, ◌≤◌, ◌+◌, ◌^◌, List, ℕ, Option, Some, IfOk};
 ghost use Rattle.std.specs.Option.{option_map};
 ghost use Rattle.cap_reader.specs.Pointers.{extent as extent_in};
 ghost use Rattle.cap_reader.specs.Tree.{structure_there, structure_at, tree_at, root_tree, composite_there};
 ghost use Rattle.cap_reader.specs.Reading.{Runs, Gives, run, structure_in, elements_in, root_in};
-ghost use Rattle.cap_reader.specs.Places.{sections_at, elements_at, element_at, child_at, list_len};
+ghost use Rattle.cap_reader.specs.Places.{sections_at, elements_at, list_len};
 
 use crate::extent::{extent, reaches, word_or_zero};
 use crate::following::follow;
@@ -17,6 +17,7 @@ use crate::pointer::{data_of, offset_of, pointers_of};
 use crate::read_error::ReadError;
 use cap_frame::Frame;
 
+/// The element size of a list of structs (encoding specification, "Lists").
 pub const COMPOSITE: u8 = 7;
 
 /// Where a struct may stand: its segment, its start and the sizes of its two sections in words.

@@ -8,7 +8,7 @@ use Rattle.cap_reader.specs.declared.read_error.ReadError.{ReadError}
 use Rattle.cap_reader.specs.declared.read_error.ReadError.TheVariants as reads
 use Rattle.cap_reader.specs.Tree.{Tree}
 use Rattle.cap_reader.specs.Reading as trees
-use Rattle.cap_reader.specs.Reading.{Reading, done, fault, visit, and_then, pay_for, structure_in, root_in, elements_in, or_default, Sections, Elements}
+use Rattle.cap_reader.specs.Reading.{Reading, done, fault, visit, and_then, pay_for, structure_in, root_in, elements_in, or_default, Elements}
 use Rattle.cap_reader.specs.Places.{sections_at, elements_at}
 use Rattle.cap_reader.proofs.Running.{going_on, run_then, root_found, root_refused}
 use Rattle.rpc_view.specs.declared.view_error.ViewError.{ViewError}

@@ -37,10 +37,7 @@ run reading words = pay_for (errors.Read reads.TooMuch) reading words
 -- want of memory may come in the place of any other answer; each other fault is the definition's
 abbrev pub Fails : {Y : Type 0} → ViewError → Result Y ViewError → Type 0
 Fails errors.OutOfMemory defined = Unit {0}
-Fails (errors.Read e) defined = defined ≡ Err (errors.Read e)
-Fails (errors.Outside e) defined = defined ≡ Err (errors.Outside e)
-Fails errors.BadTag defined = defined ≡ Err errors.BadTag
-Fails (errors.Frame e) defined = defined ≡ Err (errors.Frame e)
+Fails e defined = defined ≡ Err e
 
 -- what was answered, as it is seen, is what is defined
 abbrev pub Answers : {X Y : Type 0} → (X → Y) → Result X ViewError → Result Y ViewError → Type 0
@@ -50,10 +47,7 @@ Answers seen (Err e) defined = Fails e defined
 -- the same with the words that are left
 abbrev pub Refuses : {Y : Type 0} → ViewError → ℕ → Result Y ViewError × ℕ → Type 0
 Refuses errors.OutOfMemory left ran = Unit {0}
-Refuses (errors.Read e) left ran = ran ≡ (Err (errors.Read e), left)
-Refuses (errors.Outside e) left ran = ran ≡ (Err (errors.Outside e), left)
-Refuses errors.BadTag left ran = ran ≡ (Err errors.BadTag, left)
-Refuses (errors.Frame e) left ran = ran ≡ (Err (errors.Frame e), left)
+Refuses e left ran = ran ≡ (Err e, left)
 
 abbrev pub Runs : {X Y : Type 0} → (X → Y) → Result X ViewError → ℕ → Result Y ViewError × ℕ → Type 0
 Runs seen (Ok x) left ran = ran ≡ (Ok (seen x), left)

@@ -73,7 +73,7 @@ pub struct Payload {
     pub fields: Fields,
 }
 
-/// What a Return says of its call.
+/// What a Return says of its call: the union of rpc.capnp's `Return`.
 #[derive(Debug, Drop)]
 pub enum Outcome {
     /// `results`.
@@ -84,7 +84,7 @@ pub enum Outcome {
     Canceled,
 }
 
-/// What a promise was resolved to.
+/// What a promise was resolved to: the union of rpc.capnp's `Resolve`.
 #[derive(Debug, Drop)]
 pub enum Resolution {
     /// `cap`.
@@ -93,7 +93,7 @@ pub enum Resolution {
     Exception,
 }
 
-/// Which way a Disembargo goes.
+/// Which way a Disembargo goes: `context` of rpc.capnp's `Disembargo`.
 #[derive(Clone, Copy, Debug, PartialEq, Eq)]
 pub enum Loopback {
     /// `senderLoopback`: the receiver is asked to send it back.

@@ -1,6 +1,6 @@
 //! Results of questions, which may be called before they are there.
 
-ghost use Rattle.std.specs.Prelude.{◌≡◌, ◌<◌};
+ghost use Rattle.std.specs.Prelude.{◌<◌};
 ghost use Rattle.cap_reader.specs.Places.{elements_at, list_len};
 ghost use Rattle.rpc_view.specs.Reading.{Runs, run, sections_of, elements_of, numbers_of};
 ghost use Rattle.rpc_view.specs.Message.{operation_in, operations_in, promised_in};

@@ -1,8 +1,8 @@
 //! Descriptors of capabilities, and tables of them.
 
-ghost use Rattle.std.specs.Prelude.{◌≡◌, ◌<◌};
+ghost use Rattle.std.specs.Prelude.{◌<◌};
 ghost use Rattle.cap_reader.specs.Places.{elements_at, list_len};
-ghost use Rattle.rpc_view.specs.Reading.{Runs, run, struct_in as struct_in_tree, sections_of, elements_of};
+ghost use Rattle.rpc_view.specs.Reading.{Runs, run, sections_of, elements_of};
 ghost use Rattle.rpc_view.specs.Message.{descriptor_in, described_in, descriptors_in};
 
 use crate::layouts::{DESCRIPTOR_ANSWER, DESCRIPTOR_NUMBER, DESCRIPTOR_TAG};

@@ -1,8 +1,7 @@
 -- Pieces with something between each two, one by one.
-use Rattle.std.proofs.Common.{◌≡◌, ◌∙◌, ℕ, zero, suc, ◌+◌, ◌<◌, ◌≤◌, List, [], ◌∷◌, ◌++◌, length, take, get_or, refl, sym, ap, arith, append_assoc, append-nil, length-take, Option, Some, None, Result, Ok, Err, OnOk, subst}
+use Rattle.std.proofs.Common.{◌≡◌, ◌∙◌, ℕ, ◌+◌, ◌<◌, ◌≤◌, List, [], ◌∷◌, ◌++◌, length, take, get_or, refl, sym, ap, arith, append_assoc, append-nil, length-take, Option, Some, Result, Ok, Err, OnOk, subst}
 use Rattle.std.specs.Fmt.{AppendsText}
 use Rattle.std.specs.List.{flat_map, join_by}
-use Rattle.std.proofs.lemmas.Grind.{common_steps}
 use Rattle.std.proofs.lemmas.List.{take_more, take_all}
 
 -- the pieces up to an index were appended, and this comes before the next one

@@ -1,4 +1,4 @@
--- The line and the exit status that answer a frame in hexadecimal.
+-- The line and the exit status that answer a frame, given by its bytes or in hexadecimal.
 use Rattle.std.specs.Prelude.{◌≡◌, ℕ, List, [], ◌∷◌, codes, Result, Ok, Err}
 use Rattle.hex.specs.Hex.{decode_of}
 use Rattle.hex.specs.declared.error.FromHexError.{FromHexError}
@@ -40,7 +40,7 @@ outside_name Unimplemented = codes "Unimplemented"
 outside_name LaterField = codes "LaterField"
 outside_name TailCall = codes "TailCall"
 
--- the line for a fault; want of memory is none of a frame's bytes
+-- the line for a fault; no frame's bytes give want of memory, whose status would be another
 abbrev pub fault_line : ViewError → List ℕ
 fault_line (faults.Read fault) = line (codes "bad read " ∷ read_fault_name fault ∷ [])
 fault_line (faults.Outside why) = line (codes "outside " ∷ outside_name why ∷ [])
@@ -48,11 +48,12 @@ fault_line faults.BadTag = line (codes "bad tag" ∷ [])
 fault_line faults.OutOfMemory = line (codes "out of memory" ∷ [])
 fault_line (faults.Frame fault) = line (codes "bad frame " ∷ frame_fault_name fault ∷ [])
 
--- the line for what a frame's bytes read as, the message or the first fault; and its status
+-- the line for what a frame's bytes read as, the message or the first fault
 abbrev pub view_line : Result RpcMessage ViewError → List ℕ
 view_line (Ok message) = line (message_text message ∷ [])
 view_line (Err fault) = fault_line fault
 
+-- and the status; no frame's bytes give want of memory, whose status would be another
 abbrev pub view_status : Result RpcMessage ViewError → ℕ
 view_status (Ok message) = 0
 view_status (Err fault) = 2

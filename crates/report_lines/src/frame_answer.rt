@@ -76,7 +76,8 @@ fn line_of_fault(alloc: Global, fault: ViewError) -> Result<String, AllocError>
     }
 }
 
-/// The answer to the bytes of a frame, in the framing of streams: its message, or why there is none.
+/// The answer to the bytes of a frame, in the framing of streams: its message, with status 0, or why there is none, with
+/// status 2 (docs/FORMATS.md).
 ///
 /// # Errors
 ///
@@ -97,7 +98,8 @@ pub fn answer_of_bytes(alloc: Global, bytes: Bytes) -> Result<Answer, AllocError
     }
 }
 
-/// The answer to a frame in hexadecimal, two digits a byte in either case: its message, or why there is none.
+/// The answer to a frame in hexadecimal, two digits a byte in either case: its message, with status 0, or why there is none,
+/// with status 2 (docs/FORMATS.md).
 ///
 /// # Errors
 ///

@@ -3,6 +3,8 @@
 //! It stands on `vat_rules`, `rpc_view` and what these stand on, and asks no file and no clock: bytes come in, an `Answer` or a
 //! text goes out. The program prints them. What each line says stands in `specs/Lines.antt` for a log,
 //! `specs/FrameLines.antt` for a frame, `specs/MessageText.antt` for a message and `specs/Pieces.antt` for a file of frames.
+//! [`answer_of_log`], [`answer_of_bytes`], [`answer_of_frame`] and [`text_of_message`] answer just that, or want of memory, and
+//! [`cut_piece`] cuts off just the first piece.
 #![tactic(auto)]
 
 mod answer;

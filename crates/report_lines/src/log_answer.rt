@@ -79,7 +79,11 @@ fn outcome_status(outcome: &Outcome) -> u8
     }
 }
 
-/// The name of a log's fault, with its offset where it has one.
+/// The name of a log's fault, with its offset where it has one, in bytes counted from 0 (docs/FORMATS.md).
+///
+/// # Errors
+///
+/// Want of memory.
 pub fn fault_name(alloc: Global, fault: LogError) -> Result<String, AllocError>
     ensures { IfOk result (λ text. string_bytes text ≡ fault_name fault) }
 {
@@ -93,7 +97,8 @@ pub fn fault_name(alloc: Global, fault: LogError) -> Result<String, AllocError>
     }
 }
 
-/// The answer to the bytes of a log: its fault by name and offset, or what the rules say of it.
+/// The answer to the bytes of a log: its fault by name and offset, or what the rules say of it. The status is 0 where every
+/// record is good, 1 where a rule is broken, 2 where a record isn't judged or the bytes aren't a log (docs/FORMATS.md).
 ///
 /// # Errors
 ///

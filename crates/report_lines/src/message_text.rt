@@ -244,7 +244,7 @@ fn put_message(text: &mut String, message: &RpcMessage) -> Result<(), AllocError
     }
 }
 
-/// The text of a message, without an end of line: its kind, and each of its fields behind its name.
+/// The text of a message, without an end of line: its kind, and each of its fields behind its name (docs/FORMATS.md).
 ///
 /// # Errors
 ///

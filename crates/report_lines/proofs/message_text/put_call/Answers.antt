@@ -1,4 +1,4 @@
-use Rattle.std.proofs.Common.{◌≡◌, ◌∙◌, ◌++◌, ap, sym, List, ℕ, codes, string_bytes, append_assoc}
+use Rattle.std.proofs.Common.{◌≡◌, ◌++◌, sym, List, ℕ, codes, string_bytes, append_assoc}
 use Rattle.std.specs.Fmt.{decimal}
 use Rattle.report_lines.specs.MessageText.{call_text, hexadecimal, payload_text, target_text}
 use Rattle.report_lines.proofs.Joined.{last, two}

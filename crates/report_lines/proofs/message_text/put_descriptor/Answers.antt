@@ -1,4 +1,4 @@
-use Rattle.std.proofs.Common.{◌≡◌, ◌∙◌, ◌++◌, ap, sym, codes, string_bytes, append_assoc}
+use Rattle.std.proofs.Common.{◌∙◌, ◌++◌, ap, sym, codes, string_bytes, append_assoc}
 use Rattle.std.specs.Fmt.{decimal}
 use Rattle.report_lines.specs.MessageText.{descriptor_text, path_text}
 use Rattle.report_lines.proofs.Joined.{last}

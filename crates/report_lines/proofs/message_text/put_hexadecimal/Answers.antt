@@ -1,4 +1,4 @@
-use Rattle.std.proofs.Common.{◌≡◌, ◌∙◌, ◌++◌, ◌-◌, ◌^◌, ap, arith, List, ℕ, [], false, Some, option_map, length, replicate, codes, string_bytes, append-nil}
+use Rattle.std.proofs.Common.{◌≡◌, ◌∙◌, ◌++◌, ◌-◌, ◌^◌, ap, arith, List, ℕ, [], false, Some, option_map, length, replicate, string_bytes, append-nil}
 use Rattle.std.specs.Fmt.{char_count, digits, format_spec, padded_integral, styled_digits_output}
 use Rattle.report_lines.specs.MessageText.{hexadecimal}
 use Rattle.report_lines.proofs.Joined.{appended}

@@ -1,4 +1,4 @@
-use Rattle.std.proofs.Common.{◌≡◌, ◌∙◌, ◌++◌, ap, refl, codes, string_bytes}
+use Rattle.std.proofs.Common.{◌++◌, ap, codes, string_bytes}
 use Rattle.std.specs.Fmt.{decimal}
 use Rattle.report_lines.specs.MessageText.{message_text, call_text, return_text, disembargo_text}
 use Rattle.report_lines.proofs.Joined.{last}

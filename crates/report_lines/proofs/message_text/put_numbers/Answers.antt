@@ -1,4 +1,4 @@
-use Rattle.std.proofs.Common.{rules, codes, string_bytes, get_or, refl, arith}
+use Rattle.std.proofs.Common.{rules, codes, string_bytes, get_or, refl}
 use Rattle.std.specs.Fmt.{decimal}
 use Rattle.report_lines.proofs.Joined.{joins_all, joins_next}
 use Rattle.report_lines.proofs.message_text.put_numbers.Goals as goal

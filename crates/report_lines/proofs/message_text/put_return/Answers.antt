@@ -1,4 +1,4 @@
-use Rattle.std.proofs.Common.{◌≡◌, ◌++◌, ap, sym, codes, string_bytes, append_assoc}
+use Rattle.std.proofs.Common.{◌++◌, ap, sym, codes, string_bytes, append_assoc}
 use Rattle.report_lines.specs.MessageText.{bool_text, outcome_text, return_text}
 use Rattle.report_lines.proofs.Joined.{last}
 use Rattle.report_lines.proofs.message_text.put_return.Goals as goal

@@ -1,7 +1,13 @@
 //! Measures how fast frames are read. `reader_bench FILE` reads a file of frames one after another, reads the message of each
 //! within the default limits, and in the same run sums the file's words, each a little-endian number of 8 bytes. It prints
-//! how many frames there are, how many nanoseconds of processor time reading took for each, how many the sum took for each,
-//! and how many times the sum reading took.
+//! one line, `frames N refused N bytes N left N sum H frame T ns words T ns times T`: how many frames there are, and how many
+//! of them weren't read as a message; how many bytes the frames have, and how many are left behind them, of which no frame
+//! can be cut off; the sum of the words in 16 hexadecimal digits; how many nanoseconds of processor time reading took for each
+//! frame, and how many the sum took for each; and how many times the sum reading took. T has one decimal.
+//!
+//! It stands on `cap_frame`, `cap_reader` and `rpc_view`. [`read_frames`] counts just the frames that stand one after another
+//! from the start, as `specs/Cut.antt` says, and their bytes; [`word_sum`] is the sum of the words. That times are times is
+//! trusted.
 #![tactic(auto)]
 
 mod reading;

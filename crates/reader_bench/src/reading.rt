@@ -1,7 +1,8 @@
 //! Reading frames one after another.
 
-ghost use Rattle.std.specs.Prelude.{◌≡◌, ◌+◌, ◌*◌, ◌≤◌, length, drop, IfOk, IsErr};
+ghost use Rattle.std.specs.Prelude.{◌≡◌, ◌+◌, ◌≤◌, length, take, drop, IfOk, IsErr};
 ghost use Rattle.cap_frame.specs.Segments.{first_len_of};
+ghost use Rattle.reader_bench.specs.Cut.{AreFrames};
 
 use bytes::Bytes;
 use cap_frame::Frame;
@@ -14,7 +15,7 @@ use std::alloc::{AllocError, Global};
 pub struct Frames {
     /// The frames, cut off one after another.
     pub count: u64,
-    /// Those of them whose message wasn't read.
+    /// Those of them that weren't read as a message, by a fault or for want of memory.
     pub refused: u64,
     /// The bytes of the frames.
     pub bytes: usize,
@@ -22,14 +23,19 @@ pub struct Frames {
     pub left: usize,
 }
 
-/// Cuts off frame after frame, and reads the message of each within the default limits.
+/// Cuts off frame after frame, and reads the message of each within the default limits. The frames stand one right after
+/// another, by the stream framing of the Cap'n Proto encoding specification ("Serialization Over a Stream").
+///
+/// # Errors
+///
+/// Want of memory, where a frame can't be cut off. One that can't be read for want of memory is refused, and the next follows.
 pub fn read_frames(alloc: Global, bytes: Bytes) -> Result<Frames, AllocError>
     // All bytes are those of the frames, or are left.
     ensures bytes { IfOk result (λ found. found.bytes + found.left ≡ length bytes) }
     // No frame stands first in what is left.
     ensures ended { IfOk result (λ found. IsErr (first_len_of (drop found.bytes bytes))) }
-    // A frame has 8 bytes or more.
-    ensures count { IfOk result (λ found. 8 * found.count ≤ found.bytes) }
+    // What was cut off is so many frames.
+    ensures count { IfOk result (λ found. AreFrames (take found.bytes bytes) found.count) }
     ensures refused { IfOk result (λ found. found.refused ≤ found.count) }
 {
     let total = bytes.len();

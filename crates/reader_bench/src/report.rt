@@ -7,6 +7,7 @@ use std::fmt::{Display, Formatter, Write};
 /// What was read and summed, and how much processor time each took.
 #[derive(Debug, Drop)]
 pub struct Report {
+    /// What the file has.
     pub frames: Frames,
     /// The sum of the file's words.
     pub sum: u64,

@@ -1,4 +1,5 @@
-use Rattle.std.proofs.Common.{◌≡◌, ◌+◌, ◌-◌, ◌*◌, ◌<◌, ◌≤◌, ◌^◌, length, drop}
+use Rattle.std.proofs.Common.{◌≡◌, ◌+◌, ◌-◌, ◌*◌, ◌<◌, ◌≤◌, ◌^◌, length, take, drop}
+use Rattle.reader_bench.specs.Cut.{AreFrames}
 use Rattle.reader_bench.proofs.reading.read_frames.Given as goal
 
 abbrev pub invariant-loop-len : goal.invariant-loop-len
@@ -8,6 +9,7 @@ invariant-loop-len l = record {
   small : l.total < 2 ^ 63;
   all : l.total ≡ length l.fn.bytes;
   behind : l.rest ≡ drop (l.total - length l.rest) l.fn.bytes;
+  cut : AreFrames (take (l.total - length l.rest) l.fn.bytes) l.count;
 }
 
 abbrev pub decreases-loop-len : goal.decreases-loop-len

@@ -10,7 +10,7 @@ Each command prints its answer in lines on standard output; its own --help has
 the lines, an example and the exit status.
 
 Examples:
-  $ vataudit vat vat2.log
+  $ vataudit vat samples/pipelined_call.vat2.log
   good vat 2 records 8 delivered 1
   $ vataudit frame 0000000003000000000000000100010001000000000000000000000000000000
   abort
@@ -28,18 +28,23 @@ pub const VAT_LONG: &str = "\
 Audits the log of one vat of Cap'n Proto RPC. Reads the log, in the format
 VATLOG01, and prints one line:
 
-  good vat V records N delivered N   every record keeps the rules
+  good vat V records N delivered D   every record keeps the rules
   no vat V record I rule CODE        record I is the first that breaks a rule
-  outside vat V record I WHY         record I is the first that isn't audited
-  bad log NAME [OFFSET]              the bytes aren't a log: a fault at an offset
-  cannot read                        no such file, or over 1073741824 bytes
+  outside vat V record I WHY         record I is the first that isn't audited:
+                                     Level, Unimplemented, LaterField, TailCall,
+                                     Unread, NotYet
+  bad log NAME [OFFSET]              the bytes aren't a log: BadMagic, Short,
+                                     BadKind, ZeroNumber, TooLong
+  cannot read                        the file can't be read, or has over
+                                     1073741824 bytes
   out of memory
 
-Records and offsets are counted from 0.";
+Records and offsets are counted from 0. docs/RULES.md has each CODE with what
+breaks it, docs/FORMATS.md the format and what each WHY and NAME means.";
 
 pub const VAT_END: &str = "\
 Example:
-  $ vataudit vat vat2.log
+  $ vataudit vat samples/pipelined_call.vat2.log
   good vat 2 records 8 delivered 1
 
 Exit status:
@@ -50,7 +55,7 @@ Exit status:
   3  memory ran out";
 
 /// FILE of `vat`.
-pub const FILE: &str = "The log, a file of the working directory; - is standard input";
+pub const FILE: &str = "The log, a path from the working directory; - is standard input";
 
 /// `frame`, in the list of commands.
 pub const FRAME: &str = "Prints the message of a frame";
@@ -64,11 +69,11 @@ message of rpc.capnp, and prints one line:
   return answer Q releaseParamCaps B results PAYLOAD
   return answer Q releaseParamCaps B exception, or canceled in its place
   finish question Q releaseResultCaps B
-  resolve promise P DESC, or exception in place of DESC
+  resolve promise P DESCRIPTOR, or exception in its place
   release id N count C
   disembargo N senderLoopback TARGET, or receiverLoopback TARGET
   abort
-  outside WHY      not in this profile: Level, Unimplemented, LaterField, TailCall
+  outside WHY      left out here: Level, Unimplemented, LaterField, TailCall
   bad tag          a number that stands for no message or no part of one
   bad read NAME    a pointer can't be followed: OutOfSegment, NoSegment, BadPad,
                    WrongKind, Reserved, TooDeep (over 64), TooMuch (over 8388608
@@ -77,12 +82,13 @@ message of rpc.capnp, and prints one line:
   bad hex          not two hexadecimal digits for each byte
   out of memory
 
-TARGET is import N or answer Q PATH. PAYLOAD is caps [DESC;DESC] fields
-[PATH=J;PATH=J]: the capability table, and each path of the content to a
-capability with its place in the table, counted from 0. DESC is none,
+TARGET is import N or answer Q PATH. PAYLOAD is caps [DESCRIPTOR;DESCRIPTOR]
+fields [PATH=J;PATH=J]: the capability table, and each path of the content to a
+capability with its place in the table, counted from 0. DESCRIPTOR is none,
 senderHosted N, senderPromise N, receiverHosted N or receiverAnswer Q PATH. PATH
-is [A,B], pointer fields counted from 0. H is 16 hexadecimal digits, B is true or
-false, and other numbers are decimal.";
+is [a,b], pointer fields counted from 0. H is 16 hexadecimal digits, B is true or
+false, and other numbers are decimal. docs/FORMATS.md says what each WHY and NAME
+means. A frame that is too long for a command line goes into a file: see frames.";
 
 pub const FRAME_END: &str = "\
 Example:
@@ -91,8 +97,8 @@ Example:
 
 Exit status:
   0  the message is printed
-  2  the message is outside of this profile, the frame or its digits are bad, the
-     line can't be written, or the command line is wrong
+  2  the message is left out here, the frame or its digits are bad, the line
+     can't be written, or the command line is wrong
   3  memory ran out";
 
 /// HEX of `frame`.
@@ -110,25 +116,29 @@ and the next follows. Where no frame can be cut, bad frame NAME is the last line
   bad frame Short             the bytes end inside a frame
   bad frame TooManySegments   more than 512 segments
 
-An empty file has no lines. In the place of them, or after some, may stand:
+An empty file has no lines. A file that can't be read, or has over 1073741824
+bytes, has the one line
 
-  cannot read      no such file, or over 1073741824 bytes
+  cannot read
+
+and where memory runs out, the last line is
+
   out of memory";
 
 pub const FRAMES_END: &str = "\
 Example:
-  $ vataudit frames sent.frames
+  $ vataudit frames samples/pipelined_call.vat1.frames
   bootstrap question 0
-  finish question 0 releaseResultCaps true
+  call question 1 target answer 0 [] interface 0000000000001234 method 2 caps [] fields []
 
 Exit status:
   0  each line is a message
-  2  a message is outside of this profile, a frame is bad, the file can't be read,
-     a line can't be written, or the command line is wrong
+  2  a message is left out here, a frame is bad, the file can't be read, a line
+     can't be written, or the command line is wrong
   3  memory ran out";
 
 /// FILE of `frames`.
-pub const FRAMES_FILE: &str = "The frames, a file of the working directory; - is standard input";
+pub const FRAMES_FILE: &str = "The frames, a path from the working directory; - is standard input";
 
 /// `order`, in the list of commands.
 pub const ORDER: &str = "Makes an order of the records of a case";
@@ -144,18 +154,21 @@ prints one line:
   bad case [NAME [NUMBER]]  no case file, or a case that doesn't hold together:
                             TooManyVats, SameVat V, TooManyLinks, SameLink C,
                             MissingLog C, SameEnds C
-  bad log NAME [OFFSET]     the bytes aren't a log: a fault at an offset
-  bad order NAME [OFFSET]   the order that the case names isn't one
-  cannot read               no such file, or over 1073741824 bytes
+  bad log NAME [OFFSET]     the first log, as listed, that isn't one
+  bad order NAME [OFFSET]   the order that the case names isn't one: BadMagic,
+                            Short
+  cannot read               a file can't be read, or has over 1073741824 bytes
   out of memory
 
-A case file is a JSON object with logs, a list of file names, links, a list of
-[CONNECTION, VAT, VAT], and, if wanted, order, a file name.";
+A case file is a JSON object with logs, a list of paths from the working
+directory, links, a list of [CONNECTION, VAT, VAT], and, if wanted, order, a path.
+What FILE held before is lost.";
 
 pub const ORDER_END: &str = "\
 Example:
-  $ vataudit order case.json --out made.order
-  order steps 8
+  $ cd samples
+  $ vataudit order pipelined_call.json --out made.order
+  order steps 14
 
 Exit status:
   0  the order is written
@@ -165,7 +178,7 @@ Exit status:
   3  memory ran out";
 
 /// CASE of `order`.
-pub const CASE: &str = "The case, a file of the working directory; - is standard input";
+pub const CASE: &str = "The case, a path from the working directory; - is standard input";
 
 /// FILE of `order`.
 pub const OUT: &str = "The file that the order is written to";

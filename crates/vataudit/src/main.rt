@@ -32,7 +32,8 @@ use file::Folder;
 use new_file::NewFile;
 use run::{FAILED, OUT_OF_MEMORY, run_on};
 use std::process::ExitCode;
-use std::{env, io};
+use std::rt::Files;
+use std::{env, fs, io};
 
 /// Prints that memory ran out, and gives the exit status: that of a failed write where the line can't be written.
 fn out_of_memory(rt: &impl Print) -> u8
@@ -55,9 +56,16 @@ fn refuse(rt: &(impl Print + Eprint), error: &clap::Error) -> u8
     FAILED
 }
 
+/// Takes the places of the standard streams that were closed when the program began, so that no file that it opens later
+/// stands in one of them: a directory can neither be read nor written as a file.
+fn closed_streams<R: Files>(rt: &R) -> [io::Result<R::File>; 3] {
+    [fs::open(rt, "/"), fs::open(rt, "/"), fs::open(rt, "/")]
+}
+
 /// Does what the words ask, and gives the exit status.
 fn start(rt: &HostRuntime, words: &[String]) -> u8 {
     let alloc = rt.alloc();
+    let _held = closed_streams(rt);
     match command_of(alloc, words) {
         Ok(command) => run_on(
             alloc,

@@ -3,8 +3,8 @@
 //! It stands on `cap_frame`. What stands at a pointer is the whole tree of `specs/Tree.antt`; reading it is a list of visits
 //! with costs and an ending, as `specs/Reading.antt` says, and `specs/Fields.antt` says which paths end in a capability. Each
 //! call that follows a pointer answers exactly what its reading gives within the limits, or the first refusal, and lowers the
-//! words that are left by just what its visits cost. What holds of every reading, as that pointers which correspond in two frames have the same
-//! value, `laws` promises. Nothing here takes memory but [`fields`].
+//! words that are left by just what its visits cost. What holds of every reading, as that pointers which correspond in two
+//! frames have the same value, `laws` promises. Nothing here takes memory but [`fields`].
 #![tactic(auto)]
 
 mod capabilities;

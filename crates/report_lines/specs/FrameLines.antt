@@ -53,7 +53,7 @@ abbrev pub view_line : Result RpcMessage ViewError → List ℕ
 view_line (Ok message) = line (message_text message ∷ [])
 view_line (Err fault) = fault_line fault
 
--- and the status; no frame's bytes give want of memory, whose status would be another
+-- and its status; no frame's bytes give want of memory, whose status would be another
 abbrev pub view_status : Result RpcMessage ViewError → ℕ
 view_status (Ok message) = 0
 view_status (Err fault) = 2

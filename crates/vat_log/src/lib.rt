@@ -1,9 +1,9 @@
 //! Logs of one vat: their records, and their one spelling in bytes (docs/FORMATS.md).
 //!
-//! It stands on `bytes`, from which frames are cut without copying, and on `cap_frame` for its paths. How a log is spelled
-//! is said in `specs/Spelling.antt`, how bytes are read and which fault is first in `specs/Reading.antt`, what a log can
-//! hold in `specs/Fits.antt`. [`parse_log`] and [`write_log`] answer exactly what these say, and a [`VatLog`] was parsed
-//! from its bytes.
+//! It stands on `bytes`, from which frames are cut without copying, and on `cap_frame` for its paths. How a log is
+//! spelled is said in `specs/Spelling.antt`, how bytes are read and which fault is first in `specs/Reading.antt`, what
+//! a log can hold in `specs/Fits.antt`. [`parse_log`] and [`write_log`] answer exactly what these say, and a [`VatLog`]
+//! was parsed from its bytes.
 #![tactic(auto)]
 
 mod body;

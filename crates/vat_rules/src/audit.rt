@@ -177,9 +177,9 @@ fn first(alloc: Global, log: &VatLog, limits: Limits) -> Result<Outcome, AllocEr
     Ok(Outcome::Good(Story::new(events, seen, delivered)))
 }
 
-/// The audit of a log, each of whose frames is read within the limits: the first record that is outside of what is audited
-/// or breaks a rule, with the reason or the first rule that it breaks, or what the log tells. The rules are those of
-/// rpc.capnp's comments and of how a log is kept (docs/RULES.md).
+/// The audit of a log, each of whose frames is read within the limits: the first record that is outside of what is
+/// audited or breaks a rule, with the reason or the first rule that it breaks, or what the log tells. The rules are
+/// those of rpc.capnp's comments and of how a log is kept (docs/RULES.md).
 ///
 /// # Errors
 ///

@@ -30,8 +30,8 @@ fn are_hosted(descriptors: &[Descriptor]) -> bool
     descriptors.iter().all(|descriptor| is_hosted(descriptor))
 }
 
-/// Whether a message is audited yet: a Bootstrap, a Call with an empty capability table to an import or to the whole of a
-/// result, or a Return with results whose capabilities are each none or senderHosted.
+/// Whether a message is audited yet: a Bootstrap, a Call with an empty capability table to an import or to the whole of
+/// a result, or a Return with results whose capabilities are each none or senderHosted.
 pub(crate) fn is_audited(message: &RpcMessage) -> bool
     ensures { result ≡ is_audited message.now }
 {

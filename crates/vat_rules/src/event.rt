@@ -3,8 +3,8 @@
 use rpc_view::RpcMessage;
 use vat_log::{References, Results};
 
-/// A record that is judged, with its message read (docs/FORMATS.md). References and calls are the vat's own numbers. The
-/// kinds that aren't audited yet are none of these.
+/// A record that is judged, with its message read (docs/FORMATS.md). References and calls are the vat's own numbers.
+/// The kinds that aren't audited yet are none of these.
 #[derive(Debug, Drop)]
 pub enum Event {
     /// HOST: the vat hosts an object of its own under a reference.

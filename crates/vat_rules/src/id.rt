@@ -1,7 +1,7 @@
 //! Numbers of a connection.
 
-/// An export, import, question or answer number of a connection (rpc.capnp, the comments of ExportId, ImportId, QuestionId
-/// and AnswerId). Each end of a connection gives out its own.
+/// An export, import, question or answer number of a connection (rpc.capnp, the comments of ExportId, ImportId,
+/// QuestionId and AnswerId). Each end of a connection gives out its own.
 #[derive(Clone, Copy, Debug, PartialEq, Eq)]
 pub struct Id {
     /// The connection's number, the same in the logs of both ends.

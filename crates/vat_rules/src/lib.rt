@@ -1,10 +1,10 @@
 //! The audit of one log: each record against the rules, by looking back over the records before it.
 //!
-//! It stands on `rpc_view`, which reads the frames, on `vat_log`, and on `cap_frame` for its paths. Each rule is a sentence
-//! of `specs/Rules.antt`, by what `specs/Questions.antt`, `specs/Lives.antt`, `specs/Views.antt`, `specs/Walks.antt` and
-//! `specs/Calls.antt` say of the records before; the outcome of a log is said in `specs/First.antt` and `specs/Audit.antt`,
-//! and [`audit_vat`] answers just that. Every question searches the records anew, so the time grows with the square of the
-//! log, or worse.
+//! It stands on `rpc_view`, which reads the frames, on `vat_log`, and on `cap_frame` for its paths. Each rule is a
+//! sentence of `specs/Rules.antt`, by what `specs/Questions.antt`, `specs/Lives.antt`, `specs/Views.antt`,
+//! `specs/Walks.antt` and `specs/Calls.antt` say of the records before; the outcome of a log is said in
+//! `specs/First.antt` and `specs/Audit.antt`, and [`audit_vat`] answers just that. Every question searches the records
+//! anew, so the time grows with the square of the log, or worse.
 #![tactic(auto)]
 
 mod audit;

@@ -14,8 +14,8 @@ pub enum Why {
     LaterField,
     /// Its message sends results elsewhere than to the caller, or takes them from another question.
     TailCall,
-    /// Its frame isn't read as a message: its bytes aren't a frame, it has a tag that isn't known, or a pointer that can't be
-    /// followed within the limits.
+    /// Its frame isn't read as a message: its bytes aren't a frame, it has a tag that isn't known, or a pointer that
+    /// can't be followed within the limits.
     Unread,
     /// It is read, and isn't audited yet.
     NotYet,

@@ -6,8 +6,8 @@ use crate::event::Event;
 use crate::view::View;
 use std::marker::Model;
 
-/// What the descriptors of a message stand for, by place, counted from 0; `None` where a descriptor is none, and where it
-/// stands for nothing.
+/// What the descriptors of a message stand for, by place, counted from 0; `None` where a descriptor is none, and where
+/// it stands for nothing.
 #[derive(Debug, Drop)]
 pub struct Caps {
     items: Vec<Option<View>>,

@@ -13,14 +13,9 @@ of_source source.CannotRead = CannotRead
 of_source source.OutOfMemory = OutOfMemory
 
 abbrev pub of_log : LogError → CaseFault
-of_log log.BadMagic = Log log.BadMagic
-of_log (log.Short at) = Log (log.Short at)
-of_log (log.BadKind at) = Log (log.BadKind at)
-of_log (log.ZeroNumber at) = Log (log.ZeroNumber at)
-of_log log.TooLong = Log log.TooLong
 of_log log.OutOfMemory = OutOfMemory
+of_log found = Log found
 
 abbrev pub of_order : OrderError → CaseFault
-of_order order.BadMagic = Order order.BadMagic
-of_order (order.Short at) = Order (order.Short at)
 of_order order.OutOfMemory = OutOfMemory
+of_order found = Order found

@@ -1,5 +1,6 @@
--- What comes of a case by its name: what the case file says, the logs that it lists, the order that it names, and the case that
--- they make. Each is asked for where all before it went well. Of want of memory nothing is said here.
+-- What comes of a case by its name: what was read under each name that it has, and what those bytes are. The case file comes
+-- first, then the logs that it lists, the order that it names, and the case that they make; each is asked for where all before
+-- it went well. Of want of memory nothing is said here.
 use Rattle.std.specs.Prelude.{◌≡◌, ℕ, List, [], ◌∷◌, ◌++◌, map, string_bytes, Option, Some, None, option_map, Result, Ok, Err}
 use Rattle.vat_log.specs.Log.{Log}
 use Rattle.vat_log.specs.Reading.{log_of}
@@ -8,10 +9,10 @@ use Rattle.case_book.specs.Case.{Contents, HoldsJust, IsCase, refusal_of}
 use Rattle.case_book.specs.Ties.{tie_fault_of}
 use Rattle.case_book.specs.declared.link.Link.{Link}
 use Rattle.case_files.specs.declared.source.SourceError.{SourceError}
-use Rattle.case_files.specs.declared.source.SourceError.TheVariants as source
 use Rattle.case_files.specs.declared.case_fault.CaseFault.{CaseFault}
-use Rattle.case_files.specs.declared.case_fault.CaseFault.TheVariants.{CannotRead, Form, Log as BadLog, Order as BadOrder, Refused, Untied, OutOfMemory}
+use Rattle.case_files.specs.declared.case_fault.CaseFault.TheVariants.{Form, Refused, Untied, OutOfMemory}
 use Rattle.case_files.specs.declared.case_file.CaseFile.{CaseFile}
+use Rattle.case_files.specs.CaseFaults.{of_log, of_order, of_source}
 use Rattle.case_files.specs.CaseFile.{IsCaseFile, IsNoCaseFile, Listed}
 
 -- what a source gave under a name
@@ -23,7 +24,7 @@ abbrev pub seen : {A B : Type 0} → (A → B) → Result A CaseFault → Result
 seen view (Ok x) = Ok (view x)
 seen view (Err fault) = Err fault
 
--- an answer, seen by view, is what was said; `Form` where nothing was
+-- For the code's contracts, and no part of the meaning: an answer, seen by view, is what was said; `Form` where nothing was.
 abbrev pub Told : {A B : Type 0} → (A → B) → Result A CaseFault → Option B → Type 0
 Told view (Ok x) said = said ≡ Some (view x)
 Told view (Err OutOfMemory) said = Unit {0}
@@ -34,52 +35,46 @@ Told view (Err _) said = ⊥
 abbrev pub listed_by : CaseFile → Listed
 listed_by file = record { logs = map string_bytes file.logs.items; links = file.links.items; order = option_map string_bytes file.order }
 
--- bytes are a case file that says this, or none
-abbrev pub ReadsFile : List ℕ → Result CaseFile CaseFault → Type 0
-ReadsFile bytes (Ok file) = IsCaseFile bytes (listed_by file)
-ReadsFile bytes (Err OutOfMemory) = Unit {0}
-ReadsFile bytes (Err Form) = IsNoCaseFile bytes
-ReadsFile bytes (Err _) = ⊥
+-- an answer, its fault as one of the case
+abbrev pub with_fault : {X E : Type 0} → (E → CaseFault) → Result X E → Result X CaseFault
+with_fault of_fault (Ok x) = Ok x
+with_fault of_fault (Err fault) = Err (of_fault fault)
 
--- What comes of what was read: an answer, or the fault of the bytes, or they can't be read. Want of memory may come in the place
--- of each, and then nothing is said.
-abbrev pub Comes : {X : Type 0} → (X → List ℕ → Type 0) → (CaseFault → List ℕ → Type 0) → Result X CaseFault → Read → Type 0
-Comes is fails (Ok x) read = (bytes : List ℕ) × ((read ≡ Ok bytes) × is x bytes)
-Comes is fails (Err OutOfMemory) read = Unit {0}
-Comes is fails (Err CannotRead) read = read ≡ Err source.CannotRead
-Comes is fails (Err fault) read = (bytes : List ℕ) × ((read ≡ Ok bytes) × fails fault bytes)
+-- the log, and the order, that a source gave; or why it is none
+abbrev pub log_from : Read → Result Log CaseFault
+log_from (Ok bytes) = with_fault of_log (log_of bytes)
+log_from (Err fault) = Err (of_source fault)
 
--- a case file, a log and an order, and their faults
-abbrev pub IsListed : Listed → List ℕ → Type 0
-IsListed listed bytes = IsCaseFile bytes listed
+abbrev pub order_from : Read → Result (List ℕ) CaseFault
+order_from (Ok bytes) = with_fault of_order (orders.order_of bytes)
+order_from (Err fault) = Err (of_source fault)
 
-abbrev pub IsListedFault : CaseFault → List ℕ → Type 0
-IsListedFault Form bytes = IsNoCaseFile bytes
-IsListedFault _ bytes = ⊥
+-- an answer is what is defined; where memory ran out nothing is said
+abbrev pub Is : {X : Type 0} → Result X CaseFault → Result X CaseFault → Type 0
+Is (Err OutOfMemory) defined = Unit {0}
+Is answer defined = defined ≡ answer
 
-abbrev pub IsLog : Log → List ℕ → Type 0
-IsLog log bytes = log_of bytes ≡ Ok log
+-- an answer is what bytes say as a case file
+abbrev pub IsListed : Result Listed CaseFault → List ℕ → Type 0
+IsListed (Ok listed) bytes = IsCaseFile bytes listed
+IsListed (Err OutOfMemory) bytes = Unit {0}
+IsListed (Err Form) bytes = IsNoCaseFile bytes
+IsListed (Err _) bytes = ⊥
 
-abbrev pub IsLogFault : CaseFault → List ℕ → Type 0
-IsLogFault (BadLog fault) bytes = log_of bytes ≡ Err fault
-IsLogFault _ bytes = ⊥
-
-abbrev pub IsOrder : List ℕ → List ℕ → Type 0
-IsOrder order bytes = orders.order_of bytes ≡ Ok order
-
-abbrev pub IsOrderFault : CaseFault → List ℕ → Type 0
-IsOrderFault (BadOrder fault) bytes = orders.order_of bytes ≡ Err fault
-IsOrderFault _ bytes = ⊥
+-- an answer is the case file that a source gave
+abbrev pub IsListedFrom : Result Listed CaseFault → Read → Type 0
+IsListedFrom answer (Ok bytes) = IsListed answer bytes
+IsListedFrom answer (Err fault) = Is answer (Err (of_source fault))
 
 -- Below, gives says what may come of reading a name: the source, the name, what was read, and the source afterwards.
 
 -- what comes of the case file
 abbrev pub ListedComes : {S : Type 0} → (S → List ℕ → Read → S → Type 0) → S → List ℕ → Result Listed CaseFault → S → Type 0
-ListedComes gives old name result new = (read : Read) × (gives old name read new × Comes IsListed IsListedFault result read)
+ListedComes gives old name result new = (read : Read) × (gives old name read new × IsListedFrom result read)
 
 -- what comes of one log
 abbrev pub LogComes : {S : Type 0} → (S → List ℕ → Read → S → Type 0) → S → List ℕ → Result Log CaseFault → S → Type 0
-LogComes gives old name result new = (read : Read) × (gives old name read new × Comes IsLog IsLogFault result read)
+LogComes gives old name result new = (read : Read) × (gives old name read new × Is result (log_from read))
 
 -- each name gave a log
 abbrev pub AllLogs : {S : Type 0} → (S → List ℕ → Read → S → Type 0) → S → List (List ℕ) → List Log → S → Type 0
@@ -96,7 +91,7 @@ LogsCome {S} gives old names (Err fault) new =
 
 -- what comes of one order
 abbrev pub OrderComes : {S : Type 0} → (S → List ℕ → Read → S → Type 0) → S → List ℕ → Result (List ℕ) CaseFault → S → Type 0
-OrderComes gives old name result new = (read : Read) × (gives old name read new × Comes IsOrder IsOrderFault result read)
+OrderComes gives old name result new = (read : Read) × (gives old name read new × Is result (order_from read))
 
 -- what comes of the order, if the case file names one
 abbrev pub NamedOrderComes : {S : Type 0} → (S → List ℕ → Read → S → Type 0) → S → Option (List ℕ) → Result (Option (List ℕ)) CaseFault → S → Type 0

@@ -45,7 +45,8 @@ case_fault_line (fault.Untied found) = line (codes "bad case " ∷ tie_fault_nam
 case_fault_line fault.OutOfMemory = line (codes "out of memory" ∷ [])
 
 -- A line, a status and the bytes for the file answer the logs of a case: the order that takes the smallest vat number that may
--- come at each step, which fits, and its spelling; or that no order fits, and then there are no bytes.
+-- come at each step, and its spelling; or that no order fits, and then there are no bytes. That the order fits follows from how
+-- it is taken, and is said beside it.
 abbrev pub AnswersLogs : List Log → List ℕ → ℕ → Option (List ℕ) → Type 0
 AnswersLogs logs text status (Some bytes) =
     (order : List ℕ) × (TakesLeast logs order × IsFitting logs order × (bytes ≡ spelling order)

@@ -5,8 +5,8 @@ ghost use Rattle.std.specs.BTreeMap.{keys};
 ghost use Rattle.std.specs.List.{list_all};
 ghost use Rattle.serde_json.specs.Find.{as_str};
 ghost use Rattle.serde_json.specs.View.{view};
-ghost use Rattle.case_files.specs.CaseFile.{IsCaseFile, IsNoCaseFile, each_item, is_known, link_of, listed_in, number_of, order_of};
-ghost use Rattle.case_files.specs.CaseReading.{Told, listed_by, ReadsFile};
+ghost use Rattle.case_files.specs.CaseFile.{each_item, is_known, link_of, listed_in, number_of, order_of};
+ghost use Rattle.case_files.specs.CaseReading.{IsListed, Told, listed_by, seen};
 
 use crate::case_fault::CaseFault;
 use case_book::Link;
@@ -119,7 +119,7 @@ fn case_file_in(alloc: Global, value: &Value) -> Result<CaseFile, CaseFault>
 ///
 /// `Form`, or want of memory.
 pub fn case_file_of(alloc: Global, bytes: &[u8]) -> Result<CaseFile, CaseFault>
-    ensures { ReadsFile bytes.now result }
+    ensures { IsListed (seen listed_by result) bytes.now }
 {
     match Value::from_slice(alloc, bytes) {
         Ok(value) => case_file_in(alloc, &value),

@@ -10,7 +10,8 @@ use Rattle.report_lines.specs.FrameLines.{AnswersHex}
 use Rattle.report_lines.specs.Lines.{AnswersLog, line}
 use Rattle.report_lines.specs.Pieces.{AnswersFrames, Falls, lines}
 
--- what a source gave makes this answer, or is this fault, or memory ran out over its bytes
+-- For the code's contracts, and no part of the meaning: what a source gave makes this answer, or is this fault, or memory ran
+-- out over its bytes.
 abbrev pub GivesAnswer : Result (List ℕ) SourceError → Result Answer SourceError → Type 0
 GivesAnswer read (Ok answer) = (bytes : List ℕ) × (read ≡ Ok bytes) × AnswersLog bytes (string_bytes answer.line) answer.status
 GivesAnswer read (Err fault) = (read ≡ Err fault) ⊎ (IsOk read × (fault ≡ OutOfMemory))

@@ -5,10 +5,11 @@ use crate::word_sum::word_sum;
 use bytes::Bytes;
 use std::test::Fail;
 
-/// A Bootstrap, and behind it a frame of one segment without words, and one byte.
-const FRAMES: [u8; 57] = [
+/// A Bootstrap, and behind it two frames of one segment without words, and one byte.
+const FRAMES: [u8; 65] = [
     0, 0, 0, 0, 5, 0, 0, 0, 0, 0, 0, 0, 1, 0, 1, 0, 8, 0, 0, 0, 0, 0, 0, 0, 0, 0, 0, 0, 1, 0, 1, 0,
-    0, 0, 0, 0, 0, 0, 0, 0, 0, 0, 0, 0, 0, 0, 0, 0, 0, 0, 0, 0, 0, 0, 0, 0, 7,
+    0, 0, 0, 0, 0, 0, 0, 0, 0, 0, 0, 0, 0, 0, 0, 0, 0, 0, 0, 0, 0, 0, 0, 0, 0, 0, 0, 0, 0, 0, 0, 0,
+    7,
 ];
 
 #[test]
@@ -18,9 +19,9 @@ fn reads_frames(rt: HostRuntime) -> Result<(), Fail> {
         Ok(frames) => frames,
         Err(_) => read_frames(alloc, Bytes::from_static(&FRAMES))?,
     };
-    assert_eq!(rt; frames.count, 2);
-    assert_eq!(rt; frames.refused, 1);
-    assert_eq!(rt; frames.bytes, 56);
+    assert_eq!(rt; frames.count, 3);
+    assert_eq!(rt; frames.refused, 2);
+    assert_eq!(rt; frames.bytes, 64);
     assert_eq!(rt; frames.left, 1);
     Ok(())
 }

@@ -16,7 +16,10 @@ use std::{fs, io};
 /// A case without logs.
 const EMPTY: &str = "{\"logs\": [], \"links\": []}";
 
-/// A source that has one file, a case, under the name `case`.
+/// The log of vat 1, which has one record: HOST, reference 1 is object 7.
+const LOG: &[u8] = b"VATLOG01\x01\0\0\0\x01\x01\0\0\0\0\0\0\0\x07\0\0\0\0\0\0\0";
+
+/// A source that has a case under the name `case`, and `LOG` under the name `log`.
 #[derive(Drop)]
 struct One<'a> {
     alloc: Global,
@@ -25,6 +28,9 @@ struct One<'a> {
 
 impl Source for One<'_> {
     fn read(&mut self, name: &str) -> Result<Bytes, SourceError> {
+        if name == "log" {
+            return Ok(Bytes::from_static(LOG));
+        }
         if name != "case" {
             return Err(SourceError::CannotRead);
         }
@@ -71,6 +77,14 @@ fn makes_the_order_of_no_logs(rt: HostRuntime) -> Result<(), Fail> {
     let alloc = rt.alloc();
     let mut source = One { alloc, case: EMPTY };
     assert_ordered(&rt, &mut source, "order steps 0", 0, b"VATORD01")
+}
+
+#[test]
+fn makes_an_order(rt: HostRuntime) -> Result<(), Fail> {
+    let alloc = rt.alloc();
+    let case = "{\"logs\": [\"log\"], \"links\": []}";
+    let mut source = One { alloc, case };
+    assert_ordered(&rt, &mut source, "order steps 1", 0, b"VATORD01\x01\0\0\0")
 }
 
 #[test]

@@ -1,3 +1,4 @@
+pub mod Defaults
 pub mod Pointers
 pub mod Tree
 pub mod Reading

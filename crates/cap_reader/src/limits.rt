@@ -1,6 +1,7 @@
 //! How much of a frame may be read.
 
 ghost use Rattle.std.specs.Prelude.{◌≡◌};
+ghost use Rattle.cap_reader.specs.Defaults.{default_limits};
 
 /// How much of a frame may be read: the words that visits may cost together, and how many structs may stand within one
 /// another, the root being the first. A visit of a struct costs its words, and at least 1 (encoding specification, "Security
@@ -16,8 +17,7 @@ pub struct Limits {
 impl Default for Limits {
     /// 8,388,608 words, which are 64 MiB, and 64 structs (encoding specification, "Security Considerations").
     fn default() -> Limits
-        ensures words { result.words ≡ 8388608 }
-        ensures depth { result.depth ≡ 64 }
+        ensures { result ≡ default_limits }
     {
         Limits {
             words: 8_388_608,

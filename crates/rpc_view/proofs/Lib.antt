@@ -5,3 +5,4 @@ pub mod Prices
 pub mod Spelled
 pub mod Judged
 pub mod Memory
+pub mod Deeper

@@ -230,3 +230,15 @@ message_of_bytes bytes limits = message_in_frame (segments_of bytes) limits
 pub record HasPrice (segments : List (List ℕ)) (depth : ℕ) (message : RpcMessage) (cost : ℕ) : Type 0 where
   pub enough : (words : ℕ) → cost ≤ words → message_of segments (record { words = words; depth = depth }) ≡ Ok message
   pub too_few : (words : ℕ) → words < cost → message_of segments (record { words = words; depth = depth }) ≡ Err (errors.Read TooMuch)
+
+-- ---- a law: messages don't depend on limits
+
+-- What the bytes read as within two limits, if both are messages, is one message.
+abbrev pub GiveOneMessage : List ℕ → Type 0
+GiveOneMessage bytes =
+    (limits others : Limits) (message other : RpcMessage) → message_of_bytes bytes limits ≡ Ok message → message_of_bytes bytes others ≡ Ok other → message ≡ other
+
+-- What is a message within limits is the same one within all that are no lower.
+abbrev pub KeepMessage : List ℕ → Type 0
+KeepMessage bytes =
+    (limits others : Limits) (message : RpcMessage) → limits.words ≤ others.words → limits.depth ≤ others.depth → message_of_bytes bytes limits ≡ Ok message → message_of_bytes bytes others ≡ Ok message

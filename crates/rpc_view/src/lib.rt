@@ -6,6 +6,7 @@
 #![tactic(auto)]
 
 mod bodies;
+mod laws;
 mod layouts;
 mod message;
 mod payload;
@@ -17,6 +18,7 @@ mod target;
 mod view_error;
 
 pub use cap_reader::{Fields, Limits, ReadError};
+pub use laws::limits_change_no_message;
 pub use message::{
     Descriptor, Descriptors, Loopback, Outcome, Payload, Resolution, RpcMessage, Target,
 };

@@ -10,7 +10,8 @@ use Rattle.cap_reader.specs.declared.read_error.ReadError.{ReadError}
 use Rattle.cap_reader.specs.declared.read_error.ReadError.TheVariants as errors
 use Rattle.cap_reader.specs.Pointers.{extent, followed}
 use Rattle.cap_reader.specs.Tree.{Tree, composite, bad_composite, pointed, structure_at, structure_there, tree_at, list_there, composite_there, plain_there, plain_words, elements_behind}
-use Rattle.cap_reader.specs.Reading.{Reading, Sections, Elements, done, fault, and_then, pay_for, run, each, with_front, structure_in, elements_in, Refuses, RunsInMemory, Gives}
+use Rattle.cap_reader.specs.Reading.{Reading, Sections, Elements, done, fault, and_then, pay_for, run, each, structure_in, elements_in, Refuses, RunsInMemory}
+use Rattle.cap_reader.specs.Glue.{with_front, Gives}
 use Rattle.cap_reader.specs.Fields.{fields_in}
 use Rattle.cap_reader.specs.Places.{child_at}
 use Rattle.cap_reader.proofs.Running.{going_on, run_then}

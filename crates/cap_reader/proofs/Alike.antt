@@ -10,7 +10,7 @@ use Rattle.cap_reader.specs.declared.read_error.ReadError.{ReadError}
 use Rattle.cap_reader.specs.declared.read_error.ReadError.TheVariants.{OutOfSegment, WrongKind}
 use Rattle.cap_reader.specs.Pointers.{offset_bits, data_bits, pointer_bits, words_of, has_words, extent, followed}
 use Rattle.cap_reader.specs.Tree.{Tree, nothing, structure, composite, bad_composite, capability, unfollowed, structure_there, elements_behind, composite_there, plain_words, plain_there, list_there, pointed, structure_at, tree_at}
-use Rattle.cap_reader.specs.Laws.{Pairs, SameContent, SameElements, SameExtents, SameLists, SamePointees, Correspond}
+use Rattle.cap_reader.specs.Cuts.{Pairs, SameContent, SameElements, SameExtents, SameLists, SamePointees, Correspond}
 
 -- below a bound as there, and the same beyond it
 guarded : {A : Type 0} (k n : ℕ) (x y z : A) → (k < n → x ≡ y) → cond (nat_lt k n) x z ≡ cond (nat_lt k n) y z

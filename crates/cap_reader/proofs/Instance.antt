@@ -4,7 +4,7 @@ use Rattle.std.specs.Prelude.{◌==◌, ◌⊎◌}
 use Rattle.std.proofs.lemmas.Bool.{eqb-true}
 use Rattle.cap_reader.specs.Pointers.{followed, landed, pointer_of, pointee_of, pad_word, start_from, extent}
 use Rattle.cap_reader.specs.Tree.{root_tree}
-use Rattle.cap_reader.specs.Laws.{Pairs, SamePointees, Correspond, release_whole, release_cut}
+use Rattle.cap_reader.specs.Cuts.{Pairs, SamePointees, Correspond, release_whole, release_cut}
 use Rattle.cap_reader.proofs.Alike.{trees_alike}
 
 abbrev is_at : ℕ → ℕ → ℕ → ℕ → Pairs

@@ -8,7 +8,8 @@ use Rattle.cap_reader.specs.declared.read_error.ReadError.{ReadError}
 use Rattle.cap_reader.specs.declared.read_error.ReadError.TheVariants as errors
 use Rattle.cap_reader.specs.Pointers.{extent, followed}
 use Rattle.cap_reader.specs.Tree.{pointed, structure_at, tree_at}
-use Rattle.cap_reader.specs.Reading.{Reading, Sections, done, fault, visit, and_then, pay_for, run, price, each, with_front, structure_in}
+use Rattle.cap_reader.specs.Reading.{Reading, Sections, done, fault, visit, and_then, pay_for, run, price, each, structure_in}
+use Rattle.cap_reader.specs.Glue.{with_front}
 use Rattle.cap_reader.specs.Fields.{fields_in}
 use Rattle.cap_reader.specs.Places.{child_at}
 use Rattle.cap_reader.proofs.Prices.{err_ok}

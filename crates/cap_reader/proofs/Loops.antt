@@ -3,7 +3,8 @@ use Rattle.std.proofs.Common.{◌≡◌, ℕ, suc, ◌+◌, ◌-◌, ◌<◌, �
 use Rattle.std.proofs.lemmas.List.{append-nil}
 use Rattle.cap_reader.specs.declared.read_error.ReadError.{ReadError}
 use Rattle.cap_reader.specs.declared.read_error.ReadError.TheVariants as errors
-use Rattle.cap_reader.specs.Reading.{Reading, done, and_then, pay_for, run, each, with_front, Refuses}
+use Rattle.cap_reader.specs.Reading.{Reading, done, and_then, pay_for, run, each, Refuses}
+use Rattle.cap_reader.specs.Glue.{with_front}
 use Rattle.cap_reader.proofs.Running.{going_on, run_then}
 
 abbrev answered : {A : Type 0} → List A → ℕ → Result (List A) ReadError × ℕ

@@ -5,3 +5,5 @@ pub mod Reading
 pub mod Fields
 pub mod Places
 pub mod Laws
+pub mod Cuts
+pub mod Glue

@@ -48,11 +48,6 @@ abbrev pub Runs : {X Y : Type 0} → (X → Y) → Result X ReadError → ℕ �
 Runs seen (Ok x) left ran = ran ≡ (Ok (seen x), left)
 Runs seen (Err e) left ran = ran ≡ (Err e, left)
 
--- the same of a reading without visits, whatever the words
-abbrev pub Gives : {X Y : Type 0} → (X → Y) → Result X ReadError → Reading ReadError Y → Type 0
-Gives seen (Ok x) reading = reading ≡ done (seen x)
-Gives seen (Err e) reading = reading ≡ fault e
-
 -- the same, unless memory ran out
 abbrev pub Refuses : {Y : Type 0} → ReadError → ℕ → Result Y ReadError × ℕ → Type 0
 Refuses OutOfMemory left ran = Unit {0}
@@ -125,11 +120,3 @@ root_in tree = structure_in tree >>= λ found. done (or_default found)
 unfoldable pub each : {E A : Type 0} → (ℕ → Reading E (List A)) → ℕ → ℕ → Reading E (List A)
 each reading from zero = done []
 each reading from (suc n) = reading from >>= λ first. each reading (from + 1) n >>= λ others. done (first ++ others)
-
--- For the code's contracts, and no part of the meaning: what a reading of a list answered, behind a list that was there.
-abbrev pub with_front : {E A : Type 0} → List A → Result (List A) E × ℕ → Result (List A) E × ℕ
-with_front {E} {A} front ran = (behind ran.0, ran.1)
-  where
-    behind : Result (List A) E → Result (List A) E
-    behind (Ok found) = Ok (front ++ found)
-    behind (Err e) = Err e

@@ -11,7 +11,8 @@ ghost use Rattle.cap_reader.specs.Pointers.{start_from};
 ghost use Rattle.cap_reader.specs.Tree.{Tree, tree_at, structure_at, root_tree};
 ghost use Rattle.cap_reader.specs.Reading.{run, cost_of, structure_in, elements_in, Sections};
 ghost use Rattle.cap_reader.specs.Fields.{fields_in, capability_at};
-ghost use Rattle.cap_reader.specs.Laws.{paths_of, over_structs, struct_words, PadOfOne, PadOfTwo, tagged_tree, LooksLike, pointer_at, Pairs, Correspond, release_whole, release_cut};
+ghost use Rattle.cap_reader.specs.Laws.{paths_of, over_structs, struct_words, PadOfOne, PadOfTwo, tagged_tree, LooksLike, pointer_at};
+ghost use Rattle.cap_reader.specs.Cuts.{Pairs, Correspond, release_whole, release_cut};
 
 /// What [`fields`](crate::fields) lists has each path once, in rising lexicographic order.
 pub fn paths_rise()

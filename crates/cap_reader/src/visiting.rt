@@ -5,7 +5,8 @@ ghost use Rattle.std.specs.Prelude.{◌≡◌, ◌<◌, ◌≤◌, ◌+◌, ◌^
 ghost use Rattle.std.specs.Option.{option_map};
 ghost use Rattle.cap_reader.specs.Pointers.{extent as extent_in};
 ghost use Rattle.cap_reader.specs.Tree.{structure_there, structure_at, tree_at, root_tree, composite_there};
-ghost use Rattle.cap_reader.specs.Reading.{Runs, Gives, run, structure_in, elements_in, root_in};
+ghost use Rattle.cap_reader.specs.Reading.{Runs, run, structure_in, elements_in, root_in};
+ghost use Rattle.cap_reader.specs.Glue.{Gives};
 ghost use Rattle.cap_reader.specs.Places.{sections_at, elements_at, list_len};
 
 use crate::extent::{extent, reaches, word_or_zero};

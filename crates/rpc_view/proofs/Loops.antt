@@ -1,10 +1,12 @@
 -- Reading numbers one after another, as a loop does.
 use Rattle.std.proofs.Common.{◌≡◌, ℕ, suc, ◌+◌, ◌-◌, ◌<◌, ◌≤◌, List, [], ◌∷◌, ◌++◌, Result, Ok, Err, refl, sym, ap, ◌∙◌, append_assoc, arith}
 use Rattle.std.proofs.lemmas.List.{append-nil}
-use Rattle.cap_reader.specs.Reading.{Reading, done, and_then, pay_for, each, with_front}
+use Rattle.cap_reader.specs.Reading.{Reading, done, and_then, pay_for, each}
+use Rattle.cap_reader.specs.Glue.{with_front}
 use Rattle.rpc_view.specs.declared.view_error.ViewError.{ViewError}
 use Rattle.rpc_view.specs.declared.view_error.ViewError.TheVariants as errors
-use Rattle.rpc_view.specs.Reading.{run, Refuses}
+use Rattle.rpc_view.specs.Reading.{run}
+use Rattle.rpc_view.specs.Glue.{Refuses}
 use Rattle.rpc_view.proofs.Running.{and_run, run_then}
 
 abbrev answered : {A : Type 0} → List A → ℕ → Result (List A) ViewError × ℕ

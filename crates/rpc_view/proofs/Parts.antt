@@ -13,7 +13,8 @@ use Rattle.cap_reader.specs.Places.{sections_at, elements_at}
 use Rattle.cap_reader.proofs.Running.{going_on, run_then, root_found, root_refused}
 use Rattle.rpc_view.specs.declared.view_error.ViewError.{ViewError}
 use Rattle.rpc_view.specs.declared.view_error.ViewError.TheVariants as errors
-use Rattle.rpc_view.specs.Reading.{part, run, struct_in, list_in, or_empty, fault_of, Refuses, sections_of, elements_of}
+use Rattle.rpc_view.specs.Reading.{part, run, struct_in, list_in, or_empty, fault_of}
+use Rattle.rpc_view.specs.Glue.{Refuses, sections_of, elements_of}
 
 abbrev as_view : {A : Type 0} → Result A ReadError → Result A ViewError
 as_view (Ok x) = Ok x

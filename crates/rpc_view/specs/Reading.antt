@@ -1,12 +1,9 @@
 -- Reading a message: readings of the trees of a frame one after another, with faults of a message besides theirs.
-use Rattle.std.specs.Prelude.{◌≡◌, ℕ, List, [], ◌∷◌, Option, Some, None, Result, Ok, Err}
+use Rattle.std.specs.Prelude.{◌≡◌, ℕ, Option, Some, None, Result, Ok, Err}
 use Rattle.cap_reader.specs.declared.read_error.ReadError.{ReadError}
 use Rattle.cap_reader.specs.declared.read_error.ReadError.TheVariants as reads
-use Rattle.cap_reader.specs.declared.place.StructAt.{StructAt}
-use Rattle.cap_reader.specs.declared.place.ListAt.{ListAt}
 use Rattle.cap_reader.specs.Tree.{Tree, nothing}
-use Rattle.cap_reader.specs.Reading.{Reading, done, fault, visit, ◌>>=◌, pay_for, Sections, Elements, root_in, elements_in, or_default}
-use Rattle.cap_reader.specs.Places.{sections_at, elements_at}
+use Rattle.cap_reader.specs.Reading.{Reading, done, fault, visit, ◌>>=◌, pay_for, Sections, Elements, root_in, elements_in}
 use Rattle.rpc_view.specs.declared.view_error.ViewError.{ViewError}
 use Rattle.rpc_view.specs.declared.view_error.ViewError.TheVariants as errors
 
@@ -44,33 +41,7 @@ abbrev pub Answers : {X Y : Type 0} → (X → Y) → Result X ViewError → Res
 Answers seen (Ok x) defined = defined ≡ Ok (seen x)
 Answers seen (Err e) defined = Fails e defined
 
--- the same with the words that are left
-abbrev pub Refuses : {Y : Type 0} → ViewError → ℕ → Result Y ViewError × ℕ → Type 0
-Refuses errors.OutOfMemory left ran = Unit {0}
-Refuses e left ran = ran ≡ (Err e, left)
-
-abbrev pub Runs : {X Y : Type 0} → (X → Y) → Result X ViewError → ℕ → Result Y ViewError × ℕ → Type 0
-Runs seen (Ok x) left ran = ran ≡ (Ok (seen x), left)
-Runs seen (Err e) left ran = Refuses e left ran
-
 -- the fault of a message for a fault of a pointer; want of memory isn't one of a pointer
 abbrev pub fault_of : ReadError → ViewError
 fault_of reads.OutOfMemory = errors.OutOfMemory
 fault_of e = errors.Read e
-
--- ---- what stands at the places that the code carries about
-
--- the sections of a struct that was looked for
-abbrev pub sections_of : List (List ℕ) → Option StructAt → Sections
-sections_of segments None = or_default None
-sections_of segments (Some place) = sections_at segments place
-
--- the elements of a list that was looked for
-abbrev pub elements_of : List (List ℕ) → Option ListAt → Elements
-elements_of segments None = or_empty None
-elements_of segments (Some list) = elements_at segments list
-
--- a number that may be left out, as a list
-abbrev pub numbers_of : Option ℕ → List ℕ
-numbers_of None = []
-numbers_of (Some n) = n ∷ []

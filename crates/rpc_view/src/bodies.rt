@@ -1,6 +1,7 @@
 //! The bodies of messages. The data of each is judged whole before its pointers are followed.
 
-ghost use Rattle.rpc_view.specs.Reading.{Runs, run, sections_of};
+ghost use Rattle.rpc_view.specs.Reading.{run};
+ghost use Rattle.rpc_view.specs.Glue.{RunsInMemory, sections_of};
 ghost use Rattle.rpc_view.specs.Message.{bootstrap_in, called_in, call_in, outcome_in, returned_in, return_in, finish_in, resolve_in, release_in, disembargoed_in, disembargo_in};
 
 use crate::layouts::{
@@ -27,7 +28,7 @@ pub fn bootstrap(
     message: &Option<StructAt>,
     limits: &mut Limits,
 ) -> Result<RpcMessage, ViewError>
-    ensures { Runs (λ found. found) result limits.new.words (run (bootstrap_in ((sections_of frame.now message.now).child 0)) limits.old.words) }
+    ensures { RunsInMemory (λ found. found) result limits.new.words (run (bootstrap_in ((sections_of frame.now message.now).child 0)) limits.old.words) }
 {
     let bootstrap = struct_in(frame, message, MESSAGE_BODY, limits)?;
     Ok(RpcMessage::Bootstrap {
@@ -43,7 +44,7 @@ fn called(
     call: &Option<StructAt>,
     limits: &mut Limits,
 ) -> Result<RpcMessage, ViewError>
-    ensures { Runs (λ found. found) result limits.new.words (run (called_in (sections_of frame.now call.now)) limits.old.words) }
+    ensures { RunsInMemory (λ found. found) result limits.new.words (run (called_in (sections_of frame.now call.now)) limits.old.words) }
 {
     let target = target(alloc, frame, call, CALL_TARGET, limits)?;
     let params = payload(alloc, frame, call, CALL_PARAMS, limits)?;
@@ -64,7 +65,7 @@ pub fn call(
     message: &Option<StructAt>,
     limits: &mut Limits,
 ) -> Result<RpcMessage, ViewError>
-    ensures { Runs (λ found. found) result limits.new.words (run (call_in ((sections_of frame.now message.now).child 0)) limits.old.words) }
+    ensures { RunsInMemory (λ found. found) result limits.new.words (run (call_in ((sections_of frame.now message.now).child 0)) limits.old.words) }
 {
     let call = struct_in(frame, message, MESSAGE_BODY, limits)?;
     let send_results_to = u16_of(frame, &call, CALL_SEND_RESULTS_TO);
@@ -91,7 +92,7 @@ fn outcome(
     answer: &Option<StructAt>,
     limits: &mut Limits,
 ) -> Result<Outcome, ViewError>
-    ensures { Runs (λ found. found) result limits.new.words (run (outcome_in (sections_of frame.now answer.now)) limits.old.words) }
+    ensures { RunsInMemory (λ found. found) result limits.new.words (run (outcome_in (sections_of frame.now answer.now)) limits.old.words) }
 {
     match u16_of(frame, answer, RETURN_TAG) {
         0 => Ok(Outcome::Results(payload(alloc, frame, answer, RETURN_RESULTS, limits)?)),
@@ -109,7 +110,7 @@ fn returned(
     answer: &Option<StructAt>,
     limits: &mut Limits,
 ) -> Result<RpcMessage, ViewError>
-    ensures { Runs (λ found. found) result limits.new.words (run (returned_in (sections_of frame.now answer.now)) limits.old.words) }
+    ensures { RunsInMemory (λ found. found) result limits.new.words (run (returned_in (sections_of frame.now answer.now)) limits.old.words) }
 {
     let outcome = outcome(alloc, frame, answer, limits)?;
     Ok(RpcMessage::Return {
@@ -127,7 +128,7 @@ pub fn answer(
     message: &Option<StructAt>,
     limits: &mut Limits,
 ) -> Result<RpcMessage, ViewError>
-    ensures { Runs (λ found. found) result limits.new.words (run (return_in ((sections_of frame.now message.now).child 0)) limits.old.words) }
+    ensures { RunsInMemory (λ found. found) result limits.new.words (run (return_in ((sections_of frame.now message.now).child 0)) limits.old.words) }
 {
     let answer = struct_in(frame, message, MESSAGE_BODY, limits)?;
     let tag = u16_of(frame, &answer, RETURN_TAG);
@@ -153,7 +154,7 @@ pub fn finish(
     message: &Option<StructAt>,
     limits: &mut Limits,
 ) -> Result<RpcMessage, ViewError>
-    ensures { Runs (λ found. found) result limits.new.words (run (finish_in ((sections_of frame.now message.now).child 0)) limits.old.words) }
+    ensures { RunsInMemory (λ found. found) result limits.new.words (run (finish_in ((sections_of frame.now message.now).child 0)) limits.old.words) }
 {
     let finish = struct_in(frame, message, MESSAGE_BODY, limits)?;
     Ok(RpcMessage::Finish {
@@ -170,7 +171,7 @@ pub fn resolve(
     message: &Option<StructAt>,
     limits: &mut Limits,
 ) -> Result<RpcMessage, ViewError>
-    ensures { Runs (λ found. found) result limits.new.words (run (resolve_in ((sections_of frame.now message.now).child 0)) limits.old.words) }
+    ensures { RunsInMemory (λ found. found) result limits.new.words (run (resolve_in ((sections_of frame.now message.now).child 0)) limits.old.words) }
 {
     let resolve = struct_in(frame, message, MESSAGE_BODY, limits)?;
     let promise = u32_of(frame, &resolve, RESOLVE_PROMISE);
@@ -192,7 +193,7 @@ pub fn release(
     message: &Option<StructAt>,
     limits: &mut Limits,
 ) -> Result<RpcMessage, ViewError>
-    ensures { Runs (λ found. found) result limits.new.words (run (release_in ((sections_of frame.now message.now).child 0)) limits.old.words) }
+    ensures { RunsInMemory (λ found. found) result limits.new.words (run (release_in ((sections_of frame.now message.now).child 0)) limits.old.words) }
 {
     let release = struct_in(frame, message, MESSAGE_BODY, limits)?;
     Ok(RpcMessage::Release {
@@ -210,7 +211,7 @@ fn disembargoed(
     loopback: Loopback,
     limits: &mut Limits,
 ) -> Result<RpcMessage, ViewError>
-    ensures { Runs (λ found. found) result limits.new.words (run (disembargoed_in (sections_of frame.now disembargo.now) loopback) limits.old.words) }
+    ensures { RunsInMemory (λ found. found) result limits.new.words (run (disembargoed_in (sections_of frame.now disembargo.now) loopback) limits.old.words) }
 {
     let target = target(alloc, frame, disembargo, DISEMBARGO_TARGET, limits)?;
     Ok(RpcMessage::Disembargo {
@@ -228,7 +229,7 @@ pub fn disembargo(
     message: &Option<StructAt>,
     limits: &mut Limits,
 ) -> Result<RpcMessage, ViewError>
-    ensures { Runs (λ found. found) result limits.new.words (run (disembargo_in ((sections_of frame.now message.now).child 0)) limits.old.words) }
+    ensures { RunsInMemory (λ found. found) result limits.new.words (run (disembargo_in ((sections_of frame.now message.now).child 0)) limits.old.words) }
 {
     let disembargo = struct_in(frame, message, MESSAGE_BODY, limits)?;
     match u16_of(frame, &disembargo, DISEMBARGO_TAG) {

@@ -1,6 +1,7 @@
 //! Payloads: a capability table, and where the content has capabilities.
 
-ghost use Rattle.rpc_view.specs.Reading.{Runs, run, sections_of};
+ghost use Rattle.rpc_view.specs.Reading.{run};
+ghost use Rattle.rpc_view.specs.Glue.{RunsInMemory, sections_of};
 ghost use Rattle.rpc_view.specs.Message.{payload_in};
 
 use crate::layouts::{PAYLOAD_CAP_TABLE, PAYLOAD_CONTENT};
@@ -21,7 +22,7 @@ pub fn payload(
     n: u16,
     limits: &mut Limits,
 ) -> Result<Payload, ViewError>
-    ensures { Runs (λ payload. payload) result limits.new.words (run (payload_in ((sections_of frame.now place.now).child n)) limits.old.words) }
+    ensures { RunsInMemory (λ payload. payload) result limits.new.words (run (payload_in ((sections_of frame.now place.now).child n)) limits.old.words) }
 {
     let payload = struct_in(frame, place, n, limits)?;
     let table = list_in(frame, &payload, PAYLOAD_CAP_TABLE, limits)?;

@@ -2,7 +2,8 @@
 
 ghost use Rattle.std.specs.Prelude.{◌<◌};
 ghost use Rattle.cap_reader.specs.Places.{elements_at, list_len};
-ghost use Rattle.rpc_view.specs.Reading.{Runs, run, sections_of, elements_of, numbers_of};
+ghost use Rattle.rpc_view.specs.Reading.{run};
+ghost use Rattle.rpc_view.specs.Glue.{RunsInMemory, sections_of, elements_of, numbers_of};
 ghost use Rattle.rpc_view.specs.Message.{operation_in, operations_in, promised_in};
 
 use crate::layouts::{OPERATION_FIELD, OPERATION_TAG, PROMISED_QUESTION, PROMISED_TRANSFORM};
@@ -21,7 +22,7 @@ fn operation(
     limits: &mut Limits,
 ) -> Result<Option<u16>, ViewError>
     requires { i < list_len operations.now }
-    ensures { Runs numbers_of result limits.new.words (run (operation_in ((elements_at frame.now operations.now).element i)) limits.old.words) }
+    ensures { RunsInMemory numbers_of result limits.new.words (run (operation_in ((elements_at frame.now operations.now).element i)) limits.old.words) }
 {
     let operation = element_in(frame, operations, i, limits)?;
     match u16_of(frame, &operation, OPERATION_TAG) {
@@ -39,7 +40,7 @@ fn path_of(
     operations: &ListAt,
     limits: &mut Limits,
 ) -> Result<Path, ViewError>
-    ensures { Runs (λ path. path) result limits.new.words (run (operations_in (elements_at frame.now operations.now)) limits.old.words) }
+    ensures { RunsInMemory (λ path. path) result limits.new.words (run (operations_in (elements_at frame.now operations.now)) limits.old.words) }
 {
     let mut numbers = Vec::new(alloc);
     for i in 0..operations.len() {
@@ -58,7 +59,7 @@ fn transform(
     operations: &Option<ListAt>,
     limits: &mut Limits,
 ) -> Result<Path, ViewError>
-    ensures { Runs (λ path. path) result limits.new.words (run (operations_in (elements_of frame.now operations.now)) limits.old.words) }
+    ensures { RunsInMemory (λ path. path) result limits.new.words (run (operations_in (elements_of frame.now operations.now)) limits.old.words) }
 {
     match operations {
         Some(operations) => path_of(alloc, frame, operations, limits),
@@ -75,7 +76,7 @@ pub fn promised_answer(
     n: u16,
     limits: &mut Limits,
 ) -> Result<(u32, Path), ViewError>
-    ensures { Runs (λ answer. answer) result limits.new.words (run (promised_in ((sections_of frame.now place.now).child n)) limits.old.words) }
+    ensures { RunsInMemory (λ answer. answer) result limits.new.words (run (promised_in ((sections_of frame.now place.now).child n)) limits.old.words) }
 {
     let promised = struct_in(frame, place, n, limits)?;
     let operations = list_in(frame, &promised, PROMISED_TRANSFORM, limits)?;

@@ -5,7 +5,8 @@ ghost use Rattle.cap_frame.specs.declared.frame_error.FrameError.{FrameError};
 ghost use Rattle.cap_frame.specs.Segments.{segments_of};
 ghost use Rattle.cap_reader.specs.declared.read_error.ReadError.TheVariants.{OutOfMemory};
 ghost use Rattle.cap_reader.specs.Tree.{root_tree};
-ghost use Rattle.rpc_view.specs.Reading.{Answers, Runs, run, sections_of};
+ghost use Rattle.rpc_view.specs.Reading.{Answers, run};
+ghost use Rattle.rpc_view.specs.Glue.{RunsInMemory, sections_of};
 ghost use Rattle.rpc_view.specs.Message.{body_in, message_in, message_of, message_of_bytes, HasPrice};
 ghost use Rattle.rpc_view.specs.Layouts.{message_tag, message_body};
 ghost use Rattle.rpc_view.specs.Spelling.{Spells};
@@ -30,7 +31,7 @@ fn body(
     message: &Option<StructAt>,
     limits: &mut Limits,
 ) -> Result<RpcMessage, ViewError>
-    ensures { Runs (λ found. found) result limits.new.words (run (body_in (message_tag (sections_of frame.now message.now)) (message_body (sections_of frame.now message.now))) limits.old.words) }
+    ensures { RunsInMemory (λ found. found) result limits.new.words (run (body_in (message_tag (sections_of frame.now message.now)) (message_body (sections_of frame.now message.now))) limits.old.words) }
 {
     match u16_of(frame, message, MESSAGE_TAG) {
         0 => Err(ViewError::Outside(Outside::Unimplemented)),
@@ -50,7 +51,7 @@ fn body(
 /// The message at the root pointer of a frame.
 #[tactic(auto, using(crate::proofs::Running::run_then), unfolding(crate::specs::Message::message_in, cap_reader::specs::Reading::pay_for, cap_reader::specs::Reading::and_then))]
 fn message(alloc: Global, frame: &Frame, limits: &mut Limits) -> Result<RpcMessage, ViewError>
-    ensures { Runs (λ found. found) result limits.new.words (run (message_in (root_tree limits.old.depth frame.now)) limits.old.words) }
+    ensures { RunsInMemory (λ found. found) result limits.new.words (run (message_in (root_tree limits.old.depth frame.now)) limits.old.words) }
 {
     let message = root_struct(frame, limits)?;
     body(alloc, frame, &message, limits)

@@ -4,7 +4,8 @@ ghost use Rattle.std.specs.Prelude.{◌≡◌, ◌<◌, ◌%◌, []};
 ghost use Rattle.cap_reader.specs.Tree.{root_tree};
 ghost use Rattle.cap_reader.specs.Fields.{fields_in};
 ghost use Rattle.cap_reader.specs.Places.{elements_at, list_len, u16_in, u32_in, u64_in, bit_in};
-ghost use Rattle.rpc_view.specs.Reading.{Runs, run, part, struct_in as struct_in_tree, list_in as list_in_tree, sections_of, elements_of};
+ghost use Rattle.rpc_view.specs.Reading.{run, part, struct_in as struct_in_tree, list_in as list_in_tree};
+ghost use Rattle.rpc_view.specs.Glue.{RunsInMemory, sections_of, elements_of};
 
 use crate::view_error::ViewError;
 use cap_frame::Frame;
@@ -16,7 +17,7 @@ use std::alloc::Global;
 
 /// The root struct of a frame.
 pub fn root_struct(frame: &Frame, limits: &mut Limits) -> Result<Option<StructAt>, ViewError>
-    ensures { Runs (sections_of frame.now) result limits.new.words (run (struct_in_tree (root_tree limits.old.depth frame.now)) limits.old.words) }
+    ensures { RunsInMemory (sections_of frame.now) result limits.new.words (run (struct_in_tree (root_tree limits.old.depth frame.now)) limits.old.words) }
 {
     Ok(Some(root(frame, limits)?))
 }
@@ -29,7 +30,7 @@ pub fn struct_in(
     n: u16,
     limits: &mut Limits,
 ) -> Result<Option<StructAt>, ViewError>
-    ensures { Runs (sections_of frame.now) result limits.new.words (run (struct_in_tree ((sections_of frame.now place.now).child n)) limits.old.words) }
+    ensures { RunsInMemory (sections_of frame.now) result limits.new.words (run (struct_in_tree ((sections_of frame.now place.now).child n)) limits.old.words) }
 {
     match place {
         Some(place) => Ok(struct_field(frame, place, n, limits)?),
@@ -45,7 +46,7 @@ pub fn list_in(
     n: u16,
     limits: &mut Limits,
 ) -> Result<Option<ListAt>, ViewError>
-    ensures { Runs (elements_of frame.now) result limits.new.words (run (list_in_tree ((sections_of frame.now place.now).child n)) limits.old.words) }
+    ensures { RunsInMemory (elements_of frame.now) result limits.new.words (run (list_in_tree ((sections_of frame.now place.now).child n)) limits.old.words) }
 {
     match place {
         Some(place) => Ok(list_field(frame, place, n, limits)?),
@@ -61,7 +62,7 @@ pub fn element_in(
     limits: &mut Limits,
 ) -> Result<Option<StructAt>, ViewError>
     requires { i < list_len list.now }
-    ensures { Runs (sections_of frame.now) result limits.new.words (run (struct_in_tree ((elements_at frame.now list.now).element i)) limits.old.words) }
+    ensures { RunsInMemory (sections_of frame.now) result limits.new.words (run (struct_in_tree ((elements_at frame.now list.now).element i)) limits.old.words) }
 {
     Ok(Some(list.element(i, limits)?))
 }
@@ -75,7 +76,7 @@ pub fn fields_of(
     n: u16,
     limits: &mut Limits,
 ) -> Result<Fields, ViewError>
-    ensures { Runs (λ found. found) result limits.new.words (run (part (fields_in [] ((sections_of frame.now place.now).child n))) limits.old.words) }
+    ensures { RunsInMemory (λ found. found) result limits.new.words (run (part (fields_in [] ((sections_of frame.now place.now).child n))) limits.old.words) }
 {
     match place {
         Some(place) => Ok(fields(alloc, frame, place, n, limits)?),

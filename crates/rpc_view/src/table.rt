@@ -2,7 +2,8 @@
 
 ghost use Rattle.std.specs.Prelude.{◌<◌};
 ghost use Rattle.cap_reader.specs.Places.{elements_at, list_len};
-ghost use Rattle.rpc_view.specs.Reading.{Runs, run, sections_of, elements_of};
+ghost use Rattle.rpc_view.specs.Reading.{run};
+ghost use Rattle.rpc_view.specs.Glue.{RunsInMemory, sections_of, elements_of};
 ghost use Rattle.rpc_view.specs.Message.{descriptor_in, described_in, descriptors_in};
 
 use crate::layouts::{DESCRIPTOR_ANSWER, DESCRIPTOR_NUMBER, DESCRIPTOR_TAG};
@@ -22,7 +23,7 @@ fn described(
     place: &Option<StructAt>,
     limits: &mut Limits,
 ) -> Result<Descriptor, ViewError>
-    ensures { Runs (λ found. found) result limits.new.words (run (described_in (sections_of frame.now place.now)) limits.old.words) }
+    ensures { RunsInMemory (λ found. found) result limits.new.words (run (described_in (sections_of frame.now place.now)) limits.old.words) }
 {
     let number = u32_of(frame, place, DESCRIPTOR_NUMBER);
     match u16_of(frame, place, DESCRIPTOR_TAG) {
@@ -48,7 +49,7 @@ pub fn descriptor(
     n: u16,
     limits: &mut Limits,
 ) -> Result<Descriptor, ViewError>
-    ensures { Runs (λ found. found) result limits.new.words (run (descriptor_in ((sections_of frame.now place.now).child n)) limits.old.words) }
+    ensures { RunsInMemory (λ found. found) result limits.new.words (run (descriptor_in ((sections_of frame.now place.now).child n)) limits.old.words) }
 {
     let descriptor = struct_in(frame, place, n, limits)?;
     described(alloc, frame, &descriptor, limits)
@@ -64,7 +65,7 @@ fn entry(
     limits: &mut Limits,
 ) -> Result<Descriptor, ViewError>
     requires { i < list_len table.now }
-    ensures { Runs (λ found. found) result limits.new.words (run (descriptor_in ((elements_at frame.now table.now).element i)) limits.old.words) }
+    ensures { RunsInMemory (λ found. found) result limits.new.words (run (descriptor_in ((elements_at frame.now table.now).element i)) limits.old.words) }
 {
     let descriptor = element_in(frame, table, i, limits)?;
     described(alloc, frame, &descriptor, limits)
@@ -78,7 +79,7 @@ fn entries(
     table: &ListAt,
     limits: &mut Limits,
 ) -> Result<Descriptors, ViewError>
-    ensures { Runs (λ found. found) result limits.new.words (run (descriptors_in (elements_at frame.now table.now)) limits.old.words) }
+    ensures { RunsInMemory (λ found. found) result limits.new.words (run (descriptors_in (elements_at frame.now table.now)) limits.old.words) }
 {
     let mut items = Vec::new(alloc);
     for i in 0..table.len() {
@@ -95,7 +96,7 @@ pub fn descriptors(
     table: &Option<ListAt>,
     limits: &mut Limits,
 ) -> Result<Descriptors, ViewError>
-    ensures { Runs (λ found. found) result limits.new.words (run (descriptors_in (elements_of frame.now table.now)) limits.old.words) }
+    ensures { RunsInMemory (λ found. found) result limits.new.words (run (descriptors_in (elements_of frame.now table.now)) limits.old.words) }
 {
     match table {
         Some(table) => entries(alloc, frame, table, limits),

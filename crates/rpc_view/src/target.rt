@@ -1,6 +1,7 @@
 //! What a message is meant for.
 
-ghost use Rattle.rpc_view.specs.Reading.{Runs, run, sections_of};
+ghost use Rattle.rpc_view.specs.Reading.{run};
+ghost use Rattle.rpc_view.specs.Glue.{RunsInMemory, sections_of};
 ghost use Rattle.rpc_view.specs.Message.{target_in};
 
 use crate::layouts::{TARGET_IMPORTED, TARGET_PROMISED, TARGET_TAG};
@@ -21,7 +22,7 @@ pub fn target(
     n: u16,
     limits: &mut Limits,
 ) -> Result<Target, ViewError>
-    ensures { Runs (λ target. target) result limits.new.words (run (target_in ((sections_of frame.now place.now).child n)) limits.old.words) }
+    ensures { RunsInMemory (λ target. target) result limits.new.words (run (target_in ((sections_of frame.now place.now).child n)) limits.old.words) }
 {
     let target = struct_in(frame, place, n, limits)?;
     match u16_of(frame, &target, TARGET_TAG) {

@@ -19,14 +19,15 @@ abbrev pub ◌>>=◌ : {A B : Type 0} → Result A LogError → (A → Result B 
 (Ok x) >>= f = f x
 (Err e) >>= f = Err e
 
--- What a function returned, seen by view, is what reading gives, unless memory ran out.
+-- want of memory may come in the place of any answer; each other fault is the reading's
 abbrev pub Fails : {Y : Type 0} → LogError → Result Y LogError → Type 0
 Fails OutOfMemory read = Unit {0}
 Fails e read = read ≡ Err e
 
-abbrev pub Gives : {X Y : Type 0} → (X → Y) → Result X LogError → Result Y LogError → Type 0
-Gives view (Ok x) read = read ≡ Ok (view x)
-Gives view (Err e) read = Fails e read
+-- What a function returned, seen by view, is what reading gives, unless memory ran out.
+abbrev pub GivesInMemory : {X Y : Type 0} → (X → Y) → Result X LogError → Result Y LogError → Type 0
+GivesInMemory view (Ok x) read = read ≡ Ok (view x)
+GivesInMemory view (Err e) read = Fails e read
 
 -- a number of this width
 unfoldable pub number_at : Width → List ℕ → ℕ → Result (ℕ × ℕ) LogError

@@ -2,7 +2,7 @@
 
 ghost use Rattle.std.specs.Prelude.{◌≤◌, length, IfOk};
 ghost use Rattle.std.specs.Int.{w16, w32, w64};
-ghost use Rattle.vat_log.specs.Reading.{Gives, number_at, nonzero_at, many_at, list_at, path_at, answered_at, frame_at};
+ghost use Rattle.vat_log.specs.Reading.{GivesInMemory, number_at, nonzero_at, many_at, list_at, path_at, answered_at, frame_at};
 
 use crate::body::{References, Results};
 use crate::error::LogError;
@@ -14,7 +14,7 @@ use std::alloc::Global;
 #[tactic(auto, unfolding(crate::specs::Reading::number_at))]
 pub(crate) fn u16_at(bytes: &[u8], at: usize) -> Result<(u16, usize), LogError>
     requires { at ≤ length bytes.now }
-    ensures gives { Gives (λ x. (x.0, x.1)) result (number_at w16 bytes.now at) }
+    ensures gives { GivesInMemory (λ x. (x.0, x.1)) result (number_at w16 bytes.now at) }
     ensures within { IfOk result (λ x. x.1 ≤ length bytes.now) }
 {
     if bytes.len() - at < 2 {
@@ -27,7 +27,7 @@ pub(crate) fn u16_at(bytes: &[u8], at: usize) -> Result<(u16, usize), LogError>
 #[tactic(auto, unfolding(crate::specs::Reading::number_at))]
 pub(crate) fn u32_at(bytes: &[u8], at: usize) -> Result<(u32, usize), LogError>
     requires { at ≤ length bytes.now }
-    ensures gives { Gives (λ x. (x.0, x.1)) result (number_at w32 bytes.now at) }
+    ensures gives { GivesInMemory (λ x. (x.0, x.1)) result (number_at w32 bytes.now at) }
     ensures within { IfOk result (λ x. x.1 ≤ length bytes.now) }
 {
     if bytes.len() - at < 4 {
@@ -41,7 +41,7 @@ pub(crate) fn u32_at(bytes: &[u8], at: usize) -> Result<(u32, usize), LogError>
 #[tactic(auto, unfolding(crate::specs::Reading::number_at))]
 pub(crate) fn u64_at(bytes: &[u8], at: usize) -> Result<(u64, usize), LogError>
     requires { at ≤ length bytes.now }
-    ensures gives { Gives (λ x. (x.0, x.1)) result (number_at w64 bytes.now at) }
+    ensures gives { GivesInMemory (λ x. (x.0, x.1)) result (number_at w64 bytes.now at) }
     ensures within { IfOk result (λ x. x.1 ≤ length bytes.now) }
 {
     if bytes.len() - at < 8 {
@@ -58,7 +58,7 @@ pub(crate) fn u64_at(bytes: &[u8], at: usize) -> Result<(u64, usize), LogError>
 #[tactic(auto, unfolding(crate::specs::Reading::nonzero_at))]
 pub(crate) fn nonzero_of(bytes: &[u8], at: usize) -> Result<(u64, usize), LogError>
     requires { at ≤ length bytes.now }
-    ensures gives { Gives (λ x. (x.0, x.1)) result (nonzero_at bytes.now at) }
+    ensures gives { GivesInMemory (λ x. (x.0, x.1)) result (nonzero_at bytes.now at) }
     ensures within { IfOk result (λ x. x.1 ≤ length bytes.now) }
 {
     let (number, after) = u64_at(bytes, at)?;
@@ -75,7 +75,7 @@ fn many_references(
     at: usize,
 ) -> Result<(Vec<u64>, usize), LogError>
     requires { at ≤ length bytes.now }
-    ensures gives { Gives (λ x. (x.0.items, x.1)) result (many_at (nonzero_at bytes.now) count at) }
+    ensures gives { GivesInMemory (λ x. (x.0.items, x.1)) result (many_at (nonzero_at bytes.now) count at) }
     ensures within { IfOk result (λ x. x.1 ≤ length bytes.now) }
 {
     let mut references = Vec::new(alloc);
@@ -95,7 +95,7 @@ pub(crate) fn references_of(
     at: usize,
 ) -> Result<(References, usize), LogError>
     requires { at ≤ length bytes.now }
-    ensures gives { Gives (λ x. (x.0, x.1)) result (list_at (nonzero_at bytes.now) bytes.now at) }
+    ensures gives { GivesInMemory (λ x. (x.0, x.1)) result (list_at (nonzero_at bytes.now) bytes.now at) }
     ensures within { IfOk result (λ x. x.1 ≤ length bytes.now) }
 {
     let (count, after) = u16_at(bytes, at)?;
@@ -110,7 +110,7 @@ fn many_path_fields(
     at: usize,
 ) -> Result<(Vec<u16>, usize), LogError>
     requires { at ≤ length bytes.now }
-    ensures gives { Gives (λ x. (x.0.items, x.1)) result (many_at (number_at w16 bytes.now) count at) }
+    ensures gives { GivesInMemory (λ x. (x.0.items, x.1)) result (many_at (number_at w16 bytes.now) count at) }
     ensures within { IfOk result (λ x. x.1 ≤ length bytes.now) }
 {
     let mut fields = Vec::new(alloc);
@@ -126,7 +126,7 @@ fn many_path_fields(
 #[tactic(auto, unfolding(crate::specs::Reading::list_at))]
 pub(crate) fn path_of(alloc: Global, bytes: &[u8], at: usize) -> Result<(Path, usize), LogError>
     requires { at ≤ length bytes.now }
-    ensures gives { Gives (λ x. (x.0, x.1)) result (path_at bytes.now at) }
+    ensures gives { GivesInMemory (λ x. (x.0, x.1)) result (path_at bytes.now at) }
     ensures within { IfOk result (λ x. x.1 ≤ length bytes.now) }
 {
     let (count, after) = u16_at(bytes, at)?;
@@ -137,7 +137,7 @@ pub(crate) fn path_of(alloc: Global, bytes: &[u8], at: usize) -> Result<(Path, u
 #[tactic(auto, unfolding(crate::specs::Reading::answered_at))]
 fn answered_of(alloc: Global, bytes: &[u8], at: usize) -> Result<((u64, Path), usize), LogError>
     requires { at ≤ length bytes.now }
-    ensures gives { Gives (λ x. (x.0, x.1)) result (answered_at bytes.now at) }
+    ensures gives { GivesInMemory (λ x. (x.0, x.1)) result (answered_at bytes.now at) }
     ensures within { IfOk result (λ x. x.1 ≤ length bytes.now) }
 {
     let (reference, after) = nonzero_of(bytes, at)?;
@@ -152,7 +152,7 @@ fn many_results(
     at: usize,
 ) -> Result<(Vec<(u64, Path)>, usize), LogError>
     requires { at ≤ length bytes.now }
-    ensures gives { Gives (λ x. (x.0.items, x.1)) result (many_at (answered_at bytes.now) count at) }
+    ensures gives { GivesInMemory (λ x. (x.0.items, x.1)) result (many_at (answered_at bytes.now) count at) }
     ensures within { IfOk result (λ x. x.1 ≤ length bytes.now) }
 {
     let mut results = Vec::new(alloc);
@@ -172,7 +172,7 @@ pub(crate) fn results_of(
     at: usize,
 ) -> Result<(Results, usize), LogError>
     requires { at ≤ length bytes.now }
-    ensures gives { Gives (λ x. (x.0, x.1)) result (list_at (answered_at bytes.now) bytes.now at) }
+    ensures gives { GivesInMemory (λ x. (x.0, x.1)) result (list_at (answered_at bytes.now) bytes.now at) }
     ensures within { IfOk result (λ x. x.1 ≤ length bytes.now) }
 {
     let (count, after) = u16_at(bytes, at)?;
@@ -184,7 +184,7 @@ pub(crate) fn results_of(
 #[tactic(auto, unfolding(crate::specs::Reading::frame_at))]
 pub(crate) fn frame_of(bytes: &Bytes, at: usize) -> Result<(Bytes, usize), LogError>
     requires { at ≤ length bytes.now }
-    ensures gives { Gives (λ x. (x.0, x.1)) result (frame_at bytes.now at) }
+    ensures gives { GivesInMemory (λ x. (x.0, x.1)) result (frame_at bytes.now at) }
     ensures within { IfOk result (λ x. x.1 ≤ length bytes.now) }
 {
     let (size, begin) = u32_at(bytes.as_slice(), at)?;

@@ -1,7 +1,7 @@
 //! The kinds of records.
 
 ghost use Rattle.std.specs.Prelude.{◌≡◌, ◌<◌, length};
-ghost use Rattle.vat_log.specs.Reading.{Gives, kind_at, kind_with};
+ghost use Rattle.vat_log.specs.Reading.{GivesInMemory, kind_at, kind_with};
 
 use crate::error::LogError;
 
@@ -46,7 +46,7 @@ fn kind_of(byte: u8) -> Option<Kind>
 #[tactic(auto, unfolding(crate::specs::Reading::kind_at))]
 pub(crate) fn read_kind(bytes: &[u8], at: usize) -> Result<Kind, LogError>
     requires { at < length bytes.now }
-    ensures { Gives (λ kind. kind) result (kind_at bytes.now at) }
+    ensures { GivesInMemory (λ kind. kind) result (kind_at bytes.now at) }
 {
     match kind_of(bytes[at]) {
         Some(kind) => Ok(kind),

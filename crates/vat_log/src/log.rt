@@ -3,7 +3,7 @@
 ghost use Rattle.std.specs.Prelude.{◌≡◌, ◌<◌, ◌≤◌, ◌^◌, Ok, true, false, nat_eq, length, slice_get, All, IfErr, IfOk};
 ghost use Rattle.std.specs.List.{starts_with};
 ghost use Rattle.std.specs.Option.{option_copied};
-ghost use Rattle.vat_log.specs.Reading.{Gives, records_at, log_within, log_of};
+ghost use Rattle.vat_log.specs.Reading.{GivesInMemory, records_at, log_within, log_of};
 ghost use Rattle.vat_log.specs.Fits.{record_limit, LogFits, stored};
 ghost use Rattle.vat_log.specs.Log.{Log};
 ghost use Rattle.vat_log.specs.Spelling.{magic, log_bytes};
@@ -90,7 +90,7 @@ fn records_of(
 ) -> Result<Vec<Record>, LogError>
     requires octets { All (λ octet. octet < 2 ^ 8) bytes.now }
     requires within { begin ≤ length bytes.now }
-    ensures { Gives (λ v. v.items) result (records_at bytes.now limit begin) }
+    ensures { GivesInMemory (λ v. v.items) result (records_at bytes.now limit begin) }
 {
     let mut records = Vec::new(alloc);
     let mut at = begin;
@@ -109,7 +109,7 @@ fn records_of(
 /// The vat and the records that these bytes spell.
 #[tactic(auto, unfolding(crate::specs::Reading::log_within))]
 fn parts_of(alloc: Global, bytes: &Bytes, limit: usize) -> Result<(u32, Vec<Record>), LogError>
-    ensures gives { Gives (λ x. record { vat = x.0; records = x.1.items }) result
+    ensures gives { GivesInMemory (λ x. record { vat = x.0; records = x.1.items }) result
         (log_within limit bytes.now) }
     ensures octets { All (λ octet. octet < 2 ^ 8) bytes.now }
     ensures early { starts_with nat_eq bytes.now magic ≡ false → IfErr result (λ e. e ≡ LogError.BadMagic) }
@@ -132,12 +132,12 @@ fn parts_of(alloc: Global, bytes: &Bytes, limit: usize) -> Result<(u32, Vec<Reco
 #[tactic(auto, unfolding(crate::specs::Fits::record_limit))]
 pub fn parse_log(alloc: Global, bytes: Bytes) -> Result<VatLog, LogError>
     // Which log, or which fault.
-    ensures exact { Gives (λ log. log) result (log_of bytes) }
+    ensures exact { GivesInMemory (λ log. log) result (log_of bytes) }
     // What is read is spelled so.
     ensures found { IfOk result (λ log. LogFits record_limit log × (bytes ≡ log_bytes log)) }
     // What is spelled so is read, unless memory runs out.
     ensures only { (log : Log) → LogFits record_limit log → bytes ≡ log_bytes log
-        → Gives (λ read. read) result (Ok log) }
+        → GivesInMemory (λ read. read) result (Ok log) }
     // Another magic is refused as such before memory is asked for.
     ensures early { starts_with nat_eq bytes magic ≡ false → IfErr result (λ e. e ≡ LogError.BadMagic) }
 {
@@ -157,7 +157,7 @@ pub fn parse_log(alloc: Global, bytes: Bytes) -> Result<VatLog, LogError>
 #[tactic(auto, unfolding(crate::specs::Fits::record_limit))]
 pub fn write_log(alloc: Global, vat: u32, records: &[Record]) -> Result<VatLog, LogError>
     // Which log, or that there are too many records.
-    ensures exact { Gives (λ log. log) result (stored (record { vat = vat; records = records.now })) }
+    ensures exact { GivesInMemory (λ log. log) result (stored (record { vat = vat; records = records.now })) }
     // Too many records are refused as such before memory is asked for.
     ensures too_many { record_limit < length records.now → IfErr result (λ e. e ≡ LogError.TooLong) }
 {

@@ -1,7 +1,7 @@
 //! Reading records.
 
 ghost use Rattle.std.specs.Prelude.{◌≤◌, length, IfOk};
-ghost use Rattle.vat_log.specs.Reading.{Gives, passage_at, host_at, vow_at, fulfil_at, break_at, make_at, field_at, deliver_at, answer_at, fault_at, send_at, receive_at, fields_at};
+ghost use Rattle.vat_log.specs.Reading.{GivesInMemory, passage_at, host_at, vow_at, fulfil_at, break_at, make_at, field_at, deliver_at, answer_at, fault_at, send_at, receive_at, fields_at};
 
 use crate::body::Body;
 use crate::error::LogError;
@@ -16,7 +16,7 @@ use std::alloc::Global;
 #[tactic(auto, unfolding(crate::specs::Reading::passage_at))]
 fn passage_of(alloc: Global, bytes: &Bytes, at: usize) -> Result<(Passage, usize), LogError>
     requires { at ≤ length bytes.now }
-    ensures gives { Gives (λ x. (x.0, x.1)) result (passage_at bytes.now at) }
+    ensures gives { GivesInMemory (λ x. (x.0, x.1)) result (passage_at bytes.now at) }
     ensures within { IfOk result (λ x. x.1 ≤ length bytes.now) }
 {
     let (connection, after) = u32_at(bytes.as_slice(), at)?;
@@ -35,7 +35,7 @@ fn passage_of(alloc: Global, bytes: &Bytes, at: usize) -> Result<(Passage, usize
 #[tactic(auto, unfolding(crate::specs::Reading::host_at))]
 fn host_of(bytes: &[u8], at: usize) -> Result<(Body, usize), LogError>
     requires { at ≤ length bytes.now }
-    ensures gives { Gives (λ x. (x.0, x.1)) result (host_at bytes.now at) }
+    ensures gives { GivesInMemory (λ x. (x.0, x.1)) result (host_at bytes.now at) }
     ensures within { IfOk result (λ x. x.1 ≤ length bytes.now) }
 {
     let (reference, after) = nonzero_of(bytes, at)?;
@@ -46,7 +46,7 @@ fn host_of(bytes: &[u8], at: usize) -> Result<(Body, usize), LogError>
 #[tactic(auto, unfolding(crate::specs::Reading::vow_at))]
 fn vow_of(bytes: &[u8], at: usize) -> Result<(Body, usize), LogError>
     requires { at ≤ length bytes.now }
-    ensures gives { Gives (λ x. (x.0, x.1)) result (vow_at bytes.now at) }
+    ensures gives { GivesInMemory (λ x. (x.0, x.1)) result (vow_at bytes.now at) }
     ensures within { IfOk result (λ x. x.1 ≤ length bytes.now) }
 {
     let (reference, after) = nonzero_of(bytes, at)?;
@@ -56,7 +56,7 @@ fn vow_of(bytes: &[u8], at: usize) -> Result<(Body, usize), LogError>
 #[tactic(auto, unfolding(crate::specs::Reading::fulfil_at))]
 fn fulfil_of(bytes: &[u8], at: usize) -> Result<(Body, usize), LogError>
     requires { at ≤ length bytes.now }
-    ensures gives { Gives (λ x. (x.0, x.1)) result (fulfil_at bytes.now at) }
+    ensures gives { GivesInMemory (λ x. (x.0, x.1)) result (fulfil_at bytes.now at) }
     ensures within { IfOk result (λ x. x.1 ≤ length bytes.now) }
 {
     let (reference, after) = nonzero_of(bytes, at)?;
@@ -67,7 +67,7 @@ fn fulfil_of(bytes: &[u8], at: usize) -> Result<(Body, usize), LogError>
 #[tactic(auto, unfolding(crate::specs::Reading::break_at))]
 fn break_of(bytes: &[u8], at: usize) -> Result<(Body, usize), LogError>
     requires { at ≤ length bytes.now }
-    ensures gives { Gives (λ x. (x.0, x.1)) result (break_at bytes.now at) }
+    ensures gives { GivesInMemory (λ x. (x.0, x.1)) result (break_at bytes.now at) }
     ensures within { IfOk result (λ x. x.1 ≤ length bytes.now) }
 {
     let (reference, after) = nonzero_of(bytes, at)?;
@@ -77,7 +77,7 @@ fn break_of(bytes: &[u8], at: usize) -> Result<(Body, usize), LogError>
 #[tactic(auto, unfolding(crate::specs::Reading::make_at))]
 fn make_of(bytes: &[u8], at: usize) -> Result<(Body, usize), LogError>
     requires { at ≤ length bytes.now }
-    ensures gives { Gives (λ x. (x.0, x.1)) result (make_at bytes.now at) }
+    ensures gives { GivesInMemory (λ x. (x.0, x.1)) result (make_at bytes.now at) }
     ensures within { IfOk result (λ x. x.1 ≤ length bytes.now) }
 {
     let (call, after) = nonzero_of(bytes, at)?;
@@ -96,7 +96,7 @@ fn make_of(bytes: &[u8], at: usize) -> Result<(Body, usize), LogError>
 #[tactic(auto, unfolding(crate::specs::Reading::field_at))]
 fn field_of(alloc: Global, bytes: &[u8], at: usize) -> Result<(Body, usize), LogError>
     requires { at ≤ length bytes.now }
-    ensures gives { Gives (λ x. (x.0, x.1)) result (field_at bytes.now at) }
+    ensures gives { GivesInMemory (λ x. (x.0, x.1)) result (field_at bytes.now at) }
     ensures within { IfOk result (λ x. x.1 ≤ length bytes.now) }
 {
     let (reference, after) = nonzero_of(bytes, at)?;
@@ -113,7 +113,7 @@ fn field_of(alloc: Global, bytes: &[u8], at: usize) -> Result<(Body, usize), Log
 #[tactic(auto, unfolding(crate::specs::Reading::deliver_at))]
 fn deliver_of(bytes: &[u8], at: usize) -> Result<(Body, usize), LogError>
     requires { at ≤ length bytes.now }
-    ensures gives { Gives (λ x. (x.0, x.1)) result (deliver_at bytes.now at) }
+    ensures gives { GivesInMemory (λ x. (x.0, x.1)) result (deliver_at bytes.now at) }
     ensures within { IfOk result (λ x. x.1 ≤ length bytes.now) }
 {
     let (call, after) = nonzero_of(bytes, at)?;
@@ -124,7 +124,7 @@ fn deliver_of(bytes: &[u8], at: usize) -> Result<(Body, usize), LogError>
 #[tactic(auto, unfolding(crate::specs::Reading::answer_at))]
 fn answer_of(alloc: Global, bytes: &[u8], at: usize) -> Result<(Body, usize), LogError>
     requires { at ≤ length bytes.now }
-    ensures gives { Gives (λ x. (x.0, x.1)) result (answer_at bytes.now at) }
+    ensures gives { GivesInMemory (λ x. (x.0, x.1)) result (answer_at bytes.now at) }
     ensures within { IfOk result (λ x. x.1 ≤ length bytes.now) }
 {
     let (call, after) = nonzero_of(bytes, at)?;
@@ -135,7 +135,7 @@ fn answer_of(alloc: Global, bytes: &[u8], at: usize) -> Result<(Body, usize), Lo
 #[tactic(auto, unfolding(crate::specs::Reading::fault_at))]
 fn fault_of(bytes: &[u8], at: usize) -> Result<(Body, usize), LogError>
     requires { at ≤ length bytes.now }
-    ensures gives { Gives (λ x. (x.0, x.1)) result (fault_at bytes.now at) }
+    ensures gives { GivesInMemory (λ x. (x.0, x.1)) result (fault_at bytes.now at) }
     ensures within { IfOk result (λ x. x.1 ≤ length bytes.now) }
 {
     let (call, after) = nonzero_of(bytes, at)?;
@@ -145,7 +145,7 @@ fn fault_of(bytes: &[u8], at: usize) -> Result<(Body, usize), LogError>
 #[tactic(auto, unfolding(crate::specs::Reading::send_at))]
 fn send_of(alloc: Global, bytes: &Bytes, at: usize) -> Result<(Body, usize), LogError>
     requires { at ≤ length bytes.now }
-    ensures gives { Gives (λ x. (x.0, x.1)) result (send_at bytes.now at) }
+    ensures gives { GivesInMemory (λ x. (x.0, x.1)) result (send_at bytes.now at) }
     ensures within { IfOk result (λ x. x.1 ≤ length bytes.now) }
 {
     let (passage, after) = passage_of(alloc, bytes, at)?;
@@ -161,7 +161,7 @@ fn send_of(alloc: Global, bytes: &Bytes, at: usize) -> Result<(Body, usize), Log
 #[tactic(auto, unfolding(crate::specs::Reading::receive_at))]
 fn receive_of(alloc: Global, bytes: &Bytes, at: usize) -> Result<(Body, usize), LogError>
     requires { at ≤ length bytes.now }
-    ensures gives { Gives (λ x. (x.0, x.1)) result (receive_at bytes.now at) }
+    ensures gives { GivesInMemory (λ x. (x.0, x.1)) result (receive_at bytes.now at) }
     ensures within { IfOk result (λ x. x.1 ≤ length bytes.now) }
 {
     let (passage, after) = passage_of(alloc, bytes, at)?;
@@ -182,7 +182,7 @@ pub(crate) fn body_of(
     at: usize,
 ) -> Result<(Body, usize), LogError>
     requires { at ≤ length bytes.now }
-    ensures gives { Gives (λ x. (x.0, x.1)) result (fields_at kind bytes.now at) }
+    ensures gives { GivesInMemory (λ x. (x.0, x.1)) result (fields_at kind bytes.now at) }
     ensures within { IfOk result (λ x. x.1 ≤ length bytes.now) }
 {
     match kind {

@@ -2,7 +2,7 @@
 
 ghost use Rattle.std.specs.Prelude.{◌≡◌, ◌<◌, ◌≤◌, ◌^◌, ◌↔◌, length, All, IsTrue, IfOk, IfErr};
 ghost use Rattle.vat_log.specs.Fits.{count_limit, frame_limit, IsNumbered, IsCounted, RefusedFor};
-ghost use Rattle.vat_log.specs.Reading.{Gives, fields_at};
+ghost use Rattle.vat_log.specs.Reading.{GivesInMemory, fields_at};
 
 use crate::body::{Body, References, Results};
 use crate::error::LogError;
@@ -64,7 +64,7 @@ impl Record {
     ) -> Result<(Record, usize), LogError>
         requires octets { All (λ octet. octet < 2 ^ 8) bytes.now }
         requires within { at ≤ length bytes.now }
-        ensures gives { Gives (λ x. (x.0, x.1)) result (fields_at kind bytes.now at) }
+        ensures gives { GivesInMemory (λ x. (x.0, x.1)) result (fields_at kind bytes.now at) }
         ensures within { IfOk result (λ x. x.1 ≤ length bytes.now) }
     {
         let (body, after) = body_of(alloc, kind, bytes, at)?;

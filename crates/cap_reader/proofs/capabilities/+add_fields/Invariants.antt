@@ -1,5 +1,6 @@
 use Rattle.std.proofs.Common.{◌≡◌, ◌≤◌, ◌+◌, ◌-◌, ◌++◌, [], ◌∷◌}
-use Rattle.cap_reader.specs.Reading.{run, price, each, with_front}
+use Rattle.cap_reader.specs.Reading.{run, price, each}
+use Rattle.cap_reader.specs.Glue.{with_front}
 use Rattle.cap_reader.specs.Fields.{fields_in}
 use Rattle.cap_reader.specs.Tree.{tree_at}
 use Rattle.cap_reader.specs.Places.{child_at}

@@ -1,4 +1,4 @@
-use Rattle.rpc_view.specs.Reading.{sections_of}
+use Rattle.rpc_view.specs.Glue.{sections_of}
 use Rattle.rpc_view.proofs.Judged.{call_goes}
 use Rattle.rpc_view.proofs.bodies.call.Goals as goal
 

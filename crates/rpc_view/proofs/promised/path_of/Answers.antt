@@ -2,7 +2,8 @@ use Rattle.std.proofs.Common.{◌<◌, arith}
 use Rattle.std.proofs.lemmas.List.{append-nil}
 use Rattle.std.proofs.lemmas.Result.{err_from_is_err_and}
 use Rattle.cap_reader.specs.Places.{element_at, elements_at}
-use Rattle.rpc_view.specs.Reading.{run, numbers_of}
+use Rattle.rpc_view.specs.Reading.{run}
+use Rattle.rpc_view.specs.Glue.{numbers_of}
 use Rattle.rpc_view.specs.Message.{operation_in, operations_in}
 use Rattle.rpc_view.proofs.Loops.{goes_on, ends, is_done}
 use Rattle.rpc_view.proofs.promised.path_of.Goals as goal

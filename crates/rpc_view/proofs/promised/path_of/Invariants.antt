@@ -1,5 +1,6 @@
 use Rattle.std.proofs.Common.{◌≡◌, ◌-◌}
-use Rattle.cap_reader.specs.Reading.{each, with_front}
+use Rattle.cap_reader.specs.Reading.{each}
+use Rattle.cap_reader.specs.Glue.{with_front}
 use Rattle.cap_reader.specs.Places.{element_at, elements_at}
 use Rattle.rpc_view.specs.Reading.{run}
 use Rattle.rpc_view.specs.Message.{operation_in, operations_in}

@@ -1,7 +1,7 @@
 use Rattle.std.proofs.Common.{[]}
 use Rattle.std.proofs.lemmas.Result.{err_from_is_err_and}
 use Rattle.cap_reader.specs.Fields.{fields_in}
-use Rattle.rpc_view.specs.Reading.{sections_of}
+use Rattle.rpc_view.specs.Glue.{sections_of}
 use Rattle.rpc_view.proofs.Parts.{part_answers, part_refuses}
 use Rattle.rpc_view.proofs.structs.fields_of.Goals as goal
 

@@ -1,5 +1,5 @@
 use Rattle.std.proofs.lemmas.Result.{err_from_is_err_and}
-use Rattle.rpc_view.specs.Reading.{sections_of}
+use Rattle.rpc_view.specs.Glue.{sections_of}
 use Rattle.rpc_view.proofs.Parts.{struct_found, struct_refused}
 use Rattle.rpc_view.proofs.structs.struct_in.Goals as goal
 

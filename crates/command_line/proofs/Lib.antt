@@ -1,0 +1,3 @@
+mod Faultless
+mod Filled
+pub mod Reading

@@ -1,0 +1,184 @@
+//! What `--help` prints.
+
+/// The program.
+pub const PROGRAM: &str = "\
+Judges what the vats of Cap'n Proto RPC recorded.";
+
+/// Behind the list of commands.
+pub const PROGRAM_END: &str = "\
+Each command prints its answer in lines on standard output; its own --help has
+the lines, an example and the exit status.
+
+Examples:
+  $ vataudit vat samples/pipelined_call.vat2.log
+  good vat 2 records 8 delivered 1
+  $ vataudit frame 0000000003000000000000000100010001000000000000000000000000000000
+  abort
+
+Exit status:
+  0  good, the message, or an order
+  1  no
+  2  outside of what is judged, bad input, a failed write, or a wrong command line
+  3  memory ran out";
+
+/// `vat`, in the list of commands.
+pub const VAT: &str = "Audits the log of one vat";
+
+pub const VAT_LONG: &str = "\
+Audits the log of one vat of Cap'n Proto RPC. Reads the log, in the format
+VATLOG01, and prints one line:
+
+  good vat V records N delivered D   every record keeps the rules
+  no vat V record I rule CODE        record I is the first that breaks a rule
+  outside vat V record I WHY         record I is the first that isn't audited:
+                                     Level, Unimplemented, LaterField, TailCall,
+                                     Unread, NotYet
+  bad log NAME [OFFSET]              the bytes aren't a log: BadMagic, Short,
+                                     BadKind, ZeroNumber, TooLong
+  cannot read                        the file can't be read, or has over
+                                     1073741824 bytes
+  out of memory
+
+Records and offsets are counted from 0. docs/RULES.md has each CODE with what
+breaks it, docs/FORMATS.md the format and what each WHY and NAME means.";
+
+pub const VAT_END: &str = "\
+Example:
+  $ vataudit vat samples/pipelined_call.vat2.log
+  good vat 2 records 8 delivered 1
+
+Exit status:
+  0  the log is good
+  1  a record breaks a rule
+  2  a record isn't audited, the log is bad or can't be read, the line can't be
+     written, or the command line is wrong
+  3  memory ran out";
+
+/// FILE of `vat`.
+pub const FILE: &str = "The log, a path from the working directory; - is standard input";
+
+/// `frame`, in the list of commands.
+pub const FRAME: &str = "Prints the message of a frame";
+
+pub const FRAME_LONG: &str = "\
+Reads a frame of the Cap'n Proto stream framing, given in hexadecimal, as a
+message of rpc.capnp, and prints one line:
+
+  bootstrap question Q
+  call question Q target TARGET interface H method M PAYLOAD
+  return answer Q releaseParamCaps B results PAYLOAD
+  return answer Q releaseParamCaps B exception, or canceled in its place
+  finish question Q releaseResultCaps B
+  resolve promise P DESCRIPTOR, or exception in its place
+  release id N count C
+  disembargo N senderLoopback TARGET, or receiverLoopback TARGET
+  abort
+  outside WHY      left out here: Level, Unimplemented, LaterField, TailCall
+  bad tag          a number that stands for no message or no part of one
+  bad read NAME    a pointer can't be followed: OutOfSegment, NoSegment, BadPad,
+                   WrongKind, Reserved, TooDeep (over 64), TooMuch (over 8388608
+                   words)
+  bad frame NAME   no frame: Short, TooManySegments, Trailing, NoRoot
+  bad hex          not two hexadecimal digits for each byte
+  out of memory
+
+TARGET is import N or answer Q PATH. PAYLOAD is caps [DESCRIPTOR;DESCRIPTOR]
+fields [PATH=J;PATH=J]: the capability table, and each path of the content to a
+capability with its place in the table, counted from 0. DESCRIPTOR is none,
+senderHosted N, senderPromise N, receiverHosted N or receiverAnswer Q PATH. PATH
+is [a,b], pointer fields counted from 0. H is 16 hexadecimal digits, B is true or
+false, and other numbers are decimal. docs/FORMATS.md says what each WHY and NAME
+means. A frame that is too long for a command line goes into a file: see frames.";
+
+pub const FRAME_END: &str = "\
+Example:
+  $ vataudit frame 0000000003000000000000000100010001000000000000000000000000000000
+  abort
+
+Exit status:
+  0  the message is printed
+  2  the message is left out here, the frame or its digits are bad, the line
+     can't be written, or the command line is wrong
+  3  memory ran out";
+
+/// HEX of `frame`.
+pub const HEX: &str = "The frame, two digits a byte in either case, without blanks";
+
+/// `frames`, in the list of commands.
+pub const FRAMES: &str = "Prints the messages of a file of frames";
+
+pub const FRAMES_LONG: &str = "\
+Reads a file of frames of the Cap'n Proto stream framing, one after another, as a
+connection's bytes have them, and prints a line for each in order, as frame does
+(vataudit frame --help has the lines). A frame that isn't read has its line too,
+and the next follows. Where no frame can be cut, bad frame NAME is the last line:
+
+  bad frame Short             the bytes end inside a frame
+  bad frame TooManySegments   more than 512 segments
+
+An empty file has no lines. A file that can't be read, or has over 1073741824
+bytes, has the one line
+
+  cannot read
+
+and where memory runs out, the last line is
+
+  out of memory";
+
+pub const FRAMES_END: &str = "\
+Example:
+  $ vataudit frames samples/pipelined_call.vat1.frames
+  bootstrap question 0
+  call question 1 target answer 0 [] interface 0000000000001234 method 2 caps [] fields []
+
+Exit status:
+  0  each line is a message
+  2  a message is left out here, a frame is bad, the file can't be read, a line
+     can't be written, or the command line is wrong
+  3  memory ran out";
+
+/// FILE of `frames`.
+pub const FRAMES_FILE: &str = "The frames, a path from the working directory; - is standard input";
+
+/// `order`, in the list of commands.
+pub const ORDER: &str = "Makes an order of the records of a case";
+
+pub const ORDER_LONG: &str = "\
+Reads a case and the files that it names, makes an order of the records of its
+logs in which each frame is sent before it is received, taking the smallest vat
+number that may come at each step, writes it to FILE in the format VATORD01, and
+prints one line:
+
+  order steps N             an order of N steps is written
+  no order exists           none is, and FILE isn't made
+  bad case [NAME [NUMBER]]  no case file, or a case that doesn't hold together:
+                            TooManyVats, SameVat V, TooManyLinks, SameLink C,
+                            MissingLog C, SameEnds C
+  bad log NAME [OFFSET]     the first log, as listed, that isn't one
+  bad order NAME [OFFSET]   the order that the case names isn't one: BadMagic,
+                            Short
+  cannot read               a file can't be read, or has over 1073741824 bytes
+  out of memory
+
+A case file is a JSON object with logs, a list of paths from the working
+directory, links, a list of [CONNECTION, VAT, VAT], and, if wanted, order, a path.
+What FILE held before is lost.";
+
+pub const ORDER_END: &str = "\
+Example:
+  $ cd samples
+  $ vataudit order pipelined_call.json --out made.order
+  order steps 14
+
+Exit status:
+  0  the order is written
+  1  no order exists
+  2  the case or a file of it is bad or can't be read, a write failed, or the
+     command line is wrong
+  3  memory ran out";
+
+/// CASE of `order`.
+pub const CASE: &str = "The case, a path from the working directory; - is standard input";
+
+/// FILE of `order`.
+pub const OUT: &str = "The file that the order is written to";

@@ -9,8 +9,8 @@ use byteorder::{ByteOrder, LittleEndian};
 use bytes::Bytes;
 use std::marker::Model;
 
-/// A frame: its segments, each a list of words of 8 bytes. Contracts see it as those lists. It keeps the bytes alone, and
-/// each call finds its place in them anew.
+/// A frame: its segments, each a list of words of 8 bytes. Contracts see it as those lists. It keeps the bytes alone,
+/// and each call finds its place in them anew.
 #[derive(Debug, Drop)]
 pub struct Frame {
     bytes: Bytes,
@@ -28,9 +28,9 @@ impl Model for Frame {
 }
 
 impl Frame {
-    /// The frame that the bytes spell, all of the bytes, by the stream framing of the Cap'n Proto encoding specification
-    /// ("Serialization Over a Stream"). Else the first fault: [`FrameError::Short`] with fewer than 4 bytes,
-    /// [`FrameError::TooManySegments`], `Short` where the sizes, the padding or the segments don't fit,
+    /// The frame that the bytes spell, all of the bytes, by the stream framing of the Cap'n Proto encoding
+    /// specification ("Serialization Over a Stream"). Else the first fault: [`FrameError::Short`] with fewer than 4
+    /// bytes, [`FrameError::TooManySegments`], `Short` where the sizes, the padding or the segments don't fit,
     /// [`FrameError::Trailing`], [`FrameError::NoRoot`]. The padding may hold anything. It takes no memory.
     pub fn read(bytes: Bytes) -> Result<Frame, FrameError>
         // Which segments, or which fault.
@@ -44,11 +44,11 @@ impl Frame {
         Ok(Frame { bytes })
     }
 
-    /// The length in bytes of the frame that stands first: its table with the padding, and its segments, by the stream framing
-    /// of the Cap'n Proto encoding specification ("Serialization Over a Stream"). Whatever stands after it doesn't matter.
-    /// Else the first fault: [`FrameError::Short`] with fewer than 4 bytes, [`FrameError::TooManySegments`], `Short` where
-    /// the sizes, the padding or the segments don't fit. A frame whose first segment has no words is as long as any other,
-    /// and [`Frame::read`] then refuses it. It takes no memory.
+    /// The length in bytes of the frame that stands first: its table with the padding, and its segments, by the stream
+    /// framing of the Cap'n Proto encoding specification ("Serialization Over a Stream"). Whatever stands after it
+    /// doesn't matter. Else the first fault: [`FrameError::Short`] with fewer than 4 bytes,
+    /// [`FrameError::TooManySegments`], `Short` where the sizes, the padding or the segments don't fit. A frame whose
+    /// first segment has no words is as long as any other, and [`Frame::read`] then refuses it. It takes no memory.
     pub fn first_len(bytes: &[u8]) -> Result<usize, FrameError>
         // Which length, or which fault.
         ensures exact { result ≡ first_len_of bytes.now }

@@ -2,8 +2,8 @@
 
 ghost use Rattle.std.specs.Prelude.{◌≡◌};
 
-/// Why bytes aren't a frame of the stream framing (encoding specification, "Serialization Over a Stream"): the first fault
-/// that is met.
+/// Why bytes aren't a frame of the stream framing (encoding specification, "Serialization Over a Stream"): the first
+/// fault that is met.
 #[derive(Clone, Copy, Debug, PartialEq, Eq)]
 pub enum FrameError {
     /// The count of segments, their sizes, the padding or a segment passes the end of the bytes.

@@ -1,8 +1,8 @@
 //! Frames of the Cap'n Proto stream framing, cut into segments, and the paths that later layers name.
 //!
-//! It stands on `bytes` and `byteorder`. What a frame is, is said in `specs/Segments.antt`. [`Frame::read`] gives exactly the
-//! segments that bytes spell, [`Frame::first_len`] how long the frame is that stands first. Nothing here takes memory but
-//! [`Path::copy`].
+//! It stands on `bytes` and `byteorder`. What a frame is, is said in `specs/Segments.antt`. [`Frame::read`] gives
+//! exactly the segments that bytes spell, [`Frame::first_len`] how long the frame is that stands first. Nothing here
+//! takes memory but [`Path::copy`].
 #![tactic(auto)]
 
 mod frame;

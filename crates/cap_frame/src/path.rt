@@ -6,8 +6,8 @@ use std::alloc::AllocError;
 use std::marker::Model;
 
 /// Which field of a struct, of a struct in it, and so on: pointer numbers, counted from 0, each of the struct that the
-/// number before it leads to (rpc.capnp, `PromisedAnswer.transform`). The path without numbers is the place itself. Contracts
-/// see it as the list of its numbers.
+/// number before it leads to (rpc.capnp, `PromisedAnswer.transform`). The path without numbers is the place itself.
+/// Contracts see it as the list of its numbers.
 #[derive(Debug, Drop)]
 pub struct Path {
     fields: Vec<u16>,

@@ -1,4 +1,5 @@
--- The limits within which frames are read where nothing else is asked for (encoding specification, "Security Considerations").
+-- The limits within which frames are read where nothing else is asked for (encoding specification, "Security
+-- Considerations").
 use Rattle.cap_reader.specs.declared.limits.Limits.{Limits}
 
 -- visits of 8,388,608 words, which are 64 MiB, and 64 structs one in another

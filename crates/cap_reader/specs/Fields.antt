@@ -1,6 +1,6 @@
--- The capabilities at and below a pointer: each path of pointer numbers, through structs alone, that ends in a capability
--- pointer, with the index that the pointer has into the capability table; depth first, by pointer number. A list's extent
--- is judged and its elements are unread.
+-- The capabilities at and below a pointer: each path of pointer numbers, through structs alone, that ends in a
+-- capability pointer, with the index that the pointer has into the capability table; depth first, by pointer number. A
+-- list's extent is judged and its elements are unread.
 use Rattle.std.specs.Prelude.{ℕ, ◌+◌, List, [], ◌∷◌, ◌++◌, Option, Some, None, nat_lt, if◌then◌else◌}
 use Rattle.cap_reader.specs.declared.read_error.ReadError.{ReadError}
 use Rattle.cap_reader.specs.declared.read_error.ReadError.TheVariants.{Reserved}

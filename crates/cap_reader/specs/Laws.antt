@@ -1,9 +1,9 @@
--- Laws: what holds of every frame and every reading by the definitions of the other files. `src/laws.rt` promises them, and
--- those on frames that are cut in other ways, of `specs/Cuts.antt`.
+-- Laws: what holds of every frame and every reading by the definitions of the other files. `src/laws.rt` promises them,
+-- and those on frames that are cut in other ways, of `specs/Cuts.antt`.
 --
 -- That a reading depends on nothing outside its frame is plain: a tree is a function of the lists of the words of the
--- frame's segments, and the calls' contracts speak of a frame by these alone. So two frames with the same segments read the
--- same, whatever their padding holds:
+-- frame's segments, and the calls' contracts speak of a frame by these alone. So two frames with the same segments read
+-- the same, whatever their padding holds:
 --     segments ≡ others → tree_at depth segments segment at ≡ tree_at depth others segment at
 use Rattle.std.specs.Prelude.{◌≡◌, ℕ, ◌+◌, ◌<◌, true, false, List, length, map, Some, slice_index}
 use Rattle.std.specs.List.{range_with_len, sum_by}
@@ -63,8 +63,8 @@ pub record PadOfOne (segments : List (List ℕ)) (segment at pad_segment pad_at 
   pub word_there : pad_at < length (words_of segments pad_segment)
   pub near : IsNear (pointer_at segments pad_segment pad_at)
 
--- A far pointer leads to a pad of two words, which are there: the first leads to the start of the content, the second is
--- the tag.
+-- A far pointer leads to a pad of two words, which are there: the first leads to the start of the content, the second
+-- is the tag.
 pub record PadOfTwo (segments : List (List ℕ)) (segment at content start : ℕ) (tag : Pointer) : Type 0 where
   pub pad_segment : ℕ
   pub pad_at : ℕ
@@ -75,8 +75,8 @@ pub record PadOfTwo (segments : List (List ℕ)) (segment at content start : ℕ
   pub tagged : pointer_at segments pad_segment (pad_at + 1) ≡ tag
   pub content_there : content < length segments
 
--- "The tag word looks exactly like an intra-segment pointer to the target object would look", but for its offset: what such
--- a pointer says with this offset. A tag of all zeros is an empty struct's.
+-- "The tag word looks exactly like an intra-segment pointer to the target object would look", but for its offset: what
+-- such a pointer says with this offset. A tag of all zeros is an empty struct's.
 abbrev pub LooksLike : Pointer → ℕ → Pointer → Type 0
 LooksLike pointers.Null offset pointer = pointer ≡ pointers.Struct offset 0 0
 LooksLike (pointers.Struct unread data_words pointer_count) offset pointer = pointer ≡ pointers.Struct offset data_words pointer_count

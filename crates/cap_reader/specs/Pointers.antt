@@ -1,6 +1,6 @@
 -- What a pointer's word says, and what it leads to (Cap'n Proto encoding specification, "Structs", "Lists",
--- "Inter-Segment Pointers", "Capabilities"). A word is a number below 2^64, a segment the list of its words; segments and
--- places in them are counted from 0.
+-- "Inter-Segment Pointers", "Capabilities"). A word is a number below 2^64, a segment the list of its words; segments
+-- and places in them are counted from 0.
 use Rattle.std.specs.Prelude.{ℕ, ◌+◌, ◌-◌, ◌/◌, ◌%◌, ◌^◌, ◌==◌, Bool, true, false, ◌&&◌, List, [], length, Option, Some, None, Result, Ok, Err, nat_lt, nat_le, if◌then◌else◌, slice_index, slice_index_or}
 use Rattle.cap_frame.specs.Segments.{word_at}
 use Rattle.cap_reader.specs.declared.pointer.Pointer.{Pointer}
@@ -12,8 +12,8 @@ use Rattle.cap_reader.specs.declared.read_error.ReadError.TheVariants.{OutOfSegm
 
 -- ---- words
 
--- Bits 2 to 31: in a struct or list pointer how many words lie between its own end and what it points to, in the tag word
--- of a composite list how many elements there are.
+-- Bits 2 to 31: in a struct or list pointer how many words lie between its own end and what it points to, in the tag
+-- word of a composite list how many elements there are.
 abbrev pub offset_bits : ℕ → ℕ
 offset_bits word = (word / 4) % 2 ^ 30
 
@@ -45,8 +45,8 @@ pointer_of word =
 abbrev pub words_of : List (List ℕ) → ℕ → List ℕ
 words_of segments segment = slice_index_or segments segment []
 
--- "Offset, in words, from the end of the pointer to the start": signed, so from 2^29 on it is 2^30 less. None stands for
--- a start before the segment.
+-- "Offset, in words, from the end of the pointer to the start": signed, so from 2^29 on it is 2^30 less. None stands
+-- for a start before the segment.
 unfoldable pub start_from : ℕ → ℕ → Option ℕ
 start_from at offset =
     if nat_lt offset (2 ^ 29) then Some (at + 1 + offset)
@@ -90,10 +90,11 @@ pad_word segments segment at = if nat_lt segment (length segments) then word_the
 abbrev pub content_in : List (List ℕ) → ℕ → Pointee → Result Pointee ReadError
 content_in segments segment pointee = if nat_lt segment (length segments) then Ok pointee else Err NoSegment
 
--- "the landing pad is itself another far pointer that is interpreted differently: This far pointer (which always has B = 0)
--- points to the start of the object's content, located in some other segment. The landing pad is itself immediately
--- followed by a tag word. The tag word looks exactly like an intra-segment pointer to the target object would look, except
--- that the offset is always zero." The offset isn't read here, and a tag of all zeros is an empty struct.
+-- "the landing pad is itself another far pointer that is interpreted differently: This far pointer (which always has B
+-- = 0) points to the start of the object's content, located in some other segment. The landing pad is itself
+-- immediately followed by a tag word. The tag word looks exactly like an intra-segment pointer to the target object
+-- would look, except that the offset is always zero." The offset isn't read here, and a tag of all zeros is an empty
+-- struct.
 unfoldable pub tagged : List (List ℕ) → Pointer → Pointer → Result Pointee ReadError
 tagged segments (pointers.Far false offset segment) pointers.Null = content_in segments segment (leads.Struct segment (Some offset) 0 0)
 tagged segments (pointers.Far false offset segment) (pointers.Struct unread data_words pointer_count) = content_in segments segment (leads.Struct segment (Some offset) data_words pointer_count)

@@ -20,8 +20,8 @@ infixl 10 ◌>>=◌
 abbrev pub ◌>>=◌ : {E A B : Type 0} → Reading E A → (A → Reading E B) → Reading E B
 reading >>= next = and_then reading next
 
--- What a reading answers, given so many words, and how many it leaves. Each visit is paid for in its turn; the first that
--- costs more than there is left is too much, and isn't paid for.
+-- What a reading answers, given so many words, and how many it leaves. Each visit is paid for in its turn; the first
+-- that costs more than there is left is too much, and isn't paid for.
 unfoldable pub pay_for : {E A : Type 0} → E → Reading E A → ℕ → Result A E × ℕ
 pay_for too_much (done value) left = (Ok value, left)
 pay_for too_much (fault e) left = (Err e, left)
@@ -66,7 +66,8 @@ IsTooMuch (Err e) = ⊥
 
 -- ---- reading a tree as one kind
 
--- a struct's data section, how many words and each word, and its pointer section, how many pointers and the tree at each
+-- a struct's data section, how many words and each word, and its pointer section, how many pointers and the tree at
+-- each
 pub record Sections : Type 0 where
   pub data_words : ℕ
   pub word : ℕ → ℕ

@@ -7,9 +7,9 @@ use Rattle.cap_reader.specs.declared.read_error.ReadError.TheVariants.{OutOfSegm
 use Rattle.cap_reader.specs.Pointers.{offset_bits, data_bits, pointer_bits, words_of, has_words, extent, followed}
 
 -- What stands at a pointer. A struct has a data section, of which there is how many words it has and each word, and a
--- pointer section, of which there is how many pointers it has and the tree at each. A list of structs has how many elements
--- there are and the tree of each. Of any other list only its extent is judged. What is bad is so in one way; an unfollowed
--- pointer is one whose pads can't be followed.
+-- pointer section, of which there is how many pointers it has and the tree at each. A list of structs has how many
+-- elements there are and the tree of each. Of any other list only its extent is judged. What is bad is so in one way;
+-- an unfollowed pointer is one whose pads can't be followed.
 pub data Tree : Type 0 where
   nothing : Tree
   structure : ℕ → (ℕ → ℕ) → ℕ → (ℕ → Tree) → Tree
@@ -27,8 +27,9 @@ abbrev pub structure_there : (ℕ → Tree) → Option ℕ → Tree
 structure_there structure_of None = bad_structure OutOfSegment
 structure_there structure_of (Some start) = structure_of start
 
--- "the tag word ... has the same layout as a struct pointer, except that the pointer offset (B) instead indicates the number
--- of elements in the list". The elements stand behind it one after another, in so many words as the list's pointer says.
+-- "the tag word ... has the same layout as a struct pointer, except that the pointer offset (B) instead indicates the
+-- number of elements in the list". The elements stand behind it one after another, in so many words as the list's
+-- pointer says.
 unfoldable pub elements_behind : (ℕ → ℕ → ℕ → Tree) → List (List ℕ) → ℕ → ℕ → ℕ → Tree
 elements_behind structure_of segments segment size tag_at =
     let tag = slice_index (words_of segments segment) tag_at in
@@ -80,8 +81,8 @@ pointed structure_of segments (Ok (leads.List segment start element_size count))
 pointed structure_of segments (Ok (leads.Capability index)) = capability index
 pointed structure_of segments (Ok leads.Reserved) = reserved
 
--- The struct at a place with so many data words and pointers, where so many more structs may stand within one another: the
--- data section first, then the pointer section.
+-- The struct at a place with so many data words and pointers, where so many more structs may stand within one another:
+-- the data section first, then the pointer section.
 unfoldable pub structure_at : ℕ → List (List ℕ) → ℕ → ℕ → ℕ → ℕ → Tree
 structure_at zero segments segment start data_words pointer_count = bad_structure TooDeep
 structure_at (suc depth) segments segment start data_words pointer_count =

@@ -73,8 +73,8 @@ fn path_of(numbers: &Vec<u16>) -> Result<Path, AllocError>
     Ok(Path::new(numbers.clone()?))
 }
 
-/// Adds the capabilities at and below the pointer at a place, to which the path leads. A path that was lengthened is as it
-/// was again.
+/// Adds the capabilities at and below the pointer at a place, to which the path leads. A path that was lengthened is as
+/// it was again.
 fn add_fields(
     frame: &Frame,
     segment: u32,
@@ -161,15 +161,16 @@ fn listed(
     Ok(Fields::new(found))
 }
 
-/// The capabilities at and below a pointer of a struct, by the pointer's number, counted from 0: each path through structs
-/// alone that ends in a capability pointer, with its index, depth first by pointer number. A list on the way is judged, and
-/// its elements are unread. The words left are lowered by each visit; the visit that is refused doesn't lower them.
-/// Where memory is refused, the words of the visits made until then are gone.
+/// The capabilities at and below a pointer of a struct, by the pointer's number, counted from 0: each path through
+/// structs alone that ends in a capability pointer, with its index, depth first by pointer number. A list on the way is
+/// judged, and its elements are unread. The words left are lowered by each visit; the visit that is refused doesn't
+/// lower them. Where memory is refused, the words of the visits made until then are gone.
 ///
 /// # Errors
 ///
-/// The fault of the first pointer that has one, in the order of the visits: each of [`ReadError`], of which `WrongKind` comes
-/// only from a composite list whose tag isn't a struct's. `OutOfMemory` where a growth of the list or of a path is refused.
+/// The fault of the first pointer that has one, in the order of the visits: each of [`ReadError`], of which `WrongKind`
+/// comes only from a composite list whose tag isn't a struct's. `OutOfMemory` where a growth of the list or of a path
+/// is refused.
 pub fn fields(
     alloc: Global,
     frame: &Frame,

@@ -20,9 +20,9 @@ fn word_at(frame: &Frame, place: &StructAt, index: u32) -> u64
     }
 }
 
-/// The number of two bytes, the lowest first, at a byte of the data section, counted from 0, which is a multiple of 2. What
-/// a shorter struct lacks is 0. A field with another default is stored as the exclusive or with it, which is the caller's to
-/// undo (encoding specification, "Default Values").
+/// The number of two bytes, the lowest first, at a byte of the data section, counted from 0, which is a multiple of 2.
+/// What a shorter struct lacks is 0. A field with another default is stored as the exclusive or with it, which is the
+/// caller's to undo (encoding specification, "Default Values").
 pub fn u16_at(frame: &Frame, place: &StructAt, byte: u32) -> u16
     requires { byte % 2 ≡ 0 }
     ensures { result ≡ u16_in byte (sections_at frame.now place.now).word }
@@ -30,8 +30,8 @@ pub fn u16_at(frame: &Frame, place: &StructAt, byte: u32) -> u16
     ((word_at(frame, place, byte / 8) >> (8 * (byte % 8))) % (1 << 16)) as u16
 }
 
-/// The number of four bytes, the lowest first, at a byte of the data section, counted from 0, which is a multiple of 4. What
-/// a shorter struct lacks is 0; another default is the caller's to undo, as in [`u16_at`].
+/// The number of four bytes, the lowest first, at a byte of the data section, counted from 0, which is a multiple of 4.
+/// What a shorter struct lacks is 0; another default is the caller's to undo, as in [`u16_at`].
 pub fn u32_at(frame: &Frame, place: &StructAt, byte: u32) -> u32
     requires { byte % 4 ≡ 0 }
     ensures { result ≡ u32_in byte (sections_at frame.now place.now).word }
@@ -39,8 +39,8 @@ pub fn u32_at(frame: &Frame, place: &StructAt, byte: u32) -> u32
     ((word_at(frame, place, byte / 8) >> (8 * (byte % 8))) % (1 << 32)) as u32
 }
 
-/// The number of eight bytes, the lowest first, at a byte of the data section, counted from 0, which is a multiple of 8. What
-/// a shorter struct lacks is 0; another default is the caller's to undo, as in [`u16_at`].
+/// The number of eight bytes, the lowest first, at a byte of the data section, counted from 0, which is a multiple of
+/// 8. What a shorter struct lacks is 0; another default is the caller's to undo, as in [`u16_at`].
 pub fn u64_at(frame: &Frame, place: &StructAt, byte: u32) -> u64
     requires { byte % 8 ≡ 0 }
     ensures { result ≡ u64_in byte (sections_at frame.now place.now).word }

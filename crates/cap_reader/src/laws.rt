@@ -29,8 +29,9 @@ pub fn structs_are_paid()
         → left + struct_words tree ≤ words }
 {}
 
-/// A far pointer has the value of the pointer on its pad. Behind a pad of two words it has the value of what the tag says at
-/// the start of the content, and so that of each pointer in the content's segment which looks like the tag and leads there.
+/// A far pointer has the value of the pointer on its pad. Behind a pad of two words it has the value of what the tag
+/// says at the start of the content, and so that of each pointer in the content's segment which looks like the tag and
+/// leads there.
 pub fn pads_lead_on()
     ensures one_word { (segments : List (List ℕ)) (segment at pad_segment pad_at : ℕ) → PadOfOne segments segment at pad_segment pad_at
         → (depth : ℕ) → tree_at depth segments segment at ≡ tree_at depth segments pad_segment pad_at }
@@ -41,8 +42,8 @@ pub fn pads_lead_on()
         → (depth : ℕ) → tree_at depth segments segment at ≡ tree_at depth segments content near }
 {}
 
-/// Where the pointers of two frames correspond, those that do have the same value, however the frames are cut in segments.
-/// So has one message, whole and cut in two.
+/// Where the pointers of two frames correspond, those that do have the same value, however the frames are cut in
+/// segments. So has one message, whole and cut in two.
 pub fn cuts_keep_values()
     ensures values { (pairs : Pairs) (one other : List (List ℕ)) → Correspond pairs one other
         → (depth segment at other_segment other_at : ℕ) → pairs segment at other_segment other_at ≡ true
@@ -50,8 +51,8 @@ pub fn cuts_keep_values()
     ensures release { (depth : ℕ) → root_tree depth release_whole ≡ root_tree depth release_cut }
 {}
 
-/// A call that visits one struct pays its words, and at least 1. One that finds null, or refuses, pays nothing, and so does
-/// one that finds a list.
+/// A call that visits one struct pays its words, and at least 1. One that finds null, or refuses, pays nothing, and so
+/// does one that finds a list.
 pub fn one_visit_is_paid()
     ensures read { (tree : Tree) (words left : ℕ) (sections : Sections) → run (structure_in tree) words ≡ (Ok (Some sections), left)
         → left + cost_of (sections.data_words + sections.pointer_count) ≡ words }
@@ -60,8 +61,8 @@ pub fn one_visit_is_paid()
     ensures list { (tree : Tree) (words : ℕ) → (run (elements_in tree) words).1 ≡ words }
 {}
 
-/// No fault of pointers is want of memory: [`ReadError::OutOfMemory`](crate::ReadError::OutOfMemory) comes where a growth was
-/// refused, and so from [`fields`](crate::fields) alone.
+/// No fault of pointers is want of memory: [`ReadError::OutOfMemory`](crate::ReadError::OutOfMemory) comes where a
+/// growth was refused, and so from [`fields`](crate::fields) alone.
 pub fn pointers_want_no_memory()
     ensures structs { (depth : ℕ) (segments : List (List ℕ)) (segment at words : ℕ)
         → (run (structure_in (tree_at depth segments segment at)) words).0 ≢ Err OutOfMemory }

@@ -1,10 +1,11 @@
 //! Reading the structs, lists and capabilities of a frame where they lie, by their pointers, within limits.
 //!
-//! It stands on `cap_frame`. What stands at a pointer is the whole tree of `specs/Tree.antt`; reading it is a list of visits
-//! with costs and an ending, as `specs/Reading.antt` says, and `specs/Fields.antt` says which paths end in a capability. Each
-//! call that follows a pointer answers exactly what its reading gives within the limits, or the first refusal, and lowers the
-//! words that are left by just what its visits cost. What holds of every reading, as that pointers which correspond in two
-//! frames have the same value, `laws` promises. Nothing here takes memory but [`fields`].
+//! It stands on `cap_frame`. What stands at a pointer is the whole tree of `specs/Tree.antt`; reading it is a list of
+//! visits with costs and an ending, as `specs/Reading.antt` says, and `specs/Fields.antt` says which paths end in a
+//! capability. Each call that follows a pointer answers exactly what its reading gives within the limits, or the first
+//! refusal, and lowers the words that are left by just what its visits cost. What holds of every reading, as that
+//! pointers which correspond in two frames have the same value, `laws` promises. Nothing here takes memory but
+//! [`fields`].
 #![tactic(auto)]
 
 mod capabilities;

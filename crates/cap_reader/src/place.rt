@@ -2,8 +2,8 @@
 
 ghost use Rattle.std.specs.Prelude.{◌≡◌, ◌<◌, ◌≤◌, ◌+◌, ◌*◌, ◌^◌, MatchOption, IfSome};
 
-/// A struct that was visited: in which segment and where its data section begins, the sizes of its two sections in words,
-/// and how many more structs may stand within one another below it.
+/// A struct that was visited: in which segment and where its data section begins, the sizes of its two sections in
+/// words, and how many more structs may stand within one another below it.
 #[derive(Clone, Copy, Debug)]
 pub struct StructAt {
     pub(crate) segment: u32,
@@ -28,8 +28,8 @@ impl StructAt {
     }
 }
 
-/// A list of structs: in which segment and where its first element begins, how many there are, the sizes of each in words,
-/// and how many structs may stand within one another from an element on.
+/// A list of structs: in which segment and where its first element begins, how many there are, the sizes of each in
+/// words, and how many structs may stand within one another from an element on.
 #[derive(Clone, Copy, Debug)]
 pub struct ListAt {
     pub(crate) segment: u32,

@@ -4,7 +4,8 @@ ghost use Rattle.std.specs.Prelude.{◌≡◌, ◌<◌, ◌^◌};
 ghost use Rattle.cap_reader.specs.Pointers.{offset_bits, data_bits, pointer_bits, high_bits, start_from};
 
 /// What a pointer's word says, by the encoding specification ("Structs", "Lists", "Inter-Segment Pointers",
-/// "Capabilities"). Offsets and sizes are in words; an offset of a struct or a list pointer is 30 bits of a signed number.
+/// "Capabilities"). Offsets and sizes are in words; an offset of a struct or a list pointer is 30 bits of a signed
+/// number.
 #[derive(Clone, Copy, Debug)]
 pub enum Pointer {
     /// All zeros.

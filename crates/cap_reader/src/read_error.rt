@@ -5,9 +5,10 @@ ghost use Rattle.cap_reader.specs.declared.read_error.ReadError.TheVariants.{Out
 
 use std::alloc::{AllocError, AllocFailed};
 
-/// Why the pointers of a frame can't be followed: the first fault that reading one pointer meets. Its pads are followed first
-/// (`NoSegment`, `OutOfSegment`, `BadPad`); then come `Reserved`, `WrongKind`, `OutOfSegment` of what it leads to, `TooDeep`
-/// and `TooMuch` (encoding specification, "Structs", "Lists", "Inter-Segment Pointers", "Security Considerations").
+/// Why the pointers of a frame can't be followed: the first fault that reading one pointer meets. Its pads are followed
+/// first (`NoSegment`, `OutOfSegment`, `BadPad`); then come `Reserved`, `WrongKind`, `OutOfSegment` of what it leads
+/// to, `TooDeep` and `TooMuch` (encoding specification, "Structs", "Lists", "Inter-Segment Pointers", "Security
+/// Considerations").
 #[derive(Clone, Copy, Debug, PartialEq, Eq)]
 pub enum ReadError {
     /// A pad, or what a pointer leads to, leaves its segment, or a list's elements need more words than the list has.

@@ -1,5 +1,5 @@
-//! Visiting the structs and the lists of structs of a frame. Each call answers what the reading of the tree at its place
-//! gives within the words left, and lowers them by what its visit costs; a refusal leaves them as they were.
+//! Visiting the structs and the lists of structs of a frame. Each call answers what the reading of the tree at its
+//! place gives within the words left, and lowers them by what its visit costs; a refusal leaves them as they were.
 
 ghost use Rattle.std.specs.Prelude.{◌≡◌, ◌<◌, ◌≤◌, ◌+◌, ◌^◌, List, ℕ, Option, Some, IfOk};
 ghost use Rattle.std.specs.Option.{option_map};
@@ -181,8 +181,8 @@ fn list_at(frame: &Frame, segment: u32, at: u64, depth: u8) -> Result<Option<Lis
     }
 }
 
-/// The root struct of a frame; where the root pointer is null, the empty struct, in which every field has its default. The
-/// root pointer is the first word of segment 0 (encoding specification, "Messages").
+/// The root struct of a frame; where the root pointer is null, the empty struct, in which every field has its default.
+/// The root pointer is the first word of segment 0 (encoding specification, "Messages").
 ///
 /// # Errors
 ///
@@ -205,8 +205,8 @@ pub fn root(frame: &Frame, limits: &mut Limits) -> Result<StructAt, ReadError>
     }
 }
 
-/// The struct at a pointer of a struct, by the pointer's number, counted from 0. None where the pointer is null, or the struct
-/// is too short to have it (encoding specification, "Structs").
+/// The struct at a pointer of a struct, by the pointer's number, counted from 0. None where the pointer is null, or the
+/// struct is too short to have it (encoding specification, "Structs").
 ///
 /// # Errors
 ///
@@ -228,14 +228,14 @@ pub fn struct_field(
     }
 }
 
-/// The list of structs at a pointer of a struct, by the pointer's number, counted from 0. None where the pointer is null, or
-/// the struct is too short to have it. It costs nothing (encoding specification, "Lists", of element size 7).
+/// The list of structs at a pointer of a struct, by the pointer's number, counted from 0. None where the pointer is
+/// null, or the struct is too short to have it. It costs nothing (encoding specification, "Lists", of element size 7).
 ///
 /// # Errors
 ///
-/// `NoSegment`, `OutOfSegment` or `BadPad` of a pad; else `Reserved`; else `WrongKind` where it isn't a list of structs, or
-/// its tag isn't a struct's; else `OutOfSegment` where the list leaves its segment, or its elements the list. A list whose
-/// very tag leaves the segment is `OutOfSegment`.
+/// `NoSegment`, `OutOfSegment` or `BadPad` of a pad; else `Reserved`; else `WrongKind` where it isn't a list of
+/// structs, or its tag isn't a struct's; else `OutOfSegment` where the list leaves its segment, or its elements the
+/// list. A list whose very tag leaves the segment is `OutOfSegment`.
 #[tactic(auto, unfolding(crate::specs::Reading::pay_for))]
 pub fn list_field(
     frame: &Frame,

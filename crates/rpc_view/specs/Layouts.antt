@@ -1,7 +1,7 @@
--- The structs of rpc.capnp: where each field stands, one entry a field, under the names of its struct and field there, with
--- what it is by default and why. A field that a struct is too short for reads as its default; a stored field is the
--- exclusive or with its default (encoding specification, "Default Values"). Where nothing else is said, rpc.capnp declares
--- no default, so that it is 0, and a union is its first member. Fields that aren't listed are unread.
+-- The structs of rpc.capnp: where each field stands, one entry a field, under the names of its struct and field there,
+-- with what it is by default and why. A field that a struct is too short for reads as its default; a stored field is
+-- the exclusive or with its default (encoding specification, "Default Values"). Where nothing else is said, rpc.capnp
+-- declares no default, so that it is 0, and a union is its first member. Fields that aren't listed are unread.
 use Rattle.std.specs.Prelude.{ℕ, Bool, not}
 use Rattle.cap_reader.specs.Tree.{Tree}
 use Rattle.cap_reader.specs.Reading.{Sections}
@@ -38,8 +38,8 @@ call_question call = u32_in 0 call.word
 abbrev pub call_method : Sections → ℕ
 call_method call = u16_in 4 call.word
 
--- sendResultsTo: "Where should the return message be sent?", "union": 0 caller, 1 yourself, 2 thirdParty; by default to the
--- caller, "(the usual)"
+-- sendResultsTo: "Where should the return message be sent?", "union": 0 caller, 1 yourself, 2 thirdParty; by default to
+-- the caller, "(the usual)"
 abbrev pub call_send_results_to : Sections → ℕ
 call_send_results_to call = u16_in 6 call.word
 
@@ -65,9 +65,9 @@ call_params call = call.child 1
 abbrev pub return_answer : Sections → ℕ
 return_answer answer = u32_in 0 answer.word
 
--- releaseParamCaps: "If true, all capabilities that were in the params should be considered released". "This defaults true
--- because if level 0 implementations forget to set it they'll never notice (just silently leak caps), but if level >=1
--- implementations forget to set it to false they'll quickly get errors."
+-- releaseParamCaps: "If true, all capabilities that were in the params should be considered released". "This defaults
+-- true because if level 0 implementations forget to set it they'll never notice (just silently leak caps), but if level
+-- >=1 implementations forget to set it to false they'll quickly get errors."
 abbrev pub return_release_param_caps : Sections → Bool
 return_release_param_caps answer = bit_or_true 32 answer.word
 
@@ -90,9 +90,9 @@ return_results answer = answer.child 0
 abbrev pub finish_question : Sections → ℕ
 finish_question finish = u32_in 0 finish.word
 
--- releaseResultCaps: "If true, all capabilities that were in the results should be considered released". "This defaults true
--- because if level 0 implementations forget to set it they'll never notice (just silently leak caps), but if level >=1
--- implementations forget set it false they'll quickly get errors."
+-- releaseResultCaps: "If true, all capabilities that were in the results should be considered released". "This defaults
+-- true because if level 0 implementations forget to set it they'll never notice (just silently leak caps), but if level
+-- >=1 implementations forget set it false they'll quickly get errors."
 abbrev pub finish_release_result_caps : Sections → Bool
 finish_release_result_caps finish = bit_or_true 32 finish.word
 
@@ -122,8 +122,8 @@ release_count release = u32_in 4 release.word
 
 -- ---- Disembargo
 
--- context.senderLoopback and context.receiverLoopback: a number that the first sender chose, and that the echo repeats. The
--- two share a place.
+-- context.senderLoopback and context.receiverLoopback: a number that the first sender chose, and that the echo repeats.
+-- The two share a place.
 abbrev pub disembargo_number : Sections → ℕ
 disembargo_number disembargo = u32_in 0 disembargo.word
 
@@ -155,8 +155,8 @@ target_promised target = target.child 0
 abbrev pub promised_question : Sections → ℕ
 promised_question promised = u32_in 0 promised.word
 
--- transform: "Operations / transformations to apply to the result in order to get the capability"; by default none, and the
--- result itself is meant
+-- transform: "Operations / transformations to apply to the result in order to get the capability"; by default none, and
+-- the result itself is meant
 abbrev pub promised_transform : Sections → Tree
 promised_transform promised = promised.child 0
 
@@ -187,11 +187,12 @@ payload_cap_table payload = payload.child 1
 abbrev pub descriptor_tag : Sections → ℕ
 descriptor_tag descriptor = u16_in 0 descriptor.word
 
--- senderHosted: "The ID of a capability in the sender's export table"; senderPromise: one that the
--- sender will resolve later; receiverHosted: "A capability (or promise) previously exported by the receiver". The three share a place.
+-- senderHosted: "The ID of a capability in the sender's export table"; senderPromise: one that the sender will resolve
+-- later; receiverHosted: "A capability (or promise) previously exported by the receiver". The three share a place.
 abbrev pub descriptor_number : Sections → ℕ
 descriptor_number descriptor = u32_in 4 descriptor.word
 
--- receiverAnswer: "A capability expected to be returned in the results of a currently-outstanding call posed by the sender"
+-- receiverAnswer: "A capability expected to be returned in the results of a currently-outstanding call posed by the
+-- sender"
 abbrev pub descriptor_answer : Sections → Tree
 descriptor_answer descriptor = descriptor.child 0

@@ -1,7 +1,7 @@
--- The message of a tree, by the layouts of rpc.capnp. Each tag, and the data of a body, is judged where it is read: a number
--- that this profile doesn't list first, then what belongs to another level, then unimplemented, which only Message's tag
--- says, then tail calls, then what later editions use.
--- The data of a body is judged whole before its pointers are followed; pointers that a union doesn't select are unread.
+-- The message of a tree, by the layouts of rpc.capnp. Each tag, and the data of a body, is judged where it is read: a
+-- number that this profile doesn't list first, then what belongs to another level, then unimplemented, which only
+-- Message's tag says, then tail calls, then what later editions use. The data of a body is judged whole before its
+-- pointers are followed; pointers that a union doesn't select are unread.
 use Rattle.std.specs.Prelude.{◌≡◌, ℕ, ◌<◌, ◌≤◌, ◌==◌, Bool, ◌||◌, List, [], ◌∷◌, Result, Ok, Err, nat_lt, if◌then◌else◌}
 use Rattle.cap_frame.specs.declared.frame_error.FrameError.{FrameError}
 use Rattle.cap_frame.specs.Segments.{segments_of}
@@ -189,8 +189,8 @@ disembargo_in tree = do
       else (if nat_lt (disembargo_tag disembargo) 4 then fault (errors.Outside Level)
       else fault errors.BadTag))
 
--- The body behind Message's tag. An abort's isn't read. 7 obsoleteSave, 9 obsoleteDelete, 10 provide, 11 accept and 12 join
--- are of other levels; by this project's choice the list of tags ends at 13.
+-- The body behind Message's tag. An abort's isn't read. 7 obsoleteSave, 9 obsoleteDelete, 10 provide, 11 accept and 12
+-- join are of other levels; by this project's choice the list of tags ends at 13.
 unfoldable pub body_in : ℕ → Tree → Reading ViewError RpcMessage
 body_in tag body =
     if tag == 0 then fault (errors.Outside Unimplemented)

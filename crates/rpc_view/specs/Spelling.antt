@@ -1,8 +1,9 @@
--- Some messages from the writer's side, of each kind one form or a few: a Bootstrap; a Call to an answer itself or to an
--- import, without parameters; a Return that gives the capabilities of the parameters back, and whose results are one
--- senderHosted; a Return with an exception, or canceled; a Finish; a Resolve to a senderHosted, or to an exception; a Release;
--- a Disembargo to an import; an Abort. Other forms, such as a path or another descriptor, aren't spelled here. The one segment of a frame holds nothing but
--- the message, its structs one behind another in the order in which the pointers to them are met.
+-- Some messages from the writer's side, of each kind one form or a few: a Bootstrap; a Call to an answer itself or to
+-- an import, without parameters; a Return that gives the capabilities of the parameters back, and whose results are one
+-- senderHosted; a Return with an exception, or canceled; a Finish; a Resolve to a senderHosted, or to an exception; a
+-- Release; a Disembargo to an import; an Abort. Other forms, such as a path or another descriptor, aren't spelled here.
+-- The one segment of a frame holds nothing but the message, its structs one behind another in the order in which the
+-- pointers to them are met.
 use Rattle.std.specs.Prelude.{ℕ, ◌+◌, ◌*◌, ◌^◌, ◌<◌, Bool, true, if◌then◌else◌, List, [], ◌∷◌}
 use Rattle.rpc_view.specs.declared.message.Descriptor.TheVariants.{SenderHosted}
 use Rattle.rpc_view.specs.declared.message.Outcome.TheVariants.{Results, Canceled}
@@ -45,7 +46,8 @@ import_call_segment question export interface method =
     ∷ export ∷ 0
     ∷ []
 
--- a Message, whose tag is 3, and a Return with a tag and no pointer; releaseParamCaps is stored as the exclusive or with true
+-- a Message, whose tag is 3, and a Return with a tag and no pointer; releaseParamCaps is stored as the exclusive or
+-- with true
 abbrev pub bare_return_segment : ℕ → Bool → ℕ → List ℕ
 bare_return_segment answer released tag =
     struct_pointer 0 1 1
@@ -118,7 +120,8 @@ abort_segment =
     ∷ 1 ∷ 0
     ∷ []
 
--- The words spell the message in one of these forms; reading it costs so many words, and so many structs stand within one another.
+-- The words spell the message in one of these forms; reading it costs so many words, and so many structs stand within
+-- one another.
 pub data Spells : List ℕ → RpcMessage → ℕ → ℕ → Type 0 where
   bootstrap : {question : ℕ} → question < 2 ^ 32 → Spells (bootstrap_segment question) (Bootstrap question) 4 2
   call : {question answer interface method : ℕ} → question < 2 ^ 32 → answer < 2 ^ 32 → method < 2 ^ 16

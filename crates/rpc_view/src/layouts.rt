@@ -1,7 +1,7 @@
-//! The table of rpc.capnp's layouts: where each field of its structs stands, under the names of its struct and field, with
-//! what it is by default and why. Numbers are named by the byte of the data section at which they begin, a Bool by its bit,
-//! pointers by their number, each counted from 0. Where nothing else is said, rpc.capnp declares no default: a number is 0, a
-//! union its first member, a pointer null.
+//! The table of rpc.capnp's layouts: where each field of its structs stands, under the names of its struct and field,
+//! with what it is by default and why. Numbers are named by the byte of the data section at which they begin, a Bool by
+//! its bit, pointers by their number, each counted from 0. Where nothing else is said, rpc.capnp declares no default: a
+//! number is 0, a union its first member, a pointer null.
 
 /// `Message`'s union, by default `unimplemented`.
 pub const MESSAGE_TAG: u32 = 0;
@@ -36,8 +36,8 @@ pub const CALL_PARAMS: u16 = 1;
 /// `Return.answerId`.
 pub const RETURN_ANSWER: u32 = 0;
 
-/// `Return.releaseParamCaps`, by default true: who forgets to set it only keeps capabilities too long, and who forgets to
-/// clear it is told by errors soon.
+/// `Return.releaseParamCaps`, by default true: who forgets to set it only keeps capabilities too long, and who forgets
+/// to clear it is told by errors soon.
 pub const RETURN_RELEASE_PARAM_CAPS: u32 = 32;
 
 /// A bit of `Return` that later editions use; by default not set, as earlier editions send it.

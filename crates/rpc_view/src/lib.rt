@@ -1,8 +1,9 @@
 //! The level 1 messages that frames carry.
 //!
-//! It stands on `cap_reader`, whose limits and faults of pointers it lends, and on `cap_frame`. Which message a frame is says
-//! `specs/Message.antt`, by the table of layouts in `specs/Layouts.antt`. [`read_message`] and [`read_bytes`] answer exactly
-//! that message within the limits, or the first refusal in the order of reading.
+//! It stands on `cap_reader`, whose limits and faults of pointers it lends, and on `cap_frame`. Which message a frame
+//! is says `specs/Message.antt`, by the table of layouts in `specs/Layouts.antt`. [`read_message`] and [`read_bytes`]
+//! answer exactly that message within the limits, or the first refusal in the order of reading. That limits never
+//! change a message, `laws` promises.
 #![tactic(auto)]
 
 mod bodies;

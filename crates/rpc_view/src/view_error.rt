@@ -11,8 +11,8 @@ use std::alloc::{AllocError, AllocFailed};
 /// What a message has that is outside of this profile, which is level 1 without tail calls.
 #[derive(Clone, Copy, Debug, PartialEq, Eq)]
 pub enum Outside {
-    /// Part of a level above 1: provide, accept, join, the obsolete messages of persistence, and what has to do with third
-    /// parties.
+    /// Part of a level above 1: provide, accept, join, the obsolete messages of persistence, and what has to do with
+    /// third parties.
     Level,
     /// The message `unimplemented`.
     Unimplemented,
@@ -25,7 +25,8 @@ pub enum Outside {
 /// Why a frame isn't read as a message.
 #[derive(Clone, Copy, Debug, PartialEq, Eq)]
 pub enum ViewError {
-    /// A pointer can't be followed within the limits. It never holds `ReadError::OutOfMemory`, which is `OutOfMemory` here.
+    /// A pointer can't be followed within the limits. It never holds `ReadError::OutOfMemory`, which is `OutOfMemory`
+    /// here.
     Read(ReadError),
     /// A message, or a part of one, that is outside of this profile.
     Outside(Outside),

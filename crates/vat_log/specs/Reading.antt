@@ -1,5 +1,5 @@
--- Reading a log (docs/FORMATS.md) from left to right, with the first fault that is met. A field is read at a place in the
--- bytes, counted from 0, and gives its value and the place after it.
+-- Reading a log (docs/FORMATS.md) from left to right, with the first fault that is met. A field is read at a place in
+-- the bytes, counted from 0, and gives its value and the place after it.
 use Rattle.std.specs.Prelude.{◌≡◌, ℕ, zero, suc, ◌+◌, List, [], ◌∷◌, length, slice_index, slice_range, Option, Some, None, Result, Ok, Err, nat_lt, nat_eq, ◌==◌, if◌then◌else◌}
 use Rattle.std.specs.List.{starts_with}
 use Rattle.std.specs.Int.{Width, w16, w32, w64, byte_len, from_le_bytes}

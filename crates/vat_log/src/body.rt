@@ -169,7 +169,8 @@ pub enum Body {
         connection: u32,
         /// The call that a Bootstrap or a Call is; 0 where none is noted.
         call: u64,
-        /// The new references for what came in by the capability table, in its order, without the descriptors that are none.
+        /// The new references for what came in by the capability table, in its order, without the descriptors that are
+        /// none.
         references: References,
         /// One message in stream framing, as it passed the wire.
         frame: Bytes,

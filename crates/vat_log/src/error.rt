@@ -5,8 +5,8 @@ ghost use Rattle.vat_log.specs.declared.error.LogError.TheVariants.{OutOfMemory}
 
 use std::alloc::{AllocError, AllocFailed};
 
-/// What is wrong with a log's bytes: the first fault from left to right. Offsets are in bytes from the log's begin. It is also
-/// why no log can hold a body or so many records, where there are no bytes and so no offset.
+/// What is wrong with a log's bytes: the first fault from left to right. Offsets are in bytes from the log's begin. It
+/// is also why no log can hold a body or so many records, where there are no bytes and so no offset.
 #[derive(Clone, Copy, Debug, PartialEq, Eq)]
 pub enum LogError {
     /// The first 8 bytes aren't the magic.

@@ -1,4 +1,5 @@
-//! Reading one field of a record. A reader takes a place in the bytes, and gives the value there and the place after it.
+//! Reading one field of a record. A reader takes a place in the bytes, and gives the value there and the place after
+//! it.
 
 ghost use Rattle.std.specs.Prelude.{◌≤◌, length, IfOk};
 ghost use Rattle.std.specs.Int.{w16, w32, w64};

@@ -127,8 +127,9 @@ fn parts_of(alloc: Global, bytes: &Bytes, limit: usize) -> Result<(u32, Vec<Reco
 ///
 /// # Errors
 ///
-/// The first fault from the left: `BadMagic`, `Short`, `BadKind` and `ZeroNumber` with the offset of the field, `TooLong`
-/// at a record past 1,048,576 or at a frame above 67,108,864 bytes; or `OutOfMemory`, where a growth was refused.
+/// The first fault from the left: `BadMagic`, `Short`, `BadKind` and `ZeroNumber` with the offset of the field,
+/// `TooLong` at a record past 1,048,576 or at a frame above 67,108,864 bytes; or `OutOfMemory`, where a growth was
+/// refused.
 #[tactic(auto, unfolding(crate::specs::Fits::record_limit))]
 pub fn parse_log(alloc: Global, bytes: Bytes) -> Result<VatLog, LogError>
     // Which log, or which fault.

@@ -1,5 +1,5 @@
 -- Which messages are audited yet.
-use Rattle.std.specs.Prelude.{ℕ, ◌==◌, length, Bool, true, false, ◌&&◌}
+use Rattle.std.specs.Prelude.{◌==◌, length, Bool, true, false, ◌&&◌}
 use Rattle.std.specs.List.{list_all}
 use Rattle.vat_rules.specs.Types.{Descriptor, NoCap, SenderHosted, Target, Imported, Promised, Results, RpcMessage, Bootstrap, Call, Return}
 

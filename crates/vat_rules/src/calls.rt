@@ -9,7 +9,7 @@ use crate::event::Event;
 use crate::id::Id;
 use crate::questions::call_of;
 use crate::view::View;
-use crate::views::{view_of_target, view_of_reference};
+use crate::views::{view_of_reference, view_of_target};
 use rpc_view::{Outcome, RpcMessage};
 use std::alloc::{AllocError, Global};
 

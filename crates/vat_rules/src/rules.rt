@@ -16,7 +16,7 @@ use crate::id::Id;
 use crate::lives::is_in_life;
 use crate::questions::{is_opened, is_returned, opening_call};
 use crate::view::View;
-use crate::views::{noted, places, view_of_descriptor, view_of_target, view_of_reference};
+use crate::views::{noted, places, view_of_descriptor, view_of_reference, view_of_target};
 use crate::walks::{leads, leads_by_turns, same_path};
 use cap_frame::Path;
 use rpc_view::{Outcome, RpcMessage, Target};

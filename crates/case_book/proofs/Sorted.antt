@@ -6,7 +6,7 @@ use Rattle.std.proofs.lemmas.Bool.{eqb-true, eq-eqb, cases_eq}
 use Rattle.std.proofs.lemmas.List.Elements.{recursion_from_All, All-map}
 use Rattle.std.proofs.lemmas.List.Sorted.{sum_by-IsPermutation}
 use Rattle.case_book.specs.Least.{least_repeated}
-use Rattle.case_book.specs.Neighbours.{first_same}
+use Rattle.case_book.specs.Glue.{first_same}
 use Rattle.case_book.proofs.Numbers.{not_below, bool_cases, times, AreFrom, first_or_rest, none_below, repeated_none, repeated_some}
 
 -- no number is smaller than one before it

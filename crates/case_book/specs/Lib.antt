@@ -1,4 +1,4 @@
 pub mod Least
-pub mod Neighbours
+pub mod Glue
 pub mod Case
 pub mod Ties

@@ -3,7 +3,7 @@
 ghost use Rattle.std.specs.Prelude.{◌≡◌, None, map};
 ghost use Rattle.std.specs.Arc.{arc_value};
 ghost use Rattle.case_book.specs.Case.{vats_of, connections_of};
-ghost use Rattle.case_book.specs.Neighbours.{first_same};
+ghost use Rattle.case_book.specs.Glue.{first_same};
 
 use crate::link::Link;
 use std::sync::Arc;

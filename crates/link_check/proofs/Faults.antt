@@ -12,7 +12,7 @@ use Rattle.vat_log.specs.declared.body.Body.TheVariants.{Send, Receive}
 use Rattle.link_check.specs.declared.outcome.LinkOutcome.{LinkOutcome}
 use Rattle.link_check.specs.declared.outcome.LinkOutcome.TheVariants.{Good, Broken}
 use Rattle.link_check.specs.Prefix.{sent_by, received_by, sent, received, Ends, IsPrefix, IsLeastFault, IsGood, IsBrokenAtFirst, IsBrokenAtSecond, IsOutcome}
-use Rattle.link_check.specs.Walk.{first_fault}
+use Rattle.link_check.specs.Glue.{first_fault}
 
 none_same : (b : Bool) (o : Option ℕ) → cond b (option_map suc o) (Some 0) ≡ None → (b ≡ true) × (o ≡ None)
 none_same true None e = (refl, refl)

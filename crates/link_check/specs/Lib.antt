@@ -1,2 +1,2 @@
 pub mod Prefix
-pub mod Walk
+pub mod Glue

@@ -3,7 +3,7 @@
 ghost use Rattle.std.specs.Prelude.{◌≡◌, ◌+◌, ◌≤◌, length, option_and_then, slice_get};
 ghost use Rattle.std.specs.Option.{option_copied, option_map};
 ghost use Rattle.link_check.specs.Prefix.{sent_by, received_by, sent, received};
-ghost use Rattle.link_check.specs.Walk.{IsNext, first_fault};
+ghost use Rattle.link_check.specs.Glue.{IsNext, first_fault};
 
 use bytes::Bytes;
 use vat_log::{Body, VatLog};

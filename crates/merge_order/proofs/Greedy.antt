@@ -58,11 +58,18 @@ further_log w p =
     ]
 
 -- a step of another vat leaves the part
-other_stays : (w : ℕ) (p : Part) → p.log.vat ≢ w → further w p ≡ p
+pub other_stays : (w : ℕ) (p : Part) → p.log.vat ≢ w → further w p ≡ p
 other_stays w p apart =
     elim (further_cases w p) [
       | inl stays ↦ stays.0
       | inr moves ↦ absurd (apart moves.1)
+    ]
+
+pub own_moves : (w : ℕ) (p : Part) → p.log.vat ≡ w → further w p ≡ record { log = p.log; came = p.came + 1 }
+own_moves w p same =
+    elim (further_cases w p) [
+      | inl stays ↦ absurd (false≢true (sym stays.1 ∙ eq-eqb _ _ same))
+      | inr moves ↦ moves.0
     ]
 
 further_commutes : (v w : ℕ) (p : Part) → v ≢ w → further v (further w p) ≡ further w (further v p)

@@ -11,7 +11,7 @@ use Rattle.std.proofs.lemmas.Nat.{le_bytes_4, from_le_bytes-to_le_bytes_4}
 use Rattle.std.proofs.lemmas.Slice.Eq.{starts_is}
 use Rattle.merge_order.specs.declared.error.OrderError.{OrderError}
 use Rattle.merge_order.specs.declared.error.OrderError.TheVariants.{BadMagic, Short}
-use Rattle.merge_order.specs.Spelling.{magic, spelling, AreVats, preceded, steps_at, order_of, Gives}
+use Rattle.merge_order.specs.Spelling.{magic, spelling, AreVats, preceded, steps_at, order_of, GivesInMemory}
 
 -- the steps that were read before, and what is still read
 abbrev pub with_front : List ℕ → Result (List ℕ) OrderError → Result (List ℕ) OrderError
@@ -146,11 +146,11 @@ from_each bytes h i =
       | inr le ↦ rw (get_or_past bytes i 0 le) (omega arith)
     ]
 
-pub found_law : (bytes seen : List ℕ) (r : Result (List ℕ) OrderError) → seen ≡ bytes → EachIndex seen (λ i. slice_index seen i < 256) → Gives (λ (x : List ℕ). x) r (order_of seen) → IfOk r (λ order. AreVats order × (bytes ≡ spelling order))
+pub found_law : (bytes seen : List ℕ) (r : Result (List ℕ) OrderError) → seen ≡ bytes → EachIndex seen (λ i. slice_index seen i < 256) → GivesInMemory (λ (x : List ℕ). x) r (order_of seen) → IfOk r (λ order. AreVats order × (bytes ≡ spelling order))
 found_law bytes seen (Ok order) same fits e = let law = spelled seen order (from_each seen fits) e in (law.0, sym same ∙ law.1)
 found_law bytes seen (Err fault) same fits e = tt
 
-pub only_law : (bytes seen : List ℕ) (r : Result (List ℕ) OrderError) → seen ≡ bytes → Gives (λ (x : List ℕ). x) r (order_of seen) → (vats : List ℕ) → AreVats vats → bytes ≡ spelling vats → Gives (λ (x : List ℕ). x) r (Ok vats)
+pub only_law : (bytes seen : List ℕ) (r : Result (List ℕ) OrderError) → seen ≡ bytes → GivesInMemory (λ (x : List ℕ). x) r (order_of seen) → (vats : List ℕ) → AreVats vats → bytes ≡ spelling vats → GivesInMemory (λ (x : List ℕ). x) r (Ok vats)
 only_law bytes seen r same e vats fits spells =
-    let P : Result (List ℕ) OrderError → Type 0 = λ read. Gives (λ (x : List ℕ). x) r read in
+    let P : Result (List ℕ) OrderError → Type 0 = λ read. GivesInMemory (λ (x : List ℕ). x) r read in
     subst P (again seen vats fits (same ∙ spells)) e

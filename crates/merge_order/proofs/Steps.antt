@@ -1,10 +1,10 @@
 -- Going on by one step, as the loops do.
-use Rattle.std.proofs.Common.{◌≡◌, ℕ, suc, ◌+◌, ◌-◌, ◌<◌, ◌≤◌, Bool, true, false, List, [], ◌∷◌, ◌++◌, length, get_or, take, drop, Option, Some, None, refl, sym, ap, subst, ◌∙◌, inl, inr, arith, append_assoc}
+use Rattle.std.proofs.Common.{◌≡◌, ℕ, suc, ◌+◌, ◌-◌, ◌<◌, ◌≤◌, Bool, true, false, List, [], ◌∷◌, ◌++◌, length, get_or, drop, Option, Some, None, refl, sym, ap, subst, ◌∙◌, inl, inr, arith, append_assoc}
 use Rattle.std.specs.Prelude.{◌==◌, ◌↔◌, map, slice_get, nat_lt}
 use Rattle.std.specs.Option.{option_map}
 use Rattle.std.specs.List.Sorted.{IsStrictlyIncreasing}
 use Rattle.std.proofs.lemmas.Bool.{false≢true, cases_eq}
-use Rattle.std.proofs.lemmas.List.{append-nil, drop_more, drop-map, get_or-drop, length-drop, take_all, drop_all}
+use Rattle.std.proofs.lemmas.List.{append-nil, drop_more, drop-map, get_or-drop, length-drop}
 use Rattle.vat_log.specs.declared.body.Body.{Body}
 use Rattle.vat_log.specs.declared.body.Body.TheVariants.{Receive}
 use Rattle.vat_log.specs.Log.{Log}
@@ -223,20 +223,6 @@ unfolding may_come
 may_receive ps v own b connection call references frame n r part next kind count is =
     rw (← part, ← next, kind) (is ∙ ap (λ k. nat_lt k (sent_by_others v connection ps)) count)
 
--- ---- a step of all parts
-
-pub taken_items : (kept old items : List Part) (n : ℕ) → old ≡ kept → length old ≡ n → length items ≡ length old → take n (items ++ drop (length items) kept) ≡ items
-taken_items kept old items n same len lens =
-    let rest : drop (length items) kept ≡ [] = drop_all (length items) kept (omega (arith, lens, ap length same)) in
-    let whole : items ++ drop (length items) kept ≡ items = ap (λ (l : List Part). items ++ l) rest ∙ append-nil items in
-    ap (take n) whole ∙ take_all n items (omega (arith, len, lens))
-
-pub taken_all : (v : ℕ) (kept old items now : List Part) (n i : ℕ) → old ≡ kept → kept ≡ now → length old ≡ n → length items ≡ length old → items ≡ after v (take i old) ++ drop i old → length old ≤ i
-    → take n (items ++ drop (length items) kept) ≡ after v now
-taken_all v kept old items now n i same is len lens e le =
-    let done : items ≡ after v old = e ∙ ap (λ (l : List Part). after v l ++ drop i old) (take_all i old le) ∙ ap (λ (l : List Part). after v old ++ l) (drop_all i old le) ∙ append-nil (after v old) in
-    taken_items kept old items n same len lens ∙ done ∙ ap (after v) (same ∙ is)
-
 -- ---- the order of the vat numbers stays
 
 vats_begin : (logs : List Log) → map (λ (q : Part). q.log.vat) (begin logs) ≡ map (λ log. log.vat) logs
@@ -266,3 +252,6 @@ found_fits logs order found same =
 
 pub fault_is : (logs : List Log) (order seen : List ℕ) (o : Option ℕ) (found : OrderFinding) → seen ≡ order → fault_from (begin logs) seen ≡ o → found ≡ finding o → found ≡ finding_of logs order
 fault_is logs order seen o found same e is = is ∙ ap finding (sym e ∙ ap (fault_from (begin logs)) same)
+
+pub fault_fits : (logs : List Log) (order seen : List ℕ) (o : Option ℕ) (found : OrderFinding) → seen ≡ order → fault_from (begin logs) seen ≡ o → found ≡ finding o → (found ≡ findings.Fits) ↔ IsFitting logs order
+fault_fits logs order seen o found same e is = found_fits logs order found (fault_is logs order seen o found same e is)

@@ -8,7 +8,7 @@ use Rattle.vat_log.specs.declared.body.Body.{Body}
 use Rattle.vat_log.specs.declared.body.Body.TheVariants.{Send, Receive}
 use Rattle.merge_order.specs.declared.counts.Counts.{Counts}
 use Rattle.merge_order.specs.Fits.{Part, sends, receives}
-use Rattle.merge_order.specs.Tables.{count_of, IsCounted, IsRaised, RisesWith}
+use Rattle.merge_order.specs.Glue.{count_of, IsCounted, IsRaised, RisesWith}
 use Rattle.merge_order.proofs.Greedy.{bool_cases}
 
 none_more : (n : ℕ) → n ≡ n + 0

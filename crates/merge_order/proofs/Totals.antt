@@ -1,16 +1,21 @@
 -- The table of the frames that all vats sent: at the begin, after a step, and against those that one vat sent.
-use Rattle.std.proofs.Common.{◌≡◌, ℕ, zero, suc, ◌+◌, ◌-◌, ◌<◌, true, List, [], ◌∷◌, ◌++◌, length, get_or, set, take, drop, Some, None, refl, sym, ap, subst, ◌∙◌, inl, inr, arith}
+use Rattle.std.proofs.Common.{◌≡◌, ℕ, zero, suc, ◌+◌, ◌<◌, ◌≤◌, true, List, [], ◌∷◌, length, get_or, set, take, Some, None, refl, sym, ap, subst, ◌∙◌, inl, inr, arith}
 use Rattle.std.specs.Prelude.{◌==◌, map}
 use Rattle.std.specs.List.Sorted.{IsStrictlyIncreasing}
-use Rattle.std.proofs.lemmas.Bool.{eq-eqb, eqb-true, cases_eq}
-use Rattle.std.proofs.lemmas.List.{get_or-drop, get_or-append_right, length-map, length-take-le}
-use Rattle.std.proofs.lemmas.List.Sums.{sum_by-cons, sum_by-set}
+use Rattle.std.proofs.lemmas.Bool.{false≢true, eq-eqb, eqb-true, cases_eq, cases_lt, lt-ltb}
+use Rattle.std.proofs.Math.Nat.{min-le_left}
+use Rattle.std.proofs.lemmas.List.{length-take}
+use Rattle.std.proofs.lemmas.List.Folds.{find_at}
+use Rattle.std.proofs.lemmas.List.Quantifiers.{position-Some}
+use Rattle.std.proofs.lemmas.Option.{slice_get_past}
+use Rattle.std.specs.List.{position, position_or_len}
+use Rattle.std.proofs.lemmas.List.Sums.{sum_by-cons, sum_by-set, count_by-le-length}
 use Rattle.vat_log.specs.Log.{Log}
 use Rattle.merge_order.specs.declared.counts.Counts.{Counts}
-use Rattle.merge_order.specs.Fits.{Part, sent, part_of, sent_by_others, may_come, further, after, begin}
-use Rattle.merge_order.specs.Tables.{count_of, IsEmpty, RisesWith, sent_by_all, IsTotalled}
-use Rattle.merge_order.proofs.Greedy.{bool_cases, some_is, eqb_apart, has_left, others_own, others_more}
-use Rattle.merge_order.proofs.Steps.{rising_tail, none_smaller}
+use Rattle.merge_order.specs.Fits.{Part, sends, sent, part_of, sent_by_others, may_come, after, begin}
+use Rattle.merge_order.specs.Glue.{count_of, IsEmpty, RisesWith, moved, came_by_all, sent_by_all, IsTotalled}
+use Rattle.merge_order.proofs.Greedy.{bool_cases, some_is, eqb_apart, has_left, other_stays, own_moves, others_own, others_more}
+use Rattle.merge_order.proofs.Steps.{rising_tail, none_smaller, all_passed}
 
 none_some_part : (p : Part) → None ≡ Some p → ⊥
 none_some_part p e = cc
@@ -44,16 +49,73 @@ part_vat v (p ∷ ps) own e =
       | inr other ↦ part_vat v ps own (rw other at e)
     ]
 
--- a step that may come has a record left where the loop over the parts comes to it
-pub step_left : (v : ℕ) (ps items : List Part) (i : ℕ) (d : Part) → IsStrictlyIncreasing (map (λ q. q.log.vat) ps) → may_come ps v ≡ true → items ≡ after v (take i ps) ++ drop i ps → i < length ps → (get_or items i d).log.vat ≡ v
-    → (get_or items i d).came < length (get_or items i d).log.records
-step_left v ps items i d rising may is lt vat =
-    let before : length (after v (take i ps)) ≡ i = length-map (take i ps) (further v) ∙ length-take-le i ps (omega arith) in
-    let at : i + (i - i) ≡ i = omega arith in
-    let stays : get_or items i d ≡ get_or ps i d = ap (λ (l : List Part). get_or l i d) is ∙ get_or-append_right (after v (take i ps)) (drop i ps) i i d before (omega arith) ∙ get_or-drop i ps (i - i) d ∙ ap (λ (k : ℕ). get_or ps k d) at in
-    let own : (get_or ps i d).log.vat ≡ v = sym (ap (λ (q : Part). q.log.vat) stays) ∙ vat in
-    let left = has_left v ps (get_or ps i d) may (subst (λ (u : ℕ). part_of u ps ≡ Some (get_or ps i d)) own (part_there ps i d rising lt)) in
-    subst (λ (q : Part). q.came < length q.log.records) (sym stays) left
+-- ---- a step moves the one part of its vat
+
+stays_all : (v : ℕ) (ps : List Part) → part_of v ps ≡ None → after v ps ≡ ps
+stays_all v [] e = refl
+stays_all v (p ∷ ps) e =
+    elim (cases_eq p.log.vat v) [
+      | inl same ↦ absurd (none_some_part p (sym e ∙ rw (eq-eqb _ _ same) refl))
+      | inr other ↦ let one = other_stays v p other in let rest = stays_all v ps (rw (eqb_apart _ _ other) at e) in cc
+    ]
+
+pub after_at : (v : ℕ) (ps : List Part) (i : ℕ) (d : Part) → IsStrictlyIncreasing (map (λ q. q.log.vat) ps) → i < length ps → (get_or ps i d).log.vat ≡ v → after v ps ≡ set ps i (moved (get_or ps i d))
+after_at v [] i d rising lt vat = absurd (omega arith)
+after_at v (p ∷ ps) zero d rising lt vat =
+    let one = own_moves v p vat in
+    let rest = stays_all v ps (ap (λ (u : ℕ). part_of u ps) (sym vat) ∙ own_not_again p ps rising) in
+    cc
+after_at v (p ∷ ps) (suc i) d rising lt vat =
+    let tail = rising_tail p.log.vat (map (λ q. q.log.vat) ps) rising in
+    let rest = after_at v ps i d tail (omega arith) vat in
+    elim (cases_eq p.log.vat v) [
+      | inl same ↦ absurd (none_some_part (get_or ps i d) (sym (own_not_again p ps rising) ∙ ap (λ (u : ℕ). part_of u ps) (same ∙ sym vat) ∙ part_there ps i d tail (omega arith)))
+      | inr other ↦ let one = other_stays v p other in cc
+    ]
+
+-- what a step that may come finds at the place of its vat, and leaves there
+pub record IsOwn (v : ℕ) (ps : List Part) (i : ℕ) (own : Part) : Type 0 where
+  pub there : i < length ps
+  pub left : own.came < length own.log.records
+  pub after : after v ps ≡ set ps i (moved own)
+
+pub own_at : (v : ℕ) (ps now : List Part) (i : ℕ) (own : Part) → ps ≡ now → IsStrictlyIncreasing (map (λ q. q.log.vat) ps) → may_come now v ≡ true → position (λ q. q.log.vat == v) now ≡ Some i → own ≡ get_or ps i own → IsOwn v ps i own
+own_at v ps now i own view rising may place is =
+    let found = position-Some (λ (q : Part). q.log.vat == v) ps i own (ap (position (λ (q : Part). q.log.vat == v)) view ∙ place) in
+    let vat : (get_or ps i own).log.vat ≡ v = eqb-true _ _ found.1 in
+    let left = has_left v ps (get_or ps i own) (ap (λ (l : List Part). may_come l v) view ∙ may) (ap (λ (u : ℕ). part_of u ps) (sym vat) ∙ part_there ps i own rising found.0) in
+    record {
+      there = found.0;
+      left = subst (λ (q : Part). q.came < length q.log.records) (sym is) left;
+      after = after_at v ps i own rising found.0 vat ∙ ap (λ (q : Part). set ps i (moved q)) (sym is);
+    }
+
+some_none_place : (i : ℕ) → Some i ≡ None → ⊥
+some_none_place i e = cc
+
+-- a vat that may come has a place
+pub no_place : (v : ℕ) (ps : List Part) → position (λ q. q.log.vat == v) ps ≡ None → may_come ps v ≡ true → ⊥
+no_place v ps none may =
+    let at = position_or_len (λ (q : Part). q.log.vat == v) ps in
+    elim (cases_lt at (length ps)) [
+      | inl lt ↦ some_none_place at (rw (lt-ltb at (length ps) lt) at none)
+      | inr le ↦ false≢true (sym (all_passed ps v (find_at (λ (q : Part). q.log.vat == v) ps ∙ slice_get_past ps at le)) ∙ may)
+    ]
+
+-- ---- how many records came
+
+sent_le_came : (connection : ℕ) (p : Part) → sent connection p ≤ p.came
+sent_le_came connection p =
+    omega (arith, count_by-le-length (sends connection) (take p.came p.log.records), length-take p.came p.log.records, min-le_left p.came (length p.log.records))
+
+pub all_le_came : (connection : ℕ) (ps : List Part) → sent_by_all connection ps ≤ came_by_all ps
+all_le_came connection [] = omega arith
+all_le_came connection (p ∷ ps) =
+    omega (arith, sum_by-cons (sent connection) p ps, sum_by-cons (λ (q : Part). q.came) p ps, sent_le_came connection p, all_le_came connection ps)
+
+pub came_begin : (logs : List Log) → came_by_all (begin logs) ≡ 0
+came_begin [] = refl
+came_begin (log ∷ logs) = omega (arith, sum_by-cons (λ (q : Part). q.came) (record { log = log; came = 0 }) (begin logs), came_begin logs)
 
 -- ---- all vats, and all but one
 

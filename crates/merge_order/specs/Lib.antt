@@ -1,3 +1,3 @@
 pub mod Fits
 pub mod Spelling
-pub mod Tables
+pub mod Glue

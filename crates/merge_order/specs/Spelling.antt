@@ -32,12 +32,12 @@ steps_at at _ = Err (Short at)
 unfoldable pub order_of : List ℕ → Result (List ℕ) OrderError
 order_of bytes = if starts_with nat_eq bytes magic then steps_at 8 (drop 8 bytes) else Err BadMagic
 
--- What was answered, seen by view, is what reading gives, unless memory ran out.
+-- What was answered, seen by a view, is what reading gives, or memory ran out, in the place of any answer.
 abbrev pub Fails : OrderError → Result (List ℕ) OrderError → Type 0
 Fails OutOfMemory read = Unit {0}
 Fails BadMagic read = read ≡ Err BadMagic
 Fails (Short at) read = read ≡ Err (Short at)
 
-abbrev pub Gives : {X : Type 0} → (X → List ℕ) → Result X OrderError → Result (List ℕ) OrderError → Type 0
-Gives view (Ok x) read = read ≡ Ok (view x)
-Gives view (Err fault) read = Fails fault read
+abbrev pub GivesInMemory : {X : Type 0} → (X → List ℕ) → Result X OrderError → Result (List ℕ) OrderError → Type 0
+GivesInMemory view (Ok x) read = read ≡ Ok (view x)
+GivesInMemory view (Err fault) read = Fails fault read

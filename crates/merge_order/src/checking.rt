@@ -19,26 +19,6 @@ pub enum OrderFinding {
     Fails(u64),
 }
 
-/// What is found of an order.
-fn find(alloc: Global, logs: &[Arc<VatLog>], order: &Order) -> Result<OrderFinding, AllocError>
-    requires { IsRising (map arc_value logs.now) }
-    ensures { IfOk result (λ finding. finding ≡ finding_of (map arc_value logs.now) order.now) }
-{
-    let mut progress = Progress::new(alloc, logs)?;
-    let vats = order.as_slice();
-    for (step, vat) in vats.iter().enumerate() {
-        if !progress.may_come(*vat) {
-            return Ok(OrderFinding::Fails(step as u64));
-        }
-        progress = progress.take(*vat)?;
-    }
-    if progress.is_used_up() {
-        Ok(OrderFinding::Fits)
-    } else {
-        Ok(OrderFinding::Fails(vats.len() as u64))
-    }
-}
-
 /// Whether an order of the records of these logs fits. The logs come by rising vat numbers, no two the same. The first step
 /// fails that names no log, a log without a record left, or a RECV before which that vat received on the connection as many
 /// frames as the other vats sent on it. Where no step fails and records are left, the order's length does. The only error
@@ -55,5 +35,17 @@ pub fn check_order(
     // What it means.
     ensures fits { IfOk result (λ finding. (finding ≡ OrderFinding.Fits) ↔ IsFitting (map arc_value logs.now) order.now) }
 {
-    find(alloc, logs, order)
+    let mut progress = Progress::new(alloc, logs)?;
+    let vats = order.as_slice();
+    for (step, vat) in vats.iter().enumerate() {
+        if !progress.may_come(*vat) {
+            return Ok(OrderFinding::Fails(step as u64));
+        }
+        progress = progress.take(*vat)?;
+    }
+    if progress.is_used_up() {
+        Ok(OrderFinding::Fits)
+    } else {
+        Ok(OrderFinding::Fails(vats.len() as u64))
+    }
 }

@@ -1,7 +1,7 @@
 //! How often connections came up.
 
-ghost use Rattle.std.specs.Prelude.{◌≡◌, OnOk, OnErr};
-ghost use Rattle.merge_order.specs.Tables.{count_of, IsEmpty, IsRaised, IsSame};
+ghost use Rattle.std.specs.Prelude.{◌≡◌, ◌+◌, ◌<◌, ◌^◌, OnOk, OnErr};
+ghost use Rattle.merge_order.specs.Glue.{count_of, IsEmpty, IsRaised, IsSame};
 
 use std::alloc::{AllocError, Global};
 use std::collections::BTreeMap;
@@ -29,13 +29,13 @@ impl Counts {
         self.counts.get(&connection).copied().unwrap_or(0)
     }
 
-    /// This connection came up once more. Where memory is refused, nothing changes; a count that is full, which no order
-    /// in memory reaches, is answered so too.
+    /// This connection came up once more, and no count is full. Where memory is refused, nothing changes.
     pub fn raise(&mut self, connection: u32) -> Result<(), AllocError>
+        requires { count_of self.old connection + 1 < 2 ^ 64 }
         ensures ok { OnOk result (IsRaised connection self.old self.new) }
         ensures err { OnErr result (IsSame self.old self.new) }
     {
-        let count = self.of(connection).checked_add(1).ok_or(AllocError)?;
+        let count = self.of(connection) + 1;
         self.counts.insert(connection, count)?;
         Ok(())
     }

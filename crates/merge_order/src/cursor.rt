@@ -1,6 +1,6 @@
 //! A log, and how many of its records came already.
 
-ghost use Rattle.std.specs.Prelude.{◌≡◌, ◌<◌, length, IfOk, OnOk, nat_le, slice_get};
+ghost use Rattle.std.specs.Prelude.{◌≡◌, ◌+◌, ◌<◌, ◌^◌, ℕ, length, IfOk, OnOk, nat_le, slice_get};
 ghost use Rattle.std.specs.Arc.{arc_value};
 ghost use Rattle.std.specs.Option.{option_copied};
 
@@ -22,7 +22,7 @@ pub struct Cursor {
 impl Model for Cursor {
     ghost use Rattle.std.specs.Arc.{arc_value};
     ghost use Rattle.merge_order.specs.Fits.{Part};
-    ghost use Rattle.merge_order.specs.Tables.{IsCounted};
+    ghost use Rattle.merge_order.specs.Glue.{IsCounted};
 
     ghost Value = { Part };
 
@@ -32,8 +32,8 @@ impl Model for Cursor {
 }
 
 impl Cursor {
-    ghost use Rattle.merge_order.specs.Fits.{sent, received, further};
-    ghost use Rattle.merge_order.specs.Tables.{RisesWith};
+    ghost use Rattle.merge_order.specs.Fits.{sent, received};
+    ghost use Rattle.merge_order.specs.Glue.{RisesWith, moved, count_of};
 
     /// At the log's begin.
     pub fn new(alloc: Global, log: &Arc<VatLog>) -> Result<Cursor, AllocError>
@@ -82,18 +82,17 @@ impl Cursor {
         self.received_counts.of(connection)
     }
 
-    /// Goes one record further, if the log is this vat's, which then has a record left; the totals rise with what it sends.
-    #[tactic(auto, unfolding(crate::specs::Fits::further))]
-    pub fn go_on(&mut self, vat: u32, totals: &mut Counts) -> Result<(), AllocError>
-        requires { self.old.log.vat ≡ vat → self.old.came < length self.old.log.records }
-        ensures goes { OnOk result (self.new ≡ further vat self.old) }
+    /// Takes the next record, of which there is one; the totals rise with what it sends.
+    pub fn go_on(&mut self, totals: &mut Counts) -> Result<(), AllocError>
+        requires left { self.old.came < length self.old.log.records }
+        // No count is full.
+        requires few { self.old.came + 1 < 2 ^ 64 }
+        requires roomy { (connection : ℕ) → count_of totals.old connection + 1 < 2 ^ 64 }
+        ensures goes { OnOk result (self.new ≡ moved self.old) }
         ensures adds { OnOk result (RisesWith self.old self.new totals.old totals.new) }
     {
-        if self.log.vat() != vat || self.log.len() <= self.came {
-            return Ok(());
-        }
         let Some(event) = self.log.get(self.came) else {
-            return Ok(());
+            unreachable!()
         };
         match event.body() {
             Body::Send { connection, .. } => {

@@ -1,6 +1,7 @@
 //! Several logs, each with how many of its records came already.
 
-ghost use Rattle.std.specs.Prelude.{◌≡◌, ◌<◌, ℕ, false, true, Some, map, IfOk, MatchOption};
+ghost use Rattle.std.specs.Prelude.{◌≡◌, ◌+◌, ◌<◌, ◌==◌, ◌^◌, ℕ, false, true, Some, map, IfOk, MatchOption};
+ghost use Rattle.std.specs.List.{position};
 ghost use Rattle.std.specs.Arc.{arc_value};
 ghost use Rattle.std.specs.Option.{option_copied};
 
@@ -22,7 +23,7 @@ pub struct Progress {
 impl Model for Progress {
     ghost use Rattle.std.specs.Prelude.{List};
     ghost use Rattle.merge_order.specs.Fits.{Part};
-    ghost use Rattle.merge_order.specs.Tables.{IsTotalled};
+    ghost use Rattle.merge_order.specs.Glue.{IsTotalled};
 
     ghost Value = { List Part };
 
@@ -33,6 +34,7 @@ impl Model for Progress {
 
 impl Progress {
     ghost use Rattle.merge_order.specs.Fits.{IsRising, begin, part_of, sent_by_others, may_come, after, used_up};
+    ghost use Rattle.merge_order.specs.Glue.{came_by_all};
 
     /// Before the first step.
     pub fn new(alloc: Global, logs: &[Arc<VatLog>]) -> Result<Progress, AllocError>
@@ -96,18 +98,29 @@ impl Progress {
         self.may_go_on(own)
     }
 
+    /// The place of this vat's cursor.
+    fn place_of(&self, vat: u32) -> Option<usize>
+        ensures { result ≡ position (λ part. part.log.vat == vat) self.now }
+    {
+        self.cursors.iter().position(|cursor| cursor.vat() == vat)
+    }
+
     /// Takes the next record of this vat, which may come. Where memory is refused, nothing is left of the progress.
     pub fn take(self, vat: u32) -> Result<Progress, AllocError>
-        requires { may_come self vat ≡ true }
-        ensures { IfOk result (λ later. later ≡ after vat self) }
+        requires may { may_come self vat ≡ true }
+        // No count is full.
+        requires few { came_by_all self + 1 < 2 ^ 64 }
+        ensures later { IfOk result (λ later. later ≡ after vat self) }
+        ensures count { IfOk result (λ later. came_by_all later ≡ came_by_all self + 1) }
     {
+        let Some(at) = self.place_of(vat) else {
+            unreachable!()
+        };
         let Progress {
             mut cursors,
             mut totals,
         } = self;
-        for cursor in cursors.iter_mut() {
-            cursor.go_on(vat, &mut totals)?;
-        }
+        cursors[at].go_on(&mut totals)?;
         Ok(Progress { cursors, totals })
     }
 

@@ -14,7 +14,10 @@ use Rattle.vat_rules.specs.declared.story.Seen.{Seen}
 use Rattle.vat_rules.specs.Rules.{rules}
 use Rattle.vat_rules.specs.Told.{Told}
 use Rattle.vat_rules.specs.Views.{seen_of, seen_back}
-use Rattle.vat_rules.specs.First.{Reader, event_of, event_or_none, events_before, is_delivery, IsGood, IsGoodAt, BreaksFirst, IsFirst}
+use Rattle.vat_rules.specs.Events.{Reader, event_of, event_or_none, events_before}
+use Rattle.vat_rules.specs.Telling.{is_delivery}
+use Rattle.vat_rules.specs.Judged.{IsGood, BreaksFirst}
+use Rattle.vat_rules.specs.First.{IsGoodAt, IsFirst}
 
 -- what a log tells, by its parts
 abbrev told : List Event → List Seen → ℕ → Told

@@ -8,30 +8,30 @@ use Rattle.vat_rules.specs.Types.{Descriptor, SenderHosted, Return, Results, Eve
 use Rattle.vat_rules.specs.Past.{Past, id, is, last_answer}
 use Rattle.vat_rules.specs.Questions.{call_of}
 use Rattle.vat_rules.specs.Lives.{Birth, birth, descriptors}
-use Rattle.vat_rules.specs.Views.{noted, view_given, described, at_place, binds, view, stands}
-use Rattle.vat_rules.specs.ReturnParts.{fields}
+use Rattle.vat_rules.specs.Views.{noted, given_at_birth, given_to_descriptor, given_at_place, binds, view_of_reference, view_of_descriptor}
+use Rattle.vat_rules.specs.Glue.{fields}
 use Rattle.vat_rules.specs.Walks.{result_at, answers, turn, reached, Leads}
 use Rattle.vat_rules.proofs.Viewing.{picked, unpicked}
 
 -- what a Return brought, by its fields
-result_fields : (path : List ℕ) (past : Past) (e : Event) → option_and_then (λ field. stands past e field.1) (find (λ field. same_path field.0 path) (fields e)) ≡ result_at path past e
+result_fields : (path : List ℕ) (past : Past) (e : Event) → option_and_then (λ field. view_of_descriptor past e field.1) (find (λ field. same_path field.0 path) (fields e)) ≡ result_at path past e
 result_fields path past (Wire s k c rs (Return q release (Results payload))) = refl
 result_fields path past _ = refl
 
 pub result_from : (path : List ℕ) (past : Past) (e : Event) (place : ℕ) → Some place ≡ option_map (λ field. field.1) (find (λ field. same_path field.0 path) (fields e)) →
-    stands past e place ≡ result_at path past e
+    view_of_descriptor past e place ≡ result_at path past e
 result_from path past e place is =
-    picked (λ p. stands past e p) (λ (field : List ℕ × ℕ). field.1) (find (λ field. same_path field.0 path) (fields e)) place is ∙ result_fields path past e
+    picked (λ p. view_of_descriptor past e p) (λ (field : List ℕ × ℕ). field.1) (find (λ field. same_path field.0 path) (fields e)) place is ∙ result_fields path past e
 
 pub no_result : (path : List ℕ) (past : Past) (e : Event) → None ≡ option_map (λ field. field.1) (find (λ field. same_path field.0 path) (fields e)) → None ≡ result_at path past e
-no_result path past e is = unpicked (λ p. stands past e p) (λ (field : List ℕ × ℕ). field.1) (find (λ field. same_path field.0 path) (fields e)) is ∙ result_fields path past e
+no_result path past e is = unpicked (λ p. view_of_descriptor past e p) (λ (field : List ℕ × ℕ). field.1) (find (λ field. same_path field.0 path) (fields e)) is ∙ result_fields path past e
 
 -- ANSWER of this call
 pub answer_here : (call c : ℕ) (path : List ℕ) (past : Past) (e : Event) (results : List (ℕ × List ℕ)) → e ≡ Answer c results → c ≡ call →
-    Some (option_and_then (λ answer. view past answer.0) (find (λ answer. same_path answer.1 path) results)) ≡ answers call path past e
+    Some (option_and_then (λ answer. view_of_reference past answer.0) (find (λ answer. same_path answer.1 path) results)) ≡ answers call path past e
 answer_here call c path past e results is same =
     sym (ap (λ x. answers call path past x) is
-    ∙ ap (λ b. if b then Some (option_and_then (λ answer. view past answer.0) (find (λ answer. same_path answer.1 path) results)) else None) (eq-eqb c call same))
+    ∙ ap (λ b. if b then Some (option_and_then (λ answer. view_of_reference past answer.0) (find (λ answer. same_path answer.1 path) results)) else None) (eq-eqb c call same))
 
 -- ---- what a reference, a descriptor or a result stands for is no field, so it stays
 
@@ -53,35 +53,35 @@ unfolding stays
 if_stays true o here = here
 if_stays false o here = refl
 
-given_stays : (named : ℕ → Option View) → ((r : ℕ) → stays (named r) ≡ true) → (ours : Bool) (b : Birth) → stays (view_given named ours b) ≡ true
+given_stays : (named : ℕ → Option View) → ((r : ℕ) → stays (named r) ≡ true) → (ours : Bool) (b : Birth) → stays (given_at_birth named ours b) ≡ true
 unfolding stays
 given_stays named each true b = and_then_stays (λ (n : ℕ × ℕ). named n.0) (λ n. each n.0) (find (λ n. n.1 == b.place) (noted b.event))
 given_stays named each false b = refl
 
-described_stays : (named : ℕ → Option View) → ((r : ℕ) → stays (named r) ≡ true) → (past : Past) (e : Event) (d : Descriptor) → stays (described named past e d) ≡ true
+described_stays : (named : ℕ → Option View) → ((r : ℕ) → stays (named r) ≡ true) → (past : Past) (e : Event) (d : Descriptor) → stays (given_to_descriptor named past e d) ≡ true
 unfolding stays
-described_stays named each past (Wire s k c rs m) (SenderHosted n) = and_then_stays (view_given named s) (given_stays named each s) (birth (id k s n) (Wire s k c rs m ∷ past))
+described_stays named each past (Wire s k c rs m) (SenderHosted n) = and_then_stays (given_at_birth named s) (given_stays named each s) (birth (id k s n) (Wire s k c rs m ∷ past))
 described_stays named each past _ _ = refl
 
-place_stays : (named : ℕ → Option View) → ((r : ℕ) → stays (named r) ≡ true) → (past : Past) (e : Event) (place : ℕ) → stays (at_place named past e place) ≡ true
-place_stays named each past e place = and_then_stays (described named past e) (described_stays named each past e) (slice_get (descriptors e) place)
+place_stays : (named : ℕ → Option View) → ((r : ℕ) → stays (named r) ≡ true) → (past : Past) (e : Event) (place : ℕ) → stays (given_at_place named past e place) ≡ true
+place_stays named each past e place = and_then_stays (given_to_descriptor named past e) (described_stays named each past e) (slice_get (descriptors e) place)
 
 binds_stays : (named : ℕ → Option View) → ((r : ℕ) → stays (named r) ≡ true) → (past : Past) (e : Event) (r : ℕ) → stays (binds named past e r) ≡ true
 unfolding stays
 binds_stays named each past (Host q object) r = if_stays (q == r) (Some (Object object)) refl
 binds_stays named each past (Wire false k c rs m) r =
-    and_then_stays (λ (n : ℕ × ℕ). at_place named past (Wire false k c rs m) n.1) (λ n. place_stays named each past (Wire false k c rs m) n.1) (find (λ n. n.0 == r) (noted (Wire false k c rs m)))
+    and_then_stays (λ (n : ℕ × ℕ). given_at_place named past (Wire false k c rs m) n.1) (λ n. place_stays named each past (Wire false k c rs m) n.1) (find (λ n. n.0 == r) (noted (Wire false k c rs m)))
 binds_stays named each past _ r = refl
 
-view_stays : (past : Past) (r : ℕ) → stays (view past r) ≡ true
+view_stays : (past : Past) (r : ℕ) → stays (view_of_reference past r) ≡ true
 unfolding stays
 view_stays [] r = refl
-view_stays (e ∷ past) r = or_stays (binds (view past) past e r) (view past r) (binds_stays (view past) (view_stays past) past e r) (view_stays past r)
+view_stays (e ∷ past) r = or_stays (binds (view_of_reference past) past e r) (view_of_reference past r) (binds_stays (view_of_reference past) (view_stays past) past e r) (view_stays past r)
 
 result_stays : (path : List ℕ) (past : Past) (e : Event) → stays (result_at path past e) ≡ true
 result_stays path past e =
     ap (λ o. stays o) (sym (result_fields path past e))
-    ∙ and_then_stays (λ (field : List ℕ × ℕ). stands past e field.1) (λ field. place_stays (view past) (view_stays past) past e field.1) (find (λ field. same_path field.0 path) (fields e))
+    ∙ and_then_stays (λ (field : List ℕ × ℕ). view_of_descriptor past e field.1) (λ field. place_stays (view_of_reference past) (view_stays past) past e field.1) (find (λ field. same_path field.0 path) (fields e))
 
 some_stays : (b : Bool) (o : Option View) → stays o ≡ true → stays (unwrap_or (if b then Some o else None) None) ≡ true
 unfolding stays
@@ -91,8 +91,8 @@ some_stays false o here = refl
 answers_stay : (call : ℕ) (path : List ℕ) (past : Past) (e : Event) → stays (unwrap_or (answers call path past e) None) ≡ true
 unfolding stays
 answers_stay call path past (Answer c results) =
-    some_stays (c == call) (option_and_then (λ answer. view past answer.0) (find (λ answer. same_path answer.1 path) results))
-    (and_then_stays (λ (answer : ℕ × List ℕ). view past answer.0) (λ answer. view_stays past answer.0) (find (λ answer. same_path answer.1 path) results))
+    some_stays (c == call) (option_and_then (λ answer. view_of_reference past answer.0) (find (λ answer. same_path answer.1 path) results))
+    (and_then_stays (λ (answer : ℕ × List ℕ). view_of_reference past answer.0) (λ answer. view_stays past answer.0) (find (λ answer. same_path answer.1 path) results))
 answers_stay call path past (Wire false k c rs (Return q release outcome)) =
     some_stays (is call (call_of (id k true q) past)) (result_at path past (Wire false k c rs (Return q release outcome))) (result_stays path past (Wire false k c rs (Return q release outcome)))
 answers_stay call path past _ = refl

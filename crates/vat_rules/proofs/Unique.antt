@@ -11,7 +11,9 @@ use Rattle.vat_rules.specs.declared.outcome.Outcome.{Outcome}
 use Rattle.vat_rules.specs.declared.outcome.Outcome.TheVariants.{Good, Broken, Outside}
 use Rattle.vat_rules.specs.Past.{Past}
 use Rattle.vat_rules.specs.Rules.{rules}
-use Rattle.vat_rules.specs.First.{Reader, event_of, past_at, IsReadAs, IsGood, IsGoodAt, AllGood, BreaksFirst, IsFirst}
+use Rattle.vat_rules.specs.Events.{Reader, event_of, past_at}
+use Rattle.vat_rules.specs.First.{IsReadAs, IsGoodAt, AllGood, IsFirst}
+use Rattle.vat_rules.specs.Judged.{IsGood, BreaksFirst}
 
 -- a record that meets each rule breaks none
 breaks_none : (tried : List Rule) (before : Past) (e : Event) (broken : Rule) → IsGood before e → BreaksFirst tried before e broken → ⊥

@@ -8,7 +8,7 @@ use Rattle.std.specs.Bool.{beq}
 use Rattle.vat_rules.specs.Types.{Descriptor, NoCap, SenderHosted, RpcMessage, Event, Wire, View, Import}
 use Rattle.vat_rules.specs.Past.{Past, id, passed}
 use Rattle.vat_rules.specs.Lives.{Birth, birth, descriptors, descriptors_of}
-use Rattle.vat_rules.specs.Views.{places_from, noted, view_given, described, at_place, binds, view, stands}
+use Rattle.vat_rules.specs.Views.{places_from, noted, given_at_birth, given_to_descriptor, given_at_place, binds, view_of_reference, view_of_descriptor}
 
 -- the places of two tables, one after the other
 places_both : (k : ℕ) (xs ys : List Descriptor) → places_from k (xs ++ ys) ≡ (places_from k xs ++ places_from (k + length xs) ys)
@@ -53,15 +53,15 @@ beq_true false false e = refl
 beq_true true false e = let no : ⊥ = cc in absurd no
 beq_true false true e = let no : ⊥ = cc in absurd no
 
-imports : (named : ℕ → Option View) (o : Option Birth) → option_and_then (view_given named false) o ≡ option_map (λ b. Import b.number b.place) o
+imports : (named : ℕ → Option View) (o : Option Birth) → option_and_then (given_at_birth named false) o ≡ option_map (λ b. Import b.number b.place) o
 imports named None = refl
 imports named (Some b) = refl
 
 came_in : (named : ℕ → Option View) (k n place : ℕ) (past : Past) (s : Bool) (j c : ℕ) (rs : List ℕ) (m : RpcMessage) → j ≡ k → s ≡ false → slice_get (descriptors_of m) place ≡ Some (SenderHosted n) →
-    at_place named past (Wire s j c rs m) place ≡ option_map (λ b. Import b.number b.place) (birth (id k false n) (Wire s j c rs m ∷ past))
+    given_at_place named past (Wire s j c rs m) place ≡ option_map (λ b. Import b.number b.place) (birth (id k false n) (Wire s j c rs m ∷ past))
 came_in named k n place past s j c rs m same got is =
-    ap (λ o. option_and_then (described named past (Wire s j c rs m)) o) is
-    ∙ ap (λ t. option_and_then (view_given named t) (birth (id j t n) (Wire s j c rs m ∷ past))) got
+    ap (λ o. option_and_then (given_to_descriptor named past (Wire s j c rs m)) o) is
+    ∙ ap (λ t. option_and_then (given_at_birth named t) (birth (id j t n) (Wire s j c rs m ∷ past))) got
     ∙ imports named (birth (id j false n) (Wire s j c rs m ∷ past))
     ∙ ap (λ i. option_map (λ b. Import b.number b.place) (birth (id i false n) (Wire s j c rs m ∷ past))) same
 
@@ -72,10 +72,10 @@ both false b h = let no : ⊥ = cc in absurd no
 
 -- on this connection
 pub imported_at : (k n place : ℕ) (past : Past) (e : Event) → IsTrue (passed k false (λ m. true) e) → slice_get (descriptors e) place ≡ Some (SenderHosted n) →
-    option_map (λ b. Import b.number b.place) (birth (id k false n) (e ∷ past)) ≡ stands past e place
+    option_map (λ b. Import b.number b.place) (birth (id k false n) (e ∷ past)) ≡ view_of_descriptor past e place
 imported_at k n place past (Wire s j c rs m) here is =
     let here' : (j == k ≡ true) × (beq s false ≡ true) = both (j == k) (beq s false) here in
-    sym (came_in (view past) k n place past s j c rs m (eqb-true j k here'.0) (beq_true s false here'.1) is)
+    sym (came_in (view_of_reference past) k n place past s j c rs m (eqb-true j k here'.0) (beq_true s false here'.1) is)
 imported_at k n place past _ here is = let no : ⊥ = cc in absurd no
 
 -- ---- what a record binds
@@ -89,19 +89,19 @@ unpicked f g None e = refl
 unpicked f g (Some a) e = let no : ⊥ = cc in absurd no
 
 binds_wire : (past : Past) (k c : ℕ) (rs : List ℕ) (m : RpcMessage) (r place : ℕ) → Some place ≡ option_map (λ n. n.1) (find (λ n. n.0 == r) (noted (Wire false k c rs m))) →
-    stands past (Wire false k c rs m) place ≡ binds (view past) past (Wire false k c rs m) r
-binds_wire past k c rs m r place is = picked (λ p. stands past (Wire false k c rs m) p) (λ (n : ℕ × ℕ). n.1) (find (λ n. n.0 == r) (noted (Wire false k c rs m))) place is
+    view_of_descriptor past (Wire false k c rs m) place ≡ binds (view_of_reference past) past (Wire false k c rs m) r
+binds_wire past k c rs m r place is = picked (λ p. view_of_descriptor past (Wire false k c rs m) p) (λ (n : ℕ × ℕ). n.1) (find (λ n. n.0 == r) (noted (Wire false k c rs m))) place is
 
 -- a received record, what its descriptor stands for
 pub binds_in : (past : Past) (e : Event) (s : Bool) (k c : ℕ) (rs : List ℕ) (m : RpcMessage) (r place : ℕ) → e ≡ Wire s k c rs m → s ≡ false →
-    Some place ≡ option_map (λ n. n.1) (find (λ n. n.0 == r) (noted e)) → stands past e place ≡ binds (view past) past e r
+    Some place ≡ option_map (λ n. n.1) (find (λ n. n.0 == r) (noted e)) → view_of_descriptor past e place ≡ binds (view_of_reference past) past e r
 binds_in past e s k c rs m r place is got =
     let whole : Wire false k c rs m ≡ e = sym (is ∙ ap (λ t. Wire t k c rs m) got) in
-    subst (λ x. Some place ≡ option_map (λ n. n.1) (find (λ n. n.0 == r) (noted x)) → stands past x place ≡ binds (view past) past x r) whole (binds_wire past k c rs m r place)
+    subst (λ x. Some place ≡ option_map (λ n. n.1) (find (λ n. n.0 == r) (noted x)) → view_of_descriptor past x place ≡ binds (view_of_reference past) past x r) whole (binds_wire past k c rs m r place)
 
 -- an own number, the view of the reference noted where its life began
 pub given_noted : (named : ℕ → Option View) (ours : Bool) (b : Birth) (o : Option Birth) (r : ℕ) → ours ≡ true → o ≡ Some b →
-    Some r ≡ option_map (λ n. n.0) (find (λ n. n.1 == b.place) (noted b.event)) → named r ≡ option_and_then (view_given named ours) o
+    Some r ≡ option_map (λ n. n.0) (find (λ n. n.1 == b.place) (noted b.event)) → named r ≡ option_and_then (given_at_birth named ours) o
 given_noted named ours b o r own is here =
     picked named (λ (n : ℕ × ℕ). n.0) (find (λ n. n.1 == b.place) (noted b.event)) r here
-    ∙ sym (ap (λ t. option_and_then (view_given named t) o) own ∙ ap (λ p. option_and_then (view_given named true) p) is)
+    ∙ sym (ap (λ t. option_and_then (given_at_birth named t) o) own ∙ ap (λ p. option_and_then (given_at_birth named true) p) is)

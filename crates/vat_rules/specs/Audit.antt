@@ -11,7 +11,8 @@ use Rattle.vat_log.specs.Log.{Log}
 use Rattle.vat_rules.specs.declared.outcome.Outcome.{Outcome}
 use Rattle.vat_rules.specs.declared.outcome.Why.{Why}
 use Rattle.vat_rules.specs.declared.outcome.Why.TheVariants as why
-use Rattle.vat_rules.specs.First.{Reader, IsFirst}
+use Rattle.vat_rules.specs.Events.{Reader}
+use Rattle.vat_rules.specs.First.{IsFirst}
 
 -- what a message has that is outside of level 1 without tail calls
 abbrev pub why_outside : Outside → Why

@@ -4,13 +4,13 @@ use Rattle.std.specs.List.{list_any}
 use Rattle.vat_rules.specs.Types.{Bootstrap, Call, Event, Make, Deliver, Answer, Wire, View}
 use Rattle.vat_rules.specs.declared.calls.Request.{Request}
 use Rattle.vat_rules.specs.Past.{Past, last_answer}
-use Rattle.vat_rules.specs.Views.{view, target_view}
+use Rattle.vat_rules.specs.Views.{view_of_reference, view_of_target}
 
 -- MAKE brings a call to the vat, its goal the view of the reference; so does a received Call, its goal what the target stands for
 abbrev pub brings : ℕ → Past → Event → Option Request
-brings call before (Make c r interface method) = if c == call then Some record { goal = view before r; interface = interface; method = method } else None
+brings call before (Make c r interface method) = if c == call then Some record { goal = view_of_reference before r; interface = interface; method = method } else None
 brings call before (Wire false k c rs (Call q target interface method params)) =
-    if c == call then Some record { goal = target_view before (Wire false k c rs (Call q target interface method params)); interface = interface; method = method } else None
+    if c == call then Some record { goal = view_of_target before (Wire false k c rs (Call q target interface method params)); interface = interface; method = method } else None
 brings call before _ = None
 
 -- what a call asked for when it came to the vat

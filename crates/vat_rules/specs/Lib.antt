@@ -3,12 +3,14 @@ pub mod Past
 pub mod Questions
 pub mod Lives
 pub mod Views
-pub mod Origins
 pub mod Walks
-pub mod ReturnParts
 pub mod Calls
 pub mod Rules
-pub mod Refers
+pub mod Glue
 pub mod Told
+pub mod Audited
+pub mod Events
+pub mod Judged
+pub mod Telling
 pub mod First
 pub mod Audit

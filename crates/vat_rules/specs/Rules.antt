@@ -10,7 +10,7 @@ use Rattle.vat_rules.specs.declared.id.Id.{Id}
 use Rattle.vat_rules.specs.Past.{Past, id, is}
 use Rattle.vat_rules.specs.Questions.{opened, is_opened, is_returned, is_free, opening_call, call_of}
 use Rattle.vat_rules.specs.Lives.{gives_back, held, is_in_life}
-use Rattle.vat_rules.specs.Views.{places, noted, view, stands, target_view}
+use Rattle.vat_rules.specs.Views.{places, noted, view_of_reference, view_of_descriptor, view_of_target}
 use Rattle.vat_rules.specs.Walks.{Leads, LeadsByTurns}
 use Rattle.vat_rules.specs.Calls.{asked, goal_of, is_at_vat, is_answerable}
 
@@ -104,7 +104,7 @@ UsesInLife before _ = ⊤
 abbrev pub GoesToGoal : Past → Event → Type 0
 GoesToGoal before (Deliver call object) = Leads before (goal_of call before) (Some (Object object))
 GoesToGoal before (Wire true k call references (Call q target interface method params)) =
-    let there = target_view before (Wire true k call references (Call q target interface method params)) in
+    let there = view_of_target before (Wire true k call references (Call q target interface method params)) in
     IsSomeAnd (asked call before) (λ a. Leads before a.goal there × (interface ≡ a.interface) × (method ≡ a.method))
 GoesToGoal before _ = ⊤
 
@@ -121,7 +121,7 @@ MayAnswer before _ = ⊤
 
 -- a noted reference leads to what its descriptor stands for
 abbrev pub NotesView : Past → Event → ℕ × ℕ → Type 0
-NotesView before e (r, place) = Leads before (view before r) (stands before e place)
+NotesView before e (r, place) = Leads before (view_of_reference before r) (view_of_descriptor before e place)
 
 -- (rpc.capnp, CapDescriptor; that references are noted is this project's own)
 -- DESC: SEND: one reference is noted for each descriptor that isn't none, and it leads to what the descriptor stands for.
@@ -150,7 +150,7 @@ is_known call (e ∷ before) = knows call before e || is_known call before
 
 -- at a path whose index is a descriptor that isn't none, the known result leads to what that stands for
 abbrev pub ReturnsField : Past → Event → ℕ → List ℕ × ℕ → Type 0
-ReturnsField before e call (path, place) = contains place (places e) ≡ true → LeadsByTurns before (Some (FieldOf call path)) (stands before e place)
+ReturnsField before e call (path, place) = contains place (places e) ≡ true → LeadsByTurns before (Some (FieldOf call path)) (view_of_descriptor before e place)
 
 -- (rpc.capnp, Return.results)
 -- RESULT: SEND Return: with results, the call's results are known, and at each path whose capability index is a descriptor

@@ -25,46 +25,46 @@ noted (Wire sent k call references m) = zip references (places (Wire sent k call
 noted _ = []
 
 -- what a life's first descriptor stands for: at the exporter the view of the noted reference, at the importer the import
-abbrev pub view_given : (ℕ → Option View) → Bool → Birth → Option View
-view_given named true b = option_and_then (λ n. named n.0) (find (λ n. n.1 == b.place) (noted b.event))
-view_given named false b = Some (Import b.number b.place)
+abbrev pub given_at_birth : (ℕ → Option View) → Bool → Birth → Option View
+given_at_birth named true b = option_and_then (λ n. named n.0) (find (λ n. n.1 == b.place) (noted b.event))
+given_at_birth named false b = Some (Import b.number b.place)
 
 -- an export or import in life stands for the view given by the descriptor that began its life
-abbrev pub number_view : (ℕ → Option View) → Id → Past → Option View
-number_view named i past = option_and_then (view_given named i.ours) (birth i past)
+abbrev pub given_to_number : (ℕ → Option View) → Id → Past → Option View
+given_to_number named i past = option_and_then (given_at_birth named i.ours) (birth i past)
 
 -- a question with a path stands for a field of its call
-abbrev pub field_view : Id → List ℕ → Past → Option View
-field_view q path past = option_map (λ call. FieldOf call path) (call_of q past)
+abbrev pub view_of_field : Id → List ℕ → Past → Option View
+view_of_field q path past = option_map (λ call. FieldOf call path) (call_of q past)
 
 -- a descriptor stands for what its number does, with its own record counted
-abbrev pub described : (ℕ → Option View) → Past → Event → Descriptor → Option View
-described named before (Wire sent k c rs m) (SenderHosted n) = number_view named (id k sent n) (Wire sent k c rs m ∷ before)
-described named before _ _ = None
+abbrev pub given_to_descriptor : (ℕ → Option View) → Past → Event → Descriptor → Option View
+given_to_descriptor named before (Wire sent k c rs m) (SenderHosted n) = given_to_number named (id k sent n) (Wire sent k c rs m ∷ before)
+given_to_descriptor named before _ _ = None
 
 -- what the descriptor at a place stands for, where references are named
-abbrev pub at_place : (ℕ → Option View) → Past → Event → ℕ → Option View
-at_place named before e place = option_and_then (described named before e) (slice_get (descriptors e) place)
+abbrev pub given_at_place : (ℕ → Option View) → Past → Event → ℕ → Option View
+given_at_place named before e place = option_and_then (given_to_descriptor named before e) (slice_get (descriptors e) place)
 
 -- the view to which a record binds a reference, where the references before it are named
 abbrev pub binds : (ℕ → Option View) → Past → Event → ℕ → Option View
 binds named before (Host q object) r = if q == r then Some (Object object) else None
 binds named before (Wire false k c rs m) r =
-    option_and_then (λ n. at_place named before (Wire false k c rs m) n.1) (find (λ n. n.0 == r) (noted (Wire false k c rs m)))
+    option_and_then (λ n. given_at_place named before (Wire false k c rs m) n.1) (find (λ n. n.0 == r) (noted (Wire false k c rs m)))
 binds named before _ r = None
 
 -- the view of a reference
-abbrev pub view : Past → ℕ → Option View
-view [] r = None
-view (e ∷ before) r = option_or (binds (view before) before e r) (view before r)
+abbrev pub view_of_reference : Past → ℕ → Option View
+view_of_reference [] r = None
+view_of_reference (e ∷ before) r = option_or (binds (view_of_reference before) before e r) (view_of_reference before r)
 
 -- what an export or import stands for
-abbrev pub number_stands : Id → Past → Option View
-number_stands i past = number_view (view past) i past
+abbrev pub view_of_number : Id → Past → Option View
+view_of_number i past = given_to_number (view_of_reference past) i past
 
 -- what the descriptor at a place of a record stands for
-abbrev pub stands : Past → Event → ℕ → Option View
-stands before e place = at_place (view before) before e place
+abbrev pub view_of_descriptor : Past → Event → ℕ → Option View
+view_of_descriptor before e place = given_at_place (view_of_reference before) before e place
 
 -- the target of a message
 abbrev pub target_of : RpcMessage → Option Target
@@ -73,22 +73,22 @@ target_of _ = None
 
 -- what a target stands for, sent or received on a connection
 abbrev pub targeted : Past → ℕ → Bool → Target → Option View
-targeted before k sent (Imported n) = number_stands (id k (not sent) n) before
-targeted before k sent (Promised q path) = field_view (id k sent q) path before
+targeted before k sent (Imported n) = view_of_number (id k (not sent) n) before
+targeted before k sent (Promised q path) = view_of_field (id k sent q) path before
 
 -- what a record's target stands for
-abbrev pub target_view : Past → Event → Option View
-target_view before (Wire sent k call references m) = option_and_then (targeted before k sent) (target_of m)
-target_view before _ = None
+abbrev pub view_of_target : Past → Event → Option View
+view_of_target before (Wire sent k call references m) = option_and_then (targeted before k sent) (target_of m)
+view_of_target before _ = None
 
 -- what the question that a Return answers stands for: its call, as the field at the empty path
-abbrev pub question_view : Past → Event → Option View
-question_view before (Wire sent k call references m) = option_and_then (λ q. field_view (id k (not sent) q) [] before) (returned m)
-question_view before _ = None
+abbrev pub view_of_question : Past → Event → Option View
+view_of_question before (Wire sent k call references m) = option_and_then (λ q. view_of_field (id k (not sent) q) [] before) (returned m)
+view_of_question before _ = None
 
 -- what the numbers of a record stand for: the question of a Return, a target, and the descriptors by place
 abbrev pub seen_of : Past → Event → Seen
-seen_of before e = record { question = question_view before e; target = target_view before e; caps = map (described (view before) before e) (descriptors e) }
+seen_of before e = record { question = view_of_question before e; target = view_of_target before e; caps = map (given_to_descriptor (view_of_reference before) before e) (descriptors e) }
 
 -- the same for each record, the newest first
 abbrev pub seen_back : Past → List Seen

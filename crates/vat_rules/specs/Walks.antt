@@ -4,18 +4,18 @@ use Rattle.std.specs.Str.{bytes_eq as same_path}
 use Rattle.vat_rules.specs.Types.{Results, Return, Event, Answer, Wire, View, FieldOf}
 use Rattle.vat_rules.specs.Past.{Past, id, is, last_answer}
 use Rattle.vat_rules.specs.Questions.{call_of}
-use Rattle.vat_rules.specs.Views.{view, stands}
+use Rattle.vat_rules.specs.Views.{view_of_reference, view_of_descriptor}
 
 -- what a Return brought at a path
 abbrev pub result_at : List ℕ → Past → Event → Option View
 result_at path before (Wire sent k c rs (Return q release (Results payload))) =
-    option_and_then (λ field. stands before (Wire sent k c rs (Return q release (Results payload))) field.1) (find (λ field. same_path field.0 path) payload.fields)
+    option_and_then (λ field. view_of_descriptor before (Wire sent k c rs (Return q release (Results payload))) field.1) (find (λ field. same_path field.0 path) payload.fields)
 result_at path before _ = None
 
 -- a field turns to ANSWER's reference at its path, or to what a received Return brought there; nowhere where they have nothing there
 abbrev pub answers : ℕ → List ℕ → Past → Event → Option (Option View)
 answers call path before (Answer c results) =
-    if c == call then Some (option_and_then (λ answer. view before answer.0) (find (λ answer. same_path answer.1 path) results)) else None
+    if c == call then Some (option_and_then (λ answer. view_of_reference before answer.0) (find (λ answer. same_path answer.1 path) results)) else None
 answers call path before (Wire false k c rs (Return q release outcome)) =
     if is call (call_of (id k true q) before) then Some (result_at path before (Wire false k c rs (Return q release outcome))) else None
 answers call path before _ = None

@@ -2,7 +2,8 @@
 
 ghost use Rattle.std.specs.Prelude.{◌≡◌, IfOk, count_by};
 ghost use Rattle.std.specs.Arc.{arc_value};
-ghost use Rattle.vat_rules.specs.First.{is_delivery, with_message, event_of};
+ghost use Rattle.vat_rules.specs.Telling.{is_delivery};
+ghost use Rattle.vat_rules.specs.Events.{with_message, event_of};
 ghost use Rattle.vat_rules.specs.Audit.{why_outside, reads_within, IsTrueOf};
 
 use crate::audited::is_audited;
@@ -126,7 +127,7 @@ fn event_of(alloc: Global, body: &Body, limits: Limits) -> Result<Result<Event, 
 }
 
 /// Whether a record delivers a call.
-#[tactic(auto, unfolding(crate::specs::First::is_delivery))]
+#[tactic(auto, unfolding(crate::specs::Telling::is_delivery))]
 fn is_delivery(event: &Event) -> bool
     ensures { result ≡ is_delivery event.now }
 {

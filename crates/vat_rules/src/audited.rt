@@ -2,7 +2,7 @@
 
 ghost use Rattle.std.specs.Prelude.{◌≡◌};
 ghost use Rattle.std.specs.List.{list_all};
-ghost use Rattle.vat_rules.specs.First.{is_whole, is_hosted, is_audited};
+ghost use Rattle.vat_rules.specs.Audited.{is_whole, is_hosted, is_audited};
 
 use rpc_view::{Descriptor, Outcome, RpcMessage, Target};
 

@@ -3,7 +3,7 @@
 ghost use Rattle.std.specs.Prelude.{◌≡◌, reverse, not, map};
 ghost use Rattle.std.specs.List.{list_all};
 ghost use Rattle.vat_rules.specs.Rules.{contains, new_references, new_calls, is_bound, is_bound_call, is_distinct, refers};
-ghost use Rattle.vat_rules.specs.Refers.{refers_to, refers_to_call};
+ghost use Rattle.vat_rules.specs.Glue.{refers_to, refers_to_call};
 
 use crate::event::Event;
 use cap_frame::Path;

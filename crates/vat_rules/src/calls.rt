@@ -9,7 +9,7 @@ use crate::event::Event;
 use crate::id::Id;
 use crate::questions::call_of;
 use crate::view::View;
-use crate::views::{target_view, view};
+use crate::views::{view_of_reference, view_of_target};
 use rpc_view::{Outcome, RpcMessage};
 use std::alloc::{AllocError, Global};
 
@@ -40,7 +40,7 @@ fn brings(
             interface,
             method,
         } if *made == call => Ok(Some(Request {
-            goal: view(alloc, before, *reference)?,
+            goal: view_of_reference(alloc, before, *reference)?,
             interface: *interface,
             method: *method,
         })),
@@ -54,7 +54,7 @@ fn brings(
             },
             ..
         } if *received == call => Ok(Some(Request {
-            goal: target_view(alloc, before, event)?,
+            goal: view_of_target(alloc, before, event)?,
             interface: *interface,
             method: *method,
         })),

@@ -2,7 +2,7 @@
 
 ghost use Rattle.std.specs.Prelude.{reverse, IfOk, MatchOption};
 ghost use Rattle.vat_rules.specs.Rules.{rules};
-ghost use Rattle.vat_rules.specs.First.{IsGood, BreaksFirst};
+ghost use Rattle.vat_rules.specs.Judged.{IsGood, BreaksFirst};
 
 use crate::bindings::refers;
 use crate::event::Event;

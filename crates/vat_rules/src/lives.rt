@@ -3,7 +3,7 @@
 ghost use Rattle.std.specs.Prelude.{◌≡◌, ◌∷◌, reverse, position, option_map};
 ghost use Rattle.vat_rules.specs.Past.{is};
 ghost use Rattle.vat_rules.specs.Lives.{descriptors, introduced, introduction, is_in_life, birth};
-ghost use Rattle.vat_rules.specs.Origins.{born};
+ghost use Rattle.vat_rules.specs.Glue.{born};
 
 use crate::event::Event;
 use crate::id::Id;

@@ -5,7 +5,7 @@ ghost use Rattle.std.specs.List.{AllByRecursion, list_any};
 ghost use Rattle.std.specs.Str.{bytes_eq as same_path};
 ghost use Rattle.vat_rules.specs.Types.{Object, FieldOf};
 ghost use Rattle.vat_rules.specs.Questions.{opened, is_opened, is_returned};
-ghost use Rattle.vat_rules.specs.Views.{target_view, stands};
+ghost use Rattle.vat_rules.specs.Views.{view_of_target, view_of_descriptor};
 ghost use Rattle.vat_rules.specs.Walks.{Leads, LeadsByTurns};
 ghost use Rattle.vat_rules.specs.Calls.{asked, goal_of};
 ghost use Rattle.vat_rules.specs.Rules.{IsHere, OpensFree, UsesQuestions, UsesInLife, GoesToGoal, distinct_paths, MayAnswer, NotesView, Describes, contains, ReturnsField, ReturnsKnown, BindsAll};
@@ -16,7 +16,7 @@ use crate::id::Id;
 use crate::lives::is_in_life;
 use crate::questions::{is_opened, is_returned, opening_call};
 use crate::view::View;
-use crate::views::{noted, places, stands, target_view, view};
+use crate::views::{noted, places, view_of_descriptor, view_of_reference, view_of_target};
 use crate::walks::{leads, leads_by_turns, same_path};
 use cap_frame::Path;
 use rpc_view::{Outcome, RpcMessage, Target};
@@ -166,7 +166,7 @@ fn is_asked(
     interface: u64,
     method: u16,
 ) -> Result<bool, AllocError>
-    ensures { IfOk result (λ b. IsTrue b ↔ IsSomeAnd (asked call (reverse before.now)) (λ a. Leads (reverse before.now) a.goal (target_view (reverse before.now) event.now) × (interface ≡ a.interface) × (method ≡ a.method))) }
+    ensures { IfOk result (λ b. IsTrue b ↔ IsSomeAnd (asked call (reverse before.now)) (λ a. Leads (reverse before.now) a.goal (view_of_target (reverse before.now) event.now) × (interface ≡ a.interface) × (method ≡ a.method))) }
 {
     let Some(asked) = asked(alloc, before, call)? else {
         return Ok(false);
@@ -174,7 +174,7 @@ fn is_asked(
     if interface != asked.interface || method != asked.method {
         return Ok(false);
     }
-    let there = target_view(alloc, before, event)?;
+    let there = view_of_target(alloc, before, event)?;
     leads(alloc, before, asked.goal, &there)
 }
 
@@ -247,8 +247,8 @@ fn notes_view(
 ) -> Result<bool, AllocError>
     ensures { IfOk result (λ b. IsTrue b ↔ NotesView (reverse before.now) event.now (reference, place)) }
 {
-    let from = view(alloc, before, reference)?;
-    let there = stands(alloc, before, event, place)?;
+    let from = view_of_reference(alloc, before, reference)?;
+    let there = view_of_descriptor(alloc, before, event, place)?;
     leads(alloc, before, from, &there)
 }
 
@@ -332,12 +332,12 @@ fn returns_field(
     path: &Path,
     place: usize,
 ) -> Result<bool, AllocError>
-    ensures { IfOk result (λ b. IsTrue b ↔ (contains place places.now ≡ true → LeadsByTurns (reverse before.now) (Some (FieldOf call path.now)) (stands (reverse before.now) event.now place))) }
+    ensures { IfOk result (λ b. IsTrue b ↔ (contains place places.now ≡ true → LeadsByTurns (reverse before.now) (Some (FieldOf call path.now)) (view_of_descriptor (reverse before.now) event.now place))) }
 {
     if !is_place(places, place) {
         return Ok(true);
     }
-    let there = stands(alloc, before, event, place)?;
+    let there = view_of_descriptor(alloc, before, event, place)?;
     let from = View::Field(call, path.copy()?);
     leads_by_turns(alloc, before, &from, &there)
 }

@@ -3,10 +3,10 @@
 ghost use Rattle.std.specs.Prelude.{◌≡◌, ◌==◌, [], true, false, reverse, map, IsTrue, IfOk, find, option_map, option_and_then};
 ghost use Rattle.std.specs.List.{zip};
 ghost use Rattle.vat_rules.specs.Past.{passed};
-ghost use Rattle.vat_rules.specs.Origins.{born};
+ghost use Rattle.vat_rules.specs.Glue.{born};
 ghost use Rattle.vat_rules.specs.Questions.{returned};
 ghost use Rattle.vat_rules.specs.Lives.{descriptors};
-ghost use Rattle.vat_rules.specs.Views.{places, noted, view_given, described, binds, view, number_stands, stands, targeted, target_view, field_view, question_view, seen_of};
+ghost use Rattle.vat_rules.specs.Views.{places, noted, given_at_birth, given_to_descriptor, binds, view_of_reference, view_of_number, view_of_descriptor, targeted, view_of_target, view_of_field, view_of_question, seen_of};
 
 use crate::event::Event;
 use crate::id::Id;
@@ -67,7 +67,7 @@ fn binds(
     event: &Event,
     reference: u64,
 ) -> Result<Option<View>, AllocError>
-    ensures { IfOk result (λ v. v ≡ binds (view (reverse before.now)) (reverse before.now) event.now reference) }
+    ensures { IfOk result (λ v. v ≡ binds (view_of_reference (reverse before.now)) (reverse before.now) event.now reference) }
 {
     match event {
         Event::Host {
@@ -105,8 +105,8 @@ fn place_of(noted: &[(u64, usize)], reference: u64) -> Option<usize>
 fn reference_of(noted: &[(u64, usize)], place: usize) -> Option<u64>
     ensures { result ≡ option_map (λ n. n.0) (find (λ n. n.1 == place) noted.now) }
 {
-    for (reference, described) in noted {
-        if *described == place {
+    for (reference, given_to_descriptor) in noted {
+        if *given_to_descriptor == place {
             return Some(*reference);
         }
     }
@@ -116,7 +116,7 @@ fn reference_of(noted: &[(u64, usize)], place: usize) -> Option<u64>
 /// What the descriptor at this place of a record stands for that came in on this connection.
 fn imported(before: &[Event], event: &Event, connection: u32, place: usize) -> Option<View>
     requires { IsTrue (passed connection false (λ m. true) event.now) }
-    ensures { result ≡ stands (reverse before.now) event.now place }
+    ensures { result ≡ view_of_descriptor (reverse before.now) event.now place }
 {
     let Some(Descriptor::SenderHosted(number)) = descriptors(event).get(place) else {
         return None;
@@ -131,12 +131,12 @@ fn imported(before: &[Event], event: &Event, connection: u32, place: usize) -> O
 }
 
 /// The view of a reference.
-pub(crate) fn view(
+pub(crate) fn view_of_reference(
     alloc: Global,
     events: &[Event],
     reference: u64,
 ) -> Result<Option<View>, AllocError>
-    ensures { IfOk result (λ v. v ≡ view (reverse events.now) reference) }
+    ensures { IfOk result (λ v. v ≡ view_of_reference (reverse events.now) reference) }
 {
     let mut found = None;
     for (index, event) in events.iter().enumerate() {
@@ -155,7 +155,7 @@ fn given(
     ours: bool,
     origin: Option<Origin>,
 ) -> Result<Option<View>, AllocError>
-    ensures { IfOk result (λ v. v ≡ option_and_then (view_given (view (reverse named.now)) ours) (option_map born origin.entry)) }
+    ensures { IfOk result (λ v. v ≡ option_and_then (given_at_birth (view_of_reference (reverse named.now)) ours) (option_map born origin.entry)) }
 {
     let Some(origin) = origin else {
         return Ok(None);
@@ -165,30 +165,30 @@ fn given(
     }
     let noted = noted(alloc, origin.event)?;
     match reference_of(&noted, origin.place) {
-        Some(reference) => view(alloc, named, reference),
+        Some(reference) => view_of_reference(alloc, named, reference),
         None => Ok(None),
     }
 }
 
 /// What an export or import number stands for.
-pub(crate) fn number_stands(
+pub(crate) fn view_of_number(
     alloc: Global,
     events: &[Event],
     id: Id,
 ) -> Result<Option<View>, AllocError>
-    ensures { IfOk result (λ v. v ≡ number_stands id (reverse events.now)) }
+    ensures { IfOk result (λ v. v ≡ view_of_number id (reverse events.now)) }
 {
     given(alloc, events, id.ours, birth(events, id))
 }
 
 /// What a descriptor of a record stands for.
-fn described(
+fn given_to_descriptor(
     alloc: Global,
     before: &[Event],
     event: &Event,
     descriptor: &Descriptor,
 ) -> Result<Option<View>, AllocError>
-    ensures { IfOk result (λ v. v ≡ described (view (reverse before.now)) (reverse before.now) event.now descriptor.now) }
+    ensures { IfOk result (λ v. v ≡ given_to_descriptor (view_of_reference (reverse before.now)) (reverse before.now) event.now descriptor.now) }
 {
     match (event, descriptor) {
         (
@@ -211,16 +211,16 @@ fn described(
 }
 
 /// What the descriptor at a place of a record stands for.
-pub(crate) fn stands(
+pub(crate) fn view_of_descriptor(
     alloc: Global,
     before: &[Event],
     event: &Event,
     place: usize,
 ) -> Result<Option<View>, AllocError>
-    ensures { IfOk result (λ v. v ≡ stands (reverse before.now) event.now place) }
+    ensures { IfOk result (λ v. v ≡ view_of_descriptor (reverse before.now) event.now place) }
 {
     match descriptors(event).get(place) {
-        Some(descriptor) => described(alloc, before, event, descriptor),
+        Some(descriptor) => given_to_descriptor(alloc, before, event, descriptor),
         None => Ok(None),
     }
 }
@@ -242,7 +242,7 @@ fn targeted(
                 ours: !sent,
                 number: *number,
             };
-            number_stands(alloc, before, id)
+            view_of_number(alloc, before, id)
         }
         Target::Promised(number, path) => {
             let question = Id {
@@ -259,12 +259,12 @@ fn targeted(
 }
 
 /// What a record's target stands for.
-pub(crate) fn target_view(
+pub(crate) fn view_of_target(
     alloc: Global,
     before: &[Event],
     event: &Event,
 ) -> Result<Option<View>, AllocError>
-    ensures { IfOk result (λ v. v ≡ target_view (reverse before.now) event.now) }
+    ensures { IfOk result (λ v. v ≡ view_of_target (reverse before.now) event.now) }
 {
     match event {
         Event::Wire {
@@ -279,11 +279,11 @@ pub(crate) fn target_view(
 
 /// What the descriptors of a record stand for, by place.
 fn caps_of(alloc: Global, before: &[Event], event: &Event) -> Result<Caps, AllocError>
-    ensures { IfOk result (λ v. v ≡ map (described (view (reverse before.now)) (reverse before.now) event.now) (descriptors event.now)) }
+    ensures { IfOk result (λ v. v ≡ map (given_to_descriptor (view_of_reference (reverse before.now)) (reverse before.now) event.now) (descriptors event.now)) }
 {
     let mut caps = Vec::new(alloc);
     for descriptor in descriptors(event) {
-        caps.push(described(alloc, before, event, descriptor)?)?;
+        caps.push(given_to_descriptor(alloc, before, event, descriptor)?)?;
     }
     Ok(Caps::new(caps))
 }
@@ -300,7 +300,7 @@ fn returned(message: &RpcMessage) -> Option<u32>
 
 /// The call for which a question stands, as the field at the empty path.
 fn called(alloc: Global, before: &[Event], question: Id) -> Option<View>
-    ensures { result ≡ field_view question [] (reverse before.now) }
+    ensures { result ≡ view_of_field question [] (reverse before.now) }
 {
     match call_of(before, question) {
         Some(call) => Some(View::Field(call, Path::new(Vec::new(alloc)))),
@@ -309,8 +309,8 @@ fn called(alloc: Global, before: &[Event], question: Id) -> Option<View>
 }
 
 /// What the question that a Return answers stands for.
-fn question_view(alloc: Global, before: &[Event], event: &Event) -> Option<View>
-    ensures { result ≡ question_view (reverse before.now) event.now }
+fn view_of_question(alloc: Global, before: &[Event], event: &Event) -> Option<View>
+    ensures { result ≡ view_of_question (reverse before.now) event.now }
 {
     let Event::Wire {
         sent,
@@ -338,9 +338,9 @@ fn question_view(alloc: Global, before: &[Event], event: &Event) -> Option<View>
 pub(crate) fn seen_of(alloc: Global, before: &[Event], event: &Event) -> Result<Seen, AllocError>
     ensures { IfOk result (λ v. v ≡ seen_of (reverse before.now) event.now) }
 {
-    let target = target_view(alloc, before, event)?;
+    let target = view_of_target(alloc, before, event)?;
     let caps = caps_of(alloc, before, event)?;
-    let question = question_view(alloc, before, event);
+    let question = view_of_question(alloc, before, event);
     Ok(Seen {
         question,
         target,

@@ -4,15 +4,15 @@ ghost use Rattle.std.specs.Prelude.{◌≡◌, ◌↔◌, Some, None, if◌then�
 ghost use Rattle.std.specs.Str.{bytes_eq as same_path};
 ghost use Rattle.vat_rules.specs.Past.{is};
 ghost use Rattle.vat_rules.specs.Questions.{call_of};
-ghost use Rattle.vat_rules.specs.Views.{view};
-ghost use Rattle.vat_rules.specs.ReturnParts.{fields, answered};
+ghost use Rattle.vat_rules.specs.Views.{view_of_reference};
+ghost use Rattle.vat_rules.specs.Glue.{fields, answered};
 ghost use Rattle.vat_rules.specs.Walks.{result_at, answers, turn, Leads, LeadsByTurns};
 
 use crate::event::Event;
 use crate::id::Id;
 use crate::questions::call_of;
 use crate::view::View;
-use crate::views::{stands, view};
+use crate::views::{view_of_descriptor, view_of_reference};
 use cap_frame::Path;
 use rpc_view::{Outcome, RpcMessage};
 use std::alloc::{AllocError, Global};
@@ -105,7 +105,7 @@ fn result_at(
     ensures { IfOk result (λ v. v ≡ result_at path.now (reverse before.now) event.now) }
 {
     match index_at(fields(event), path) {
-        Some(place) => stands(alloc, before, event, place as usize),
+        Some(place) => view_of_descriptor(alloc, before, event, place as usize),
         None => Ok(None),
     }
 }
@@ -117,10 +117,10 @@ fn answered_at(
     before: &[Event],
     results: &[(u64, Path)],
 ) -> Result<Option<View>, AllocError>
-    ensures { IfOk result (λ v. v ≡ option_and_then (λ answer. view (reverse before.now) answer.0) (find (λ answer. same_path answer.1 path.now) results.now)) }
+    ensures { IfOk result (λ v. v ≡ option_and_then (λ answer. view_of_reference (reverse before.now) answer.0) (find (λ answer. same_path answer.1 path.now) results.now)) }
 {
     match reference_at(results, path) {
-        Some(reference) => view(alloc, before, reference),
+        Some(reference) => view_of_reference(alloc, before, reference),
         None => Ok(None),
     }
 }

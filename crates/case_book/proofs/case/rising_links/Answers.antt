@@ -2,7 +2,7 @@ use Rattle.std.proofs.Common.{◌≡◌, ◌≤◌, Some, None, List, length, ap
 use Rattle.std.specs.Option.{option_map}
 use Rattle.std.proofs.lemmas.List.Sorted.{IsNonDecreasingBy-from_sort_by_key, IsPermutation-map}
 use Rattle.case_book.specs.Case.{connections_of, link_limit}
-use Rattle.case_book.specs.Neighbours.{first_same}
+use Rattle.case_book.specs.Glue.{first_same}
 use Rattle.case_book.specs.declared.link.Link.{Link}
 use Rattle.case_book.specs.declared.error.CaseError.TheVariants.{TooManyLinks, SameLink}
 use Rattle.case_book.proofs.Sorted.{Rises, rises, none_found, some_found, strictly, few_enough}

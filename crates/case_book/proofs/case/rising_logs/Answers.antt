@@ -6,7 +6,7 @@ use Rattle.std.proofs.lemmas.List.{length-map}
 use Rattle.std.proofs.lemmas.List.Sorted.{IsNonDecreasingBy-from_sort_by_key, IsPermutation-map}
 use Rattle.vat_log.specs.Log.{Log}
 use Rattle.case_book.specs.Case.{vats_of, vat_limit}
-use Rattle.case_book.specs.Neighbours.{first_same}
+use Rattle.case_book.specs.Glue.{first_same}
 use Rattle.case_book.specs.declared.error.CaseError.TheVariants.{TooManyVats, SameVat}
 use Rattle.case_book.proofs.Sorted.{Rises, rises_under, none_found, some_found, strictly, few_enough}
 use Rattle.case_book.proofs.case.rising_logs.Goals as goal

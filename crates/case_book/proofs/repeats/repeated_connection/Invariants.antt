@@ -1,6 +1,6 @@
 use Rattle.std.proofs.Common.{◌≡◌, None, drop}
 use Rattle.case_book.specs.Case.{connections_of}
-use Rattle.case_book.specs.Neighbours.{first_same}
+use Rattle.case_book.specs.Glue.{first_same}
 use Rattle.case_book.proofs.repeats.repeated_connection.Given as goal
 
 abbrev pub invariant-loop-link : goal.invariant-loop-link

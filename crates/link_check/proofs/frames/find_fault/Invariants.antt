@@ -2,7 +2,7 @@ use Rattle.std.proofs.Common.{◌≡◌, ◌+◌, ◌-◌, ◌≤◌, drop, leng
 use Rattle.std.specs.List.{filter_map}
 use Rattle.std.specs.Option.{option_map}
 use Rattle.link_check.specs.Prefix.{sent_by, received_by, sent, received}
-use Rattle.link_check.specs.Walk.{first_fault}
+use Rattle.link_check.specs.Glue.{first_fault}
 use Rattle.link_check.proofs.frames.find_fault.Given as goal
 
 abbrev pub invariant-loop-after : goal.invariant-loop-after

@@ -1,11 +1,13 @@
+use Rattle.std.proofs.Common.{◌≡◌, length}
 use Rattle.std.specs.Prelude.{map}
 use Rattle.std.specs.Arc.{arc_value}
 use Rattle.merge_order.specs.Fits.{begin}
+use Rattle.merge_order.specs.Glue.{came_by_all}
 use Rattle.merge_order.proofs.Steps.{IsMade, left}
 use Rattle.merge_order.proofs.making.make_order.Given as goal
 
 abbrev pub invariant-loop-vat : goal.invariant-loop-vat
-invariant-loop-vat l = IsMade (begin (map arc_value l.logs)) l.progress l.vats.items
+invariant-loop-vat l = IsMade (begin (map arc_value l.logs)) l.progress l.vats.items × (came_by_all l.progress ≡ length l.vats.items)
 
 abbrev pub decreases-loop-vat : goal.decreases-loop-vat
 decreases-loop-vat l = left l.progress

@@ -1,7 +1,7 @@
 use Rattle.std.proofs.Common.{◌≡◌, ℕ, ◌+◌, ◌<◌, List, length, get_or, take, Bool, true, false, sym, ◌∙◌, ap, arith}
 use Rattle.std.specs.Prelude.{count_by}
 use Rattle.std.proofs.lemmas.List.Sums.{count_by_more_yes, count_by_more_no}
-use Rattle.vat_rules.specs.First.{is_delivery}
+use Rattle.vat_rules.specs.Telling.{is_delivery}
 use Rattle.vat_rules.proofs.audit.deliveries.Goals as goal
 use Rattle.vat_rules.proofs.audit.deliveries.Goals.{then-is_delivery, else-is_delivery}
 

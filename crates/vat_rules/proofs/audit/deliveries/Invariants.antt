@@ -1,6 +1,6 @@
 use Rattle.std.proofs.Common.{◌≡◌, ◌≤◌, take}
 use Rattle.std.specs.Prelude.{count_by}
-use Rattle.vat_rules.specs.First.{is_delivery}
+use Rattle.vat_rules.specs.Telling.{is_delivery}
 use Rattle.vat_rules.proofs.audit.deliveries.Given as goal
 
 abbrev pub invariant-loop-event : goal.invariant-loop-event

@@ -1,6 +1,7 @@
 use Rattle.std.proofs.Common.{◌≡◌, [], ◌∷◌, ◌++◌, length, arith, sym, ◌∙◌, ap}
 use Rattle.std.specs.Prelude.{Some, Ok, slice_get, count_by}
-use Rattle.vat_rules.specs.First.{event_of, is_delivery}
+use Rattle.vat_rules.specs.Events.{event_of}
+use Rattle.vat_rules.specs.Telling.{is_delivery}
 use Rattle.vat_rules.specs.Audit.{reads_within}
 use Rattle.vat_rules.proofs.Firsts.{events_before-more, seen_more, is_first-Broken, is_first-Good, good-more}
 use Rattle.vat_rules.proofs.audit.first.Goals as goal

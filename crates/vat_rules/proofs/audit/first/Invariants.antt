@@ -1,7 +1,8 @@
 use Rattle.std.proofs.Common.{◌≡◌, ℕ, ◌<◌}
 use Rattle.std.specs.Prelude.{reverse}
 use Rattle.vat_rules.specs.Views.{seen_back}
-use Rattle.vat_rules.specs.First.{events_before, IsGoodAt}
+use Rattle.vat_rules.specs.Events.{events_before}
+use Rattle.vat_rules.specs.First.{IsGoodAt}
 use Rattle.vat_rules.specs.Audit.{reads_within}
 use Rattle.vat_rules.proofs.audit.first.Given as goal
 

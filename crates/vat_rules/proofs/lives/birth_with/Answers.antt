@@ -1,6 +1,6 @@
 use Rattle.std.proofs.Common.{◌∙◌, ap}
 use Rattle.std.specs.Prelude.{Some, None, option_map}
-use Rattle.vat_rules.specs.Origins.{born}
+use Rattle.vat_rules.specs.Glue.{born}
 use Rattle.vat_rules.proofs.Living.{born_before, born_now}
 use Rattle.vat_rules.proofs.lives.birth_with.Goals as goal
 

@@ -1,5 +1,5 @@
 use Rattle.std.proofs.Common.{reverse, ◌∙◌}
-use Rattle.vat_rules.specs.Origins.{born}
+use Rattle.vat_rules.specs.Glue.{born}
 use Rattle.vat_rules.proofs.Living.{alive}
 use Rattle.vat_rules.proofs.lives.is_in_life.Goals as goal
 

@@ -11,7 +11,7 @@ pub invariant_of-self-2 : goal.invariant_of-self-2
 invariant_of-self-2 c =
     let kept = c.self.inside in
     let part : Part = record { log = arc_value kept.log; came = kept.came } in
-    let next : slice_get part.log.records part.came ≡ Some c.in-Some.event.now = ap (λ (log : Log). slice_get log.records kept.came) (sym c.deref-2.ensures) ∙ sym c.in-Some.ensures in
+    let next : slice_get part.log.records part.came ≡ Some c.in-Some.event.now = ap (λ (log : Log). slice_get log.records kept.came) (sym c.deref.ensures) ∙ sym c.in-Some.ensures in
     let is = sym c.body.ensures.value in
     elim c.match-body.branch [
       | in-Send+in_ok-raise-in-Send+in_ok-raise-in-Send-2 w ↦ rw w.self-inside-is (counted_send part w.in-Send.connection w.in-Send.call w.in-Send.references w.in-Send.frame kept.sent_counts kept.received_counts w.raise-in-Send.new.self c.self.invariant (next ∙ ap Some (is ∙ w.in-Send.is)) w.in_ok-raise-in-Send-2.ensures.ok)
@@ -24,7 +24,7 @@ returns-clause-adds c =
     let kept = c.self.inside in
     let part : Part = record { log = arc_value kept.log; came = kept.came } in
     let later : Part = record { log = part.log; came = part.came + 1 } in
-    let next : slice_get part.log.records part.came ≡ Some c.in-Some.event.now = ap (λ (log : Log). slice_get log.records kept.came) (sym c.deref-2.ensures) ∙ sym c.in-Some.ensures in
+    let next : slice_get part.log.records part.came ≡ Some c.in-Some.event.now = ap (λ (log : Log). slice_get log.records kept.came) (sym c.deref.ensures) ∙ sym c.in-Some.ensures in
     let is = sym c.body.ensures.value in
     elim c.match-body.branch [
       | in-Send+in_ok-raise-in-Send+in_ok-raise-in-Send-2 w ↦

@@ -1,4 +1,5 @@
--- Tables of how often connections came up, and when they are those of a log or of several.
+-- For the code's contracts, and no part of the meaning: tables of how often connections came up, when they are those of a
+-- log or of several, and how many records came.
 use Rattle.std.specs.Prelude.{◌≡◌, ℕ, ◌+◌, ◌≤◌, ◌==◌, List, length, map, unwrap_or, if◌then◌else◌}
 use Rattle.std.specs.List.{sum_by}
 use Rattle.std.specs.List.Sorted.{IsStrictlyIncreasing}
@@ -28,6 +29,14 @@ pub record IsCounted (part : Part) (out into : Counts) : Type 0 where
   pub within : part.came ≤ length part.log.records
   pub went : (connection : ℕ) → count_of out connection ≡ sent connection part
   pub came : (connection : ℕ) → count_of into connection ≡ received connection part
+
+-- one record further
+abbrev pub moved : Part → Part
+moved part = record { log = part.log; came = part.came + 1 }
+
+-- how many records came
+abbrev pub came_by_all : List Part → ℕ
+came_by_all parts = sum_by (λ part. part.came) parts
 
 -- the totals rise by what a part sent more
 abbrev pub RisesWith : Part → Part → Counts → Counts → Type 0

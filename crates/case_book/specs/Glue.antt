@@ -1,4 +1,4 @@
--- Numbers that are the one before them.
+-- For the code's contracts, and no part of the meaning: numbers that are the one before them.
 use Rattle.std.specs.Prelude.{ℕ, ◌==◌, List, [], ◌∷◌, Option, Some, None, false, if◌then◌else◌}
 use Rattle.std.specs.Option.{option_map_or}
 

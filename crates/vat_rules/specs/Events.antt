@@ -1,0 +1,46 @@
+-- The records of a log as they are judged, with their messages read.
+use Rattle.std.specs.Prelude.{ℕ, List, take, reverse, true, false, Option, Some, None, Result, Ok, Err, if◌then◌else◌}
+use Rattle.std.specs.List.{filter_map}
+use Rattle.vat_log.specs.declared.body.Body.{Body}
+use Rattle.vat_log.specs.declared.body.Body.TheVariants as body
+use Rattle.vat_rules.specs.declared.outcome.Why.{Why}
+use Rattle.vat_rules.specs.declared.outcome.Why.TheVariants.{NotYet}
+use Rattle.vat_rules.specs.Types.{RpcMessage, Event, Host, Make, Deliver, Answer, Wire}
+use Rattle.vat_rules.specs.Past.{Past}
+use Rattle.vat_rules.specs.Audited.{is_audited}
+
+-- how frames are read: a frame's message, or why it is outside
+abbrev pub Reader : Type 0
+Reader = List ℕ → Result RpcMessage Why
+
+-- a frame's message makes the event
+abbrev pub with_message : (RpcMessage → Event) → Result RpcMessage Why → Result Event Why
+with_message event (Ok m) = if is_audited m then Ok (event m) else Err NotYet
+with_message event (Err why) = Err why
+
+-- a stored record as it is judged; promises, fields and faults aren't audited yet
+abbrev pub event_of : Reader → Body → Result Event Why
+event_of read (body.Host r object) = Ok (Host r object)
+event_of read (body.Vow r) = Err NotYet
+event_of read (body.Fulfil r to) = Err NotYet
+event_of read (body.Break r) = Err NotYet
+event_of read (body.Make call r interface method) = Ok (Make call r interface method)
+event_of read (body.Field r call path) = Err NotYet
+event_of read (body.Deliver call object) = Ok (Deliver call object)
+event_of read (body.Answer call results) = Ok (Answer call results)
+event_of read (body.Fault call) = Err NotYet
+event_of read (body.Send connection call references frame) = with_message (Wire true connection call references) (read frame)
+event_of read (body.Receive connection call references frame) = with_message (Wire false connection call references) (read frame)
+
+-- the event, where the record is read
+abbrev pub event_or_none : Result Event Why → Option Event
+event_or_none (Ok e) = Some e
+event_or_none (Err why) = None
+
+-- the records of a log before number i, in their order
+abbrev pub events_before : Reader → List Body → ℕ → List Event
+events_before read log i = filter_map (λ b. event_or_none (event_of read b)) (take i log)
+
+-- the same, the newest first
+abbrev pub past_at : Reader → List Body → ℕ → Past
+past_at read log i = reverse (events_before read log i)

@@ -1,8 +1,8 @@
 //! Why the files that a case names make no case.
 
 ghost use Rattle.std.specs.Prelude.{◌≡◌};
-ghost use Rattle.case_files.specs.declared.case_fault.CaseFault.TheVariants.{OutOfMemory, Refused};
-ghost use Rattle.case_files.specs.CaseFaults.{of_log, of_order, of_source};
+ghost use Rattle.case_files.specs.declared.case_fault.CaseFault.TheVariants.{OutOfMemory};
+ghost use Rattle.case_files.specs.CaseFaults.{of_log, of_order, of_refusal, of_source};
 
 use crate::source::SourceError;
 use case_book::{CaseError, TieFault};
@@ -22,7 +22,7 @@ pub enum CaseFault {
     Log(LogError),
     /// The bytes of the order aren't an order. Never for want of memory.
     Order(OrderError),
-    /// The logs and links make no case.
+    /// The logs and links make no case. Never for want of memory.
     Refused(CaseError),
     /// The logs and links don't tie up.
     Untied(TieFault),
@@ -80,9 +80,12 @@ impl From<OrderError> for CaseFault {
 }
 
 impl From<CaseError> for CaseFault {
-    ghost from_gives = { λ fault e. e ≡ Refused fault };
+    ghost from_gives = { λ fault e. e ≡ of_refusal fault };
 
     fn from(fault: CaseError) -> CaseFault {
-        CaseFault::Refused(fault)
+        match fault {
+            CaseError::OutOfMemory => CaseFault::OutOfMemory,
+            fault => CaseFault::Refused(fault),
+        }
     }
 }

@@ -7,16 +7,13 @@ ghost use Rattle.case_files.specs.declared.source.SourceError.TheVariants.{OutOf
 
 use bytes::Bytes;
 use std::alloc::{AllocError, AllocFailed};
-use thiserror::Error;
 
 /// Why a source gives nothing under a name.
-#[derive(Debug, Drop, Error)]
+#[derive(Clone, Copy, Debug, PartialEq, Eq)]
 pub enum SourceError {
     /// There is nothing to read, it can't be read, or it is longer than what is read.
-    #[error("cannot read")]
     CannotRead,
     /// A growth of memory was refused.
-    #[error("out of memory")]
     OutOfMemory,
 }
 

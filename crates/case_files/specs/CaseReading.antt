@@ -1,6 +1,6 @@
--- What comes of a case by its name: the case file, then each log as it is listed, then the order that it names, then the case
--- that the logs and links make. Each is asked for where all before it went well, and the first fault is the case's. Of want
--- of memory nothing is said here.
+-- What comes of a case by its name: the case file, then each log as it is listed, then the order that it names, then
+-- the case that the logs and links make. Each is asked for where all before it went well, and the first fault is the
+-- case's. Of want of memory nothing is said here.
 use Rattle.std.specs.Prelude.{◌≡◌, ℕ, List, [], ◌∷◌, Option, Some, None, Result, Ok, Err}
 use Rattle.vat_log.specs.Log.{Log}
 use Rattle.vat_log.specs.Reading.{log_of}

@@ -10,8 +10,8 @@ use merge_order::OrderError;
 use std::alloc::{AllocError, AllocFailed};
 use vat_log::LogError;
 
-/// Why the files that a case names make no case. They are tried in this order: the case file, each log as listed, the order,
-/// then the case of the logs and links.
+/// Why the files that a case names make no case. They are tried in this order: the case file, each log as listed, the
+/// order, then the case of the logs and links.
 #[derive(Clone, Copy, Debug, PartialEq, Eq)]
 pub enum CaseFault {
     /// The case file, a log or the order can't be read.

@@ -113,8 +113,8 @@ fn case_file_in(alloc: Global, value: &Value) -> Result<CaseFile, CaseFault>
 }
 
 /// What bytes say as a case file: the JSON object with `logs`, a list of file names, `links`, a list of
-/// `[connection, vat, vat]`, and, if wanted, `order`, a file name. Any other form is refused, one with another key among
-/// them. It is judged on the value that `serde_json` reads, in which a key that comes again has its last value.
+/// `[connection, vat, vat]`, and, if wanted, `order`, a file name. Any other form is refused, one with another key
+/// among them. It is judged on the value that `serde_json` reads, in which a key that comes again has its last value.
 ///
 /// # Errors
 ///

@@ -6,8 +6,8 @@ use crate::source::{Source, SourceError};
 use bytes::Bytes;
 use std::marker::Model;
 
-/// Files with their names, as a source: what is asked for is the first file of that name. Contracts see it as the list of the
-/// names with the bytes.
+/// Files with their names, as a source: what is asked for is the first file of that name. Contracts see it as the list
+/// of the names with the bytes.
 #[derive(Debug, Drop)]
 pub struct FileList {
     files: Vec<(String, Bytes)>,

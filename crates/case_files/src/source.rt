@@ -35,7 +35,7 @@ impl<T: Drop> From<AllocFailed<T>> for SourceError {
 
 /// What gives bytes by name, as files do.
 pub trait Source {
-    // What may come of reading a name: the source, the name, the bytes or why there are none, and the source afterwards.
+    // What may come of reading a name: the source, the name, the bytes or why there are none, the source afterwards.
     ghost read_gives: { Self → List ℕ → Answered (List ℕ) SourceError → Self → Type 0 } = { λ _ _ _ _. ⊤ };
 
     /// All bytes that stand under the name.

@@ -10,9 +10,9 @@ use Rattle.report_lines.specs.declared.answer.Answer.TheVariants.{Order, NoOrder
 use Rattle.report_lines.specs.Faults.{of_case}
 use Rattle.report_lines.specs.Lines.{Says}
 
--- A line, a status and the bytes for the file answer the logs of a case: the order that takes the smallest vat number that may
--- come at each step, and its spelling; or that no order fits, and then there are no bytes. That the order fits follows from how
--- it is taken, and is said beside it.
+-- A line, a status and the bytes for the file answer the logs of a case: the order that takes the smallest vat number
+-- that may come at each step, and its spelling; or that no order fits, and then there are no bytes. That the order fits
+-- follows from how it is taken, and is said beside it.
 abbrev pub AnswersLogs : List Log → List ℕ → ℕ → Option (List ℕ) → Type 0
 AnswersLogs logs text status (Some bytes) =
     (order : List ℕ) × (TakesLeast logs order × IsFitting logs order × (bytes ≡ spelling order) × Says (Order order) text status)

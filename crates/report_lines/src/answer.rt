@@ -28,8 +28,8 @@ pub enum Answer {
 }
 
 impl Answer {
-    /// The exit status: 0 for a good log, a message or an order; 1 for a rule that is broken, or where no order exists; 2 for a
-    /// record that isn't judged, or a fault; 3 where memory ran out.
+    /// The exit status: 0 for a good log, a message or an order; 1 for a rule that is broken, or where no order exists;
+    /// 2 for a record that isn't judged, or a fault; 3 where memory ran out.
     pub fn status(&self) -> u8
         ensures { result ≡ answer_status self.now }
     {

@@ -1,0 +1,62 @@
+//! What the audit of one log tells.
+
+use super::given::{Refused, log};
+use cap_reader::Limits;
+use std::process::Abort;
+use vat_rules::{Outcome, View, Why, audit_vat};
+
+/// Vat 2's log of pipelined_call.
+const PIPELINED_CALL: &str =
+    "HOST r1 7; R0 c1 boot q0; R0 c2 call q1 answer 0 []; ANSWER c1 r1@[]; DELIVER c2 7; \
+    S0 r1 ret q0 senderHosted 0@[]; ANSWER c2; S0 ret q1";
+
+fn good_once(rt: &(impl Abort + AllocGlobal)) -> Result<(), Refused> {
+    let log = log(rt.alloc(), "2", PIPELINED_CALL)?;
+    let found = audit_vat(rt.alloc(), &log, Limits::default())?;
+    assert_eq!(rt; found.log().vat(), 2);
+    assert_eq!(rt; found.limits(), Limits::default());
+    let Outcome::Good(story) = found.outcome() else {
+        return Err(Refused::from("every record is good"));
+    };
+    assert_eq!(rt; (story.events().len(), story.seen().len()), (8, 8));
+    assert_eq!(rt; story.delivered(), 1);
+    // the call's target is the field of the bootstrap, what the first Return gives is the object, and the two Returns answer
+    // calls 1 and 2
+    for (at, seen) in story.seen().iter().enumerate() {
+        assert_eq!(rt; matches!(&seen.question, Some(View::Field(1, _))), at == 5);
+        assert_eq!(rt; matches!(&seen.question, Some(View::Field(2, _))), at == 7);
+        assert_eq!(rt; matches!(&seen.target, Some(View::Field(1, _))), at == 2);
+        let given = matches!(seen.caps.as_slice(), [Some(View::Object(7))]);
+        assert_eq!(rt; given, at == 5);
+    }
+    Ok(())
+}
+
+#[test]
+fn a_good_log_is_told(rt: HostRuntime) {
+    assert!(rt; good_once(&rt).is_ok() || good_once(&rt).is_ok());
+}
+
+fn unread_once(rt: &(impl Abort + AllocGlobal)) -> Result<(), Refused> {
+    let log = log(rt.alloc(), "2", PIPELINED_CALL)?;
+    let limits = Limits {
+        words: 3,
+        depth: 64,
+    };
+    let found = audit_vat(rt.alloc(), &log, limits)?;
+    assert!(rt;
+        matches!(
+            found.outcome(),
+            Outcome::Outside {
+                at: 1,
+                why: Why::Unread
+            }
+        )
+    );
+    Ok(())
+}
+
+#[test]
+fn a_frame_past_the_limits_is_unread(rt: HostRuntime) {
+    assert!(rt; unread_once(&rt).is_ok() || unread_once(&rt).is_ok());
+}

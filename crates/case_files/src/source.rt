@@ -7,13 +7,16 @@ ghost use Rattle.case_files.specs.declared.source.SourceError.TheVariants.{OutOf
 
 use bytes::Bytes;
 use std::alloc::{AllocError, AllocFailed};
+use thiserror::Error;
 
 /// Why a source gives nothing under a name.
-#[derive(Clone, Copy, Debug, PartialEq, Eq)]
+#[derive(Clone, Copy, Debug, PartialEq, Eq, Error)]
 pub enum SourceError {
     /// There is nothing to read, it can't be read, or it is longer than what is read.
+    #[error("nothing can be read under this name")]
     CannotRead,
     /// A growth of memory was refused.
+    #[error("a growth of memory was refused")]
     OutOfMemory,
 }
 

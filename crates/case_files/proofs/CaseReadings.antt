@@ -1,46 +1,68 @@
 -- Logs read one after another.
-use Rattle.std.proofs.Common.{◌≡◌, ◌+◌, ◌<◌, ◌++◌, ℕ, zero, suc, List, [], ◌∷◌, map, length, drop, take, get_or, Ok, Err, String, Global, string_bytes, refl, sym, ap, subst, arith}
+use Rattle.std.proofs.Common.{◌≡◌, ◌+◌, ◌<◌, ◌≤◌, ◌++◌, ℕ, zero, suc, List, [], ◌∷◌, map, length, drop, get_or, Result, Ok, Err, String, Global, string_bytes, refl, sym, ap, subst, arith, append_assoc, append-nil}
 use Rattle.std.specs.Arc.{arc_value}
 use Rattle.std.specs.declared.sync.Arc.{Arc}
 use Rattle.vat_log.specs.Log.{Log}
 use Rattle.vat_log.specs.declared.log.VatLog.{VatLog}
-use Rattle.case_files.specs.CaseReading.{AllLogs, LogComes, LogsCome, Read}
+use Rattle.case_files.specs.CaseReading.{After, Done, LogComes, LogsCome, Reads}
 use Rattle.case_files.specs.declared.case_fault.CaseFault.{CaseFault}
 
--- one more
-pub one_more : {S : Type 0} (gives : S → List ℕ → Read → S → Type 0) (old between new : S) (names : List (List ℕ)) (name : List ℕ) (logs : List Log) (log : Log)
-    → AllLogs gives old names logs between → LogComes gives between name (Ok log) new → AllLogs gives old (names ++ name ∷ []) (logs ++ log ∷ []) new
-one_more {S} gives old between new [] name logs log all comes =
-    (log, ([], (new, (ap (λ ls. ls ++ log ∷ []) all.0, subst (λ (s : S). LogComes gives s name (Ok log) new) all.1 comes, (refl, refl)))))
-one_more gives old between new (n ∷ names) name logs log all comes =
-    let rest = all.1.0 in
-    let middle = all.1.1.0 in
-    let parts = all.1.1.1 in
-    (all.0, (rest ++ log ∷ [], (middle, (ap (λ ls. ls ++ log ∷ []) parts.0, parts.1, one_more gives middle between new names name rest log parts.2 comes))))
+-- these logs, and then those that come of the rest
+abbrev pub before : List Log → Result (List Log) CaseFault → Result (List Log) CaseFault
+before logs (Ok rest) = Ok (logs ++ rest)
+before logs (Err fault) = Err fault
 
--- the names up to an index, and the one there
-taken : (ns : List (String Global)) (i : ℕ) (n : String Global) → i < length ns → n ≡ get_or ns i n → map string_bytes (take (i + 1) ns) ≡ map string_bytes (take i ns) ++ string_bytes n ∷ []
-taken [] i n h is = absurd (omega arith)
-taken (x ∷ ns) zero n h is = ap (λ (m : String Global). string_bytes m ∷ []) (sym is)
-taken (x ∷ ns) (suc i) n h is = let e : suc i + 1 ≡ suc (i + 1) = omega arith in rw e (ap (λ ms. string_bytes x ∷ ms) (taken ns i n (omega arith) is))
+-- these logs came of the names up to an index: whatever comes of the rest comes behind them
+abbrev pub Came : {S : Type 0} → Reads S → S → S → List (String Global) → ℕ → List Log → Type 0
+Came {S} gives old now names i logs =
+    (rest : Result (List Log) CaseFault) (new : S) → LogsCome gives (map string_bytes (drop i names)) now rest new → LogsCome gives (map string_bytes names) old (before logs rest) new
 
-parted : (ns : List (String Global)) (i : ℕ) (n : String Global) → i < length ns → n ≡ get_or ns i n
-    → map string_bytes ns ≡ map string_bytes (take i ns) ++ string_bytes n ∷ map string_bytes (drop (i + 1) ns)
-parted [] i n h is = absurd (omega arith)
-parted (x ∷ ns) zero n h is = ap (λ (m : String Global). string_bytes m ∷ map string_bytes ns) (sym is)
-parted (x ∷ ns) (suc i) n h is = let e : suc i + 1 ≡ suc (i + 1) = omega arith in rw e (ap (λ ms. string_bytes x ∷ ms) (parted ns i n (omega arith) is))
+pub none_yet : {S : Type 0} (gives : Reads S) (old : S) (names : List (String Global)) (logs : List Log) → logs ≡ [] → Came gives old old names 0 logs
+none_yet gives old names [] none (Ok rest) new come = come
+none_yet gives old names [] none (Err fault) new come = come
+none_yet gives old names (log ∷ logs) none rest new come = absurd cc
 
-pub goes_on : {S : Type 0} (gives : S → List ℕ → Read → S → Type 0) (old between new : S) (ns : List (String Global)) (i : ℕ) (n : String Global) (logs : List Log) (log : Log)
-    → i < length ns → n ≡ get_or ns i n → AllLogs gives old (map string_bytes (take i ns)) logs between → LogComes gives between (string_bytes n) (Ok log) new
-    → AllLogs gives old (map string_bytes (take (i + 1) ns)) (logs ++ log ∷ []) new
-goes_on gives old between new ns i n logs log h is all comes =
-    rw (taken ns i n h is) (one_more gives old between new (map string_bytes (take i ns)) (string_bytes n) logs log all comes)
+-- the name at an index, before those after it
+name_at : (names : List (String Global)) (i : ℕ) (name : String Global) → i < length names → name ≡ get_or names i name
+    → map string_bytes (drop i names) ≡ string_bytes name ∷ map string_bytes (drop (i + 1) names)
+name_at [] i name h is = absurd (omega arith)
+name_at (x ∷ names) zero name h is = ap (λ (n : String Global). string_bytes n ∷ map string_bytes names) (sym is)
+name_at (x ∷ names) (suc i) name h is = let e : suc i + 1 ≡ suc (i + 1) = omega arith in rw e (name_at names i name (omega arith) is)
 
-pub goes_wrong : {S : Type 0} (gives : S → List ℕ → Read → S → Type 0) (old between new : S) (ns : List (String Global)) (i : ℕ) (n : String Global) (logs : List Log) (fault : CaseFault)
-    → i < length ns → n ≡ get_or ns i n → AllLogs gives old (map string_bytes (take i ns)) logs between → LogComes gives between (string_bytes n) (Err fault) new
-    → LogsCome gives old (map string_bytes ns) (Err fault) new
-goes_wrong gives old between new ns i n logs fault h is all comes =
-    (map string_bytes (take i ns), (string_bytes n, (map string_bytes (drop (i + 1) ns), (logs, (between, (parted ns i n h is, all, comes))))))
+behind : {S : Type 0} (log : Log) (rest : Result (List Log) CaseFault) (new : S) → After {S = S} rest (λ logs. Done (log ∷ logs)) new (before (log ∷ []) rest) new
+behind log (Ok rest) new = (refl, refl)
+behind log (Err fault) new = (refl, refl)
+
+joined : (logs : List Log) (log : Log) (rest : Result (List Log) CaseFault) → before logs (before (log ∷ []) rest) ≡ before (logs ++ log ∷ []) rest
+joined logs log (Ok rest) = ap (λ ls. Ok ls) (sym (append_assoc logs (log ∷ []) rest))
+joined logs log (Err fault) = refl
+
+pub one_more : {S : Type 0} (gives : Reads S) (old between now : S) (names : List (String Global)) (i : ℕ) (name : String Global) (logs : List Log) (log : Log)
+    → i < length names → name ≡ get_or names i name → Came gives old between names i logs → LogComes gives (string_bytes name) between (Ok log) now
+    → Came gives old now names (i + 1) (logs ++ log ∷ [])
+one_more {S} gives old between now names i name logs log h is came comes rest new come =
+    let next : LogsCome gives (map string_bytes (drop i names)) between (before (log ∷ []) rest) new =
+    rw (name_at names i name h is) (Ok log, (now, (comes, (rest, (new, (come, behind log rest new)))))) in
+    subst (λ answer. LogsCome gives (map string_bytes names) old answer new) (joined logs log rest) (came (before (log ∷ []) rest) new next)
+
+pub goes_wrong : {S : Type 0} (gives : Reads S) (old between now : S) (names : List (String Global)) (i : ℕ) (name : String Global) (logs : List Log) (fault : CaseFault)
+    → i < length names → name ≡ get_or names i name → Came gives old between names i logs → LogComes gives (string_bytes name) between (Err fault) now
+    → LogsCome gives (map string_bytes names) old (Err fault) now
+goes_wrong gives old between now names i name logs fault h is came comes =
+    let next : LogsCome gives (map string_bytes (drop i names)) between (Err fault) now = rw (name_at names i name h is) (Err fault, (now, (comes, (refl, refl)))) in
+    came (Err fault) now next
+
+none_left : (names : List (String Global)) (i : ℕ) → length names ≤ i → drop i names ≡ []
+none_left [] zero h = refl
+none_left [] (suc i) h = refl
+none_left (x ∷ names) zero h = absurd (omega arith)
+none_left (x ∷ names) (suc i) h = none_left names i (omega arith)
+
+pub all_came : {S : Type 0} (gives : Reads S) (old now : S) (names : List (String Global)) (i : ℕ) (logs : List Log) → length names ≤ i → Came gives old now names i logs
+    → LogsCome gives (map string_bytes names) old (Ok logs) now
+all_came {S} gives old now names i logs h came =
+    let last : LogsCome gives (map string_bytes (drop i names)) now (Ok []) now = rw (none_left names i h) (refl, refl) in
+    subst (λ (ls : List Log). LogsCome gives (map string_bytes names) old (Ok ls) now) (append-nil logs) (came (Ok []) now last)
 
 pub values_more : (logs : List (Arc VatLog Global)) (log : Arc VatLog Global) → map arc_value (logs ++ log ∷ []) ≡ map arc_value logs ++ arc_value log ∷ []
 values_more [] log = refl

@@ -1,2 +1,4 @@
 pub mod CaseFiles
 pub mod CaseReadings
+pub mod LookUps
+pub mod Refusals

@@ -1,5 +1,5 @@
--- What a case file says: the JSON object that names the logs of a case, its links and, if wanted, an order. The value that a
--- text has as JSON is the definition of `serde_json`, in which a key that comes again has its last value.
+-- What a case file says: the JSON object that names the logs of a case, its links and, if wanted, an order. The value
+-- that a text has as JSON is the definition of `serde_json`, in which a key that comes again has its last value.
 use Rattle.std.specs.Prelude.{◌≡◌, ℕ, ◌^◌, Bool, true, ◌&&◌, ◌||◌, List, [], ◌∷◌, codes, Option, Some, None, option_map, option_and_then, if◌then◌else◌, nat_lt, IsUtf8}
 use Rattle.std.specs.Str.{bytes_eq}
 use Rattle.serde_json.specs.Data.{Data, Items, no_items, item, Members, no_members, member}

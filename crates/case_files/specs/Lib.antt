@@ -1,4 +1,5 @@
 pub mod CaseFaults
 pub mod CaseFile
 pub mod CaseReading
-pub mod OrderLines
+pub mod Glue
+pub mod LookUp

@@ -1,8 +1,8 @@
 //! Why the files that a case names make no case.
 
 ghost use Rattle.std.specs.Prelude.{◌≡◌};
-ghost use Rattle.case_files.specs.declared.case_fault.CaseFault.TheVariants.{OutOfMemory, Refused};
-ghost use Rattle.case_files.specs.CaseFaults.{of_log, of_order, of_source};
+ghost use Rattle.case_files.specs.declared.case_fault.CaseFault.TheVariants.{OutOfMemory};
+ghost use Rattle.case_files.specs.CaseFaults.{of_log, of_order, of_refusal, of_source};
 
 use crate::source::SourceError;
 use case_book::{CaseError, TieFault};
@@ -10,8 +10,8 @@ use merge_order::OrderError;
 use std::alloc::{AllocError, AllocFailed};
 use vat_log::LogError;
 
-/// Why the files that a case names make no case. They are tried in this order: the case file, each log as listed, the order,
-/// then the case of the logs and links.
+/// Why the files that a case names make no case. They are tried in this order: the case file, each log as listed, the
+/// order, then the case of the logs and links.
 #[derive(Clone, Copy, Debug, PartialEq, Eq)]
 pub enum CaseFault {
     /// The case file, a log or the order can't be read.
@@ -22,7 +22,7 @@ pub enum CaseFault {
     Log(LogError),
     /// The bytes of the order aren't an order. Never for want of memory.
     Order(OrderError),
-    /// The logs and links make no case.
+    /// The logs and links make no case. Never for want of memory.
     Refused(CaseError),
     /// The logs and links don't tie up.
     Untied(TieFault),
@@ -80,9 +80,12 @@ impl From<OrderError> for CaseFault {
 }
 
 impl From<CaseError> for CaseFault {
-    ghost from_gives = { λ fault e. e ≡ Refused fault };
+    ghost from_gives = { λ fault e. e ≡ of_refusal fault };
 
     fn from(fault: CaseError) -> CaseFault {
-        CaseFault::Refused(fault)
+        match fault {
+            CaseError::OutOfMemory => CaseFault::OutOfMemory,
+            fault => CaseFault::Refused(fault),
+        }
     }
 }

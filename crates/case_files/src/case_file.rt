@@ -6,7 +6,8 @@ ghost use Rattle.std.specs.List.{list_all};
 ghost use Rattle.serde_json.specs.Find.{as_str};
 ghost use Rattle.serde_json.specs.View.{view};
 ghost use Rattle.case_files.specs.CaseFile.{each_item, is_known, link_of, listed_in, number_of, order_of};
-ghost use Rattle.case_files.specs.CaseReading.{IsListed, Told, listed_by, seen};
+ghost use Rattle.case_files.specs.CaseReading.{IsListed};
+ghost use Rattle.case_files.specs.Glue.{Told, listed_by, seen};
 
 use crate::case_fault::CaseFault;
 use case_book::Link;
@@ -112,8 +113,8 @@ fn case_file_in(alloc: Global, value: &Value) -> Result<CaseFile, CaseFault>
 }
 
 /// What bytes say as a case file: the JSON object with `logs`, a list of file names, `links`, a list of
-/// `[connection, vat, vat]`, and, if wanted, `order`, a file name. Any other form is refused, one with another key among
-/// them. It is judged on the value that `serde_json` reads, in which a key that comes again has its last value.
+/// `[connection, vat, vat]`, and, if wanted, `order`, a file name. Any other form is refused, one with another key
+/// among them. It is judged on the value that `serde_json` reads, in which a key that comes again has its last value.
 ///
 /// # Errors
 ///

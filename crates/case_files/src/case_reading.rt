@@ -2,7 +2,8 @@
 
 ghost use Rattle.std.specs.Prelude.{map, option_map, string_bytes};
 ghost use Rattle.std.specs.Arc.{arc_value};
-ghost use Rattle.case_files.specs.CaseReading.{CaseComes, ComesOfCase, ListedComes, LogComes, LogsCome, NamedOrderComes, OrderComes, listed_by, seen};
+ghost use Rattle.case_files.specs.CaseReading.{ComesOfCase, IsCaseOf, ListedComes, LogComes, LogsCome, NamedOrderComes, OrderComes};
+ghost use Rattle.case_files.specs.Glue.{listed_by, seen};
 
 use crate::case_fault::CaseFault;
 use crate::case_file::{CaseFile, case_file_of};
@@ -19,7 +20,7 @@ fn read_case_file<S: Source>(
     source: &mut S,
     name: &str,
 ) -> Result<CaseFile, CaseFault>
-    ensures { ListedComes S.read_gives source.old name.now (seen listed_by result) source.new }
+    ensures { ListedComes S.read_gives name.now source.old (seen listed_by result) source.new }
 {
     let bytes = source.read(name)?;
     case_file_of(alloc, bytes.as_slice())
@@ -27,7 +28,7 @@ fn read_case_file<S: Source>(
 
 /// One log.
 fn read_log<S: Source>(alloc: Global, source: &mut S, name: &str) -> Result<Arc<VatLog>, CaseFault>
-    ensures { LogComes S.read_gives source.old name.now (seen arc_value result) source.new }
+    ensures { LogComes S.read_gives name.now source.old (seen arc_value result) source.new }
 {
     let bytes = source.read(name)?;
     let log = parse_log(alloc, bytes)?;
@@ -40,7 +41,7 @@ fn read_logs<S: Source>(
     source: &mut S,
     names: &[String],
 ) -> Result<Vec<Arc<VatLog>>, CaseFault>
-    ensures { LogsCome S.read_gives source.old (map string_bytes names.now) (seen (λ logs. map arc_value logs.items) result) source.new }
+    ensures { LogsCome S.read_gives (map string_bytes names.now) source.old (seen (λ logs. map arc_value logs.items) result) source.new }
 {
     let mut logs = Vec::new(alloc);
     for name in names {
@@ -52,7 +53,7 @@ fn read_logs<S: Source>(
 
 /// One order.
 fn read_order_file<S: Source>(alloc: Global, source: &mut S, name: &str) -> Result<Order, CaseFault>
-    ensures { OrderComes S.read_gives source.old name.now result source.new }
+    ensures { OrderComes S.read_gives name.now source.old result source.new }
 {
     let bytes = source.read(name)?;
     Ok(read_order(alloc, bytes)?)
@@ -64,7 +65,7 @@ fn read_named_order<S: Source>(
     source: &mut S,
     name: &Option<String>,
 ) -> Result<Option<Order>, CaseFault>
-    ensures { NamedOrderComes S.read_gives source.old (option_map string_bytes name.now) result source.new }
+    ensures { NamedOrderComes S.read_gives (option_map string_bytes name.now) source.old result source.new }
 {
     match name {
         None => Ok(None),
@@ -77,7 +78,7 @@ fn read_named_order<S: Source>(
 
 /// The case of these logs and links.
 fn tied_case(logs: Vec<Arc<VatLog>>, links: Vec<Link>) -> Result<Case, CaseFault>
-    ensures { CaseComes (map arc_value logs.items) links.items result }
+    ensures { IsCaseOf (map arc_value logs.items) links.items result }
 {
     let case = Case::new(logs, links)?;
     match case.tie_fault() {
@@ -86,16 +87,30 @@ fn tied_case(logs: Vec<Arc<VatLog>>, links: Vec<Link>) -> Result<Case, CaseFault
     }
 }
 
-/// The case that a source has under a name. All files that the case file names are read, the order among them.
+/// A case and the order that its file names, if it names one.
+#[derive(Debug, Drop)]
+pub struct ReadCase {
+    /// The case of the logs and links.
+    pub case: Case,
+    /// The order. Whether it fits the logs isn't asked here.
+    pub order: Option<Order>,
+}
+
+/// The case that a source has under a name, and the order that it names. All files that the case file names are read.
 ///
 /// # Errors
 ///
 /// The first fault of the case file, of each log as listed, of the order, and of the case.
-pub fn read_case<S: Source>(alloc: Global, source: &mut S, name: &str) -> Result<Case, CaseFault>
+pub fn read_case<S: Source>(
+    alloc: Global,
+    source: &mut S,
+    name: &str,
+) -> Result<ReadCase, CaseFault>
     ensures { ComesOfCase S.read_gives source.old name.now result source.new }
 {
     let file = read_case_file(alloc, source, name)?;
     let logs = read_logs(alloc, source, &file.logs)?;
-    let _order = read_named_order(alloc, source, &file.order)?;
-    tied_case(logs, file.links)
+    let order = read_named_order(alloc, source, &file.order)?;
+    let case = tied_case(logs, file.links)?;
+    Ok(ReadCase { case, order })
 }

@@ -7,16 +7,13 @@ ghost use Rattle.case_files.specs.declared.source.SourceError.TheVariants.{OutOf
 
 use bytes::Bytes;
 use std::alloc::{AllocError, AllocFailed};
-use thiserror::Error;
 
 /// Why a source gives nothing under a name.
-#[derive(Debug, Drop, Error)]
+#[derive(Clone, Copy, Debug, PartialEq, Eq)]
 pub enum SourceError {
     /// There is nothing to read, it can't be read, or it is longer than what is read.
-    #[error("cannot read")]
     CannotRead,
     /// A growth of memory was refused.
-    #[error("out of memory")]
     OutOfMemory,
 }
 
@@ -38,7 +35,7 @@ impl<T: Drop> From<AllocFailed<T>> for SourceError {
 
 /// What gives bytes by name, as files do.
 pub trait Source {
-    // What may come of reading a name: the source, the name, the bytes or why there are none, and the source afterwards.
+    // What may come of reading a name: the source, the name, the bytes or why there are none, the source afterwards.
     ghost read_gives: { Self → List ℕ → Answered (List ℕ) SourceError → Self → Type 0 } = { λ _ _ _ _. ⊤ };
 
     /// All bytes that stand under the name.

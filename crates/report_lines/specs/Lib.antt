@@ -1,4 +1,6 @@
-pub mod FrameLines
+pub mod Answers
+pub mod Faults
 pub mod Lines
 pub mod MessageText
+pub mod OrderAnswers
 pub mod Pieces

@@ -17,16 +17,16 @@ use Rattle.rpc_view.specs.declared.message.RpcMessage.{RpcMessage}
 use Rattle.rpc_view.specs.declared.message.RpcMessage.TheVariants.{Bootstrap, Call, Return, Finish, Resolve, Release, Disembargo, Abort}
 
 -- a path's numbers, the outermost struct's first: [a,b]
-unfoldable pub path_text : List ℕ → List ℕ
+abbrev pub path_text : List ℕ → List ℕ
 path_text path = codes "[" ++ (join_by decimal (codes ",") path ++ codes "]")
 
 -- what a call goes to: the receiver's export by its number, or an answer's field by its path
-unfoldable pub target_text : Target → List ℕ
+abbrev pub target_text : Target → List ℕ
 target_text (Imported number) = codes "import " ++ decimal number
 target_text (Promised question path) = codes "answer " ++ (decimal question ++ (codes " " ++ path_text path))
 
 -- an entry of a capability table
-unfoldable pub descriptor_text : Descriptor → List ℕ
+abbrev pub descriptor_text : Descriptor → List ℕ
 descriptor_text NoCap = codes "none"
 descriptor_text (SenderHosted number) = codes "senderHosted " ++ decimal number
 descriptor_text (SenderPromise number) = codes "senderPromise " ++ decimal number
@@ -34,11 +34,11 @@ descriptor_text (ReceiverHosted number) = codes "receiverHosted " ++ decimal num
 descriptor_text (ReceiverAnswer question path) = codes "receiverAnswer " ++ (decimal question ++ (codes " " ++ path_text path))
 
 -- a capability of the content: its path, and its index in the table
-unfoldable pub field_text : (List ℕ × ℕ) → List ℕ
+abbrev pub field_text : (List ℕ × ℕ) → List ℕ
 field_text field = path_text field.0 ++ (codes "=" ++ decimal field.1)
 
 -- the capability table, and the capabilities of the content
-unfoldable pub payload_text : Payload → List ℕ
+abbrev pub payload_text : Payload → List ℕ
 payload_text payload = codes "caps [" ++ (join_by descriptor_text (codes ";") payload.descriptors
     ++ (codes "] fields [" ++ (join_by field_text (codes ";") payload.fields ++ codes "]")))
 
@@ -50,38 +50,29 @@ abbrev pub bool_text : Bool → List ℕ
 bool_text b = if b then codes "true" else codes "false"
 
 -- what a Return says of its call
-unfoldable pub outcome_text : Outcome → List ℕ
+abbrev pub outcome_text : Outcome → List ℕ
 outcome_text (outcomes.Results results) = codes "results " ++ payload_text results
 outcome_text outcomes.Exception = codes "exception"
 outcome_text outcomes.Canceled = codes "canceled"
 
 -- what a promise came to
-unfoldable pub resolution_text : Resolution → List ℕ
-resolution_text (resolutions.Cap descriptor) = codes " " ++ descriptor_text descriptor
-resolution_text resolutions.Exception = codes " exception"
+abbrev pub resolution_text : Resolution → List ℕ
+resolution_text (resolutions.Cap descriptor) = descriptor_text descriptor
+resolution_text resolutions.Exception = codes "exception"
 
 abbrev pub loopback_text : Loopback → List ℕ
-loopback_text Sender = codes " senderLoopback "
-loopback_text Receiver = codes " receiverLoopback "
-
--- what a Call has behind its question, a Return behind its answer, and a Disembargo behind its number
-unfoldable pub call_text : Target → ℕ → ℕ → Payload → List ℕ
-call_text target interface method params = codes " target " ++ (target_text target ++ (codes " interface " ++ (hexadecimal interface
-    ++ (codes " method " ++ (decimal method ++ (codes " " ++ payload_text params))))))
-
-unfoldable pub return_text : Bool → Outcome → List ℕ
-return_text releases outcome = codes " releaseParamCaps " ++ (bool_text releases ++ (codes " " ++ outcome_text outcome))
-
-unfoldable pub disembargo_text : Loopback → Target → List ℕ
-disembargo_text loopback target = loopback_text loopback ++ target_text target
+loopback_text Sender = codes "senderLoopback"
+loopback_text Receiver = codes "receiverLoopback"
 
 -- a message: its kind, and each of its fields behind its name
-unfoldable pub message_text : RpcMessage → List ℕ
+abbrev pub message_text : RpcMessage → List ℕ
 message_text (Bootstrap question) = codes "bootstrap question " ++ decimal question
-message_text (Call question target interface method params) = codes "call question " ++ (decimal question ++ call_text target interface method params)
-message_text (Return answer releases outcome) = codes "return answer " ++ (decimal answer ++ return_text releases outcome)
+message_text (Call question target interface method params) = codes "call question " ++ (decimal question ++ (codes " target " ++ (target_text target
+    ++ (codes " interface " ++ (hexadecimal interface ++ (codes " method " ++ (decimal method ++ (codes " " ++ payload_text params))))))))
+message_text (Return answer releases outcome) = codes "return answer " ++ (decimal answer
+    ++ (codes " releaseParamCaps " ++ (bool_text releases ++ (codes " " ++ outcome_text outcome))))
 message_text (Finish question releases) = codes "finish question " ++ (decimal question ++ (codes " releaseResultCaps " ++ bool_text releases))
-message_text (Resolve promise resolution) = codes "resolve promise " ++ (decimal promise ++ resolution_text resolution)
+message_text (Resolve promise resolution) = codes "resolve promise " ++ (decimal promise ++ (codes " " ++ resolution_text resolution))
 message_text (Release id count) = codes "release id " ++ (decimal id ++ (codes " count " ++ decimal count))
-message_text (Disembargo number loopback target) = codes "disembargo " ++ (decimal number ++ disembargo_text loopback target)
+message_text (Disembargo number loopback target) = codes "disembargo " ++ (decimal number ++ (codes " " ++ (loopback_text loopback ++ (codes " " ++ target_text target))))
 message_text Abort = codes "abort"

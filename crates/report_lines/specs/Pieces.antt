@@ -4,8 +4,8 @@ use Rattle.std.specs.List.{flat_map, list_all}
 use Rattle.cap_frame.specs.declared.frame_error.FrameError.{FrameError}
 use Rattle.cap_frame.specs.Segments.{first_len_of}
 use Rattle.rpc_view.specs.Message.{message_of_bytes}
-use Rattle.report_lines.specs.FrameLines.{view_line, view_status}
-use Rattle.report_lines.specs.Lines.{default_limits}
+use Rattle.report_lines.specs.Answers.{view_line, view_status}
+use Rattle.cap_reader.specs.Defaults.{default_limits}
 
 -- how many bytes the first piece has: those of the frame that stands first, or all where none can be cut
 abbrev pub len_or_all : List ℕ → Result ℕ FrameError → ℕ

@@ -1,19 +1,60 @@
-//! Answers: the line to print, and the exit status.
+//! What is answered to an input, with its text and its exit status.
 
-use rpc_view::Limits;
+ghost use Rattle.std.specs.Prelude.{◌≡◌, Some};
+ghost use Rattle.report_lines.specs.Lines.{answer_status, answer_text};
 
-/// The limits within which frames are read: 8,388,608 words of 8 bytes visited, and 64 structs one in another (encoding
-/// specification, "Security Considerations").
-pub const LIMITS: Limits = Limits {
-    words: 8_388_608,
-    depth: 64,
-};
+use crate::fault::Fault;
+use crate::finding_text::{outcome_status, put_outcome};
+use crate::shown::Shown;
+use merge_order::Order;
+use rpc_view::RpcMessage;
+use std::fmt;
+use std::fmt::{Display, Formatter};
+use vat_rules::VatFinding;
 
-/// A line with its end, and the exit status that goes with it.
+/// What is answered to an input. It is shown as its line (docs/FORMATS.md), without the line's end.
 #[derive(Debug, Drop)]
-pub struct Answer {
-    /// The line, its end among it.
-    pub line: String,
-    /// The exit status: 0, 1 or 2 (docs/FORMATS.md).
-    pub status: u8,
+pub enum Answer {
+    /// What the audit of a vat's log found.
+    Finding(VatFinding),
+    /// The message of a frame.
+    Message(RpcMessage),
+    /// An order of the records of a case.
+    Order(Order),
+    /// No order of the records of a case exists.
+    NoOrder,
+    /// The input has a fault, or memory ran out.
+    Fault(Fault),
+}
+
+impl Answer {
+    /// The exit status: 0 for a good log, a message or an order; 1 for a rule that is broken, or where no order exists;
+    /// 2 for a record that isn't judged, or a fault; 3 where memory ran out.
+    pub fn status(&self) -> u8
+        ensures { result ≡ answer_status self.now }
+    {
+        match self {
+            Answer::Finding(finding) => outcome_status(finding.outcome()),
+            Answer::Message(_) | Answer::Order(_) => 0,
+            Answer::NoOrder => 1,
+            Answer::Fault(fault) => fault.status(),
+        }
+    }
+}
+
+impl Display for Answer {
+    ghost output = { λ answer. Some (answer_text answer) };
+
+    fn fmt<W: fmt::Write>(&self, f: &mut Formatter<W>) -> fmt::Result {
+        match self {
+            Answer::Finding(finding) => {
+                let log = finding.log();
+                put_outcome(f, log.vat(), log.len(), finding.outcome())
+            }
+            Answer::Message(message) => write!(f, "{}", Shown(message)),
+            Answer::Order(order) => write!(f, "order steps {}", order.as_slice().len()),
+            Answer::NoOrder => f.write_str("no order exists"),
+            Answer::Fault(fault) => write!(f, "{fault}"),
+        }
+    }
 }

@@ -1,23 +1,18 @@
-//! The lines that answer logs and frames, with their exit statuses.
+//! From a value to its text and its exit status, and nothing else.
 //!
-//! It stands on `vat_rules`, `rpc_view` and what these stand on, and asks no file and no clock: bytes come in, an `Answer` or a
-//! text goes out. The program prints them. What each line says stands in `specs/Lines.antt` for a log,
-//! `specs/FrameLines.antt` for a frame, `specs/MessageText.antt` for a message and `specs/Pieces.antt` for a file of frames.
-//! [`answer_of_log`], [`answer_of_bytes`], [`answer_of_frame`] and [`text_of_message`] answer just that, or want of memory, and
-//! [`cut_piece`] cuts off just the first piece.
+//! It stands on `case_files`, `case_book`, `merge_order`, `vat_rules`, `rpc_view`, `cap_reader`, `vat_log` and
+//! `cap_frame`, whose values it shows. It asks no file, reads no bytes, audits nothing and takes no memory. An
+//! [`Answer`] is shown as just the text that `specs/Lines.antt` gives it, a [`Fault`] as that of `specs/Faults.antt`, a
+//! message as that of `specs/MessageText.antt`; `status` is just the exit status beside it. A line is the text and its
+//! end.
 #![tactic(auto)]
 
 mod answer;
-mod frame_answer;
-mod log_answer;
+mod fault;
+mod fault_name;
+mod finding_text;
 mod message_text;
-mod piece;
+mod shown;
 
-pub use answer::{Answer, LIMITS};
-pub use frame_answer::{answer_of_bytes, answer_of_frame};
-pub use log_answer::{answer_of_log, fault_name};
-pub use message_text::text_of_message;
-pub use piece::cut_piece;
-
-#[cfg(test)]
-mod tests;
+pub use answer::Answer;
+pub use fault::Fault;

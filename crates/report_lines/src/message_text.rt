@@ -1,133 +1,123 @@
-//! The text of a message.
+//! The text of a message, without an end of line: its kind, and each of its fields behind its name (docs/FORMATS.md).
 
-ghost use Rattle.std.specs.Prelude.{◌≡◌, ◌++◌, codes, IfOk, OnOk, string_bytes};
+ghost use Rattle.std.specs.Prelude.{◌≡◌, Some, codes};
 ghost use Rattle.std.specs.Fmt.{decimal};
 ghost use Rattle.std.specs.List.{join_by};
-ghost use Rattle.report_lines.specs.MessageText.{path_text, target_text, descriptor_text, field_text, payload_text, outcome_text, resolution_text, loopback_text, hexadecimal, call_text, return_text, disembargo_text, message_text};
+ghost use Rattle.report_lines.specs.MessageText.{path_text, target_text, descriptor_text, field_text, payload_text, outcome_text, resolution_text, loopback_text, hexadecimal, message_text};
 
+use crate::shown::Shown;
 use cap_frame::Path;
 use rpc_view::{Descriptor, Loopback, Outcome, Payload, Resolution, RpcMessage, Target};
-use std::alloc::{AllocError, Global};
-use std::fmt::Write;
+use std::fmt;
+use std::fmt::{Display, Formatter};
 
-/// Appends the numbers of a path, with a comma between each two.
-fn put_numbers(text: &mut String, numbers: &[u16]) -> Result<(), AllocError>
-    ensures { OnOk result (string_bytes text.new ≡ string_bytes text.old ++ join_by decimal (codes ",") numbers.now) }
-{
-    let mut between = "";
-    for number in numbers {
-        write!(text, "{between}{number}")?;
-        between = ",";
+/// Numbers with a comma between each two.
+impl Display for Shown<&[u16]> {
+    ghost output = { λ numbers. Some (join_by decimal (codes ",") numbers.0.now) };
+
+    fn fmt<W: fmt::Write>(&self, f: &mut Formatter<W>) -> fmt::Result {
+        let mut between = "";
+        for number in self.0 {
+            write!(f, "{between}{number}")?;
+            between = ",";
+        }
+        Ok(())
     }
-    Ok(())
 }
 
-/// Appends a path.
-#[tactic(auto, unfolding(crate::specs::MessageText::path_text))]
-fn put_path(text: &mut String, path: &Path) -> Result<(), AllocError>
-    ensures { OnOk result (string_bytes text.new ≡ string_bytes text.old ++ path_text path.now) }
-{
-    text.push_str("[")?;
-    put_numbers(text, path.as_slice())?;
-    text.push_str("]")
+impl Display for Shown<&Path> {
+    ghost output = { λ path. Some (path_text path.0.now) };
+
+    fn fmt<W: fmt::Write>(&self, f: &mut Formatter<W>) -> fmt::Result {
+        write!(f, "[{}]", Shown(self.0.as_slice()))
+    }
 }
 
-/// Appends what a call goes to.
-#[tactic(auto, unfolding(crate::specs::MessageText::target_text))]
-fn put_target(text: &mut String, target: &Target) -> Result<(), AllocError>
-    ensures { OnOk result (string_bytes text.new ≡ string_bytes text.old ++ target_text target.now) }
-{
-    match target {
-        Target::Imported(number) => write!(text, "import {number}"),
-        Target::Promised(question, path) => {
-            write!(text, "answer {question} ")?;
-            put_path(text, path)
+impl Display for Shown<&Target> {
+    ghost output = { λ target. Some (target_text target.0.now) };
+
+    fn fmt<W: fmt::Write>(&self, f: &mut Formatter<W>) -> fmt::Result {
+        match self.0 {
+            Target::Imported(number) => write!(f, "import {number}"),
+            Target::Promised(question, path) => write!(f, "answer {question} {}", Shown(path)),
         }
     }
 }
 
-/// Appends an entry of a capability table.
-#[tactic(auto, unfolding(crate::specs::MessageText::descriptor_text))]
-fn put_descriptor(text: &mut String, descriptor: &Descriptor) -> Result<(), AllocError>
-    ensures { OnOk result (string_bytes text.new ≡ string_bytes text.old ++ descriptor_text descriptor.now) }
-{
-    match descriptor {
-        Descriptor::NoCap => text.push_str("none"),
-        Descriptor::SenderHosted(number) => write!(text, "senderHosted {number}"),
-        Descriptor::SenderPromise(number) => write!(text, "senderPromise {number}"),
-        Descriptor::ReceiverHosted(number) => write!(text, "receiverHosted {number}"),
-        Descriptor::ReceiverAnswer(question, path) => {
-            write!(text, "receiverAnswer {question} ")?;
-            put_path(text, path)
+impl Display for Shown<&Descriptor> {
+    ghost output = { λ descriptor. Some (descriptor_text descriptor.0.now) };
+
+    fn fmt<W: fmt::Write>(&self, f: &mut Formatter<W>) -> fmt::Result {
+        match self.0 {
+            Descriptor::NoCap => f.write_str("none"),
+            Descriptor::SenderHosted(number) => write!(f, "senderHosted {number}"),
+            Descriptor::SenderPromise(number) => write!(f, "senderPromise {number}"),
+            Descriptor::ReceiverHosted(number) => write!(f, "receiverHosted {number}"),
+            Descriptor::ReceiverAnswer(question, path) => {
+                write!(f, "receiverAnswer {question} {}", Shown(path))
+            }
         }
     }
 }
 
-/// Appends the entries of a capability table, with a semicolon between each two.
-fn put_descriptors(text: &mut String, descriptors: &[Descriptor]) -> Result<(), AllocError>
-    ensures { OnOk result (string_bytes text.new ≡ string_bytes text.old ++ join_by descriptor_text (codes ";") descriptors.now) }
-{
-    let mut between = "";
-    for descriptor in descriptors {
-        text.push_str(between)?;
-        put_descriptor(text, descriptor)?;
-        between = ";";
-    }
-    Ok(())
-}
+/// The entries of a capability table, with a semicolon between each two.
+impl Display for Shown<&[Descriptor]> {
+    ghost output = { λ descriptors. Some (join_by descriptor_text (codes ";") descriptors.0.now) };
 
-/// Appends the capabilities of a payload's content, with a semicolon between each two.
-fn put_fields(text: &mut String, fields: &[(Path, u32)]) -> Result<(), AllocError>
-    ensures { OnOk result (string_bytes text.new ≡ string_bytes text.old ++ join_by field_text (codes ";") fields.now) }
-{
-    let mut between = "";
-    for (path, index) in fields {
-        text.push_str(between)?;
-        put_path(text, path)?;
-        write!(text, "={index}")?;
-        between = ";";
-    }
-    Ok(())
-}
-
-/// Appends a capability table and the capabilities of the content.
-#[tactic(auto, unfolding(crate::specs::MessageText::payload_text))]
-fn put_payload(text: &mut String, payload: &Payload) -> Result<(), AllocError>
-    ensures { OnOk result (string_bytes text.new ≡ string_bytes text.old ++ payload_text payload.now) }
-{
-    text.push_str("caps [")?;
-    put_descriptors(text, payload.descriptors.as_slice())?;
-    text.push_str("] fields [")?;
-    put_fields(text, payload.fields.as_slice())?;
-    text.push_str("]")
-}
-
-/// Appends what a Return says of its call.
-#[tactic(auto, unfolding(crate::specs::MessageText::outcome_text))]
-fn put_outcome(text: &mut String, outcome: &Outcome) -> Result<(), AllocError>
-    ensures { OnOk result (string_bytes text.new ≡ string_bytes text.old ++ outcome_text outcome.now) }
-{
-    match outcome {
-        Outcome::Results(results) => {
-            text.push_str("results ")?;
-            put_payload(text, results)
+    fn fmt<W: fmt::Write>(&self, f: &mut Formatter<W>) -> fmt::Result {
+        let mut between = "";
+        for descriptor in self.0 {
+            write!(f, "{between}{}", Shown(descriptor))?;
+            between = ";";
         }
-        Outcome::Exception => text.push_str("exception"),
-        Outcome::Canceled => text.push_str("canceled"),
+        Ok(())
     }
 }
 
-/// Appends what a promise came to.
-#[tactic(auto, unfolding(crate::specs::MessageText::resolution_text))]
-fn put_resolution(text: &mut String, resolution: &Resolution) -> Result<(), AllocError>
-    ensures { OnOk result (string_bytes text.new ≡ string_bytes text.old ++ resolution_text resolution.now) }
-{
-    match resolution {
-        Resolution::Cap(descriptor) => {
-            text.push_str(" ")?;
-            put_descriptor(text, descriptor)
+/// The capabilities of a payload's content, with a semicolon between each two.
+impl Display for Shown<&[(Path, u32)]> {
+    ghost output = { λ fields. Some (join_by field_text (codes ";") fields.0.now) };
+
+    fn fmt<W: fmt::Write>(&self, f: &mut Formatter<W>) -> fmt::Result {
+        let mut between = "";
+        for (path, index) in self.0 {
+            write!(f, "{between}{}={index}", Shown(path))?;
+            between = ";";
         }
-        Resolution::Exception => text.push_str(" exception"),
+        Ok(())
+    }
+}
+
+impl Display for Shown<&Payload> {
+    ghost output = { λ payload. Some (payload_text payload.0.now) };
+
+    fn fmt<W: fmt::Write>(&self, f: &mut Formatter<W>) -> fmt::Result {
+        let caps = Shown(self.0.descriptors.as_slice());
+        let fields = Shown(self.0.fields.as_slice());
+        write!(f, "caps [{caps}] fields [{fields}]")
+    }
+}
+
+impl Display for Shown<&Outcome> {
+    ghost output = { λ outcome. Some (outcome_text outcome.0.now) };
+
+    fn fmt<W: fmt::Write>(&self, f: &mut Formatter<W>) -> fmt::Result {
+        match self.0 {
+            Outcome::Results(results) => write!(f, "results {}", Shown(results)),
+            Outcome::Exception => f.write_str("exception"),
+            Outcome::Canceled => f.write_str("canceled"),
+        }
+    }
+}
+
+impl Display for Shown<&Resolution> {
+    ghost output = { λ resolution. Some (resolution_text resolution.0.now) };
+
+    fn fmt<W: fmt::Write>(&self, f: &mut Formatter<W>) -> fmt::Result {
+        match self.0 {
+            Resolution::Cap(descriptor) => write!(f, "{}", Shown(descriptor)),
+            Resolution::Exception => f.write_str("exception"),
+        }
     }
 }
 
@@ -136,123 +126,80 @@ fn loopback_text(loopback: Loopback) -> &'static str
     ensures { result.now ≡ loopback_text loopback }
 {
     match loopback {
-        Loopback::Sender => " senderLoopback ",
-        Loopback::Receiver => " receiverLoopback ",
+        Loopback::Sender => "senderLoopback",
+        Loopback::Receiver => "receiverLoopback",
     }
 }
 
-/// Appends sixteen hexadecimal digits.
-#[tactic(auto, using(crate::proofs::Joined::last), unfolding(crate::specs::MessageText::hexadecimal))]
-fn put_hexadecimal(text: &mut String, number: u64) -> Result<(), AllocError>
-    ensures { OnOk result (string_bytes text.new ≡ string_bytes text.old ++ hexadecimal number) }
-{
-    write!(text, "{number:016x}")
-}
+/// The id of an interface, in sixteen hexadecimal digits.
+#[derive(Clone, Copy)]
+struct Interface(u64);
 
-/// Appends what a Call has behind its question.
-#[tactic(auto, unfolding(crate::specs::MessageText::call_text))]
-fn put_call(
-    text: &mut String,
-    target: &Target,
-    interface: u64,
-    method: u16,
-    params: &Payload,
-) -> Result<(), AllocError>
-    ensures { OnOk result (string_bytes text.new ≡ string_bytes text.old ++ call_text target.now interface method params.now) }
-{
-    text.push_str(" target ")?;
-    put_target(text, target)?;
-    text.push_str(" interface ")?;
-    put_hexadecimal(text, interface)?;
-    write!(text, " method {method} ")?;
-    put_payload(text, params)
-}
+impl Display for Interface {
+    ghost output = { λ interface. Some (hexadecimal interface.0) };
 
-/// Appends what a Return has behind its answer.
-#[tactic(auto, unfolding(crate::specs::MessageText::return_text))]
-fn put_return(
-    text: &mut String,
-    release_param_caps: bool,
-    outcome: &Outcome,
-) -> Result<(), AllocError>
-    ensures { OnOk result (string_bytes text.new ≡ string_bytes text.old ++ return_text release_param_caps outcome.now) }
-{
-    write!(text, " releaseParamCaps {release_param_caps} ")?;
-    put_outcome(text, outcome)
-}
-
-/// Appends what a Disembargo has behind its number.
-#[tactic(auto, unfolding(crate::specs::MessageText::disembargo_text))]
-fn put_disembargo(text: &mut String, loopback: Loopback, target: &Target) -> Result<(), AllocError>
-    ensures { OnOk result (string_bytes text.new ≡ string_bytes text.old ++ disembargo_text loopback target.now) }
-{
-    text.push_str(loopback_text(loopback))?;
-    put_target(text, target)
-}
-
-/// Appends a message.
-#[tactic(auto, unfolding(crate::specs::MessageText::message_text))]
-fn put_message(text: &mut String, message: &RpcMessage) -> Result<(), AllocError>
-    ensures { OnOk result (string_bytes text.new ≡ string_bytes text.old ++ message_text message.now) }
-{
-    match message {
-        RpcMessage::Bootstrap { question } => write!(text, "bootstrap question {question}"),
-        RpcMessage::Call {
-            question,
-            target,
-            interface,
-            method,
-            params,
-        } => {
-            write!(text, "call question {question}")?;
-            put_call(text, target, *interface, *method, params)
-        }
-        RpcMessage::Return {
-            answer,
-            release_param_caps,
-            outcome,
-        } => {
-            write!(text, "return answer {answer}")?;
-            put_return(text, *release_param_caps, outcome)
-        }
-        RpcMessage::Finish {
-            question,
-            release_result_caps,
-        } => {
-            write!(
-                text,
-                "finish question {question} releaseResultCaps {release_result_caps}"
-            )
-        }
-        RpcMessage::Resolve {
-            promise,
-            resolution,
-        } => {
-            write!(text, "resolve promise {promise}")?;
-            put_resolution(text, resolution)
-        }
-        RpcMessage::Release { id, count } => write!(text, "release id {id} count {count}"),
-        RpcMessage::Disembargo {
-            number,
-            loopback,
-            target,
-        } => {
-            write!(text, "disembargo {number}")?;
-            put_disembargo(text, *loopback, target)
-        }
-        RpcMessage::Abort => text.push_str("abort"),
+    fn fmt<W: fmt::Write>(&self, f: &mut Formatter<W>) -> fmt::Result {
+        let number = self.0;
+        write!(f, "{number:016x}")
     }
 }
 
-/// The text of a message, without an end of line: its kind, and each of its fields behind its name (docs/FORMATS.md).
-///
-/// # Errors
-///
-/// Want of memory.
-pub fn text_of_message(alloc: Global, message: &RpcMessage) -> Result<String, AllocError>
-    ensures { IfOk result (λ text. string_bytes text ≡ message_text message.now) }
-{
-    let mut text = String::new(alloc);
-    put_message(&mut text, message)?;
-    Ok(text)
+impl Display for Shown<&RpcMessage> {
+    ghost output = { λ message. Some (message_text message.0.now) };
+
+    fn fmt<W: fmt::Write>(&self, f: &mut Formatter<W>) -> fmt::Result {
+        match self.0 {
+            RpcMessage::Bootstrap { question } => write!(f, "bootstrap question {question}"),
+            RpcMessage::Call {
+                question,
+                target,
+                interface,
+                method,
+                params,
+            } => {
+                let target = Shown(target);
+                let interface = Interface(*interface);
+                let params = Shown(params);
+                write!(
+                    f,
+                    "call question {question} target {target} interface {interface} method {method} {params}"
+                )
+            }
+            RpcMessage::Return {
+                answer,
+                release_param_caps,
+                outcome,
+            } => {
+                let outcome = Shown(outcome);
+                write!(
+                    f,
+                    "return answer {answer} releaseParamCaps {release_param_caps} {outcome}"
+                )
+            }
+            RpcMessage::Finish {
+                question,
+                release_result_caps,
+            } => {
+                write!(
+                    f,
+                    "finish question {question} releaseResultCaps {release_result_caps}"
+                )
+            }
+            RpcMessage::Resolve {
+                promise,
+                resolution,
+            } => write!(f, "resolve promise {promise} {}", Shown(resolution)),
+            RpcMessage::Release { id, count } => write!(f, "release id {id} count {count}"),
+            RpcMessage::Disembargo {
+                number,
+                loopback,
+                target,
+            } => {
+                let loopback = loopback_text(*loopback);
+                let target = Shown(target);
+                write!(f, "disembargo {number} {loopback} {target}")
+            }
+            RpcMessage::Abort => f.write_str("abort"),
+        }
+    }
 }

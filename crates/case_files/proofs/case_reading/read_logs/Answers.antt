@@ -1,16 +1,25 @@
-use Rattle.std.proofs.Common.{map}
+use Rattle.std.proofs.Common.{◌≡◌, [], map, rules}
 use Rattle.std.proofs.lemmas.Result.{err_from_is_err_and}
 use Rattle.std.specs.Arc.{arc_value}
 use Rattle.case_files.specs.declared.case_fault.CaseFault.TheVariants.{OutOfMemory}
-use Rattle.case_files.proofs.CaseReadings.{goes_on, goes_wrong, values_more}
+use Rattle.case_files.proofs.CaseReadings.{all_came, goes_wrong, none_yet, one_more, values_more}
 use Rattle.case_files.proofs.case_reading.read_logs.Goals as goal
+
+pub loop-name-init : goal.loop-name-init
+loop-name-init g c =
+    let none : map arc_value c.new-logs.result.items ≡ [] = search rules in
+    none_yet g.S.Source.read_gives c.args.source.now c.args.names.now (map arc_value c.new-logs.result.items) none
 
 pub loop-name-preserved : goal.loop-name-preserved
 loop-name-preserved g c =
     let comes = rw c.as_str.ensures.value at c.in_ok-log.ensures in
-    let all = goes_on g.S.Source.read_gives c.args.source.now c.loop-name.source c.read_log.new.source c.args.names.now c.loop-name.name-index c.name-item.result
+    let more = one_more g.S.Source.read_gives c.args.source.now c.loop-name.source c.read_log.new.source c.args.names.now c.loop-name.name-index c.name-item.result
     (map arc_value c.loop-name.logs.items) (arc_value c.in_ok-log.log) c.loop-name-test.true c.name-item.is c.loop-name.invariant comes in
-    rw (c.in_ok-push.ensures.items, values_more) all
+    rw (c.in_ok-push.ensures.items, values_more) more
+
+pub returns : goal.returns
+returns g c = all_came g.S.Source.read_gives c.args.source.now c.loop-name.source c.args.names.now c.loop-name.name-index (map arc_value c.loop-name.logs.items)
+    c.loop-name-test.false c.loop-name.invariant
 
 pub returns-in_err-log : goal.returns-in_err-log
 returns-in_err-log g c =

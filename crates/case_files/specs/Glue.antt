@@ -1,0 +1,22 @@
+-- This file serves the contracts of private functions alone, and is no part of the meaning.
+use Rattle.std.specs.Prelude.{◌≡◌, map, string_bytes, Option, Some, None, option_map, Result, Ok, Err}
+use Rattle.case_files.specs.declared.case_fault.CaseFault.{CaseFault}
+use Rattle.case_files.specs.declared.case_fault.CaseFault.TheVariants.{Form, OutOfMemory}
+use Rattle.case_files.specs.declared.case_file.CaseFile.{CaseFile}
+use Rattle.case_files.specs.CaseFile.{Listed}
+
+-- an answer, seen by view
+abbrev pub seen : {A B : Type 0} → (A → B) → Result A CaseFault → Result B CaseFault
+seen view (Ok x) = Ok (view x)
+seen view (Err fault) = Err fault
+
+-- an answer, seen by view, is what was said; `Form` where nothing was
+abbrev pub Told : {A B : Type 0} → (A → B) → Result A CaseFault → Option B → Type 0
+Told view (Ok x) said = said ≡ Some (view x)
+Told view (Err OutOfMemory) said = Unit {0}
+Told view (Err Form) said = said ≡ None
+Told view (Err _) said = ⊥
+
+-- what a case file says
+abbrev pub listed_by : CaseFile → Listed
+listed_by file = record { logs = map string_bytes file.logs.items; links = file.links.items; order = option_map string_bytes file.order }

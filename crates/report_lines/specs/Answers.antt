@@ -1,0 +1,56 @@
+-- The line and the exit status that answer the bytes of a log, the bytes of a frame, and a frame in hexadecimal.
+use Rattle.std.specs.Prelude.{◌≡◌, ℕ, List, length, Result, Ok, Err}
+use Rattle.hex.specs.Hex.{decode_of}
+use Rattle.hex.specs.declared.error.FromHexError.{FromHexError}
+use Rattle.cap_reader.specs.Defaults.{default_limits}
+use Rattle.rpc_view.specs.Message.{message_of_bytes}
+use Rattle.rpc_view.specs.declared.message.RpcMessage.{RpcMessage}
+use Rattle.rpc_view.specs.declared.view_error.ViewError.{ViewError}
+use Rattle.vat_log.specs.declared.error.LogError.{LogError}
+use Rattle.vat_log.specs.Log.{Log}
+use Rattle.vat_log.specs.Reading.{log_of}
+use Rattle.vat_rules.specs.declared.outcome.Outcome.{Outcome}
+use Rattle.vat_rules.specs.Audit.{IsTrueOf}
+use Rattle.report_lines.specs.declared.answer.Answer.{Answer}
+use Rattle.report_lines.specs.declared.answer.Answer.TheVariants.{Message, Fault}
+use Rattle.report_lines.specs.declared.fault.Fault.TheVariants.{BadHex}
+use Rattle.report_lines.specs.Faults.{of_log, of_view}
+use Rattle.report_lines.specs.Lines.{Says, answer_text, line, outcome_status, outcome_text}
+
+-- a line and a status answer what a log reads as: its fault, or what the rules say of it
+abbrev pub AnswersReading : Result Log LogError → List ℕ → ℕ → Type 0
+AnswersReading (Err fault) text status = Says (Fault (of_log fault)) text status
+AnswersReading (Ok log) text status =
+    (outcome : Outcome) × IsTrueOf log default_limits outcome
+    × (text ≡ line (outcome_text log.vat (length log.records) outcome)) × (status ≡ outcome_status outcome)
+
+-- a line and a status answer the bytes of a log
+abbrev pub AnswersLog : List ℕ → List ℕ → ℕ → Type 0
+AnswersLog bytes text status = AnswersReading (log_of bytes) text status
+
+-- the answer to what a frame's bytes read as, the message or the first fault
+abbrev pub view_answer : Result RpcMessage ViewError → Answer
+view_answer (Ok message) = Message message
+view_answer (Err fault) = Fault (of_view fault)
+
+-- its line
+abbrev pub view_line : Result RpcMessage ViewError → List ℕ
+view_line view = line (answer_text (view_answer view))
+
+-- and its status; no frame's bytes give want of memory, whose status would be another
+abbrev pub view_status : Result RpcMessage ViewError → ℕ
+view_status (Ok message) = 0
+view_status (Err fault) = 2
+
+-- a line and a status answer what a frame's bytes read as
+abbrev pub AnswersView : Result RpcMessage ViewError → List ℕ → ℕ → Type 0
+AnswersView view text status = (text ≡ view_line view) × (status ≡ view_status view)
+
+-- a line and a status answer what hexadecimal digits give: a frame's bytes, or nothing
+abbrev pub AnswersDigits : Result (List ℕ) FromHexError → List ℕ → ℕ → Type 0
+AnswersDigits (Ok bytes) text status = AnswersView (message_of_bytes bytes default_limits) text status
+AnswersDigits (Err fault) text status = Says (Fault BadHex) text status
+
+-- a line and a status answer a frame in hexadecimal
+abbrev pub AnswersHex : List ℕ → List ℕ → ℕ → Type 0
+AnswersHex hex text status = AnswersDigits (decode_of hex) text status

@@ -1,0 +1,78 @@
+//! The text and the exit status of what an audit found.
+
+ghost use Rattle.std.specs.Prelude.{◌≡◌};
+ghost use Rattle.std.specs.Fmt.{WritesOnOk};
+ghost use Rattle.report_lines.specs.Lines.{code_of, outcome_status, outcome_text, word_of};
+
+use std::fmt;
+use std::fmt::Formatter;
+use vat_rules::{Outcome, Rule, Why};
+
+/// The code of a rule.
+fn code_of(rule: Rule) -> &'static str
+    ensures { result.now ≡ code_of rule }
+{
+    match rule {
+        Rule::Ref => "REF",
+        Rule::Here => "HERE",
+        Rule::QNew => "QNEW",
+        Rule::QUse => "QUSE",
+        Rule::XUse => "XUSE",
+        Rule::Goal => "GOAL",
+        Rule::Answer => "ANSWER",
+        Rule::Desc => "DESC",
+        Rule::Count => "COUNT",
+        Rule::Result => "RESULT",
+        Rule::RecvRef => "RECVREF",
+    }
+}
+
+/// The word for why a record isn't judged.
+fn word_of(why: Why) -> &'static str
+    ensures { result.now ≡ word_of why }
+{
+    match why {
+        Why::Level => "Level",
+        Why::Unimplemented => "Unimplemented",
+        Why::LaterField => "LaterField",
+        Why::TailCall => "TailCall",
+        Why::Unread => "Unread",
+        Why::NotYet => "NotYet",
+    }
+}
+
+/// Writes what the audit of a vat's log found, of which it has this many records.
+pub fn put_outcome<W: fmt::Write>(
+    f: &mut Formatter<W>,
+    vat: u32,
+    records: usize,
+    outcome: &Outcome,
+) -> fmt::Result
+    ensures { WritesOnOk W.write_str_gives f.old result (outcome_text vat records outcome.now) f.new }
+{
+    match outcome {
+        Outcome::Good(story) => {
+            let delivered = story.delivered();
+            write!(f, "good vat {vat} records {records} delivered {delivered}")
+        }
+        Outcome::Broken { at, rule } => {
+            let code = code_of(*rule);
+            write!(f, "no vat {vat} record {at} rule {code}")
+        }
+        Outcome::Outside { at, why } => {
+            let word = word_of(*why);
+            write!(f, "outside vat {vat} record {at} {word}")
+        }
+    }
+}
+
+/// The exit status for what an audit found.
+pub fn outcome_status(outcome: &Outcome) -> u8
+    ensures { result ≡ outcome_status outcome.now }
+{
+    match outcome {
+        Outcome::Good(_) => 0,
+        Outcome::Broken { .. } => 1,
+        Outcome::Outside { .. } => 2,
+    }
+}

@@ -11,8 +11,8 @@ is_flag [] = false
 is_flag (x ∷ []) = false
 is_flag (x ∷ y ∷ rest) = x == 45
 
--- the words after the program's name are the command's name and the one thing that it reads, where `--` may stand before
--- or after that
+-- the words after the program's name are the command's name and the one thing that it reads, where `--` may stand
+-- before or after that
 abbrev pub SpellsOne : List ℕ → List (List ℕ) → List ℕ → Type 0
 SpellsOne name words thing = (first : List ℕ) ×
     ((words ≡ first ∷ name ∷ thing ∷ [])

@@ -154,9 +154,9 @@ fn parser<'a>(alloc: Global) -> Result<clap::Command<'a>, AllocError>
     with_order(alloc, readers)
 }
 
-/// The command that the words spell, of which the first is the program's name: `vat FILE`, `frame HEX` or `frames FILE`,
-/// where before or after the last of these may stand `--`, and it may begin with a hyphen only after that or where it is `-`;
-/// or `order CASE --out FILE`, as `clap` reads it.
+/// The command that the words spell, of which the first is the program's name: `vat FILE`, `frame HEX` or `frames
+/// FILE`, where before or after the last of these may stand `--`, and it may begin with a hyphen only after that or
+/// where it is `-`; or `order CASE --out FILE`, as `clap` reads it.
 ///
 /// # Errors
 ///

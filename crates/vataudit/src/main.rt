@@ -2,45 +2,35 @@
 //! `vataudit frame HEX` the message of a frame, `vataudit frames FILE` that of each frame of a file, and
 //! `vataudit order CASE --out FILE` makes an order of the records of a case.
 //!
-//! It stands on `report_lines`, which answers logs and frames, on `case_files`, which reads a case and answers it with an
-//! order, and on `clap`. A command line becomes a `Command` (command.rt, help.rt), whose files are read as a `Source` of
-//! `case_files` (file.rt); `run_on` prints the answer (run.rt, and frames.rt for a file of frames). The order of a case is
-//! written to a file (new_file.rt) and told (order.rt).
-//!
-//! What a run prints is said by specs/Printed.antt, over the lines that `report_lines` defines, and by specs/OrderRuns.antt,
-//! over what `case_files` says of a case and its order; which words spell a command by specs/Spelled.antt.
+//! It stands on `command_line`, which reads the words, and on `command_run`, which runs the command that they spell
+//! and says in its specs/Runs.antt what a run prints. Here are the files: those that are read are a `Source` of
+//! `case_files` (file.rt), and the order of a case is written to a new one (new_file.rt).
 #![tactic(auto)]
 
 ghost use Rattle.std.specs.Prelude.{◌≡◌, ◌≢◌, ◌⊎◌};
 ghost use Rattle.clap.specs.Words.{kind_of};
+ghost use Rattle.report_lines.specs.Faults.{fault_status};
 
-mod command;
 mod file;
-mod frames;
-mod help;
 mod new_file;
-mod order;
-#[cfg(test)]
-mod order_tests;
-mod run;
-#[cfg(test)]
-mod tests;
 
 use clap::error::ErrorKind;
-use command::command_of;
+use command_line::command_of;
+use command_run::{FAILED, run_on};
 use file::Folder;
 use new_file::NewFile;
-use run::{FAILED, OUT_OF_MEMORY, run_on};
+use report_lines::Fault;
 use std::process::ExitCode;
 use std::rt::Files;
 use std::{env, fs, io};
 
 /// Prints that memory ran out, and gives the exit status: that of a failed write where the line can't be written.
 fn out_of_memory(rt: &impl Print) -> u8
-    ensures { (result ≡ OUT_OF_MEMORY) ⊎ (result ≡ FAILED) }
+    ensures { (result ≡ fault_status Fault.OutOfMemory) ⊎ (result ≡ FAILED) }
 {
-    match rt.print("out of memory\n") {
-        Ok(()) => OUT_OF_MEMORY,
+    let fault = Fault::OutOfMemory;
+    match println!(rt; "{fault}") {
+        Ok(()) => fault.status(),
         Err(_) => FAILED,
     }
 }
@@ -56,16 +46,18 @@ fn refuse(rt: &(impl Print + Eprint), error: &clap::Error) -> u8
     FAILED
 }
 
-/// Takes the places of the standard streams that were closed when the program began, so that no file that it opens later
-/// stands in one of them: a directory can neither be read nor written as a file.
-fn closed_streams<R: Files>(rt: &R) -> [io::Result<R::File>; 3] {
+/// Opens the root directory three times, and gives what holds it open. The system gives each open file the lowest
+/// place that is free: so a standard stream that was closed when the program began has its place taken here, and no
+/// file that is opened later stands in it, which the stream's writes or reads would reach. A directory can't be read
+/// or written as a file is. Where all streams are open the directory takes the three places behind them.
+fn hold_standard_places<R: Files>(rt: &R) -> [io::Result<R::File>; 3] {
     [fs::open(rt, "/"), fs::open(rt, "/"), fs::open(rt, "/")]
 }
 
 /// Does what the words ask, and gives the exit status.
 fn start(rt: &HostRuntime, words: &[String]) -> u8 {
     let alloc = rt.alloc();
-    let _held = closed_streams(rt);
+    let _held = hold_standard_places(rt);
     match command_of(alloc, words) {
         Ok(command) => run_on(
             alloc,

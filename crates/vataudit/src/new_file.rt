@@ -4,17 +4,18 @@ use std::io::Write;
 use std::rt::Files;
 use std::{fs, io};
 
-/// A file of the working directory, which is made at the first write, in the place of one of its name.
+/// A file of the working directory, which is made at the first write, in the place of one of its name. Without a name
+/// none is made, and nothing can be written.
 #[derive(Drop)]
 pub struct NewFile<'a, R: Files> {
     rt: &'a R,
-    name: &'a str,
+    name: Option<&'a str>,
     file: Option<R::File>,
 }
 
 impl<'a, R: Files> NewFile<'a, R> {
     /// The file of this name, which isn't made yet.
-    pub fn new(rt: &'a R, name: &'a str) -> NewFile<'a, R> {
+    pub fn new(rt: &'a R, name: Option<&'a str>) -> NewFile<'a, R> {
         NewFile {
             rt,
             name,
@@ -25,8 +26,8 @@ impl<'a, R: Files> NewFile<'a, R> {
 
 impl<R: Files> Write for NewFile<'_, R> {
     fn write(&mut self, buf: &[u8]) -> io::Result<usize> {
-        if self.file.is_none() {
-            self.file = Some(fs::create(self.rt, self.name)?);
+        if let (None, Some(name)) = (&self.file, self.name) {
+            self.file = Some(fs::create(self.rt, name)?);
         }
         match &mut self.file {
             Some(file) => file.write(buf),

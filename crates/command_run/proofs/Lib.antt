@@ -1,0 +1,3 @@
+mod Falling
+mod Mapped
+mod Told

@@ -1,0 +1,20 @@
+-- Answers that were said, or whose write failed.
+use Rattle.std.proofs.Common.{◌≡◌, ℕ, List, Result, Ok, Err, IfOk, OnOk, subst, sym}
+use Rattle.std.specs.Prelude.{IsErrAnd}
+use Rattle.report_lines.specs.declared.answer.Answer.{Answer}
+use Rattle.report_lines.specs.Lines.{answer_status, answer_text, line}
+use Rattle.command_run.specs.Glue.{Prints}
+use Rattle.command_run.specs.Runs.{Writing}
+
+-- one answer
+pub told : {W E : Type 0} (answers : List ℕ → ℕ → Type 0) (wrote : Writing W) (old new : W) (answer : Answer) (r : Result ℕ E)
+    → answers (line (answer_text answer)) (answer_status answer) → IfOk r (λ s. s ≡ answer_status answer) → OnOk r (wrote old (line (answer_text answer)) new)
+    → Prints answers wrote old new r
+told answers wrote old new answer (Ok s) is status says = (line (answer_text answer), subst (λ n. answers (line (answer_text answer)) n) (sym status) is, says)
+told answers wrote old new answer (Err e) is status says = (line (answer_text answer), (answer_status answer, is))
+
+-- a write failed
+pub torn : {W E : Type 0} (P : E → Type 0) (answers : List ℕ → ℕ → Type 0) (wrote : Writing W) (old new : W) (r : Result ℕ E) (text : List ℕ) (status : ℕ)
+    → answers text status → IsErrAnd r P → Prints answers wrote old new r
+torn P answers wrote old new (Ok s) text status is failed = absurd failed
+torn P answers wrote old new (Err e) text status is failed = (text, (status, is))

@@ -1,0 +1,46 @@
+-- The lines and the exit status that answer a command, where memory may run out.
+use Rattle.std.specs.Prelude.{◌≡◌, ◌≢◌, ◌⊎◌, ℕ, List, [], ◌++◌, Option, None, Result, Ok, Err}
+use Rattle.case_files.specs.CaseReading.{ComesOfCase, Read, Reads}
+use Rattle.case_files.specs.declared.case_fault.CaseFault.{CaseFault}
+use Rattle.case_files.specs.declared.case_reading.ReadCase.{ReadCase}
+use Rattle.report_lines.specs.declared.answer.Answer.TheVariants.{Fault}
+use Rattle.report_lines.specs.declared.fault.Fault.TheVariants.{OutOfMemory}
+use Rattle.report_lines.specs.Faults.{of_source}
+use Rattle.report_lines.specs.Lines.{Says}
+use Rattle.command_run.specs.Answers.{AnswersHex, AnswersLog}
+use Rattle.command_run.specs.OrderAnswers.{AnswersCase}
+use Rattle.command_run.specs.Pieces.{AnswersFrames, Falls, lines}
+
+-- the line and the status for want of memory
+abbrev pub IsOutOfMemory : List ℕ → ℕ → Type 0
+IsOutOfMemory text status = Says (Fault OutOfMemory) text status
+
+-- a line and a status answer what a source gave as a log
+abbrev pub AnswersSource : Read → List ℕ → ℕ → Type 0
+AnswersSource (Ok bytes) text status = AnswersLog bytes text status ⊎ IsOutOfMemory text status
+AnswersSource (Err fault) text status = Says (Fault (of_source fault)) text status
+
+-- a line and a status answer a frame in hexadecimal
+abbrev pub AnswersFrame : List ℕ → List ℕ → ℕ → Type 0
+AnswersFrame hex text status = AnswersHex hex text status ⊎ IsOutOfMemory text status
+
+-- the lines and the status where memory ran out over a piece of a file of frames: those of the pieces before it, and
+-- then that of this
+abbrev pub StopsShort : List ℕ → List ℕ → ℕ → Type 0
+StopsShort bytes text status = (pieces : List (List ℕ)) × ((rest : List ℕ) × ((last : List ℕ) × Falls bytes pieces rest × (rest ≢ [])
+    × IsOutOfMemory last status × (text ≡ lines pieces ++ last)))
+
+-- lines and a status answer the bytes of a file of frames
+abbrev pub AnswersBytes : List ℕ → List ℕ → ℕ → Type 0
+AnswersBytes bytes text status = AnswersFrames bytes text status ⊎ StopsShort bytes text status
+
+-- lines and a status answer what a source gave as a file of frames
+abbrev pub AnswersFile : Read → List ℕ → ℕ → Type 0
+AnswersFile (Ok bytes) text status = AnswersBytes bytes text status
+AnswersFile (Err fault) text status = Says (Fault (of_source fault)) text status
+
+-- a line, a status and the bytes for the file answer the case that a source has under a name, or memory ran out
+abbrev pub AnswersOrder : {S : Type 0} → Reads S → S → List ℕ → List ℕ → ℕ → Option (List ℕ) → S → Type 0
+AnswersOrder gives old name text status bytes new =
+    ((came : Result ReadCase CaseFault) × (ComesOfCase gives old name came new × AnswersCase came text status bytes))
+    ⊎ (IsOutOfMemory text status × (bytes ≡ None))

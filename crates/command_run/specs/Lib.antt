@@ -1,0 +1,6 @@
+pub mod Answers
+pub mod CommandAnswers
+pub mod Glue
+pub mod OrderAnswers
+pub mod Pieces
+pub mod Runs

@@ -1,0 +1,65 @@
+-- What a run of a command asks its source for, and what it writes.
+use Rattle.std.specs.Prelude.{◌≡◌, ◌⊎◌, ℕ, List, Option, Some, None, Result, Ok, Err, IsSome}
+use Rattle.std.specs.Io.KnownBytes.{Appends}
+use Rattle.case_files.specs.CaseReading.{Read, Reads}
+use Rattle.command_line.specs.declared.command.Command.{Command}
+use Rattle.command_line.specs.declared.command.Command.TheVariants.{Vat, Frame, Frames, Order}
+use Rattle.command_run.specs.declared.output.Failed.{Failed}
+use Rattle.command_run.specs.declared.output.Failed.TheVariants.{Out, File}
+use Rattle.command_run.specs.CommandAnswers.{AnswersFile, AnswersFrame, AnswersOrder, AnswersSource}
+
+-- lines, a status and the bytes for the file, if there are any, are an answer
+abbrev pub Answering : Type 1
+Answering = List ℕ → ℕ → Option (List ℕ) → Type 0
+
+-- an answer without bytes for the file
+abbrev pub NoFile : (List ℕ → ℕ → Type 0) → Answering
+NoFile answers text status bytes = answers text status × (bytes ≡ None)
+
+-- What a run asks its source for, and what is an answer then: the log of a vat is read once, by its name, as a file
+-- of frames is; a frame asks for nothing; a case is read with the files that it names.
+abbrev pub CarriesOut : {S : Type 0} → Reads S → Command → S → S → (Answering → Type 0) → Type 0
+CarriesOut gives (Vat file) old new writes = (read : Read) × gives old file.now read new × writes (NoFile (AnswersSource read))
+CarriesOut gives (Frame hex) old new writes = (new ≡ old) × writes (NoFile (AnswersFrame hex.now))
+CarriesOut gives (Frames file) old new writes = (read : Read) × gives old file.now read new × writes (NoFile (AnswersFile read))
+CarriesOut gives (Order name out) old new writes = writes (λ text status bytes. AnswersOrder gives old name.now text status bytes new)
+
+-- what may come of writing: the writer, what was written, and the writer afterwards
+abbrev pub Writing : Type 0 → Type 1
+Writing W = W → List ℕ → W → Type 0
+
+-- what was written stands behind what was there
+abbrev pub Adds : {W : Type 0} → (W → Option (List ℕ)) → Writing W
+Adds contents old text new = Appends (contents old) (contents new) text
+
+-- and none of it is held back
+abbrev pub Wrote : {W : Type 0} → (W → Option (List ℕ)) → (W → Type 0) → Writing W
+Wrote contents is_finished old text new = Adds contents old text new × is_finished new
+
+-- bytes were written, all of them; without bytes the writer is as it was
+abbrev pub Saves : {F : Type 0} → Writing F → Option (List ℕ) → F → F → Type 0
+Saves wrote None old new = new ≡ old
+Saves wrote (Some bytes) old new = wrote old bytes new
+
+module _ {W F : Type 0} (answers : Answering) (to_out : Writing W) (to_file : Writing F) (out out_new : W) (file file_new : F) where
+  -- an answer was written whole, its bytes to the file and its lines to the output, and its status is the run's
+  abbrev pub WritesAll : ℕ → Type 0
+  WritesAll ended = (text : List ℕ) × ((bytes : Option (List ℕ)) × answers text ended bytes × Saves to_file bytes file file_new × to_out out text out_new)
+
+  -- an answer's bytes were written, and a write of its lines failed
+  abbrev pub FailsAfterFile : Type 0
+  FailsAfterFile = (text : List ℕ) × ((status : ℕ) × ((bytes : Option (List ℕ)) × answers text status bytes × Saves to_file bytes file file_new))
+
+  -- a write of an answer's bytes failed, and nothing was written to the output
+  abbrev pub FailsInFile : Type 0
+  FailsInFile = (text : List ℕ) × ((status : ℕ) × ((bytes : Option (List ℕ)) × answers text status bytes × IsSome bytes × (out_new ≡ out)))
+
+  -- what comes of writing an answer, its bytes first
+  abbrev pub Writes : {E X : Type 0} → Result ℕ (Failed E X) → Type 0
+  Writes (Ok ended) = WritesAll ended
+  Writes (Err (Out fault)) = FailsAfterFile
+  Writes (Err (File fault)) = FailsInFile
+
+  -- the same over std's writers, where a write that fails ends with 2
+  abbrev pub WritesOrFails : ℕ → Type 0
+  WritesOrFails ended = WritesAll ended ⊎ ((ended ≡ 2) × (FailsAfterFile ⊎ FailsInFile))

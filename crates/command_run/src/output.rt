@@ -1,0 +1,70 @@
+//! What is written to.
+
+ghost use Rattle.std.specs.Prelude.{ℕ, List, Option, None, OnOk, IfSome, ⊤};
+ghost use Rattle.std.specs.Io.KnownBytes.{Appends, Keeps};
+ghost use Rattle.std.specs.Fmt.{with_newline};
+
+use std::fmt::Display;
+use std::io;
+use std::io::Write;
+
+/// What lines and bytes are written to.
+pub trait Output {
+    /// Why a write fails. Code that knows no more of it than this can't make one up: it has one only where a write
+    /// failed.
+    type Error: Drop;
+
+    // The bytes that were written, where they are known.
+    ghost contents: { Self → Option (List ℕ) } = { λ _. None };
+
+    // Whether nothing that was written is held back.
+    ghost is_finished: { Self → Type 0 } = { λ _. ⊤ };
+
+    // Whether it may be written to. A write that failed doesn't say that it still may.
+    ghost can_write: { Self → Type 0 } = { λ _. ⊤ };
+
+    /// Writes a text, and behind it the end of the line.
+    fn write_line<D: Display + Drop>(&mut self, text: D) -> Result<(), Self::Error>
+        requires { can_write self.old }
+        ensures line { OnOk result (IfSome (with_newline (D.output text)) (Appends (contents self.old) (contents self.new))) }
+        ensures more { OnOk result (can_write self.new) };
+
+    /// Writes bytes.
+    fn write_bytes(&mut self, bytes: &[u8]) -> Result<(), Self::Error>
+        requires { can_write self.old }
+        ensures bytes { OnOk result (Appends (contents self.old) (contents self.new) bytes.now) }
+        ensures more { OnOk result (can_write self.new) };
+
+    /// Hands on what was written and is still held back.
+    fn finish(&mut self) -> Result<(), Self::Error>
+        requires { can_write self.old }
+        ensures bytes { OnOk result (Keeps (contents self.old) (contents self.new)) }
+        ensures finished { OnOk result (is_finished self.new) };
+}
+
+impl<W: Write> Output for W {
+    type Error = io::Error;
+
+    ghost contents = { W.contents };
+
+    fn write_line<D: Display + Drop>(&mut self, text: D) -> io::Result<()> {
+        self.writeln(text)
+    }
+
+    fn write_bytes(&mut self, bytes: &[u8]) -> io::Result<()> {
+        self.write_all(bytes)
+    }
+
+    fn finish(&mut self) -> io::Result<()> {
+        self.flush()
+    }
+}
+
+/// Which write failed.
+#[derive(Debug, Drop)]
+pub enum Failed<O, F> {
+    /// A write of the lines.
+    Out(O),
+    /// A write of an order's bytes.
+    File(F),
+}

@@ -1,4 +1,0 @@
-pub mod OrderRuns
-pub mod Parser
-pub mod Printed
-pub mod Spelled

@@ -13,6 +13,3 @@ mod table;
 pub use frame::Frame;
 pub use frame_error::FrameError;
 pub use path::Path;
-
-#[cfg(test)]
-mod tests;

@@ -18,6 +18,3 @@ pub use error::CaseError;
 pub use laws::least_is_least;
 pub use link::Link;
 pub use ties::TieFault;
-
-#[cfg(test)]
-mod tests;

@@ -12,6 +12,3 @@ mod outcome;
 
 pub use finding::{LinkFinding, check_link};
 pub use outcome::LinkOutcome;
-
-#[cfg(test)]
-mod tests;

@@ -20,6 +20,3 @@ pub use error::OrderError;
 pub use format::{read_order, write_order};
 pub use making::make_order;
 pub use order::Order;
-
-#[cfg(test)]
-mod tests;

@@ -25,6 +25,3 @@ pub use message::{
 };
 pub use reading::{read_bytes, read_message};
 pub use view_error::{Outside, ViewError};
-
-#[cfg(test)]
-mod tests;

@@ -33,6 +33,3 @@ pub use outcome::{Outcome, Why};
 pub use rule::Rule;
 pub use story::{Caps, Seen, Story};
 pub use view::View;
-
-#[cfg(test)]
-mod tests;

@@ -1,0 +1,141 @@
+//! What one vat recorded, and what is changed in it.
+
+use crate::fault::Fault;
+use crate::record::Log;
+use crate::words::number;
+use std::alloc::Global;
+
+/// The words of a text.
+pub fn words_of<'a>(alloc: Global, text: &'a str) -> Result<Vec<&'a str>, Fault> {
+    Ok(text.split_whitespace().collect(alloc)?)
+}
+
+/// A place in a list.
+fn place(word: &str) -> Result<usize, Fault> {
+    usize::try_from(number(word)?).map_err(|_| Fault::Unread)
+}
+
+/// One vat's number and its records, one text each.
+#[derive(Drop)]
+pub struct Vat<'a> {
+    pub number: &'a str,
+    pub records: Vec<&'a str>,
+}
+
+/// Adds the records of a line, with semicolons between them.
+pub fn add_records<'a>(records: &mut Vec<&'a str>, line: &'a str) -> Result<(), Fault> {
+    for record in line.split(';') {
+        let record = record.trim();
+        if !record.is_empty() {
+            records.push(record)?;
+        }
+    }
+    Ok(())
+}
+
+/// Puts a record in at a place.
+fn put_in<'a>(records: &mut Vec<&'a str>, at: usize, record: &'a str) -> Result<(), Fault> {
+    if at > records.len() {
+        return Err(Fault::Unread);
+    }
+    records.insert(at, record)?;
+    Ok(())
+}
+
+/// Takes the record at a place out.
+fn take_out<'a>(records: &mut Vec<&'a str>, at: usize) -> Result<&'a str, Fault> {
+    if at >= records.len() {
+        return Err(Fault::Unread);
+    }
+    Ok(records.remove(at))
+}
+
+/// Makes one change in the records; `becomes` is the record behind ` is `, if there is one.
+fn change<'a>(
+    records: &mut Vec<&'a str>,
+    words: &[&str],
+    becomes: Option<&'a str>,
+) -> Result<(), Fault> {
+    match (words, becomes) {
+        (["record", at], Some(record)) => {
+            let at = place(at)?;
+            take_out(records, at)?;
+            put_in(records, at, record)
+        }
+        (["new", "record", at], Some(record)) => put_in(records, place(at)?, record),
+        (["record", at, "twice"], None) => {
+            let at = place(at)?;
+            let record = take_out(records, at)?;
+            put_in(records, at, record)?;
+            put_in(records, at, record)
+        }
+        (["record", at, "left", "out"], None) => {
+            take_out(records, place(at)?)?;
+            Ok(())
+        }
+        (["record", at, "moved", "to", to], None) => {
+            let record = take_out(records, place(at)?)?;
+            put_in(records, place(to)?, record)
+        }
+        (["cut", "to", count, "records"], None) => {
+            records.truncate(place(count)?);
+            Ok(())
+        }
+        (["cut", "to", _, "bytes"], None) => Ok(()),
+        _ => Err(Fault::Unread),
+    }
+}
+
+/// A change without its record, and the record behind ` is `.
+fn parts(text: &str) -> (&str, Option<&str>) {
+    match text.split_once(" is ") {
+        None => (text, None),
+        Some((left, record)) => (left, Some(record)),
+    }
+}
+
+/// The records of a vat with the changes that name it.
+fn changed<'a>(alloc: Global, vat: &Vat<'a>, changes: &[&'a str]) -> Result<Vec<&'a str>, Fault> {
+    let mut records = Vec::new(alloc);
+    for record in &vat.records {
+        records.push(*record)?;
+    }
+    for text in changes {
+        let (left, becomes) = parts(text);
+        let words = words_of(alloc, left)?;
+        if let ["vat", number, rest @ ..] = words.as_slice() {
+            if *number == vat.number {
+                change(&mut records, rest, becomes)?;
+            }
+        }
+    }
+    Ok(records)
+}
+
+/// At how many bytes the changes cut the log of a vat, if they do.
+fn cut_at(alloc: Global, number: &str, changes: &[&str]) -> Result<Option<usize>, Fault> {
+    for text in changes {
+        let words = words_of(alloc, text)?;
+        if let ["vat", vat, "cut", "to", count, "bytes"] = words.as_slice() {
+            if *vat == number {
+                return Ok(Some(place(count)?));
+            }
+        }
+    }
+    Ok(None)
+}
+
+/// The log of a vat, with the changes that name it.
+pub fn log_of(alloc: Global, vat: &Vat<'_>, changes: &[&str]) -> Result<Vec<u8>, Fault> {
+    let number = vat.number.parse::<u32>().map_err(|_| Fault::Unread)?;
+    let mut log = Log::new(alloc, number)?;
+    for record in &changed(alloc, vat, changes)? {
+        let words = words_of(alloc, record)?;
+        log.put_record(alloc, &words)?;
+    }
+    let mut bytes = log.bytes;
+    if let Some(count) = cut_at(alloc, vat.number, changes)? {
+        bytes.truncate(count);
+    }
+    Ok(bytes)
+}

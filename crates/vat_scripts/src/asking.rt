@@ -3,8 +3,9 @@
 use crate::fault::Fault;
 use bytes::Bytes;
 use case_files::FileList;
+use clap::error::ErrorKind;
 use command_line::command_of;
-use command_run::{FAILED, run_on};
+use command_run::run_on;
 use std::alloc::Global;
 
 /// What a run wrote to its output, its exit status, and what it wrote to the file of an order.
@@ -15,15 +16,21 @@ pub struct Told {
     pub made: Vec<u8>,
 }
 
-/// Runs the program with these words, of which the first is its name, over these files. Words that it doesn't
-/// understand have status 2 and no line, since their fault is told on standard error.
+/// Runs the program with these words, of which the first is its name, over these files. Words that it doesn't understand have
+/// status 2 and no line, since their fault is told on standard error.
 pub fn ask(alloc: Global, words: &[&str], files: Vec<(String, Bytes)>) -> Result<Told, Fault> {
-    let mut out = Vec::new(alloc);
-    let mut made = Vec::new(alloc);
-    let mut source = FileList::new(files);
-    let status = match command_of(alloc, words) {
-        Ok(command) => run_on(alloc, &command, &mut source, &mut out, &mut made),
-        Err(_) => FAILED,
+    let mut told = Told {
+        out: Vec::new(alloc),
+        status: 2,
+        made: Vec::new(alloc),
     };
-    Ok(Told { out, status, made })
+    let mut source = FileList::new(files);
+    match command_of(alloc, words) {
+        Ok(command) => {
+            told.status = run_on(alloc, &command, &mut source, &mut told.out, &mut told.made);
+            Ok(told)
+        }
+        Err(error) if error.kind() == ErrorKind::OutOfMemory => Err(Fault::OutOfMemory),
+        Err(_) => Ok(told),
+    }
 }

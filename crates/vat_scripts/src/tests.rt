@@ -1,5 +1,5 @@
-//! Calls that no command reaches, each with memory to be had, and its answer. A test that fails is run again from its start,
-//! so that it passes too where one growth of memory was refused (`tests/refused`).
+//! Calls that no command reaches, each with memory to be had, and its answer. A test that fails is run again from its
+//! start, so that it passes too where one growth of memory was refused (`tests/refused`).
 
 mod cases;
 mod frames;
@@ -10,3 +10,4 @@ mod messages;
 mod orders;
 mod pointers;
 mod rules;
+mod runs;

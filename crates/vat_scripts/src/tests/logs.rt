@@ -98,25 +98,27 @@ fn read_once(rt: &(impl Abort + AllocGlobal)) -> Result<(), Refused> {
             }
         )
     );
-    let Body::Answer { call: 5, results } = log.get(7).ok_or("record 7")?.body() else {
+    let Body::Answer { results, .. } = log.get(7).ok_or("record 7")?.body() else {
         return Err(Refused::from("an ANSWER"));
     };
-    let [(9, root), (4, below)] = results.as_slice() else {
+    let [root, below] = results.as_slice() else {
         return Err(Refused::from("two results"));
     };
-    assert!(rt; root.as_slice().is_empty() && below.as_slice() == [0, 258].as_slice());
+    assert!(rt; root.0 == 9 && root.1.as_slice().is_empty());
+    assert!(rt; below.0 == 4 && below.1.as_slice() == [0, 258].as_slice());
+    let send = log.get(9).ok_or("record 9")?.body();
     let Body::Send {
-        connection: 6,
-        call: 5,
+        connection,
+        call,
         references,
         frame,
-    } = log.get(9).ok_or("record 9")?.body()
+    } = send
     else {
         return Err(Refused::from("a SEND"));
     };
-    assert!(rt;
-        references.as_slice() == [7, 1].as_slice() && frame.as_slice() == b"\x0b".as_slice()
-    );
+    assert!(rt; *connection == 6 && *call == 5);
+    assert!(rt; references.as_slice() == [7, 1].as_slice());
+    assert!(rt; frame.as_slice() == b"\x0b".as_slice());
     Ok(())
 }
 

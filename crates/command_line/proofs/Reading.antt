@@ -11,7 +11,6 @@ use Rattle.clap.specs.Simple.{Shape, entered, filled, help_rule, names_of, with_
 use Rattle.clap.specs.Kinds.{check_kinds, or_else, range_kinds}
 use Rattle.clap.specs.Takes.{is_given}
 use Rattle.clap.specs.Faults.{bundle_step_fault, bundle_fault, built_fault, check_fault, defaults_fault, entered_fault, flag_word_fault, flags_fault, level_fault, long_fault, other_fault, react_fault, settle_fault, short_fault, step_fault, turn_fault, walk_fault, word_fault}
-use Rattle.clap.specs.declared.error.ErrorKind.{ErrorKind}
 use Rattle.clap.specs.declared.parser.matches.ValueSource.TheVariants.{CommandLine}
 use Rattle.clap.specs.declared.error.ErrorKind.TheVariants.{DisplayHelp, OutOfMemory}
 use Rattle.clap.specs.declared.Error.{Error}

@@ -1,12 +1,12 @@
 //! Asking the program. This is the one place that calls it.
 
-use crate::fault::Fault;
 use bytes::Bytes;
 use case_files::FileList;
 use clap::error::ErrorKind;
 use command_line::command_of;
 use command_run::run_on;
 use std::alloc::Global;
+use vat_notation::Fault;
 
 /// What a run wrote to its output, its exit status, and what it wrote to the file of an order.
 #[derive(Drop)]

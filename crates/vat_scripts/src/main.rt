@@ -1,25 +1,19 @@
 //! Runs the program on conversations that are written as text, and compares what it prints with what must come.
 //!
 //! `conversations.txt` names the files, one a line; `script.rt` says how one is written. Each line that differs is printed
-//! with the one that must come, and last how many lines came as they must. A helper of its own writes the frames
-//! (`segment.rt`, `message.rt`) and the logs (`record.rt`), byte by byte as docs/FORMATS.md says; `asking.rt` calls the program.
+//! with the one that must come, and last how many lines came as they must. `vat_notation` writes the frames and logs of
+//! the notation; `asking.rt` calls the program.
 #![tactic(auto)]
 
 mod asking;
-mod fault;
-mod message;
-mod record;
 mod script;
-mod segment;
 #[cfg(test)]
 mod tests;
-mod vat;
-mod words;
 
-use fault::Fault;
 use script::Script;
 use std::rt::Files;
 use std::{fs, io};
+use vat_notation::Fault;
 
 /// How many lines came as they must, and how many didn't.
 #[derive(Clone, Copy)]

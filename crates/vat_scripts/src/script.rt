@@ -16,12 +16,10 @@
 //! Behind the lines that a run prints comes `made V V ..` where it wrote an order.
 
 use crate::asking::{Told, ask};
-use crate::fault::Fault;
-use crate::message::{bytes_of, frame_of};
-use crate::vat::{Vat, add_records, log_of, words_of};
 use bytes::Bytes;
 use std::alloc::{AllocError, Global};
 use std::fmt::Write;
+use vat_notation::{Fault, Vat, add_records, bytes_of, frame_of, log_of, words_of};
 
 /// Files by name.
 type Files = Vec<(String, Bytes)>;

@@ -1,12 +1,12 @@
 //! What the tests are given: frames by their words, logs by their records.
 
-use crate::vat::{Vat, add_records, log_of};
 use bytes::Bytes;
 use cap_frame::Frame;
 use std::alloc::Global;
 use std::fmt::Debug;
 use std::sync::Arc;
 use vat_log::{VatLog, parse_log};
+use vat_notation::{Vat, add_records, log_of};
 
 /// That a call was refused, as where memory was, or that an answer isn't of the form that is wanted.
 #[derive(Drop)]

@@ -1,82 +1,69 @@
-//! Messages within limits.
+//! Messages within limits: each frame, read within so many words and so deep, is shown as the program shows it.
 
 use super::given::{Refused, bytes_of_words, frame};
-use bytes::Bytes;
-use cap_frame::{Frame, FrameError};
-use cap_reader::{Limits, ReadError};
-use rpc_view::{Descriptor, Outcome, RpcMessage, ViewError, read_bytes, read_message};
+use cap_reader::Limits;
+use report_lines::{Answer, Fault};
+use rpc_view::{RpcMessage, ViewError, read_bytes, read_message};
 use std::alloc::Global;
 use std::process::Abort;
 
-/// What is read of a frame. Want of memory is a failure, and no answer.
-fn message(
-    alloc: Global,
-    frame: &Frame,
-    words: u64,
-    depth: u8,
-) -> Result<Result<RpcMessage, ViewError>, Refused> {
-    match read_message(alloc, frame, Limits { words, depth }) {
-        Err(ViewError::OutOfMemory) => Err(Refused::from("out of memory")),
-        other => Ok(other),
-    }
+/// A Release of 2 of number 3: 3 words, 2 structs one in another.
+const RELEASE: &str = "400000000 1000100000000 6 100000000 200000003";
+
+/// A Bootstrap with question 0: 4 words, 2 structs one in another.
+const BOOTSTRAP: &str = "500000000 1000100000000 8 1000100000000 0 0";
+
+/// A Return with a table of three descriptors of no words, each of them none: each is visited, for 1 word.
+const TABLE: &str = "900000000 1000100000000 3 1000200000000 0 0 2000000000000 0 700000001 c";
+
+/// Frames by their words, the limits within which they are read, and what is shown.
+const ROWS: [(&str, u64, u8, &str); 8] = [
+    (RELEASE, 3, 2, "release id 3 count 2"),
+    (RELEASE, 2, 2, "bad read TooMuch"),
+    (RELEASE, 3, 1, "bad read TooDeep"),
+    (BOOTSTRAP, 4, 2, "bootstrap question 0"),
+    (BOOTSTRAP, 3, 2, "bad read TooMuch"),
+    (BOOTSTRAP, 4, 1, "bad read TooDeep"),
+    (
+        TABLE,
+        10,
+        64,
+        "return answer 0 releaseParamCaps true results caps [none;none;none] fields []",
+    ),
+    (TABLE, 9, 64, "bad read TooMuch"),
+];
+
+/// What is shown of a frame that was read. Want of memory is a failure, and no answer.
+fn shown(alloc: Global, read: Result<RpcMessage, ViewError>) -> Result<String, Refused> {
+    let answer = match read {
+        Ok(message) => Answer::Message(message),
+        Err(ViewError::OutOfMemory) => return Err(Refused),
+        Err(fault) => Answer::Fault(Fault::from(fault)),
+    };
+    Ok(format!(in alloc; "{answer}")?)
 }
 
-fn limits_once(rt: &(impl Abort + AllocGlobal)) -> Result<(), Refused> {
-    let alloc = rt.alloc();
-    let too_much = Some(ViewError::Read(ReadError::TooMuch));
-    let too_deep = Some(ViewError::Read(ReadError::TooDeep));
-    let release = frame(alloc, "400000000 1000100000000 6 100000000 200000003")?;
-    let read = message(alloc, &release, 3, 2)??;
-    assert!(rt; matches!(read, RpcMessage::Release { id: 3, count: 2 }));
-    assert_eq!(rt; message(alloc, &release, 2, 2)?.err(), too_much);
-    assert_eq!(rt; message(alloc, &release, 3, 1)?.err(), too_deep);
-    let bootstrap = frame(alloc, "500000000 1000100000000 8 1000100000000 0 0")?;
-    let read = message(alloc, &bootstrap, 4, 2)??;
-    assert!(rt; matches!(read, RpcMessage::Bootstrap { question: 0 }));
-    assert_eq!(rt; message(alloc, &bootstrap, 3, 2)?.err(), too_much);
-    assert_eq!(rt; message(alloc, &bootstrap, 4, 1)?.err(), too_deep);
-    Ok(())
+/// Whether a frame is shown so, read as a frame and as bytes.
+fn is_shown(alloc: Global, words: &str, limits: Limits, text: &str) -> Result<bool, Refused> {
+    let frame = frame(alloc, words)?;
+    let of_frame = shown(alloc, read_message(alloc, &frame, limits))?;
+    let bytes = bytes_of_words(alloc, words)?;
+    let of_bytes = shown(alloc, read_bytes(alloc, bytes, limits))?;
+    Ok(of_frame.as_str() == text && of_bytes.as_str() == text)
+}
+
+/// The same, asked again where memory was refused.
+fn is_shown_at_last(alloc: Global, words: &str, limits: Limits, text: &str) -> bool {
+    match is_shown(alloc, words, limits, text) {
+        Ok(is_so) => is_so,
+        Err(_) => is_shown(alloc, words, limits, text).unwrap_or(false),
+    }
 }
 
 #[test]
 fn limits(rt: HostRuntime) {
-    assert!(rt; limits_once(&rt).is_ok() || limits_once(&rt).is_ok());
-}
-
-fn tables_once(rt: &(impl Abort + AllocGlobal)) -> Result<(), Refused> {
-    let alloc = rt.alloc();
-    // A Return with a table of three descriptors of no words, each of them none: each is visited.
-    let words = "900000000 1000100000000 3 1000200000000 0 0 2000000000000 0 700000001 c";
-    let bytes = bytes_of_words(alloc, words)?;
-    let limits = Limits {
-        words: 10,
-        depth: 64,
-    };
-    let RpcMessage::Return {
-        answer: 0,
-        release_param_caps: true,
-        outcome: Outcome::Results(results),
-    } = read_bytes(alloc, bytes, limits)?
-    else {
-        return Err(Refused::from("a Return with results"));
-    };
-    let table = results.descriptors.as_slice();
-    assert!(rt;
-        matches!(
-            table,
-            [Descriptor::NoCap, Descriptor::NoCap, Descriptor::NoCap]
-        )
-    );
-    assert!(rt; results.fields.as_slice().is_empty());
-    let returned = frame(alloc, words)?;
-    let fault = message(alloc, &returned, 9, 64)?.err();
-    assert_eq!(rt; fault, Some(ViewError::Read(ReadError::TooMuch)));
-    let fault = read_bytes(alloc, Bytes::new(), limits).err();
-    assert_eq!(rt; fault, Some(ViewError::Frame(FrameError::Short)));
-    Ok(())
-}
-
-#[test]
-fn tables(rt: HostRuntime) {
-    assert!(rt; tables_once(&rt).is_ok() || tables_once(&rt).is_ok());
+    for (frame, words, depth, text) in ROWS {
+        let limits = Limits { words, depth };
+        assert!(rt; is_shown_at_last(rt.alloc(), frame, limits, text), "{text}");
+    }
 }

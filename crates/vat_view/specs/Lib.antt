@@ -8,4 +8,6 @@ pub mod Calls
 pub mod Loopbacks
 pub mod Uses
 pub mod Bindings
+pub mod Numbers
 pub mod Laws
+pub mod Tables

@@ -12,10 +12,20 @@
 
 mod event;
 mod id;
+mod ids;
 mod laws;
+mod lives;
+mod number;
+mod question;
+mod questions;
+mod records;
+mod state;
+mod telling;
 mod view;
 
 pub use event::Event;
 pub use id::Id;
 pub use laws::{no_more_goes, openings_are_closed_once};
+pub use number::Number;
+pub use state::VatState;
 pub use view::View;

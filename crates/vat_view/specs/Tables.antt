@@ -1,0 +1,107 @@
+-- For the code's contracts, and no part of the meaning: the tables, and what looking back finds for each of their
+-- keys.
+use Rattle.std.specs.Prelude.{◌≡◌, ℕ, ◌≤◌, List, [], Bool, true, false, not, Option, Some, None, if◌then◌else◌, option_map, unwrap_or}
+use Rattle.std.specs.declared.cmp.Ordering.{Ordering}
+use Rattle.std.specs.BTreeMap.{get}
+use Rattle.vat_view.specs.declared.question.Question.{Question}
+use Rattle.vat_view.specs.declared.questions.Questions.{Questions}
+use Rattle.vat_view.specs.declared.lives.Lives.{Lives}
+use Rattle.vat_view.specs.contracts.id.IdOrd.TheImpl as id_order
+use Rattle.vat_view.specs.Types.{Return, Finish, Release, Event, Wire, Id}
+use Rattle.vat_view.specs.Past.{Past, id, same_id, names}
+use Rattle.vat_view.specs.Questions.{returned, finished, released, noted_call, opening, return_of, is_returned, is_finished, is_released}
+use Rattle.vat_view.specs.Lives.{introductions, introductions_at, came, went, held}
+
+-- the order of numbers in tables
+abbrev pub id_cmp : Id → Id → Ordering
+id_cmp = (id_order.ghosts).cmp
+
+-- what the table has of a question
+abbrev pub question_at : Questions → Id → Option Question
+question_at table q = get id_cmp table.entries q
+
+-- one question has this, and every other what it had
+abbrev pub IsPut : Id → Question → Questions → Questions → Type 0
+IsPut q known old new = (other : Id) → question_at new other ≡ (if same_id other q then Some known else question_at old other)
+
+-- one question was changed so if it was there, and every other has what it had
+abbrev pub IsChanged : Id → (Question → Question) → Questions → Questions → Type 0
+IsChanged q change old new = (other : Id) → question_at new other ≡ (if same_id other q then option_map change (question_at old other) else question_at old other)
+
+-- every question has what it had
+abbrev pub IsSame : Questions → Questions → Type 0
+IsSame old new = (other : Id) → question_at new other ≡ question_at old other
+
+-- what looking back finds of a question that was opened
+abbrev pub question_known : Id → Past → Option Question
+question_known q past = option_map (λ p. record {
+  call = noted_call p.event; returned = is_returned q past; finished = is_finished q past; released = is_released q past;
+  asked = introductions p.before p.event; brought = introductions_at (return_of q past)
+}) (opening q past)
+
+-- how often the table says that a number is held
+abbrev pub count_at : Lives → Id → ℕ
+count_at table i = unwrap_or (get id_cmp table.entries i) 0
+
+-- the table of questions has what looking back finds
+abbrev pub AreKnown : Questions → Past → Type 0
+AreKnown table past = (q : Id) → question_at table q ≡ question_known q past
+
+-- the tables of a point of a log, each tied to the records before by one sentence; and no number went more often than
+-- it came
+pub record IsTabled (past : Past) (questions : Questions) (lives : Lives) : Type 0 where
+  pub known : AreKnown questions past
+  pub counted : (i : Id) → count_at lives i ≡ held i past
+  pub balanced : (i : Id) → went i past ≤ came i past
+
+-- how much of a number a Release gives back
+abbrev pub lets_go : Id → Event → ℕ
+lets_go i (Wire sent k call references (Release n count)) = if same_id i (id k (not sent) n) then count else 0
+lets_go i _ = 0
+
+-- what a question's entry says of its results being given back, and what its opening and its Return introduced
+abbrev pub released_in : Option Question → Bool
+released_in (Some known) = known.released
+released_in None = false
+
+abbrev pub asked_in : Option Question → List Id
+asked_in (Some known) = known.asked
+asked_in None = []
+
+abbrev pub brought_in : Option Question → List Id
+brought_in (Some known) = known.brought
+brought_in None = []
+
+-- whether a Return is late, by a table of questions
+abbrev pub late_by : (Id → Option Question) → Event → Bool
+late_by known (Wire sent k call references (Return q release outcome)) = released_in (known (id k (not sent) q))
+late_by known _ = false
+
+-- the introductions that a Return or a Finish gives back, by a table of questions
+abbrev pub closed_by : (Id → Option Question) → Event → List Id
+closed_by known (Wire sent k call references (Return q true outcome)) = asked_in (known (id k (not sent) q))
+closed_by known (Wire sent k call references (Finish q true)) = brought_in (known (id k sent q))
+closed_by known _ = []
+
+-- a question that was just opened, with what its opening introduced
+abbrev pub just_opened : ℕ → List Id → Question
+just_opened call asked = record { call = call; returned = false; finished = false; released = false; asked = asked; brought = [] }
+
+-- a question whose Return has passed and introduced these, whose Finish has passed, and whose results were given back
+abbrev pub with_return : List Id → Question → Question
+with_return brought known = record known { returned = true; brought = brought }
+
+abbrev pub with_finish : Question → Question
+with_finish known = record known { finished = true }
+
+abbrev pub with_release : Question → Question
+with_release known = record known { released = true }
+
+-- what is known of a question, changed so where this is the one that is named
+abbrev pub changed_if : Bool → (Question → Question) → Option Question → Option Question
+changed_if named change known = if named then option_map change known else known
+
+-- what a record that opens no question, and introduces these numbers, makes of what is known of a question
+abbrev pub noted_by : Event → List Id → Id → Option Question → Option Question
+noted_by e introduced q known =
+    changed_if (names q (released e)) with_release (changed_if (names q (finished e)) with_finish (changed_if (names q (returned e)) (with_return introduced) known))

@@ -29,7 +29,7 @@ pub found_same : (a b : Id) → is_eq (id_cmp a b) ≡ same_id a b
 found_same a b =
     then_eq (nat_cmp a.connection b.connection) (ordering_then (bool_cmp a.ours b.ours) (nat_cmp a.number b.number))
     ∙ ap₂ (λ x y. x && y) (sym (unsigned_ties a.connection b.connection))
-        (then_eq (bool_cmp a.ours b.ours) (nat_cmp a.number b.number) ∙ ap₂ (λ x y. x && y) (bool_ties a.ours b.ours) (sym (unsigned_ties a.number b.number)))
+    (then_eq (bool_cmp a.ours b.ours) (nat_cmp a.number b.number) ∙ ap₂ (λ x y. x && y) (bool_ties a.ours b.ours) (sym (unsigned_ties a.number b.number)))
     ∙ and_assoc (a.connection == b.connection) (beq a.ours b.ours) (a.number == b.number)
 
 pub found_is : (a b : Id) → is_eq (id_cmp a b) ≡ true → a ≡ b

@@ -13,8 +13,12 @@ use Rattle.vat_view.specs.Tables.{question_known, released_in, asked_in, brought
 -- what is known of a question at an opening
 abbrev pub known_from : Id → Past → Point → Question
 known_from q past p = record {
-  call = noted_call p.event; returned = is_returned q past; finished = is_finished q past; released = is_released q past;
-  asked = introductions p.before p.event; brought = introductions_at (return_of q past)
+  call = noted_call p.event;
+  returned = is_returned q past;
+  finished = is_finished q past;
+  released = is_released q past;
+  asked = introductions p.before p.event;
+  brought = introductions_at (return_of q past);
 }
 
 released_at : (q : Id) (past : Past) (o : Option Point) → is_some o ≡ true → released_in (option_map (known_from q past) o) ≡ is_released q past

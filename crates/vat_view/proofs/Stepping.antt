@@ -17,9 +17,12 @@ use Rattle.vat_view.proofs.Knowing.{known_from, closed_known}
 -- what is known at an opening, where b says whether the record now is one
 abbrev pub known_open : Id → Past → Bool → Point → Question
 known_open q before b p = record {
-  call = noted_call p.event; returned = is_some (if b then None else return_of q before); finished = is_some (if b then None else finish_of q before);
+  call = noted_call p.event;
+  returned = is_some (if b then None else return_of q before);
+  finished = is_some (if b then None else finish_of q before);
   released = is_some (if b then None else last_since (opens q) (releases q) before);
-  asked = introductions p.before p.event; brought = introductions_at (if b then None else return_of q before)
+  asked = introductions p.before p.event;
+  brought = introductions_at (if b then None else return_of q before);
 }
 
 opens_step : (q : Id) (before : Past) (e : Event) (b : Bool) →
@@ -30,9 +33,12 @@ opens_step q before e false = refl
 
 abbrev pub known_return : Id → Past → Event → Bool → Point → Question
 known_return q before e b p = record {
-  call = noted_call p.event; returned = is_some (if b then Some (point before e) else return_of q before); finished = is_finished q before;
+  call = noted_call p.event;
+  returned = is_some (if b then Some (point before e) else return_of q before);
+  finished = is_finished q before;
   released = is_released q before;
-  asked = introductions p.before p.event; brought = introductions_at (if b then Some (point before e) else return_of q before)
+  asked = introductions p.before p.event;
+  brought = introductions_at (if b then Some (point before e) else return_of q before);
 }
 
 returns_step : (q : Id) (before : Past) (e : Event) (b : Bool) (o : Option Point) →
@@ -43,9 +49,12 @@ returns_step q before e false o = refl
 
 abbrev pub known_finish : Id → Past → Event → Bool → Bool → Point → Question
 known_finish q before e b c p = record {
-  call = noted_call p.event; returned = is_returned q before; finished = is_some (if b then Some (point before e) else finish_of q before);
+  call = noted_call p.event;
+  returned = is_returned q before;
+  finished = is_some (if b then Some (point before e) else finish_of q before);
   released = is_some (if c then Some (point before e) else last_since (opens q) (releases q) before);
-  asked = introductions p.before p.event; brought = introductions_at (return_of q before)
+  asked = introductions p.before p.event;
+  brought = introductions_at (return_of q before);
 }
 
 finishes_step : (q : Id) (before : Past) (e : Event) (b c : Bool) (o : Option Point) →
@@ -126,14 +135,15 @@ module _ (before : Past) (e : Event) (questions later : Questions) (lives after 
     balanced = balanced_step before e tabled.balanced gives;
   }
     where
-    ap₃ : (j : Id) → (if same_id j q then Some (just_opened (noted_call e) ids) else question_at questions j)
-        ≡ (if names j (opened e) then Some (just_opened (noted_call e) (introductions before e)) else question_known j before)
-    ap₃ j = ap (λ l. if same_id j q then Some (just_opened (noted_call e) l) else question_at questions j) introduced
-        ∙ ap (λ k. if same_id j q then Some (just_opened (noted_call e) (introductions before e)) else k) (tabled.known j)
-        ∙ ap (λ o. if names j o then Some (just_opened (noted_call e) (introductions before e)) else question_known j before) (sym o)
-    sum : (i : Id) → count_at lives i + count_by (same_id i) ids ≡ held i before + introduces i before e - gives_back i before e
-    sum i = let none = opens_gives e q o before i in let counted = tabled.counted i in
-        let same : count_by (same_id i) ids ≡ introduces i before e = ap (λ l. count_by (same_id i) l) introduced in omega (arith, none, counted, same)
+      ap₃ : (j : Id) → (if same_id j q then Some (just_opened (noted_call e) ids) else question_at questions j)
+          ≡ (if names j (opened e) then Some (just_opened (noted_call e) (introductions before e)) else question_known j before)
+      ap₃ j = ap (λ l. if same_id j q then Some (just_opened (noted_call e) l) else question_at questions j) introduced
+          ∙ ap (λ k. if same_id j q then Some (just_opened (noted_call e) (introductions before e)) else k) (tabled.known j)
+          ∙ ap (λ o. if names j o then Some (just_opened (noted_call e) (introductions before e)) else question_known j before) (sym o)
+
+      sum : (i : Id) → count_at lives i + count_by (same_id i) ids ≡ held i before + introduces i before e - gives_back i before e
+      sum i = let none = opens_gives e q o before i in let counted = tabled.counted i in
+          let same : count_by (same_id i) ids ≡ introduces i before e = ap (λ l. count_by (same_id i) l) introduced in omega (arith, none, counted, same)
 
   -- a record that opens none
   pub tabled_close : opened e ≡ None → ((j : Id) → question_at later j ≡ noted_by e ids j (question_at questions j)) →
@@ -146,13 +156,14 @@ module _ (before : Past) (e : Event) (questions later : Questions) (lives after 
     balanced = balanced_step before e tabled.balanced gives;
   }
     where
-    unopened : (j : Id) → question_known j before ≡ (if names j (opened e) then Some (just_opened (noted_call e) (introductions before e)) else question_known j before)
-    unopened j = ap (λ o. if names j o then Some (just_opened (noted_call e) (introductions before e)) else question_known j before) (sym o)
-    sum : (i : Id) → count_at lives i + count_by (same_id i) ids - count_by (same_id i) (closed_by (question_at questions) e) - lets_go i e
-        ≡ held i before + introduces i before e - gives_back i before e
-    sum i =
-        let parts = gives_parts i before e in
-        let closed : count_by (same_id i) (closed_by (question_at questions) e) ≡ count_by (same_id i) (introductions_at (closes before e)) =
+      unopened : (j : Id) → question_known j before ≡ (if names j (opened e) then Some (just_opened (noted_call e) (introductions before e)) else question_known j before)
+      unopened j = ap (λ o. if names j o then Some (just_opened (noted_call e) (introductions before e)) else question_known j before) (sym o)
+
+      sum : (i : Id) → count_at lives i + count_by (same_id i) ids - count_by (same_id i) (closed_by (question_at questions) e) - lets_go i e
+          ≡ held i before + introduces i before e - gives_back i before e
+      sum i =
+          let parts = gives_parts i before e in
+          let closed : count_by (same_id i) (closed_by (question_at questions) e) ≡ count_by (same_id i) (introductions_at (closes before e)) =
           ap (λ l. count_by (same_id i) l) (closed_known (question_at questions) before tabled.known e uses) in
-        let counted = tabled.counted i in
-        let same : count_by (same_id i) ids ≡ introduces i before e = ap (λ l. count_by (same_id i) l) introduced in omega (arith, parts, closed, counted, same)
+          let counted = tabled.counted i in
+          let same : count_by (same_id i) ids ≡ introduces i before e = ap (λ l. count_by (same_id i) l) introduced in omega (arith, parts, closed, counted, same)

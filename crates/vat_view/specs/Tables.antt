@@ -35,8 +35,12 @@ IsSame old new = (other : Id) → question_at new other ≡ question_at old othe
 -- what looking back finds of a question that was opened
 abbrev pub question_known : Id → Past → Option Question
 question_known q past = option_map (λ p. record {
-  call = noted_call p.event; returned = is_returned q past; finished = is_finished q past; released = is_released q past;
-  asked = introductions p.before p.event; brought = introductions_at (return_of q past)
+  call = noted_call p.event;
+  returned = is_returned q past;
+  finished = is_finished q past;
+  released = is_released q past;
+  asked = introductions p.before p.event;
+  brought = introductions_at (return_of q past);
 }) (opening q past)
 
 -- how often the table says that a number is held

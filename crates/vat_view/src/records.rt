@@ -151,11 +151,7 @@ fn introduced(event: &Event, descriptor: &Descriptor) -> Option<Id>
 }
 
 /// The numbers that a record introduces, in the order of their places; those of a late Return aren't counted.
-pub(crate) fn introductions(
-    alloc: Global,
-    late: bool,
-    event: &Event,
-) -> Result<Ids, AllocError>
+pub(crate) fn introductions(alloc: Global, late: bool, event: &Event) -> Result<Ids, AllocError>
     ensures { IfOk result (λ ids. ids ≡ (if late then [] else filter_map (introduced event.now) (descriptors event.now))) }
 {
     let mut ids = Vec::new(alloc);

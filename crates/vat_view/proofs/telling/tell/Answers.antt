@@ -20,14 +20,14 @@ pub returns-in-Some-clause-ok : goal.returns-in-Some-clause-ok
 returns-in-Some-clause-ok c = both_ok c.open.result
     (λ put counts before tabled uses gives.
     tabled_open before c.args.event.now c.args.questions.now c.open.new.questions c.args.lives.now c.open.new.lives tabled uses gives c.in_ok-introduced.introduced
-        (introduces_them c.args.questions.now c.args.lives.now before c.args.event.now _ _ tabled uses c.is_late.ensures c.in_ok-introduced.ensures)
-        c.in-Some.question (sym c.in-Some.ensures) put counts)
+    (introduces_them c.args.questions.now c.args.lives.now before c.args.event.now _ _ tabled uses c.is_late.ensures c.in_ok-introduced.ensures)
+    c.in-Some.question (sym c.in-Some.ensures) put counts)
     c.open.ensures.known c.open.ensures.counted
 
 pub returns-in-None-clause-ok : goal.returns-in-None-clause-ok
 returns-in-None-clause-ok c = both_ok c.close.result
     (λ noted counts before tabled uses gives.
     tabled_close before c.args.event.now c.args.questions.now c.close.new.questions c.args.lives.now c.close.new.lives tabled uses gives c.in_ok-introduced.introduced
-        (introduces_them c.args.questions.now c.args.lives.now before c.args.event.now _ _ tabled uses c.is_late.ensures c.in_ok-introduced.ensures)
-        (sym c.in-None.ensures) noted counts)
+    (introduces_them c.args.questions.now c.args.lives.now before c.args.event.now _ _ tabled uses c.is_late.ensures c.in_ok-introduced.ensures)
+    (sym c.in-None.ensures) noted counts)
     c.close.ensures.known c.close.ensures.counted

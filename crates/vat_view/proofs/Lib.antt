@@ -4,3 +4,7 @@ pub mod Counting
 pub mod Keys
 pub mod Knowing
 pub mod Stepping
+pub mod Raising
+pub mod Originating
+pub mod Beginning
+pub mod Lasting

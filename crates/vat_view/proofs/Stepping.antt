@@ -1,15 +1,18 @@
 -- What one record more does to what looking back finds.
-use Rattle.std.proofs.Common.{◌≡◌, ◌≤◌, ◌+◌, ◌-◌, refl, sym, ◌∙◌, ap, ℕ, List, [], ◌∷◌, Bool, true, false, not, Option, Some, None, if◌then◌else◌, option_map, count_by, arith}
-use Rattle.std.specs.Prelude.{is_some, Result, Ok, Err, OnOk}
+use Rattle.std.proofs.Common.{ap₂, ◌<◌, ◌≡◌, ◌≤◌, ◌+◌, ◌-◌, refl, sym, ◌∙◌, ap, ℕ, List, [], ◌∷◌, Bool, true, false, not, Option, Some, None, if◌then◌else◌, option_map, count_by, arith}
+use Rattle.std.specs.Prelude.{is_some, Result, Ok, Err, OnOk, OnErr}
 use Rattle.vat_view.specs.declared.question.Question.{Question}
 use Rattle.vat_view.specs.declared.questions.Questions.{Questions}
 use Rattle.vat_view.specs.declared.lives.Lives.{Lives}
 use Rattle.vat_view.specs.Types.{Bootstrap, Call, Return, Finish, Release, RpcMessage, Event, Wire, Id}
-use Rattle.vat_view.specs.Past.{Past, Point, point, id, same_id, names, last_since}
+use Rattle.vat_view.specs.Past.{Past, Point, point, id, same_id, names, last_answer, last_since}
 use Rattle.vat_view.specs.Questions.{opened, noted_call, opens, releases, opening, return_of, finish_of, is_returned, is_finished, is_released, closes}
-use Rattle.vat_view.specs.Lives.{introductions, introductions_at, introduces, gives_back, came, went, held, GivesBackHeld}
+use Rattle.vat_view.specs.Lives.{begins, introductions, introductions_at, introduces, gives_back, came, went, held, is_in_life, GivesBackHeld}
 use Rattle.vat_view.specs.Uses.{UsesQuestions}
-use Rattle.vat_view.specs.Tables.{question_at, question_known, count_at, lets_go, closed_by, just_opened, with_return, with_finish, with_release, changed_if, noted_by, IsPut, AreKnown, IsTabled}
+use Rattle.vat_view.specs.Tables.{question_at, question_known, count_at, origin_at, origin_of, origins, raised_origin, lets_go, closed_by, just_opened, with_return, with_finish, with_release, changed_if, noted_by, IsPut, IsSame, IsTabled}
+use Rattle.vat_view.specs.declared.origin.Origin.{Origin}
+use Rattle.vat_view.proofs.Beginning.{counted_origins, born_step}
+use Rattle.std.proofs.lemmas.Bool.{ltb-true}
 use Rattle.vat_view.proofs.Knowing.{known_from, closed_known}
 
 -- ---- questions
@@ -120,18 +123,42 @@ two_steps a b c d e = omega (arith, e)
 
 -- ---- the tables after a record
 
-pub both_ok : {T E P Q R : Type 0} (r : Result T E) → (P → Q → R) → OnOk r P → OnOk r Q → OnOk r R
-both_ok (Ok x) f p q = f p q
-both_ok (Err e) f p q = p
+pub three_ok : {T E P Q R S : Type 0} (r : Result T E) → (P → Q → R → S) → OnOk r P → OnOk r Q → OnOk r R → OnOk r S
+three_ok (Ok x) f p q s = f p q s
+three_ok (Err e) f p q s = p
+
+pub three_err : {T E P Q R S : Type 0} (r : Result T E) → (P → Q → R → S) → OnErr r P → OnErr r Q → OnErr r R → OnErr r S
+three_err (Ok x) f p q s = p
+three_err (Err e) f p q s = f p q s
+
+-- tables that are as they were, but for the origins of numbers that aren't held
+pub tabled_same : (before : Past) (questions later : Questions) (lives after : Lives) → IsSame questions later → ((i : Id) → count_at after i ≡ count_at lives i) →
+    ((i : Id) → 0 < count_at lives i → origin_at after i ≡ origin_at lives i) → IsTabled before questions lives → IsTabled before later after
+tabled_same before questions later lives after known counted born tabled = record {
+  known = λ q. known q ∙ tabled.known q;
+  counted = λ i. counted i ∙ tabled.counted i;
+  born = λ i alive. born i (let some : 0 < held i before = ltb-true 0 (held i before) alive in let same = tabled.counted i in omega (arith, some, same)) ∙ tabled.born i alive;
+  balanced = tabled.balanced;
+}
 
 module _ (before : Past) (e : Event) (questions later : Questions) (lives after : Lives) (tabled : IsTabled before questions lives)
-    (uses : UsesQuestions before e) (gives : GivesBackHeld before e) (ids : List Id) (introduced : ids ≡ introductions before e) where
+    (uses : UsesQuestions before e) (gives : GivesBackHeld before e) (ids : List Id) (introduced : ids ≡ introductions before e)
+    (os : List (Id × Origin)) (begun : os ≡ origins before e)
+    (births : (i : Id) → origin_at after i ≡ raised_origin (count_at lives i) (origin_at lives i) i os) where
+  intro_count : (i : Id) → count_by (λ x. same_id i x.0) os ≡ introduces i before e
+  intro_count i = ap (λ l. count_by (λ x. same_id i x.0) l) begun ∙ counted_origins i before e
+
+  births_step : (i : Id) → is_in_life i (e ∷ before) ≡ true → origin_at after i ≡ option_map origin_of (last_answer (begins i) (e ∷ before))
+  births_step i now =
+      births i ∙ ap₂ (λ n l. raised_origin n (origin_at lives i) i l) (tabled.counted i) begun ∙ born_step i before e (origin_at lives i) (tabled.born i) now
+
   -- a record that opens a question
   pub tabled_open : (q : Id) → opened e ≡ Some q → IsPut q (just_opened (noted_call e) ids) questions later →
-      ((i : Id) → count_at after i ≡ count_at lives i + count_by (same_id i) ids) → IsTabled (e ∷ before) later after
+      ((i : Id) → count_at after i ≡ count_at lives i + count_by (λ x. same_id i x.0) os) → IsTabled (e ∷ before) later after
   tabled_open q o put counts = record {
     known = λ j. put j ∙ ap₃ j ∙ sym (opens_notes e q o (introductions before e) j _) ∙ sym (known_step j before e);
     counted = λ i. counts i ∙ sum i ∙ counted_step before e tabled.balanced gives i;
+    born = births_step;
     balanced = balanced_step before e tabled.balanced gives;
   }
     where
@@ -141,29 +168,28 @@ module _ (before : Past) (e : Event) (questions later : Questions) (lives after 
           ∙ ap (λ k. if same_id j q then Some (just_opened (noted_call e) (introductions before e)) else k) (tabled.known j)
           ∙ ap (λ o. if names j o then Some (just_opened (noted_call e) (introductions before e)) else question_known j before) (sym o)
 
-      sum : (i : Id) → count_at lives i + count_by (same_id i) ids ≡ held i before + introduces i before e - gives_back i before e
-      sum i = let none = opens_gives e q o before i in let counted = tabled.counted i in
-          let same : count_by (same_id i) ids ≡ introduces i before e = ap (λ l. count_by (same_id i) l) introduced in omega (arith, none, counted, same)
+      sum : (i : Id) → count_at lives i + count_by (λ x. same_id i x.0) os ≡ held i before + introduces i before e - gives_back i before e
+      sum i = let none = opens_gives e q o before i in let counted = tabled.counted i in let same = intro_count i in omega (arith, none, counted, same)
 
   -- a record that opens none
   pub tabled_close : opened e ≡ None → ((j : Id) → question_at later j ≡ noted_by e ids j (question_at questions j)) →
-      ((i : Id) → count_at after i ≡ count_at lives i + count_by (same_id i) ids - count_by (same_id i) (closed_by (question_at questions) e) - lets_go i e) →
+      ((i : Id) → count_at after i ≡ count_at lives i + count_by (λ x. same_id i x.0) os - count_by (same_id i) (closed_by (question_at questions) e) - lets_go i e) →
       IsTabled (e ∷ before) later after
   tabled_close o noted counts = record {
     known = λ j. noted j ∙ ap (λ l. noted_by e l j (question_at questions j)) introduced ∙ ap (λ k. noted_by e (introductions before e) j k) (tabled.known j ∙ unopened j)
         ∙ sym (known_step j before e);
     counted = λ i. counts i ∙ sum i ∙ counted_step before e tabled.balanced gives i;
+    born = births_step;
     balanced = balanced_step before e tabled.balanced gives;
   }
     where
       unopened : (j : Id) → question_known j before ≡ (if names j (opened e) then Some (just_opened (noted_call e) (introductions before e)) else question_known j before)
       unopened j = ap (λ o. if names j o then Some (just_opened (noted_call e) (introductions before e)) else question_known j before) (sym o)
 
-      sum : (i : Id) → count_at lives i + count_by (same_id i) ids - count_by (same_id i) (closed_by (question_at questions) e) - lets_go i e
+      sum : (i : Id) → count_at lives i + count_by (λ x. same_id i x.0) os - count_by (same_id i) (closed_by (question_at questions) e) - lets_go i e
           ≡ held i before + introduces i before e - gives_back i before e
       sum i =
           let parts = gives_parts i before e in
           let closed : count_by (same_id i) (closed_by (question_at questions) e) ≡ count_by (same_id i) (introductions_at (closes before e)) =
           ap (λ l. count_by (same_id i) l) (closed_known (question_at questions) before tabled.known e uses) in
-          let counted = tabled.counted i in
-          let same : count_by (same_id i) ids ≡ introduces i before e = ap (λ l. count_by (same_id i) l) introduced in omega (arith, parts, closed, counted, same)
+          let counted = tabled.counted i in let same = intro_count i in omega (arith, parts, closed, counted, same)

@@ -1,7 +1,7 @@
 -- How often export and import numbers are held, and their lives (rpc.capnp, the comments of ExportId, ImportId,
 -- CapDescriptor, Release, Return.releaseParamCaps and Finish.releaseResultCaps).
-use Rattle.std.specs.Prelude.{ℕ, ◌-◌, ◌≤◌, nat_lt, List, [], ◌∷◌, Bool, true, false, not, ◌||◌, Option, Some, None, if◌then◌else◌, count_by, position, option_map, is_some, slice_get}
-use Rattle.std.specs.List.{filter_map}
+use Rattle.std.specs.Prelude.{ℕ, ◌-◌, ◌≤◌, nat_lt, List, [], ◌∷◌, Bool, true, false, not, ◌||◌, Option, Some, None, if◌then◌else◌, count_by, option_map, is_some, slice_get}
+use Rattle.std.specs.List.{filter_map, position_from}
 use Rattle.vat_view.specs.Types.{Descriptor, SenderHosted, SenderPromise, Results, Cap, RpcMessage, Call, Return, Resolve, Release, Event, Wire, Id}
 use Rattle.vat_view.specs.Past.{Past, Point, point, id, same_id, names, last_answer, last_since, sum_back}
 use Rattle.vat_view.specs.Questions.{is_late, closes}
@@ -75,7 +75,7 @@ pub record Birth : Type 0 where
 abbrev pub begins : Id → Past → Event → Option Birth
 begins i before e =
     if is_in_life i before || is_late before e then None else
-    option_map (λ place. record { from = point before e; place = place }) (position (λ d. names i (introduced e d)) (descriptors e))
+    option_map (λ place. record { from = point before e; place = place }) (position_from (λ d. names i (introduced e d)) 0 (descriptors e))
 
 -- where the present life of a number began
 abbrev pub birth : Id → Past → Option Birth

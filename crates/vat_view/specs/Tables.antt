@@ -1,16 +1,21 @@
 -- For the code's contracts, and no part of the meaning: the tables, and what looking back finds for each of their
 -- keys.
-use Rattle.std.specs.Prelude.{◌≡◌, ℕ, ◌≤◌, List, [], Bool, true, false, not, Option, Some, None, if◌then◌else◌, option_map, unwrap_or}
+use Rattle.std.specs.Prelude.{◌≡◌, ℕ, ◌+◌, ◌≤◌, ◌==◌, length, List, [], ◌∷◌, Bool, true, false, not, Option, Some, None, if◌then◌else◌, option_map, unwrap_or, find, slice_get}
+use Rattle.std.specs.List.{cons_option}
+use Rattle.std.specs.Option.{option_or}
 use Rattle.std.specs.declared.cmp.Ordering.{Ordering}
 use Rattle.std.specs.BTreeMap.{get}
 use Rattle.vat_view.specs.declared.question.Question.{Question}
 use Rattle.vat_view.specs.declared.questions.Questions.{Questions}
 use Rattle.vat_view.specs.declared.lives.Lives.{Lives}
+use Rattle.vat_view.specs.declared.origin.Life.{Life}
+use Rattle.vat_view.specs.declared.origin.Origin.{Origin}
 use Rattle.vat_view.specs.contracts.id.IdOrd.TheImpl as id_order
-use Rattle.vat_view.specs.Types.{Return, Finish, Release, Event, Wire, Id}
-use Rattle.vat_view.specs.Past.{Past, id, same_id, names}
-use Rattle.vat_view.specs.Questions.{returned, finished, released, noted_call, opening, return_of, is_returned, is_finished, is_released}
-use Rattle.vat_view.specs.Lives.{introductions, introductions_at, came, went, held}
+use Rattle.vat_view.specs.Types.{Descriptor, NoCap, Return, Finish, Release, Event, Wire, Id}
+use Rattle.vat_view.specs.Past.{Past, id, same_id, names, number_of, last_answer}
+use Rattle.vat_view.specs.Questions.{is_late, returned, finished, released, noted_call, opening, return_of, is_returned, is_finished, is_released}
+use Rattle.vat_view.specs.Views.{noted, references}
+use Rattle.vat_view.specs.Lives.{Birth, begins, is_in_life, descriptors, introduced, introductions, introductions_at, came, went, held}
 
 -- the order of numbers in tables
 abbrev pub id_cmp : Id → Id → Ordering
@@ -43,9 +48,51 @@ question_known q past = option_map (λ p. record {
   brought = introductions_at (return_of q past);
 }) (opening q past)
 
+-- what the table has of a number
+abbrev pub life_at : Lives → Id → Option Life
+life_at table i = get id_cmp table.entries i
+
 -- how often the table says that a number is held
 abbrev pub count_at : Lives → Id → ℕ
-count_at table i = unwrap_or (get id_cmp table.entries i) 0
+count_at table i = unwrap_or (option_map (λ life. life.count) (life_at table i)) 0
+
+-- where the table says that its last life began
+abbrev pub origin_at : Lives → Id → Option Origin
+origin_at table i = option_map (λ life. life.origin) (life_at table i)
+
+-- where a number's life began, if it is held; else this
+abbrev pub kept_origin : Option Life → Origin → Origin
+kept_origin (Some life) origin = if life.count == 0 then origin else life.origin
+kept_origin None origin = origin
+
+-- the origin of a number's life after these introductions: the first of its own where it wasn't held
+abbrev pub raised_origin : ℕ → Option Origin → Id → List (Id × Origin) → Option Origin
+raised_origin count origin i introduced = if count == 0 then option_or (option_map (λ x. x.1) (find (λ x. same_id i x.0) introduced)) origin else origin
+
+-- where a life began: the number of its record, the descriptor's place there, and the reference noted for that, if
+-- there is one
+abbrev pub origin_of : Birth → Origin
+origin_of b = record { number = number_of b.from; place = b.place; reference = option_map (λ n. n.0) (find (λ n. n.1 == b.place) (noted b.from.event)) }
+
+-- whether a descriptor isn't none
+abbrev pub is_cap : Descriptor → Bool
+is_cap NoCap = false
+is_cap _ = true
+
+-- what a descriptor at a place introduces, with its origin, where so many references were noted before it
+abbrev pub origin_by : ℕ → Event → ℕ → ℕ → Descriptor → Option (Id × Origin)
+origin_by number e place before d =
+    option_map (λ i. (i, record { number = number; place = place; reference = slice_get (references e) before })) (introduced e d)
+
+-- what descriptors introduce, from a place on
+abbrev pub origins_from : ℕ → Event → ℕ → ℕ → List Descriptor → List (Id × Origin)
+origins_from number e place before [] = []
+origins_from number e place before (d ∷ ds) =
+    cons_option (origin_by number e place before d) (origins_from number e (place + 1) (before + (if is_cap d then 1 else 0)) ds)
+
+-- what a record introduces, with the origins
+abbrev pub origins : Past → Event → List (Id × Origin)
+origins before e = if is_late before e then [] else origins_from (length before) e 0 0 (descriptors e)
 
 -- the table of questions has what looking back finds
 abbrev pub AreKnown : Questions → Past → Type 0
@@ -56,6 +103,7 @@ AreKnown table past = (q : Id) → question_at table q ≡ question_known q past
 pub record IsTabled (past : Past) (questions : Questions) (lives : Lives) : Type 0 where
   pub known : AreKnown questions past
   pub counted : (i : Id) → count_at lives i ≡ held i past
+  pub born : (i : Id) → is_in_life i past ≡ true → origin_at lives i ≡ option_map origin_of (last_answer (begins i) past)
   pub balanced : (i : Id) → went i past ≤ came i past
 
 -- how much of a number a Release gives back

@@ -1,12 +1,14 @@
 //! Laws of a log's records, which hold of every log and not of one call.
 
-ghost use Rattle.std.specs.Prelude.{◌≤◌};
-ghost use Rattle.vat_view.specs.Types.{Id};
+ghost use Rattle.std.specs.Prelude.{◌≡◌, ◌≤◌, ◌++◌, ℕ, List, Some};
+ghost use Rattle.vat_view.specs.Types.{Event, View, Id};
 ghost use Rattle.vat_view.specs.Past.{Past, Each};
 ghost use Rattle.vat_view.specs.Questions.{opens, returns, finishes};
 ghost use Rattle.vat_view.specs.Lives.{came, went, GivesBackHeld};
 ghost use Rattle.vat_view.specs.Uses.{UsesQuestions};
-ghost use Rattle.vat_view.specs.Laws.{count_since};
+ghost use Rattle.vat_view.specs.Views.{view_of_reference, view_of_number};
+ghost use Rattle.vat_view.specs.Bindings.{Refers};
+ghost use Rattle.vat_view.specs.Laws.{count_since, LivesOn, EachAfter};
 
 /// Since its last opening a question has one Return and one Finish at most, where the records before use questions as
 /// they should.
@@ -19,4 +21,16 @@ pub fn openings_are_closed_once()
 /// difference, and not cut off at 0.
 pub fn no_more_goes()
     ensures { (past : Past) → Each GivesBackHeld past → (i : Id) → went i past ≤ came i past }
+{}
+
+/// A reference keeps its view, where the records that follow bind references as they should.
+pub fn references_keep_views()
+    ensures { (later : List Event) (past : Past) → EachAfter Refers later past → (r : ℕ) (v : View) → view_of_reference past r ≡ Some v
+        → view_of_reference (later ++ past) r ≡ Some v }
+{}
+
+/// A number keeps its view while it is in life, where the records that follow bind references as they should.
+pub fn numbers_keep_views()
+    ensures { (i : Id) (later : List Event) (past : Past) → LivesOn i later past → EachAfter Refers later past → (v : View)
+        → view_of_number i past ≡ Some v → view_of_number i (later ++ past) ≡ Some v }
 {}

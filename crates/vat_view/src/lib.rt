@@ -16,6 +16,7 @@ mod ids;
 mod laws;
 mod lives;
 mod number;
+mod origin;
 mod question;
 mod questions;
 mod records;
@@ -25,7 +26,9 @@ mod view;
 
 pub use event::Event;
 pub use id::Id;
-pub use laws::{no_more_goes, openings_are_closed_once};
+pub use laws::{
+    no_more_goes, numbers_keep_views, openings_are_closed_once, references_keep_views,
+};
 pub use number::Number;
 pub use state::VatState;
 pub use view::View;

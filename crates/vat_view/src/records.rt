@@ -4,10 +4,13 @@ ghost use Rattle.std.specs.Prelude.{◌≡◌, [], IfOk, if◌then◌else◌};
 ghost use Rattle.std.specs.List.{filter_map};
 ghost use Rattle.vat_view.specs.Questions.{opened, returned, finished, released, noted_call};
 ghost use Rattle.vat_view.specs.Lives.{descriptors, introduced};
+ghost use Rattle.vat_view.specs.Views.{references};
+ghost use Rattle.vat_view.specs.Tables.{is_cap, origin_by, origins_from};
 
 use crate::event::Event;
 use crate::id::Id;
 use crate::ids::Ids;
+use crate::origin::Origin;
 use rpc_view::{Descriptor, Outcome, Resolution, RpcMessage};
 use std::alloc::{AllocError, Global};
 use std::slice;
@@ -164,4 +167,69 @@ pub(crate) fn introductions(alloc: Global, late: bool, event: &Event) -> Result<
         }
     }
     Ok(Ids::new(ids))
+}
+
+/// The references noted beside a record.
+pub(crate) fn references(event: &Event) -> &[u64]
+    ensures { result.now ≡ references event.now }
+{
+    match event {
+        Event::Wire { references, .. } => references.as_slice(),
+        _ => &[],
+    }
+}
+
+/// Whether a descriptor isn't none.
+fn is_cap(descriptor: &Descriptor) -> bool
+    ensures { result ≡ is_cap descriptor.now }
+{
+    !matches!(descriptor, Descriptor::NoCap)
+}
+
+/// What a descriptor at a place of a record introduces, with its origin, where so many references were noted before
+/// it.
+fn origin_by(
+    number: usize,
+    event: &Event,
+    place: usize,
+    before: usize,
+    descriptor: &Descriptor,
+) -> Option<(Id, Origin)>
+    ensures { result ≡ origin_by number event.now place before descriptor.now }
+{
+    let id = introduced(event, descriptor)?;
+    let reference = references(event).get(before).copied();
+    Some((
+        id,
+        Origin {
+            number,
+            place,
+            reference,
+        },
+    ))
+}
+
+/// What a record of this number introduces, with the origins; a late Return's introductions aren't counted.
+pub(crate) fn origins(
+    alloc: Global,
+    late: bool,
+    number: usize,
+    event: &Event,
+) -> Result<Vec<(Id, Origin)>, AllocError>
+    ensures { IfOk result (λ list. list.items ≡ (if late then [] else origins_from number event.now 0 0 (descriptors event.now))) }
+{
+    let mut list = Vec::new(alloc);
+    if late {
+        return Ok(list);
+    }
+    let mut before = 0;
+    for (place, descriptor) in descriptors(event).iter().enumerate() {
+        if let Some(origin) = origin_by(number, event, place, before, descriptor) {
+            list.push(origin)?;
+        }
+        if is_cap(descriptor) {
+            before += 1;
+        }
+    }
+    Ok(list)
 }

@@ -70,7 +70,8 @@ impl VatState {
     {
         self.events.reserve(1)?;
         let alloc = *self.events.allocator();
-        tell(alloc, &mut self.questions, &mut self.lives, &event)?;
+        let number = self.events.len();
+        tell(alloc, number, &mut self.questions, &mut self.lives, &event)?;
         self.events.push(event)?;
         Ok(())
     }

@@ -1,15 +1,15 @@
 -- Where lives begin: what one record more does to the table is what it does to what looking back finds.
-use Rattle.std.proofs.Common.{◌≡◌, ◌≢◌, ◌+◌, ◌-◌, ◌<◌, ◌≤◌, inl, inr, refl, sym, ◌∙◌, ap, ap₂, ℕ, ◌==◌, List, [], ◌∷◌, length, count_by, Bool, true, false, ◌||◌, Option, Some, None, if◌then◌else◌, option_map, arith, nat_lt}
+use Rattle.std.proofs.Common.{◌≡◌, ◌<◌, ◌≤◌, inl, inr, refl, sym, ◌∙◌, ap, ℕ, [], ◌∷◌, length, count_by, Bool, true, false, ◌||◌, Option, Some, None, if◌then◌else◌, option_map, arith}
 use Rattle.std.specs.Prelude.{find, is_none}
 use Rattle.std.specs.List.{position_from, filter_map}
 use Rattle.std.specs.Option.{option_or}
-use Rattle.std.proofs.lemmas.Bool.{cases_Bool, false≢true, ltb-true, ltb-false, ne_eqb, eq-eqb}
+use Rattle.std.proofs.lemmas.Bool.{cases_Bool, false≢true, ltb-true, ltb-false}
 use Rattle.vat_view.specs.declared.origin.Origin.{Origin}
 use Rattle.vat_view.specs.Types.{Event, Id}
 use Rattle.vat_view.specs.Past.{Past, point, same_id, names, last_answer}
 use Rattle.vat_view.specs.Questions.{is_late}
-use Rattle.vat_view.specs.Lives.{Birth, begins, descriptors, introduced, introductions, introduces, gives_back, came, went, held, is_in_life}
-use Rattle.vat_view.specs.Views.{places, references}
+use Rattle.vat_view.specs.Lives.{Birth, begins, descriptors, introduced, introduces, held, is_in_life}
+use Rattle.vat_view.specs.Views.{places}
 use Rattle.vat_view.specs.Tables.{origin_of, origins_from, origins, raised_origin}
 use Rattle.vat_view.proofs.Originating.{origins_counted, first_origin, origin_there}
 use Rattle.vat_view.proofs.Raising.{held_on, none_counted, positive}
@@ -38,7 +38,7 @@ module _ (i : Id) (before : Past) (e : Event) where
   same_origins (Some q) = refl
   same_origins None = refl
 
-  begun : (in_life late : Bool) → in_life ≡ false → late ≡ false →
+  pub begun : (in_life late : Bool) → in_life ≡ false → late ≡ false →
       option_map (λ x. x.1) (find (λ x. same_id i x.0) (if late then [] else origins_from (length before) e 0 0 (descriptors e)))
       ≡ option_map origin_of (if in_life || late then None else option_map there (position_from (λ d. names i (introduced e d)) 0 (descriptors e)))
   begun false false h l = first_origin (length before) e i (descriptors e) 0 0 ∙ same_origins (position_from (λ d. names i (introduced e d)) 0 (descriptors e))
@@ -46,12 +46,12 @@ module _ (i : Id) (before : Past) (e : Event) where
   begun false true h l = absurd (false≢true (sym l))
 
   -- a record that begins a life introduces the number, and isn't late
-  introduced_now : is_in_life i before ≡ false → is_in_life i (e ∷ before) ≡ true → 0 < introduces i before e
+  pub introduced_now : is_in_life i before ≡ false → is_in_life i (e ∷ before) ≡ true → 0 < introduces i before e
   introduced_now out now =
       let none : held i before ≤ 0 = ltb-false 0 (held i before) out in
       let some : 0 < held i (e ∷ before) = ltb-true 0 (held i (e ∷ before)) now in omega (arith, none, some)
 
-  not_late : (late : Bool) → 0 < count_by (same_id i) (if late then [] else filter_map (introduced e) (descriptors e)) → late ≡ false
+  pub not_late : (late : Bool) → 0 < count_by (same_id i) (if late then [] else filter_map (introduced e) (descriptors e)) → late ≡ false
   not_late false h = refl
   not_late true h = absurd (let no : ⊥ = omega (arith, h) in no)
 

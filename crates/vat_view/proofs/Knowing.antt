@@ -1,5 +1,5 @@
 -- What the table of questions knows is what looking back finds.
-use Rattle.std.proofs.Common.{◌≡◌, refl, sym, ◌∙◌, ap, ℕ, List, [], ◌∷◌, Bool, true, false, not, ◌&&◌, Option, Some, None, option_map}
+use Rattle.std.proofs.Common.{◌≡◌, refl, ◌∙◌, ap, true, not, Option, Some, None, option_map}
 use Rattle.std.specs.Prelude.{is_some}
 use Rattle.std.proofs.lemmas.Bool.{and_parts, false≢true}
 use Rattle.vat_view.specs.declared.question.Question.{Question}

@@ -1,13 +1,13 @@
 -- While a number is in life it stands for the same.
-use Rattle.std.proofs.Common.{◌≡◌, inl, inr, refl, sym, ◌∙◌, ap, subst, ℕ, ◌==◌, List, [], ◌∷◌, ◌++◌, Bool, true, false, not, ◌&&◌, ◌||◌, Option, Some, None, if◌then◌else◌, option_and_then, option_map, IsTrue, ◌⊎◌}
-use Rattle.std.specs.Prelude.{find, ⊤}
-use Rattle.std.specs.List.{list_any, list_all, zip, position_from}
+use Rattle.std.proofs.Common.{◌≡◌, inl, inr, refl, sym, ◌∙◌, ap, subst, ℕ, ◌==◌, List, [], ◌∷◌, ◌++◌, Bool, true, false, not, ◌||◌, Option, Some, None, if◌then◌else◌, option_and_then, ◌⊎◌}
+use Rattle.std.specs.Prelude.{find}
+use Rattle.std.specs.List.{list_all, zip}
 use Rattle.std.specs.Option.{option_or}
-use Rattle.std.proofs.lemmas.Bool.{and_parts, or_left, or_right, cases_Bool, false≢true, not-true, eqb-true, eq-eqb, both_ways}
+use Rattle.std.proofs.lemmas.Bool.{and_parts, or_left, or_right, cases_Bool, false≢true, not-true, eqb-true, both_ways}
 use Rattle.vat_view.specs.Types.{Event, Host, Vow, Field, Wire, View, Object, Promise, FieldOf, Id}
-use Rattle.vat_view.specs.Past.{Past, point, names, last_answer}
+use Rattle.vat_view.specs.Past.{Past, last_answer}
 use Rattle.vat_view.specs.Questions.{is_late}
-use Rattle.vat_view.specs.Lives.{Birth, birth, begins, introduced, descriptors, is_in_life}
+use Rattle.vat_view.specs.Lives.{Birth, birth, begins, is_in_life}
 use Rattle.vat_view.specs.Views.{view_of_reference, binds, view_given, view_of_number, noted, places, described_at}
 use Rattle.vat_view.specs.Bindings.{Refers, contains, is_bound, new_references}
 use Rattle.vat_view.specs.Laws.{LivesOn, EachAfter}

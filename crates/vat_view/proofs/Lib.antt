@@ -8,3 +8,4 @@ pub mod Raising
 pub mod Originating
 pub mod Beginning
 pub mod Lasting
+pub mod Viewed

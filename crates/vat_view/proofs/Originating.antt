@@ -1,17 +1,16 @@
 -- What a record introduces, with the origins: as the code lists them, and as looking back finds them.
-use Rattle.std.proofs.Common.{◌≡◌, ◌≢◌, ◌+◌, ◌<◌, ◌≤◌, inl, inr, refl, sym, ◌∙◌, ap, ap₂, subst, ℕ, zero, suc, ◌==◌, List, [], ◌∷◌, ◌++◌, length, drop, add-zero, zero-add, count_by, cond, Bool, true, false, ◌&&◌, Option, Some, None, if◌then◌else◌, option_map, arith, ◌⊎◌}
-use Rattle.std.specs.Prelude.{find, slice_get, is_none, filter_map}
+use Rattle.std.proofs.Common.{◌≡◌, ◌+◌, ◌≤◌, inl, inr, refl, sym, ◌∙◌, ap, ap₂, ℕ, zero, suc, ◌==◌, List, [], ◌∷◌, ◌++◌, length, drop, add-zero, count_by, cond, Bool, true, false, Option, Some, None, if◌then◌else◌, option_map, arith, ◌⊎◌}
+use Rattle.std.specs.Prelude.{find, slice_get, filter_map}
 use Rattle.std.specs.List.{zip, cons_option, position_from}
-use Rattle.std.specs.Option.{option_or, option_to_list}
+use Rattle.std.specs.Option.{option_to_list}
 use Rattle.std.proofs.lemmas.Bool.{cases_Bool, false≢true, ne_eqb, eq-eqb}
 use Rattle.std.proofs.lemmas.List.Sums.{sum_by-cons}
 use Rattle.vat_view.specs.declared.origin.Origin.{Origin}
 use Rattle.vat_view.specs.Types.{Descriptor, NoCap, SenderHosted, SenderPromise, ReceiverHosted, ReceiverAnswer, Event, Wire, Id}
-use Rattle.vat_view.specs.Past.{Past, id, same_id, names}
+use Rattle.vat_view.specs.Past.{same_id, names}
 use Rattle.vat_view.specs.Lives.{introduced}
 use Rattle.vat_view.specs.Views.{places_from, references}
 use Rattle.vat_view.specs.Tables.{is_cap, origin_by, origins_from}
-use Rattle.vat_view.proofs.Naming.{same_id_self, names_is}
 
 cons_append : {A : Type 0} (o : Option A) (xs ys : List A) → cons_option o (xs ++ ys) ≡ cons_option o xs ++ ys
 cons_append None xs ys = refl
@@ -81,7 +80,7 @@ places_cons p (SenderPromise m) ds = refl
 places_cons p (ReceiverHosted m) ds = refl
 places_cons p (ReceiverAnswer m path) ds = refl
 
-none_introduces : (e : Event) (d : Descriptor) → is_cap d ≡ false → introduced e d ≡ None
+pub none_introduces : (e : Event) (d : Descriptor) → is_cap d ≡ false → introduced e d ≡ None
 none_introduces (Wire s k c rs m) NoCap h = refl
 none_introduces _ NoCap h = refl
 none_introduces e (SenderHosted m) h = absurd (false≢true (sym h))

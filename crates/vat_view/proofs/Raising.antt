@@ -1,5 +1,5 @@
 -- What one introduction more does to the table of lives.
-use Rattle.std.proofs.Common.{◌≡◌, ◌≢◌, ◌+◌, ◌<◌, inl, inr, refl, sym, ◌∙◌, ap, subst, ℕ, zero, suc, ◌==◌, List, [], ◌∷◌, ◌++◌, zero-add, count_by, cond, Bool, true, false, ◌&&◌, Option, Some, None, if◌then◌else◌, option_map, arith}
+use Rattle.std.proofs.Common.{◌≡◌, ◌≢◌, ◌+◌, ◌<◌, inl, inr, refl, sym, ◌∙◌, ap, subst, ℕ, ◌==◌, List, [], ◌∷◌, ◌++◌, zero-add, count_by, cond, Bool, true, false, ◌&&◌, Option, Some, None, if◌then◌else◌, option_map, arith}
 use Rattle.std.specs.Prelude.{unwrap_or, find, is_none, Result, Ok, Err, OnOk, is_err}
 use Rattle.std.specs.Option.{option_or}
 use Rattle.std.specs.Ordering.{is_eq}

@@ -1,10 +1,10 @@
 -- What one record more does to what looking back finds.
-use Rattle.std.proofs.Common.{ap₂, ◌<◌, ◌≡◌, ◌≤◌, ◌+◌, ◌-◌, refl, sym, ◌∙◌, ap, ℕ, List, [], ◌∷◌, Bool, true, false, not, Option, Some, None, if◌then◌else◌, option_map, count_by, arith}
+use Rattle.std.proofs.Common.{ap₂, ◌<◌, ◌≡◌, ◌≤◌, ◌+◌, ◌-◌, refl, sym, ◌∙◌, ap, ℕ, List, ◌∷◌, Bool, true, false, not, Option, Some, None, if◌then◌else◌, option_map, count_by, arith}
 use Rattle.std.specs.Prelude.{is_some, Result, Ok, Err, OnOk, OnErr}
 use Rattle.vat_view.specs.declared.question.Question.{Question}
 use Rattle.vat_view.specs.declared.questions.Questions.{Questions}
 use Rattle.vat_view.specs.declared.lives.Lives.{Lives}
-use Rattle.vat_view.specs.Types.{Bootstrap, Call, Return, Finish, Release, RpcMessage, Event, Wire, Id}
+use Rattle.vat_view.specs.Types.{Bootstrap, Call, Return, Finish, Release, Event, Wire, Id}
 use Rattle.vat_view.specs.Past.{Past, Point, point, id, same_id, names, last_answer, last_since}
 use Rattle.vat_view.specs.Questions.{opened, noted_call, opens, releases, opening, return_of, finish_of, is_returned, is_finished, is_released, closes}
 use Rattle.vat_view.specs.Lives.{begins, introductions, introductions_at, introduces, gives_back, came, went, held, is_in_life, GivesBackHeld}

@@ -8,6 +8,7 @@ pub mod Calls
 pub mod Loopbacks
 pub mod Uses
 pub mod Bindings
+pub mod Sound
 pub mod Numbers
 pub mod Laws
 pub mod Tables

@@ -1,13 +1,14 @@
 //! Laws of a log's records, which hold of every log and not of one call.
 
-ghost use Rattle.std.specs.Prelude.{◌≡◌, ◌≤◌, ◌++◌, ℕ, List, Some};
+ghost use Rattle.std.specs.Prelude.{◌≡◌, ◌≤◌, ◌++◌, ℕ, List, Some, true, IsSome};
 ghost use Rattle.vat_view.specs.Types.{Event, View, Id};
 ghost use Rattle.vat_view.specs.Past.{Past, Each};
 ghost use Rattle.vat_view.specs.Questions.{opens, returns, finishes};
 ghost use Rattle.vat_view.specs.Lives.{came, went, GivesBackHeld};
 ghost use Rattle.vat_view.specs.Uses.{UsesQuestions};
 ghost use Rattle.vat_view.specs.Views.{view_of_reference, view_of_number};
-ghost use Rattle.vat_view.specs.Bindings.{Refers};
+ghost use Rattle.vat_view.specs.Bindings.{Refers, is_bound};
+ghost use Rattle.vat_view.specs.Sound.{IsSound};
 ghost use Rattle.vat_view.specs.Laws.{count_since, LivesOn, EachAfter};
 
 /// Since its last opening a question has one Return and one Finish at most, where the records before use questions as
@@ -33,4 +34,9 @@ pub fn references_keep_views()
 pub fn numbers_keep_views()
     ensures { (i : Id) (later : List Event) (past : Past) → LivesOn i later past → EachAfter Refers later past → (v : View)
         → view_of_number i past ≡ Some v → view_of_number i (later ++ past) ≡ Some v }
+{}
+
+/// Every reference that is bound has a view, where each record is as it should be after those before it.
+pub fn bound_references_have_views()
+    ensures { (past : Past) → Each IsSound past → (r : ℕ) → is_bound past r ≡ true → IsSome (view_of_reference past r) }
 {}

@@ -1,4 +1,4 @@
-use Rattle.std.proofs.Common.{◌≡◌, ◌≤◌, take, count_by}
+use Rattle.std.proofs.Common.{◌≡◌, take, count_by}
 use Rattle.vat_view.specs.Tables.{origins_from, is_cap}
 use Rattle.vat_view.proofs.records.origins.Given as goal
 

@@ -1,8 +1,7 @@
-use Rattle.std.proofs.Common.{◌≡◌, ◌+◌, rules, arith}
+use Rattle.std.proofs.Common.{◌≡◌, ◌+◌, arith}
 use Rattle.std.proofs.lemmas.Grind.{common_steps}
 use Rattle.vat_view.specs.declared.lives.Lives.{Lives}
 use Rattle.vat_view.specs.declared.origin.Life.{Life}
-use Rattle.vat_view.specs.Types.{Id}
 use Rattle.vat_view.specs.Tables.{life_at, count_at}
 use Rattle.vat_view.proofs.Raising.{raised_count, raised_origin_is}
 use Rattle.vat_view.proofs.lives.Lives.raise.Goals as goal

@@ -1,4 +1,4 @@
-use Rattle.std.proofs.Common.{◌≡◌, ◌+◌, ◌==◌, sym, ◌∙◌, ap, ap₂, ℕ, [], ◌∷◌, ◌++◌, count_by, take, get_or, Bool, true, false, ◌&&◌, Option, Some, None, cond, if◌then◌else◌, arith}
+use Rattle.std.proofs.Common.{◌≡◌, ◌==◌, sym, ◌∙◌, ap, ap₂, ℕ, [], ◌∷◌, take, get_or, false, ◌&&◌, Some, None, cond, if◌then◌else◌, arith}
 use Rattle.std.specs.Prelude.{is_err}
 use Rattle.std.proofs.lemmas.List.{take_more}
 use Rattle.std.proofs.lemmas.List.Sums.{sum_by-append}

@@ -9,3 +9,5 @@ pub mod Originating
 pub mod Beginning
 pub mod Lasting
 pub mod Viewed
+pub mod Binding
+pub mod Meaning

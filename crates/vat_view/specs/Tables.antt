@@ -1,6 +1,7 @@
 -- For the code's contracts, and no part of the meaning: the tables, and what looking back finds for each of their
 -- keys.
-use Rattle.std.specs.Prelude.{◌≡◌, ℕ, ◌+◌, ◌≤◌, ◌==◌, length, List, [], ◌∷◌, Bool, true, false, not, Option, Some, None, if◌then◌else◌, option_map, unwrap_or, find, slice_get}
+use Rattle.std.specs.Prelude.{◌≡◌, ℕ, ◌+◌, ◌≤◌, ◌==◌, ◌&&◌, length, List, [], ◌∷◌, Bool, true, false, not, Option, Some, None, if◌then◌else◌, option_map, option_and_then, unwrap_or, find, slice_get}
+use Rattle.std.specs.Ordering.{nat_cmp}
 use Rattle.std.specs.List.{cons_option}
 use Rattle.std.specs.Option.{option_or}
 use Rattle.std.specs.declared.cmp.Ordering.{Ordering}
@@ -8,10 +9,11 @@ use Rattle.std.specs.BTreeMap.{get}
 use Rattle.vat_view.specs.declared.question.Question.{Question}
 use Rattle.vat_view.specs.declared.questions.Questions.{Questions}
 use Rattle.vat_view.specs.declared.lives.Lives.{Lives}
+use Rattle.vat_view.specs.declared.bound.Bound.{Bound}
 use Rattle.vat_view.specs.declared.origin.Life.{Life}
 use Rattle.vat_view.specs.declared.origin.Origin.{Origin}
 use Rattle.vat_view.specs.contracts.id.IdOrd.TheImpl as id_order
-use Rattle.vat_view.specs.Types.{Descriptor, NoCap, Return, Finish, Release, Event, Wire, Id}
+use Rattle.vat_view.specs.Types.{Descriptor, NoCap, Return, Finish, Release, Event, Wire, View, Import, Id}
 use Rattle.vat_view.specs.Past.{Past, id, same_id, names, number_of, last_answer}
 use Rattle.vat_view.specs.Questions.{is_late, returned, finished, released, noted_call, opening, return_of, is_returned, is_finished, is_released}
 use Rattle.vat_view.specs.Views.{noted, references}
@@ -157,3 +159,30 @@ changed_if named change known = if named then option_map change known else known
 abbrev pub noted_by : Event → List Id → Id → Option Question → Option Question
 noted_by e introduced q known =
     changed_if (names q (released e)) with_release (changed_if (names q (finished e)) with_finish (changed_if (names q (returned e)) (with_return introduced) known))
+
+-- what the table has of a reference
+abbrev pub bound_at : Bound → ℕ → Option View
+bound_at table r = get nat_cmp table.entries r
+
+-- the view of a reference after these are bound in turn
+abbrev pub bound_by : ℕ → List (ℕ × View) → Option View → Option View
+bound_by q [] view = view
+bound_by q (x ∷ rest) view = bound_by q rest (if x.0 == q then Some x.1 else view)
+
+-- where a number's life began, if it is in life
+abbrev pub held_origin : Lives → Id → Option Origin
+held_origin lives i = if count_at lives i == 0 then None else origin_at lives i
+
+-- what a number stands for whose life began so, where references are named
+abbrev pub view_from : (ℕ → Option View) → Bool → Origin → Option View
+view_from named true origin = option_and_then named origin.reference
+view_from named false origin = Some (Import origin.number origin.place)
+
+-- what an export or import number stands for, by the tables
+abbrev pub number_by : (ℕ → Option View) → Lives → Id → Option View
+number_by named lives i = option_and_then (view_from named i.ours) (held_origin lives i)
+
+-- the call of a question that isn't free, by what is known of it
+abbrev pub call_by : Option Question → Option ℕ
+call_by (Some known) = if known.returned && known.finished then None else Some known.call
+call_by None = None

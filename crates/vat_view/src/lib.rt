@@ -10,6 +10,7 @@
 //! the functions of `src/laws.rt`, which do nothing.
 #![tactic(auto)]
 
+mod bound;
 mod event;
 mod id;
 mod ids;
@@ -20,6 +21,7 @@ mod origin;
 mod question;
 mod questions;
 mod records;
+mod standing;
 mod state;
 mod telling;
 mod view;

@@ -4,7 +4,7 @@ ghost use Rattle.std.specs.Prelude.{◌≡◌, ◌+◌, ◌-◌, ◌<◌, ◌==�
 ghost use Rattle.std.specs.Option.{option_or};
 ghost use Rattle.vat_view.specs.declared.id.Id.{Id};
 ghost use Rattle.vat_view.specs.Past.{same_id};
-ghost use Rattle.vat_view.specs.Tables.{life_at, count_at, origin_at, kept_origin, raised_origin};
+ghost use Rattle.vat_view.specs.Tables.{life_at, count_at, origin_at, kept_origin, held_origin, raised_origin};
 
 use crate::id::Id;
 use crate::origin::{Life, Origin};
@@ -34,6 +34,16 @@ impl Lives {
         match self.entries.get(&number) {
             Some(life) => life.count,
             None => 0,
+        }
+    }
+
+    /// Where the life of this number began, if it is held.
+    pub(crate) fn origin_of(&self, number: Id) -> Option<Origin>
+        ensures { result ≡ held_origin self.now number }
+    {
+        match self.entries.get(&number) {
+            Some(life) if life.count > 0 => Some(life.origin),
+            _ => None,
         }
     }
 

@@ -23,3 +23,6 @@ pub use error::LogError;
 pub use laws::one_spelling;
 pub use log::{VatLog, parse_log, write_log};
 pub use record::Record;
+
+#[cfg(test)]
+mod tests;

@@ -27,7 +27,7 @@ both_alive true true p e f = refl
 both_alive false a p e f = absurd (false≢true f)
 both_alive true false p e f = absurd (false≢true e)
 
-birth_kept : (i : Id) (e : Event) (past : Past) → is_in_life i past ≡ true → is_in_life i (e ∷ past) ≡ true → birth i (e ∷ past) ≡ birth i past
+pub birth_kept : (i : Id) (e : Event) (past : Past) → is_in_life i past ≡ true → is_in_life i (e ∷ past) ≡ true → birth i (e ∷ past) ≡ birth i past
 birth_kept i e past h f =
     ap (λ y. if is_in_life i (e ∷ past) then option_or y (last_answer (begins i) past) else None) (begins_none (is_in_life i past) (is_late past e) _ h)
     ∙ both_alive (is_in_life i (e ∷ past)) (is_in_life i past) (last_answer (begins i) past) h f
@@ -72,7 +72,7 @@ view_bound (e ∷ past) r v h = elim (or_some (binds (view_of_reference past) pa
   | inr rest ↦ or_right _ _ (view_bound past r v rest)
 ]
 
-all_not : (past : Past) (r : ℕ) (ns : List ℕ) → list_all (λ n. not (is_bound past n)) ns ≡ true → contains r ns ≡ true → is_bound past r ≡ false
+pub all_not : (past : Past) (r : ℕ) (ns : List ℕ) → list_all (λ n. not (is_bound past n)) ns ≡ true → contains r ns ≡ true → is_bound past r ≡ false
 all_not past r [] h e = absurd (false≢true e)
 all_not past r (n ∷ ns) h e = let parts = and_parts _ _ h in elim (cases_Bool (n == r)) [
   | inl good ↦ subst (λ y. is_bound past y ≡ false) (eqb-true n r good) (not-true (is_bound past n) parts.0)

@@ -11,3 +11,5 @@ pub mod Lasting
 pub mod Viewed
 pub mod Binding
 pub mod Meaning
+pub mod Arriving
+pub mod Learning

@@ -12,7 +12,7 @@ use Rattle.vat_view.specs.Lives.{introduced}
 use Rattle.vat_view.specs.Views.{places_from, references}
 use Rattle.vat_view.specs.Tables.{is_cap, origin_by, origins_from}
 
-cons_append : {A : Type 0} (o : Option A) (xs ys : List A) → cons_option o (xs ++ ys) ≡ cons_option o xs ++ ys
+pub cons_append : {A : Type 0} (o : Option A) (xs ys : List A) → cons_option o (xs ++ ys) ≡ cons_option o xs ++ ys
 cons_append None xs ys = refl
 cons_append (Some x) xs ys = refl
 
@@ -56,7 +56,7 @@ module _ (n : ℕ) (e : Event) where
 abbrev pub noted_at : List ℕ → List ℕ → ℕ → Option ℕ
 noted_at rs ps q = option_map (λ m. m.0) (find (λ m. m.1 == q) (zip rs ps))
 
-get_drop : (rs : List ℕ) (b : ℕ) → slice_get rs b ≡ slice_get (drop b rs) 0
+pub get_drop : (rs : List ℕ) (b : ℕ) → slice_get rs b ≡ slice_get (drop b rs) 0
 get_drop [] zero = refl
 get_drop [] (suc b) = refl
 get_drop (r ∷ rs) zero = refl

@@ -54,7 +54,7 @@ from_found f (Some b) some same = (b, refl)
 from_found (Some x) None some same = absurd (let no : ⊥ = cc in no)
 from_found None None some same = absurd (false≢true (sym some))
 
-begins_some : (i : Id) (before : Past) (e : Event) → is_in_life i before ≡ false → is_in_life i (e ∷ before) ≡ true → Has (begins i before e)
+pub begins_some : (i : Id) (before : Past) (e : Event) → is_in_life i before ≡ false → is_in_life i (e ∷ before) ≡ true → Has (begins i before e)
 begins_some i before e out now =
     let more : 0 < introduces i before e = introduced_now i before e out now in
     let late : is_late before e ≡ false = not_late i before e (is_late before e) more in
@@ -69,7 +69,7 @@ life_began i (e ∷ before) now = elim (cases_Bool (is_in_life i before)) [
   | inr out ↦ has_first (begins i before e) (last_answer (begins i) before) (begins_some i before e out now)
 ]
 
-birth_of : (i : Id) (past : Past) → is_in_life i past ≡ true → (b : Birth) × (birth i past ≡ Some b) × (last_answer (begins i) past ≡ Some b)
+pub birth_of : (i : Id) (past : Past) → is_in_life i past ≡ true → (b : Birth) × (birth i past ≡ Some b) × (last_answer (begins i) past ≡ Some b)
 birth_of i past now = let b = life_began i past now in
     (b.0, ap (λ c. if c then last_answer (begins i) past else None) now ∙ b.1, b.1)
 
@@ -282,7 +282,7 @@ alive_after i before e all sound more =
     let below = no_more_went before (each_gives before all) i in
     let gives = sound.gives_back_held i in lt-ltb 0 (held i (e ∷ before)) (omega (arith, below, gives, more))
 
-introduced_there : (i : Id) (before : Past) (e : Event) (j : ℕ) (d : Descriptor) → is_late before e ≡ false → slice_get (descriptors e) j ≡ Some d → introduced e d ≡ Some i →
+pub introduced_there : (i : Id) (before : Past) (e : Event) (j : ℕ) (d : Descriptor) → is_late before e ≡ false → slice_get (descriptors e) j ≡ Some d → introduced e d ≡ Some i →
     0 < introduces i before e
 introduced_there i before e j d late g h =
     subst (λ b. 0 < count_by (same_id i) (if b then [] else filter_map (introduced e) (descriptors e))) (sym late) (counted_there e i (descriptors e) j d g h)

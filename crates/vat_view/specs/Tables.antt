@@ -2,7 +2,7 @@
 -- keys.
 use Rattle.std.specs.Prelude.{◌≡◌, ℕ, ◌+◌, ◌≤◌, ◌==◌, ◌&&◌, length, List, [], ◌∷◌, Bool, true, false, not, Option, Some, None, if◌then◌else◌, option_map, option_and_then, unwrap_or, find, slice_get}
 use Rattle.std.specs.Ordering.{nat_cmp}
-use Rattle.std.specs.List.{cons_option}
+use Rattle.std.specs.List.{cons_option, position_from}
 use Rattle.std.specs.Option.{option_or}
 use Rattle.std.specs.declared.cmp.Ordering.{Ordering}
 use Rattle.std.specs.BTreeMap.{get}
@@ -13,11 +13,13 @@ use Rattle.vat_view.specs.declared.bound.Bound.{Bound}
 use Rattle.vat_view.specs.declared.origin.Life.{Life}
 use Rattle.vat_view.specs.declared.origin.Origin.{Origin}
 use Rattle.vat_view.specs.contracts.id.IdOrd.TheImpl as id_order
-use Rattle.vat_view.specs.Types.{Descriptor, NoCap, Return, Finish, Release, Event, Wire, View, Import, Id}
+use Rattle.vat_view.specs.Types.{Descriptor, NoCap, SenderHosted, SenderPromise, ReceiverHosted, ReceiverAnswer, Return, Finish, Release, Event, Host, Vow, Field, Wire, View, Object, Promise, FieldOf, Import, Id}
 use Rattle.vat_view.specs.Past.{Past, id, same_id, names, number_of, last_answer}
 use Rattle.vat_view.specs.Questions.{is_late, returned, finished, released, noted_call, opening, return_of, is_returned, is_finished, is_released}
-use Rattle.vat_view.specs.Views.{noted, references}
-use Rattle.vat_view.specs.Lives.{Birth, begins, is_in_life, descriptors, introduced, introductions, introductions_at, came, went, held}
+use Rattle.vat_view.specs.Uses.{UsesQuestions}
+use Rattle.vat_view.specs.Bindings.{Refers, NotesEach}
+use Rattle.vat_view.specs.Views.{noted, references, view_of_reference}
+use Rattle.vat_view.specs.Lives.{GivesBackHeld, Birth, begins, is_in_life, descriptors, introduced, introductions, introductions_at, came, went, held}
 
 -- the order of numbers in tables
 abbrev pub id_cmp : Id → Id → Ordering
@@ -186,3 +188,58 @@ number_by named lives i = option_and_then (view_from named i.ours) (held_origin 
 abbrev pub call_by : Option Question → Option ℕ
 call_by (Some known) = if known.returned && known.finished then None else Some known.call
 call_by None = None
+
+-- the first place at which a record introduces a number
+abbrev pub first_place : Event → Id → Option ℕ
+first_place e i = position_from (λ d. names i (introduced e d)) 0 (descriptors e)
+
+-- what a number of the sender stands for with a record of this number counted: what it stood for, or what its first introduction there brings
+abbrev pub sender_view : (ℕ → Option View) → Lives → ℕ → Event → Id → Option View
+sender_view named lives number e i = option_or (number_by named lives i) (option_map (λ place. Import number place) (first_place e i))
+
+-- what a descriptor of a received record stands for, by the tables before it
+abbrev pub view_by : (ℕ → Option View) → Lives → (Id → Option Question) → ℕ → Event → Descriptor → Option View
+view_by named lives known number (Wire s k c rs m) (SenderHosted n) = sender_view named lives number (Wire s k c rs m) (id k s n)
+view_by named lives known number (Wire s k c rs m) (SenderPromise n) = sender_view named lives number (Wire s k c rs m) (id k s n)
+view_by named lives known number (Wire s k c rs m) (ReceiverHosted n) = number_by named lives (id k (not s) n)
+view_by named lives known number (Wire s k c rs m) (ReceiverAnswer q path) = option_map (λ call. FieldOf call path) (call_by (known (id k s q)))
+view_by named lives known number _ _ = None
+
+-- the reference noted for a descriptor, where so many were noted before it
+abbrev pub reference_by : List ℕ → ℕ → Descriptor → Option ℕ
+reference_by rs before d = if is_cap d then slice_get rs before else None
+
+-- a reference with what its descriptor stands for, where there are both
+abbrev pub bound_one : (Descriptor → Option View) → Descriptor → Option ℕ → Option (ℕ × View)
+bound_one view d (Some r) = option_map (λ v. (r, v)) (view d)
+bound_one view d None = None
+
+-- the references noted for descriptors, with what these stand for
+abbrev pub bound_from : (Descriptor → Option View) → List ℕ → ℕ → List Descriptor → List (ℕ × View)
+bound_from view rs before [] = []
+bound_from view rs before (d ∷ ds) = cons_option (bound_one view d (reference_by rs before d)) (bound_from view rs (before + (if is_cap d then 1 else 0)) ds)
+
+-- the references that a record binds, with their views
+abbrev pub bindings : (ℕ → Option View) → Lives → (Id → Option Question) → ℕ → Event → List (ℕ × View)
+bindings named lives known number (Host r object) = (r, Object object) ∷ []
+bindings named lives known number (Vow r) = (r, Promise r) ∷ []
+bindings named lives known number (Field r call path) = (r, FieldOf call path) ∷ []
+bindings named lives known number (Wire false k c rs m) =
+    bound_from (view_by named lives known number (Wire false k c rs m)) rs 0 (descriptors (Wire false k c rs m))
+bindings named lives known number _ = []
+
+-- the table of references has what looking back finds
+abbrev pub AreBound : Past → Bound → Type 0
+AreBound past table = (r : ℕ) → bound_at table r ≡ view_of_reference past r
+
+-- all tables of a point of a log
+pub record AreTabled (past : Past) (questions : Questions) (lives : Lives) (bound : Bound) : Type 0 where
+  pub tabled : IsTabled past questions lives
+  pub bounds : AreBound past bound
+
+-- what the tables ask of a record: it names, uses and gives back things as it should
+pub record IsFit (before : Past) (e : Event) : Type 0 where
+  pub refers : Refers before e
+  pub uses : UsesQuestions before e
+  pub gives : GivesBackHeld before e
+  pub notes : NotesEach before e

@@ -10,6 +10,7 @@
 //! the functions of `src/laws.rt`, which do nothing.
 #![tactic(auto)]
 
+mod arrivals;
 mod bound;
 mod event;
 mod id;

@@ -133,7 +133,7 @@ pub(crate) fn descriptors(event: &Event) -> &[Descriptor]
 }
 
 /// The number that a descriptor of a record introduces.
-fn introduced(event: &Event, descriptor: &Descriptor) -> Option<Id>
+pub(crate) fn introduced(event: &Event, descriptor: &Descriptor) -> Option<Id>
     ensures { result ≡ introduced event.now descriptor.now }
 {
     match (event, descriptor) {
@@ -180,7 +180,7 @@ pub(crate) fn references(event: &Event) -> &[u64]
 }
 
 /// Whether a descriptor isn't none.
-fn is_cap(descriptor: &Descriptor) -> bool
+pub(crate) fn is_cap(descriptor: &Descriptor) -> bool
     ensures { result ≡ is_cap descriptor.now }
 {
     !matches!(descriptor, Descriptor::NoCap)

@@ -1,6 +1,7 @@
 //! What numbers stand for, by the tables.
 
-ghost use Rattle.std.specs.Prelude.{◌≡◌, IfOk};
+ghost use Rattle.std.specs.Prelude.{◌≡◌, option_map, IfOk};
+ghost use Rattle.vat_view.specs.Types.{FieldOf};
 ghost use Rattle.vat_view.specs.Tables.{bound_at, number_by, question_at, call_by};
 
 use crate::bound::Bound;
@@ -8,6 +9,7 @@ use crate::id::Id;
 use crate::lives::Lives;
 use crate::questions::Questions;
 use crate::view::View;
+use cap_frame::Path;
 use std::alloc::AllocError;
 
 /// The view of a reference, if it has one.
@@ -47,5 +49,19 @@ pub(crate) fn call_of(questions: &Questions, question: Id) -> Option<u64>
     match questions.of(question) {
         Some(known) if !(known.returned && known.finished) => Some(known.call),
         _ => None,
+    }
+}
+
+/// The field at a path of the call of a question that isn't free.
+pub(crate) fn field_of(
+    questions: &Questions,
+    question: Id,
+    path: &Path,
+) -> Result<Option<View>, AllocError>
+    ensures { IfOk result (λ v. v ≡ option_map (λ call. FieldOf call path.now) (call_by (question_at questions.now question))) }
+{
+    match call_of(questions, question) {
+        Some(call) => Ok(Some(View::Field(call, path.copy()?))),
+        None => Ok(None),
     }
 }

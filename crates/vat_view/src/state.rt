@@ -1,15 +1,21 @@
 //! The state of a vat's numbers after some records of its log.
 
-ghost use Rattle.std.specs.Prelude.{◌≡◌, [], ◌∷◌, OnOk, OnErr};
-ghost use Rattle.vat_view.specs.Numbers.{number_held};
+ghost use Rattle.std.specs.Prelude.{◌≡◌, [], ◌∷◌, IfOk, OnOk, OnErr};
+ghost use Rattle.vat_view.specs.Numbers.{number_held, number_stands};
 ghost use Rattle.vat_view.specs.Lives.{GivesBackHeld};
 ghost use Rattle.vat_view.specs.Uses.{UsesQuestions};
+ghost use Rattle.vat_view.specs.Views.{view_of_reference};
+ghost use Rattle.vat_view.specs.Bindings.{Refers, NotesEach};
 
+use crate::bound::Bound;
 use crate::event::Event;
 use crate::lives::Lives;
 use crate::number::Number;
 use crate::questions::Questions;
-use crate::telling::tell;
+use crate::telling::learn;
+use crate::standing;
+use crate::view::View;
+use cap_frame::Path;
 use std::alloc::{AllocError, Global};
 use std::marker::Model;
 
@@ -20,18 +26,19 @@ pub struct VatState {
     events: Vec<Event>,
     questions: Questions,
     lives: Lives,
+    bound: Bound,
 }
 
 impl Model for VatState {
     ghost use Rattle.std.specs.Prelude.{List, reverse};
     ghost use Rattle.vat_view.specs.declared.event.Event.{Event};
-    ghost use Rattle.vat_view.specs.Tables.{IsTabled};
+    ghost use Rattle.vat_view.specs.Tables.{AreTabled};
 
     ghost Value = { List Event };
 
     ghost view = { λ state. reverse state.events.items };
 
-    ghost invariant = { λ state. IsTabled (reverse state.events.items) state.questions state.lives };
+    ghost invariant = { λ state. AreTabled (reverse state.events.items) state.questions state.lives state.bound };
 }
 
 impl VatState {
@@ -43,6 +50,7 @@ impl VatState {
             events: Vec::new(alloc),
             questions: Questions::new(alloc),
             lives: Lives::new(alloc),
+            bound: Bound::new(alloc),
         }
     }
 
@@ -57,21 +65,66 @@ impl VatState {
         }
     }
 
+    /// The view of a reference, if it is bound to one.
+    ///
+    /// # Errors
+    ///
+    /// Want of memory.
+    pub fn view_of_reference(&self, reference: u64) -> Result<Option<View>, AllocError>
+        ensures { IfOk result (λ view. view ≡ view_of_reference self.now reference) }
+    {
+        standing::view_of_reference(&self.bound, reference)
+    }
+
+    /// What a number of a connection stands for: an export or import in life for the view with which its life began, a
+    /// question or answer that isn't free for the field of its call at the path, which counts for these two alone.
+    ///
+    /// # Errors
+    ///
+    /// Want of memory.
+    pub fn stands_for(
+        &self,
+        connection: u32,
+        number: Number,
+        path: &Path,
+    ) -> Result<Option<View>, AllocError>
+        ensures { IfOk result (λ view. view ≡ number_stands connection number path.now self.now) }
+    {
+        let id = number.on(connection);
+        match number {
+            Number::Export(_) | Number::Import(_) => {
+                standing::view_of_number(&self.bound, &self.lives, id)
+            }
+            Number::Question(_) | Number::Answer(_) => {
+                standing::field_of(&self.questions, id, path)
+            }
+        }
+    }
+
     /// Applies a record, which keeps the rules that are named after those applied.
     ///
     /// # Errors
     ///
     /// Want of memory, and then the state is as it was.
     pub fn apply(&mut self, event: Event) -> Result<(), AllocError>
+        requires refers { Refers self.old event }
         requires uses { UsesQuestions self.old event }
         requires gives { GivesBackHeld self.old event }
+        requires notes { NotesEach self.old event }
         ensures ok { OnOk result (self.new ≡ event ∷ self.old) }
         ensures err { OnErr result (self.new ≡ self.old) }
     {
         self.events.reserve(1)?;
         let alloc = *self.events.allocator();
         let number = self.events.len();
-        tell(alloc, number, &mut self.questions, &mut self.lives, &event)?;
+        learn(
+            alloc,
+            number,
+            &mut self.questions,
+            &mut self.lives,
+            &mut self.bound,
+            &event,
+        )?;
         self.events.push(event)?;
         Ok(())
     }

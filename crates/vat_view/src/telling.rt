@@ -6,8 +6,10 @@ ghost use Rattle.vat_view.specs.Past.{Past, same_id};
 ghost use Rattle.vat_view.specs.Questions.{noted_call};
 ghost use Rattle.vat_view.specs.Lives.{GivesBackHeld};
 ghost use Rattle.vat_view.specs.Uses.{UsesQuestions};
-ghost use Rattle.vat_view.specs.Tables.{question_at, late_by, closed_by, count_at, origin_at, raised_origin, lets_go, just_opened, noted_by, IsPut, IsSame, IsTabled};
+ghost use Rattle.vat_view.specs.Tables.{question_at, late_by, closed_by, count_at, origin_at, raised_origin, lets_go, just_opened, noted_by, IsPut, IsSame, IsTabled, AreTabled, IsFit};
 
+use crate::arrivals::{bindings, new_references};
+use crate::bound::Bound;
 use crate::event::Event;
 use crate::id::Id;
 use crate::ids::Ids;
@@ -194,4 +196,30 @@ pub(crate) fn tell(
         Some(question) => open(alloc, questions, lives, event, question, numbers, begun),
         None => close(questions, lives, event, numbers, begun),
     }
+}
+
+/// Tells all tables of one record, which has this number in the log. Where memory is refused, they are of the records before.
+pub(crate) fn learn(
+    alloc: Global,
+    number: usize,
+    questions: &mut Questions,
+    lives: &mut Lives,
+    bound: &mut Bound,
+    event: &Event,
+) -> Result<(), AllocError>
+    ensures ok { OnOk result ((before : Past) → number ≡ length before → AreTabled before questions.old lives.old bound.old → IsFit before event.now
+        → AreTabled (event.now ∷ before) questions.new lives.new bound.new) }
+    ensures err { OnErr result ((before : Past) → number ≡ length before → AreTabled before questions.old lives.old bound.old → IsFit before event.now
+        → AreTabled before questions.new lives.new bound.new) }
+{
+    let list = bindings(alloc, bound, lives, questions, number, event)?;
+    if bound.bind_each(list).is_err() {
+        bound.unbind_each(new_references(event));
+        return Err(AllocError);
+    }
+    if tell(alloc, number, questions, lives, event).is_err() {
+        bound.unbind_each(new_references(event));
+        return Err(AllocError);
+    }
+    Ok(())
 }

@@ -69,9 +69,9 @@ module _ (f : Descriptor → Option View) where
   skip q d None rest v h = refl
   skip q d (Some r) rest v h = inner (f d)
     where
-    inner : (w : Option View) → bound_by q (cons_option (option_map (λ v. (r, v)) w) rest) v ≡ bound_by q rest v
-    inner None = refl
-    inner (Some w) = ap (λ b. bound_by q rest (if b then Some w else v)) (h r refl)
+      inner : (w : Option View) → bound_by q (cons_option (option_map (λ v. (r, v)) w) rest) v ≡ bound_by q rest v
+      inner None = refl
+      inner (Some w) = ap (λ b. bound_by q rest (if b then Some w else v)) (h r refl)
 
   take_it : (q r : ℕ) (w : Option View) (rest : List (ℕ × View)) (v : Option View) → (r == q) ≡ true → ((x : Option View) → bound_by q rest x ≡ x) →
       bound_by q (cons_option (option_map (λ v. (r, v)) w) rest) v ≡ option_or w v
@@ -127,8 +127,8 @@ module _ (f : Descriptor → Option View) where
       capped d ds p b shows distinct more =
           ap (λ o. bound_by q (cons_option (bound_one f d o) (bound_from f rs (b + 1) ds)) v) (get_drop rs b)
           ∙ inner (drop b rs) d (bound_from f rs (b + 1) ds) (places_from (p + 1) ds) p q v g ((ap (λ x. g x) (sym (add-zero p))) ∙ shows 0) distinct
-              (λ apart x. bound_later ds (b + 1) q x (subst (λ l. contains q l ≡ false) (tail_more rs b) apart))
-              (more ∙ ap (λ l. option_or (option_and_then (λ n. option_and_then f (g n.1)) (find (λ n. n.0 == q) (zip l (places_from (p + 1) ds)))) v) (sym (tail_more rs b)))
+          (λ apart x. bound_later ds (b + 1) q x (subst (λ l. contains q l ≡ false) (tail_more rs b) apart))
+          (more ∙ ap (λ l. option_or (option_and_then (λ n. option_and_then f (g n.1)) (find (λ n. n.0 == q) (zip l (places_from (p + 1) ds)))) v) (sym (tail_more rs b)))
 
       next_distinct : (b : ℕ) → is_distinct (drop b rs) ≡ true → is_distinct (drop (b + 1) rs) ≡ true
       next_distinct b h = subst (λ l. is_distinct l ≡ true) (tail_more rs b) (tail_distinct (drop b rs) h)
@@ -136,9 +136,9 @@ module _ (f : Descriptor → Option View) where
       pub bound_found : (ds : List Descriptor) (p b : ℕ) → Shows p ds → is_distinct (drop b rs) ≡ true → bound_by q (bound_from f rs b ds) v ≡ looked_up b p ds
       bound_found [] p b shows distinct = nothing (drop b rs)
         where
-        nothing : (ys : List ℕ) → v ≡ option_or (option_and_then (λ n. option_and_then f (g n.1)) (find (λ n. n.0 == q) (zip ys []))) v
-        nothing [] = refl
-        nothing (y ∷ ys) = refl
+          nothing : (ys : List ℕ) → v ≡ option_or (option_and_then (λ n. option_and_then f (g n.1)) (find (λ n. n.0 == q) (zip ys []))) v
+          nothing [] = refl
+          nothing (y ∷ ys) = refl
       bound_found (NoCap ∷ ds) p b shows distinct =
           ap (λ x. bound_by q (bound_from f rs x ds) v) (add-zero b) ∙ bound_found ds (p + 1) b (shows_next p NoCap ds shows) distinct
       bound_found (SenderHosted m ∷ ds) p b shows distinct =
@@ -155,12 +155,13 @@ module _ (f : Descriptor → Option View) where
     keys_one d None rest q h more = more
     keys_one d (Some r) rest q h more = keyed (f d)
       where
-      or_false : (a b : Bool) → a ≡ false → b ≡ false → (a || b) ≡ false
-      or_false false b e g = g
-      or_false true b e g = absurd (false≢true (sym e))
-      keyed : (w : Option View) → contains q (map (λ x. x.0) (cons_option (option_map (λ v. (r, v)) w) rest)) ≡ false
-      keyed None = more
-      keyed (Some w) = or_false (r == q) (contains q (map (λ x. x.0) rest)) (h r refl) more
+        or_false : (a b : Bool) → a ≡ false → b ≡ false → (a || b) ≡ false
+        or_false false b e g = g
+        or_false true b e g = absurd (false≢true (sym e))
+
+        keyed : (w : Option View) → contains q (map (λ x. x.0) (cons_option (option_map (λ v. (r, v)) w) rest)) ≡ false
+        keyed None = more
+        keyed (Some w) = or_false (r == q) (contains q (map (λ x. x.0) rest)) (h r refl) more
 
     keys_cap : (d : Descriptor) (ds : List Descriptor) (b q : ℕ) → contains q (drop b rs) ≡ false → contains q (map (λ x. x.0) (bound_from f rs (b + 1) ds)) ≡ false →
         contains q (map (λ x. x.0) (cons_option (bound_one f d (slice_get rs b)) (bound_from f rs (b + 1) ds))) ≡ false
@@ -179,14 +180,14 @@ module _ (f : Descriptor → Option View) where
         bound_from f rs b (ds ++ d ∷ []) ≡ bound_from f rs b ds ++ option_to_list (bound_one f d (reference_by rs (b + count_by is_cap ds) d))
     bound_one_more [] b d = alone (bound_one f d (reference_by rs b d)) ∙ ap (λ x. option_to_list (bound_one f d (reference_by rs x d))) (sym (add-zero b))
       where
-      alone : (o : Option (ℕ × View)) → cons_option o [] ≡ option_to_list o
-      alone None = refl
-      alone (Some x) = refl
+        alone : (o : Option (ℕ × View)) → cons_option o [] ≡ option_to_list o
+        alone None = refl
+        alone (Some x) = refl
     bound_one_more (x ∷ ds) b d =
         let counted = sum_by-cons (λ d. cond (is_cap d) 1 0) x ds in
         let noted : b + cond (is_cap x) 1 0 + count_by is_cap ds ≡ b + count_by is_cap (x ∷ ds) = omega (arith, counted) in
         ap (λ xs. cons_option (bound_one f x (reference_by rs b x)) xs)
-            (bound_one_more ds (b + (if is_cap x then 1 else 0)) d ∙ ap (λ z. bound_from f rs (b + (if is_cap x then 1 else 0)) ds ++ option_to_list (bound_one f d (reference_by rs z d))) noted)
+        (bound_one_more ds (b + (if is_cap x then 1 else 0)) d ∙ ap (λ z. bound_from f rs (b + (if is_cap x then 1 else 0)) ds ++ option_to_list (bound_one f d (reference_by rs z d))) noted)
         ∙ cons_append (bound_one f x (reference_by rs b x)) (bound_from f rs (b + (if is_cap x then 1 else 0)) ds) (option_to_list (bound_one f d (reference_by rs (b + count_by is_cap (x ∷ ds)) d)))
 
 -- ---- what a descriptor stands for
@@ -229,14 +230,14 @@ module _ (before : Past) (questions : Questions) (lives : Lives) (bound : Bound)
             | inl alive ↦
                 let b = birth_of i before alive in
                 ap (λ o. option_or o (option_map (λ place. Import (length before) place) (first_place e i)))
-                    (by_number i ∙ ap (λ o. option_and_then (view_given (view_of_reference before) false) o) b.1)
+                (by_number i ∙ ap (λ o. option_and_then (view_given (view_of_reference before) false) o) b.1)
                 ∙ sym (ap (λ o. option_and_then (view_given (view_of_reference before) false) o) (birth_kept i e before alive now ∙ b.1))
             | inr out ↦
                 let here : begins i before e ≡ option_map (birth_there before e) (first_place e i) =
-                  ap₂ (λ a b. if a || b then None else option_map (birth_there before e) (first_place e i)) out late in
+                ap₂ (λ a b. if a || b then None else option_map (birth_there before e) (first_place e i)) out late in
                 let some = begins_some i before e out now in
                 ap (λ o. option_or o (option_map (λ place. Import (length before) place) (first_place e i)))
-                    (by_number i ∙ ap (λ b. option_and_then (view_given (view_of_reference before) false) (if b then last_answer (begins i) before else None)) out)
+                (by_number i ∙ ap (λ b. option_and_then (view_given (view_of_reference before) false) (if b then last_answer (begins i) before else None)) out)
                 ∙ born_at (first_place e i) (last_answer (begins i) before) (some.0, sym here ∙ some.1)
                 ∙ ap (λ o. option_and_then (view_given (view_of_reference before) false) (option_or o (last_answer (begins i) before))) (sym here)
                 ∙ sym (ap (λ b. option_and_then (view_given (view_of_reference before) false) (if b then option_or (begins i before e) (last_answer (begins i) before) else None)) now)
@@ -269,7 +270,7 @@ module _ (before : Past) (questions : Questions) (lives : Lives) (bound : Bound)
       wire_bound distinct q =
           let e : Event = Wire false k c rs m in
           bound_found (view_by (bound_at bound) lives (question_at questions) (length before) e) rs q (view_of_reference before q) (λ j. slice_get (descriptors e) j) (descriptors e) 0 0
-              (λ j. ap (λ x. slice_get (descriptors e) x) (zero-add j)) distinct
+          (λ j. ap (λ x. slice_get (descriptors e) x) (zero-add j)) distinct
           ∙ ap (λ o. option_or o (view_of_reference before q)) (found_known (find (λ n. n.0 == q) (noted e)))
 
     late_bound : is_late before (Wire false k c rs m) ≡ true → NotesEach before (Wire false k c rs m) → (q : ℕ) →
@@ -281,9 +282,9 @@ module _ (before : Past) (questions : Questions) (lives : Lives) (bound : Bound)
         bound_later (view_by (bound_at bound) lives (question_at questions) (length before) e) rs (descriptors e) 0 q (view_of_reference before q) (ap (λ l. contains q l) none)
         ∙ sym (ap (λ l. option_or (option_and_then (λ n. described_at (view_of_reference before) before e n.1) (find (λ n. n.0 == q) (zip l (places e)))) (view_of_reference before q)) none)
       where
-      empty : (l : List ℕ) → length l ≡ 0 → l ≡ []
-      empty [] h = refl
-      empty (x ∷ l) h = absurd (let no : ⊥ = omega (arith, h) in no)
+        empty : (l : List ℕ) → length l ≡ 0 → l ≡ []
+        empty [] h = refl
+        empty (x ∷ l) h = absurd (let no : ⊥ = omega (arith, h) in no)
 
   pub all_bound : (e : Event) → is_distinct (new_references e) ≡ true → NotesEach before e → GivesBackHeld before e → (q : ℕ) →
       bound_by q (bindings (bound_at bound) lives (question_at questions) (length before) e) (view_of_reference before q) ≡ view_of_reference (e ∷ before) q
@@ -316,7 +317,7 @@ pub bindings_apart : (named : ℕ → Option View) (lives : Lives) (known : Id �
     bound_by q (bindings named lives known number e) v ≡ v
 bindings_apart named lives known number e q v h =
     bound_apart q (bindings named lives known number e) [] v
-        (ap (λ l. contains q (map (λ x. x.0) l)) (append_nothing (bindings named lives known number e)) ∙ keys_new named lives known number e q h)
+    (ap (λ l. contains q (map (λ x. x.0) l)) (append_nothing (bindings named lives known number e)) ∙ keys_new named lives known number e q h)
 
 no_view : (past : Past) (q : ℕ) (o : Option View) → view_of_reference past q ≡ o → is_bound past q ≡ false → o ≡ None
 no_view past q None e h = refl

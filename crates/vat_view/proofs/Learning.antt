@@ -66,5 +66,5 @@ module _ (items other : List Event) (now : Past) (e : Event) (number : ℕ) (que
       AreTabled (reverse pushed) told counted more
   state_applied pushed is_pushed step =
       subst (λ p. AreTabled p told counted more)
-          (ap (λ l. e ∷ l) (sym view_is ∙ ap (λ l. reverse l) (sym same)) ∙ sym (reverse-append other (e ∷ [])) ∙ ap (λ l. reverse l) (sym is_pushed))
-          (step now place_now kept_now fit)
+      (ap (λ l. e ∷ l) (sym view_is ∙ ap (λ l. reverse l) (sym same)) ∙ sym (reverse-append other (e ∷ [])) ∙ ap (λ l. reverse l) (sym is_pushed))
+      (step now place_now kept_now fit)

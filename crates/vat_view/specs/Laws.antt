@@ -3,7 +3,6 @@ use Rattle.std.specs.Prelude.{ℕ, ◌+◌, List, [], ◌∷◌, ◌++◌, Bool,
 use Rattle.vat_view.specs.Types.{Event, Id}
 use Rattle.vat_view.specs.Past.{Past}
 use Rattle.vat_view.specs.Lives.{is_in_life}
-use Rattle.vat_view.specs.Lives.{is_in_life}
 
 -- how many records pass a test, of those after the last that passes another
 abbrev pub count_since : (Past → Event → Bool) → (Past → Event → Bool) → Past → ℕ

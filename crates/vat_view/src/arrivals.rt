@@ -25,7 +25,9 @@ fn introduces(event: &Event, descriptor: &Descriptor, number: Id) -> bool
 {
     match introduced(event, descriptor) {
         Some(id) => {
-            number.connection == id.connection && number.ours == id.ours && number.number == id.number
+            number.connection == id.connection
+                && number.ours == id.ours
+                && number.number == id.number
         }
         None => false,
     }
@@ -161,7 +163,9 @@ fn noted(
     let mut before = 0;
     for descriptor in descriptors(event) {
         let reference = reference_by(noted, before, descriptor);
-        if let Some(one) = bound_one(bound, lives, questions, number, event, descriptor, reference)? {
+        if let Some(one) = bound_one(
+            bound, lives, questions, number, event, descriptor, reference,
+        )? {
             list.push(one)?;
         }
         if is_cap(descriptor) {
@@ -209,9 +213,8 @@ pub(crate) fn new_references(event: &Event) -> &[u64]
     ensures { result.now ≡ new_references event.now }
 {
     match event {
-        Event::Host { reference, .. }
-        | Event::Vow { reference }
-        | Event::Field { reference, .. } => slice::from_ref(reference),
+        Event::Host { reference, .. } | Event::Vow { reference } | Event::Field { reference, .. } =>
+            slice::from_ref(reference),
         Event::Wire {
             sent: false,
             references,

@@ -21,7 +21,7 @@ loop-descriptor-preserved c =
     let pushed : c.match-branch-2.list.items ≡ c.loop-descriptor.list.items ++ option_to_list c.in_ok-one.field-0 = grind (arith, common_steps) in
     let counted : c.if-is_cap.before ≡ c.loop-descriptor.before + cond (is_cap d) 1 0 = grind (arith, common_steps) in
     let reference : c.reference_by-reference.result ≡ reference_by rs (0 + count_by is_cap before) d =
-      c.reference_by-reference.ensures ∙ ap₂ (λ l n. reference_by l n d) c.references-noted.ensures (c.loop-descriptor.invariant.before ∙ sym (zero-add (count_by is_cap before))) in
+    c.reference_by-reference.ensures ∙ ap₂ (λ l n. reference_by l n d) c.references-noted.ensures (c.loop-descriptor.invariant.before ∙ sym (zero-add (count_by is_cap before))) in
     record {
       listed = pushed ∙ ap₂ (λ (xs : List (ℕ × View)) o. xs ++ option_to_list o) c.loop-descriptor.invariant.listed (c.in_ok-one.ensures ∙ ap (λ o. bound_one f d o) reference)
           ∙ sym (bound_one_more f rs before 0 d) ∙ ap (λ xs. bound_from f rs 0 xs) (sym more);

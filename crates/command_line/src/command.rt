@@ -42,70 +42,81 @@ impl<'a> Command<'a> {
     }
 }
 
-/// The program with its command `vat FILE`.
-///
-/// # Errors
-///
-/// Want of memory.
-fn with_vat<'a>(alloc: Global, program: clap::Command<'a>) -> Result<clap::Command<'a>, AllocError>
-    ensures { IfOk result (λ c. app_of c ≡ with_subcommand (app_of program.entry) (reader (codes "vat")).top) }
-{
-    let file = Arg::new(alloc, INPUT)
-        .value_name("FILE")
-        .required(true)
-        .help(help::FILE);
-    let vat = clap::Command::new(alloc, "vat")
-        .about(help::VAT)
-        .long_about(help::VAT_LONG)
-        .after_help(help::VAT_END)
-        .arg(file)?;
-    program.subcommand(vat)
+/// What is said of a command that reads one thing.
+#[derive(Drop)]
+struct Reader<'a> {
+    name: &'a str,
+    about: &'a str,
+    long_about: &'a str,
+    after_help: &'a str,
+    thing: &'a str,
+    help: &'a str,
 }
 
-/// The program with its command `frame HEX`.
+/// The program with a command that reads one thing.
 ///
 /// # Errors
 ///
 /// Want of memory.
-fn with_frame<'a>(
+fn with_reader<'a>(
+    alloc: Global,
+    program: clap::Command<'a>,
+    said: Reader<'a>,
+) -> Result<clap::Command<'a>, AllocError>
+    ensures { IfOk result (λ c. app_of c ≡ with_subcommand (app_of program.entry) (reader said.entry.name.now).top) }
+{
+    let input = Arg::new(alloc, INPUT)
+        .value_name(said.thing)
+        .required(true)
+        .help(said.help);
+    let command = clap::Command::new(alloc, said.name)
+        .about(said.about)
+        .long_about(said.long_about)
+        .after_help(said.after_help)
+        .arg(input)?;
+    program.subcommand(command)
+}
+
+/// The program with its commands `vat FILE`, `frame HEX` and `frames FILE`.
+///
+/// # Errors
+///
+/// Want of memory.
+fn with_readers<'a>(
     alloc: Global,
     program: clap::Command<'a>,
 ) -> Result<clap::Command<'a>, AllocError>
-    ensures { IfOk result (λ c. app_of c ≡ with_subcommand (app_of program.entry) (reader (codes "frame")).top) }
+    ensures { IfOk result (λ c. app_of c ≡ with_subcommand (with_subcommand (with_subcommand (app_of program.entry) (reader (codes "vat")).top) (reader (codes "frame")).top) (reader (codes "frames")).top) }
 {
-    let hex = Arg::new(alloc, INPUT)
-        .value_name("HEX")
-        .required(true)
-        .help(help::HEX);
-    let frame = clap::Command::new(alloc, "frame")
-        .about(help::FRAME)
-        .long_about(help::FRAME_LONG)
-        .after_help(help::FRAME_END)
-        .arg(hex)?;
-    program.subcommand(frame)
-}
-
-/// The program with its command `frames FILE`.
-///
-/// # Errors
-///
-/// Want of memory.
-fn with_frames<'a>(
-    alloc: Global,
-    program: clap::Command<'a>,
-) -> Result<clap::Command<'a>, AllocError>
-    ensures { IfOk result (λ c. app_of c ≡ with_subcommand (app_of program.entry) (reader (codes "frames")).top) }
-{
-    let file = Arg::new(alloc, INPUT)
-        .value_name("FILE")
-        .required(true)
-        .help(help::FRAMES_FILE);
-    let frames = clap::Command::new(alloc, "frames")
-        .about(help::FRAMES)
-        .long_about(help::FRAMES_LONG)
-        .after_help(help::FRAMES_END)
-        .arg(file)?;
-    program.subcommand(frames)
+    let vat = Reader {
+        name: "vat",
+        about: help::VAT,
+        long_about: help::VAT_LONG,
+        after_help: help::VAT_END,
+        thing: "FILE",
+        help: help::FILE,
+    };
+    let frame = Reader {
+        name: "frame",
+        about: help::FRAME,
+        long_about: help::FRAME_LONG,
+        after_help: help::FRAME_END,
+        thing: "HEX",
+        help: help::HEX,
+    };
+    let frames = Reader {
+        name: "frames",
+        about: help::FRAMES,
+        long_about: help::FRAMES_LONG,
+        after_help: help::FRAMES_END,
+        thing: "FILE",
+        help: help::FRAMES_FILE,
+    };
+    with_reader(
+        alloc,
+        with_reader(alloc, with_reader(alloc, program, vat)?, frame)?,
+        frames,
+    )
 }
 
 /// The program with its command `order CASE --out FILE`.
@@ -150,8 +161,7 @@ fn parser<'a>(alloc: Global) -> Result<clap::Command<'a>, AllocError>
         .after_help(help::PROGRAM_END)
         .subcommand_required(true)
         .arg_required_else_help(true);
-    let readers = with_frames(alloc, with_frame(alloc, with_vat(alloc, top)?)?)?;
-    with_order(alloc, readers)
+    with_order(alloc, with_readers(alloc, top)?)
 }
 
 /// The command that the words spell, of which the first is the program's name: `vat FILE`, `frame HEX` or `frames

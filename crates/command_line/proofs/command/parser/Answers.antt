@@ -13,7 +13,6 @@ returns c =
     ∙ ap (λ f. on_top (λ s. record s { subcommand_required = true; arg_required_else_help = true }) (app_of_fields f)) c.after_help.ensures
     ∙ ap (λ f. on_top (λ s. record s { subcommand_required = true; arg_required_else_help = true }) (app_of_fields f)) c.about.ensures
     ∙ ap (on_top (λ s. record s { subcommand_required = true; arg_required_else_help = true })) c.new.ensures.app in
-    let vat_is = c.in_ok-with_vat.ensures ∙ ap (λ (a : App). with_subcommand a (reader (codes "vat")).top) top_is in
-    let frame_is = c.in_ok-with_frame.ensures ∙ ap (λ (a : App). with_subcommand a (reader (codes "frame")).top) vat_is in
-    let frames_is = c.in_ok-readers.ensures ∙ ap (λ (a : App). with_subcommand a (reader (codes "frames")).top) frame_is in
-    IfOk-weaker c.with_order.result _ _ (λ m h. h ∙ ap (λ (a : App). with_subcommand a order.top) frames_is) c.with_order.ensures
+    let readers_are = c.in_ok-with_readers.ensures
+    ∙ ap (λ (a : App). with_subcommand (with_subcommand (with_subcommand a (reader (codes "vat")).top) (reader (codes "frame")).top) (reader (codes "frames")).top) top_is in
+    IfOk-weaker c.with_order.result _ _ (λ m h. h ∙ ap (λ (a : App). with_subcommand a order.top) readers_are) c.with_order.ensures

@@ -1,0 +1,15 @@
+pub mod Naming
+pub mod Once
+pub mod Counting
+pub mod Keys
+pub mod Knowing
+pub mod Stepping
+pub mod Raising
+pub mod Originating
+pub mod Beginning
+pub mod Lasting
+pub mod Viewed
+pub mod Binding
+pub mod Meaning
+pub mod Arriving
+pub mod Learning

@@ -1,0 +1,88 @@
+-- Calls at the vat, what they ask for, and what is known of their results (rpc.capnp, the comments of Call and
+-- Return).
+use Rattle.std.specs.Prelude.{ℕ, ◌==◌, Bool, true, false, not, ◌&&◌, ◌||◌, Option, Some, None, if◌then◌else◌, option_and_then, unwrap_or, is_some}
+use Rattle.vat_view.specs.Types.{Bootstrap, Call, Return, Results, Exception, Canceled, Event, Make, Deliver, Answer, Fault, Wire, View}
+use Rattle.vat_view.specs.Past.{Past, id, is, last_answer, last_where}
+use Rattle.vat_view.specs.Questions.{call_at, opening, is_late}
+use Rattle.vat_view.specs.Views.{view_of_reference, view_of_target}
+
+-- where a call is to go, and by which method
+pub record Asked : Type 0 where
+  pub goal : Option View
+  pub interface : ℕ
+  pub method : ℕ
+
+-- MAKE brings a call to the vat, its goal the view of the reference; so does a received Call, its goal what the
+-- target stands for. A Bootstrap's call is never at a vat
+abbrev pub brings : ℕ → Past → Event → Option Asked
+brings call before (Make c r interface method) =
+    if c == call then Some record { goal = view_of_reference before r; interface = interface; method = method } else None
+brings call before (Wire false k c rs (Call q target interface method params)) =
+    let goal = view_of_target before (Wire false k c rs (Call q target interface method params)) in
+    if c == call then Some record { goal = goal; interface = interface; method = method } else None
+brings call before _ = None
+
+-- what a call asked for when it came to the vat
+abbrev pub asked : ℕ → Past → Option Asked
+asked call past = last_answer (brings call) past
+
+-- a call's goal
+abbrev pub goal_of : ℕ → Past → Option View
+goal_of call past = option_and_then (λ a. a.goal) (asked call past)
+
+-- it leaves when delivered, faulted, sent on, or answered by a sent Return with exception or canceled, which names it
+-- by its question
+abbrev pub takes : ℕ → Past → Event → Bool
+takes call before (Deliver c object) = c == call
+takes call before (Fault c) = c == call
+takes call before (Wire true k c rs (Call q target interface method params)) = c == call
+takes call before (Wire true k c rs (Return q release Exception)) = is call (call_at (opening (id k false q) before))
+takes call before (Wire true k c rs (Return q release Canceled)) = is call (call_at (opening (id k false q) before))
+takes call before _ = false
+
+-- a record brings a call to the vat, or takes it away
+abbrev pub moves : ℕ → Past → Event → Option Bool
+moves call before e = if is_some (brings call before e) then Some true else if takes call before e then Some false else None
+
+-- a call is at the vat from when it came until it leaves
+abbrev pub is_at_vat : ℕ → Past → Bool
+is_at_vat call past = unwrap_or (last_answer (moves call) past) false
+
+-- a record delivers this call
+abbrev pub delivers : ℕ → Past → Event → Bool
+delivers call before (Deliver c object) = c == call
+delivers call before _ = false
+
+-- a record receives a Bootstrap for this call
+abbrev pub boots : ℕ → Past → Event → Bool
+boots call before (Wire false k c rs (Bootstrap q)) = c == call
+boots call before _ = false
+
+-- a record answers or faults this call
+abbrev pub settles : ℕ → Past → Event → Bool
+settles call before (Answer c results) = c == call
+settles call before (Fault c) = c == call
+settles call before _ = false
+
+-- a record has passed this test
+abbrev pub has_passed : (Past → Event → Bool) → Past → Bool
+has_passed test past = is_some (last_where test past)
+
+-- a call was delivered here, or is that of a received Bootstrap
+abbrev pub is_served : ℕ → Past → Bool
+is_served call past = has_passed (delivers call) past || has_passed (boots call) past
+
+-- a call has an answer or fault
+abbrev pub is_settled : ℕ → Past → Bool
+is_settled call past = has_passed (settles call) past
+
+-- a record makes a call's results known: ANSWER, or a received Return with results that isn't late
+abbrev pub knows : ℕ → Past → Event → Bool
+knows call before (Answer c results) = c == call
+knows call before (Wire false k c rs (Return q release (Results payload))) =
+    is call (call_at (opening (id k true q) before)) && not (is_late before (Wire false k c rs (Return q release (Results payload))))
+knows call before _ = false
+
+-- a call's results are known
+abbrev pub is_known : ℕ → Past → Bool
+is_known call past = has_passed (knows call) past

@@ -1,0 +1,14 @@
+pub mod Types
+pub mod Past
+pub mod Questions
+pub mod Lives
+pub mod Views
+pub mod Walks
+pub mod Calls
+pub mod Loopbacks
+pub mod Uses
+pub mod Bindings
+pub mod Sound
+pub mod Numbers
+pub mod Laws
+pub mod Tables

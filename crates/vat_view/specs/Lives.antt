@@ -1,0 +1,104 @@
+-- How often export and import numbers are held, and their lives (rpc.capnp, the comments of ExportId, ImportId,
+-- CapDescriptor, Release, Return.releaseParamCaps and Finish.releaseResultCaps).
+use Rattle.std.specs.Prelude.{ℕ, ◌-◌, ◌≤◌, nat_lt, List, [], ◌∷◌, Bool, true, false, not, ◌||◌, Option, Some, None, if◌then◌else◌, count_by, option_map, is_some, slice_get}
+use Rattle.std.specs.List.{filter_map, position_from}
+use Rattle.vat_view.specs.Types.{Descriptor, SenderHosted, SenderPromise, Results, Cap, RpcMessage, Call, Return, Resolve, Release, Event, Wire, Id}
+use Rattle.vat_view.specs.Past.{Past, Point, point, id, same_id, names, last_answer, last_since, sum_back}
+use Rattle.vat_view.specs.Questions.{is_late, closes}
+
+-- the descriptors of a message, by place; a Resolve's stands at place 0
+abbrev pub descriptors_of : RpcMessage → List Descriptor
+descriptors_of (Call q target interface method params) = params.descriptors
+descriptors_of (Return q release (Results payload)) = payload.descriptors
+descriptors_of (Resolve promise (Cap d)) = d ∷ []
+descriptors_of _ = []
+
+-- the descriptors of a record
+abbrev pub descriptors : Event → List Descriptor
+descriptors (Wire sent k call references m) = descriptors_of m
+descriptors _ = []
+
+-- the number that a descriptor of a record introduces: senderHosted and senderPromise name one of the sender's
+-- exports
+abbrev pub introduced : Event → Descriptor → Option Id
+introduced (Wire sent k call references m) (SenderHosted n) = Some (id k sent n)
+introduced (Wire sent k call references m) (SenderPromise n) = Some (id k sent n)
+introduced _ _ = None
+
+-- the numbers that a record introduces, in the order of their places; a late Return's aren't counted
+abbrev pub introductions : Past → Event → List Id
+introductions before e = if is_late before e then [] else filter_map (introduced e) (descriptors e)
+
+-- the numbers that a record introduced, if there is one
+abbrev pub introductions_at : Option Point → List Id
+introductions_at (Some p) = introductions p.before p.event
+introductions_at None = []
+
+-- how many descriptors of a record introduce a number
+abbrev pub introduces : Id → Past → Event → ℕ
+introduces i before e = count_by (same_id i) (introductions before e)
+
+-- how much of a number a record gives back: a Release its count of one of the receiver's exports; a Return with
+-- releaseParamCaps true each that its Call introduced; a Finish with releaseResultCaps true each that its question's
+-- Return introduced, if that has passed
+abbrev pub gives_back : Id → Past → Event → ℕ
+gives_back i before (Wire sent k call references (Release n count)) = if same_id i (id k (not sent) n) then count else 0
+gives_back i before e = count_by (same_id i) (introductions_at (closes before e))
+
+-- how often a number was introduced
+abbrev pub came : Id → Past → ℕ
+came i past = sum_back (introduces i) past
+
+-- how often it was given back
+abbrev pub went : Id → Past → ℕ
+went i past = sum_back (gives_back i) past
+
+-- how often it is held: what came less what went
+abbrev pub held : Id → Past → ℕ
+held i past = came i past - went i past
+
+-- a number is in life while it is held
+abbrev pub is_in_life : Id → Past → Bool
+is_in_life i past = nat_lt 0 (held i past)
+
+-- (rpc.capnp, CapDescriptor and Release: no more is given back than came)
+-- COUNT: nothing gives back more than the count
+abbrev pub GivesBackHeld : Past → Event → Type 0
+GivesBackHeld before e = (i : Id) → gives_back i before e ≤ held i before
+
+-- the descriptor that began a life: its record, and its place there
+pub record Birth : Type 0 where
+  pub from : Point
+  pub place : ℕ
+
+-- the first introduction in a record before which the number was out of life
+abbrev pub begins : Id → Past → Event → Option Birth
+begins i before e =
+    if is_in_life i before || is_late before e then None else
+    option_map (λ place. record { from = point before e; place = place }) (position_from (λ d. names i (introduced e d)) 0 (descriptors e))
+
+-- where the present life of a number began
+abbrev pub birth : Id → Past → Option Birth
+birth i past = if is_in_life i past then last_answer (begins i) past else None
+
+-- a descriptor is a senderPromise
+abbrev pub is_promised : Option Descriptor → Bool
+is_promised (Some (SenderPromise n)) = true
+is_promised _ = false
+
+-- a life began with a senderPromise; else with a senderHosted
+abbrev pub began_promised : Birth → Bool
+began_promised b = is_promised (slice_get (descriptors b.from.event) b.place)
+
+-- the promise that a record resolves, one of the sender's exports
+abbrev pub resolved : Event → Option Id
+resolved (Wire sent k call references (Resolve n resolution)) = Some (id k sent n)
+resolved _ = None
+
+-- the Resolve of a number's present life: it came after the record that began that life
+abbrev pub resolve_of : Id → Past → Option Point
+resolve_of i past = if is_in_life i past then last_since (λ before e. is_some (begins i before e)) (λ before e. names i (resolved e)) past else None
+
+-- a Resolve passed in the present life of a number
+abbrev pub is_resolved : Id → Past → Bool
+is_resolved i past = is_some (resolve_of i past)

@@ -1,0 +1,82 @@
+-- Where views turn, and where that leads (rpc.capnp, the comments of PromisedAnswer, Payload and Resolve).
+use Rattle.std.specs.Prelude.{◌≡◌, ℕ, ◌==◌, List, Bool, true, false, ◌&&◌, Option, Some, None, if◌then◌else◌, unwrap_or, option_and_then, find}
+use Rattle.std.specs.Str.{bytes_eq as same_path}
+use Rattle.vat_view.specs.Types.{Results, Return, Resolve, Event, Fulfil, Break, Answer, Fault, Wire, View, Object, Promise, FieldOf, Import}
+use Rattle.vat_view.specs.Past.{Past, id, is, number_of, last_answer}
+use Rattle.vat_view.specs.Questions.{call_at, opening, is_late}
+use Rattle.vat_view.specs.Lives.{Birth, birth}
+use Rattle.vat_view.specs.Views.{view_of_reference, view_of_descriptor}
+
+-- where a view goes next: it turns to this view, it stops and can lead nowhere, or it stays what it is
+pub data Next : Type 0 where
+  turns : View → Next
+  stops : Next
+  stays : Next
+
+-- a view goes on to another, or stops where there is none
+abbrev pub on_to : Option View → Next
+on_to (Some v) = turns v
+on_to None = stops
+
+-- a view is this own promise
+abbrev pub is_promise : ℕ → Option View → Bool
+is_promise p (Some (Promise q)) = q == p
+is_promise p _ = false
+
+-- a promise turns to the view of FULFIL's second reference, and stops where it is broken
+abbrev pub keeps : ℕ → Past → Event → Option Next
+keeps p before (Fulfil r to) = if is_promise p (view_of_reference before r) then Some (on_to (view_of_reference before to)) else None
+keeps p before (Break r) = if is_promise p (view_of_reference before r) then Some stops else None
+keeps p before _ = None
+
+-- a life began at this record and place
+abbrev pub began_at : ℕ → ℕ → Option Birth → Bool
+began_at record_number place (Some b) = (number_of b.from == record_number) && (b.place == place)
+began_at record_number place None = false
+
+-- an import turns to what the Resolve received during its life brought, and stops at an exception or none
+abbrev pub resolves : ℕ → ℕ → Past → Event → Option Next
+resolves i place before (Wire false k c rs (Resolve n resolution)) =
+    if began_at i place (birth (id k false n) before) then Some (on_to (view_of_descriptor before (Wire false k c rs (Resolve n resolution)) 0)) else None
+resolves i place before _ = None
+
+-- the capability that ANSWER gives at a path
+abbrev pub answer_at : List ℕ → Past → List (ℕ × List ℕ) → Option View
+answer_at path before results = option_and_then (λ answer. view_of_reference before answer.0) (find (λ answer. same_path answer.1 path) results)
+
+-- the capability that a Return with results has at a path
+abbrev pub result_at : List ℕ → Past → Event → Option View
+result_at path before (Wire sent k c rs (Return q release (Results payload))) =
+    option_and_then (λ field. view_of_descriptor before (Wire sent k c rs (Return q release (Results payload))) field.1) (find (λ field. same_path field.0 path) payload.fields)
+result_at path before _ = None
+
+-- a field turns to ANSWER's reference at its path, or to what a received Return that isn't late brought there;
+-- it stops where the call faulted, failed, came late or has nothing there
+abbrev pub answers : ℕ → List ℕ → Past → Event → Option Next
+answers call path before (Answer c results) = if c == call then Some (on_to (answer_at path before results)) else None
+answers call path before (Fault c) = if c == call then Some stops else None
+answers call path before (Wire false k c rs (Return q release outcome)) =
+    let e = Wire false k c rs (Return q release outcome) in
+    if is call (call_at (opening (id k true q) before)) then Some (if is_late before e then stops else on_to (result_at path before e)) else None
+answers call path before _ = None
+
+-- where a view goes next
+abbrev pub next : Past → View → Next
+next past (Object object) = stays
+next past (Promise p) = unwrap_or (last_answer (keeps p) past) stays
+next past (FieldOf call path) = unwrap_or (last_answer (answers call path) past) stays
+next past (Import i place) = unwrap_or (last_answer (resolves i place) past) stays
+
+-- one view leads to another: by no turn, or by a turn to a view that leads there
+pub data Leads (past : Past) : View → View → Type 0 where
+  here : {a : View} → Leads past a a
+  onward : {a b c : View} → next past a ≡ turns b → Leads past b c → Leads past a c
+
+-- one view leads to another by 1 or more turns: it turns to a view that leads there
+pub data LeadsByTurns (past : Past) : View → View → Type 0 where
+  turned : {a b c : View} → next past a ≡ turns b → Leads past b c → LeadsByTurns past a c
+
+-- a view's end is the last of its walk; it has none where the walk stops or goes in a circle
+pub record IsEnd (past : Past) (a end : View) : Type 0 where
+  pub led : Leads past a end
+  pub last : next past end ≡ stays

@@ -1,0 +1,225 @@
+//! Which references a record binds, and to which views.
+
+ghost use Rattle.std.specs.Prelude.{◌≡◌, ◌∷◌, [], IfOk};
+ghost use Rattle.vat_view.specs.Past.{names};
+ghost use Rattle.vat_view.specs.Lives.{descriptors, introduced};
+ghost use Rattle.vat_view.specs.Views.{references};
+ghost use Rattle.vat_view.specs.Bindings.{new_references};
+ghost use Rattle.vat_view.specs.Tables.{bound_at, question_at, first_place, sender_view, view_by, reference_by, bound_one, bound_from, bindings};
+
+use crate::bound::Bound;
+use crate::event::Event;
+use crate::id::Id;
+use crate::lives::Lives;
+use crate::questions::Questions;
+use crate::records::{descriptors, introduced, is_cap, references};
+use crate::standing::{call_of, view_of_number};
+use crate::view::View;
+use rpc_view::Descriptor;
+use std::alloc::{AllocError, Global};
+use std::slice;
+
+/// Whether a descriptor of a record introduces this number.
+fn introduces(event: &Event, descriptor: &Descriptor, number: Id) -> bool
+    ensures { result ≡ names number (introduced event.now descriptor.now) }
+{
+    match introduced(event, descriptor) {
+        Some(id) => {
+            number.connection == id.connection
+                && number.ours == id.ours
+                && number.number == id.number
+        }
+        None => false,
+    }
+}
+
+/// The first place at which a record introduces this number.
+fn first_place(event: &Event, number: Id) -> Option<usize>
+    ensures { result ≡ first_place event.now number }
+{
+    for (place, descriptor) in descriptors(event).iter().enumerate() {
+        if introduces(event, descriptor, number) {
+            return Some(place);
+        }
+    }
+    None
+}
+
+/// What a number of the sender stands for, with the record of this number counted.
+fn sender_view(
+    bound: &Bound,
+    lives: &Lives,
+    number: usize,
+    event: &Event,
+    id: Id,
+) -> Result<Option<View>, AllocError>
+    ensures { IfOk result (λ v. v ≡ sender_view (bound_at bound.now) lives.now number event.now id) }
+{
+    if let Some(view) = view_of_number(bound, lives, id)? {
+        return Ok(Some(view));
+    }
+    match first_place(event, id) {
+        Some(place) => Ok(Some(View::Import(number, place))),
+        None => Ok(None),
+    }
+}
+
+/// What a descriptor of a record of this number stands for.
+fn view_by(
+    bound: &Bound,
+    lives: &Lives,
+    questions: &Questions,
+    number: usize,
+    event: &Event,
+    descriptor: &Descriptor,
+) -> Result<Option<View>, AllocError>
+    ensures { IfOk result (λ v. v ≡ view_by (bound_at bound.now) lives.now (question_at questions.now) number event.now descriptor.now) }
+{
+    let Event::Wire {
+        sent,
+        connection,
+        ..
+    } = event
+    else {
+        return Ok(None);
+    };
+    match descriptor {
+        Descriptor::NoCap => Ok(None),
+        Descriptor::SenderHosted(n) | Descriptor::SenderPromise(n) => {
+            let id = Id {
+                connection: *connection,
+                ours: *sent,
+                number: *n,
+            };
+            sender_view(bound, lives, number, event, id)
+        }
+        Descriptor::ReceiverHosted(n) => {
+            let id = Id {
+                connection: *connection,
+                ours: !*sent,
+                number: *n,
+            };
+            view_of_number(bound, lives, id)
+        }
+        Descriptor::ReceiverAnswer(q, path) => {
+            let id = Id {
+                connection: *connection,
+                ours: *sent,
+                number: *q,
+            };
+            match call_of(questions, id) {
+                Some(call) => Ok(Some(View::Field(call, path.copy()?))),
+                None => Ok(None),
+            }
+        }
+    }
+}
+
+/// The reference noted for a descriptor, where so many were noted before it.
+fn reference_by(references: &[u64], before: usize, descriptor: &Descriptor) -> Option<u64>
+    ensures { result ≡ reference_by references.now before descriptor.now }
+{
+    if is_cap(descriptor) {
+        references.get(before).copied()
+    } else {
+        None
+    }
+}
+
+/// A reference with what its descriptor stands for, where there are both.
+fn bound_one(
+    bound: &Bound,
+    lives: &Lives,
+    questions: &Questions,
+    number: usize,
+    event: &Event,
+    descriptor: &Descriptor,
+    reference: Option<u64>,
+) -> Result<Option<(u64, View)>, AllocError>
+    ensures { IfOk result (λ v. v ≡ bound_one (view_by (bound_at bound.now) lives.now (question_at questions.now) number event.now) descriptor.now reference) }
+{
+    let Some(reference) = reference else {
+        return Ok(None);
+    };
+    match view_by(bound, lives, questions, number, event, descriptor)? {
+        Some(view) => Ok(Some((reference, view))),
+        None => Ok(None),
+    }
+}
+
+/// The references noted for the descriptors of a record, with what these stand for.
+fn noted(
+    alloc: Global,
+    bound: &Bound,
+    lives: &Lives,
+    questions: &Questions,
+    number: usize,
+    event: &Event,
+) -> Result<Vec<(u64, View)>, AllocError>
+    ensures { IfOk result (λ list. list.items ≡ bound_from (view_by (bound_at bound.now) lives.now (question_at questions.now) number event.now) (references event.now) 0 (descriptors event.now)) }
+{
+    let mut list = Vec::new(alloc);
+    let noted = references(event);
+    let mut before = 0;
+    for descriptor in descriptors(event) {
+        let reference = reference_by(noted, before, descriptor);
+        if let Some(one) = bound_one(
+            bound, lives, questions, number, event, descriptor, reference,
+        )? {
+            list.push(one)?;
+        }
+        if is_cap(descriptor) {
+            before += 1;
+        }
+    }
+    Ok(list)
+}
+
+/// One reference with its view.
+fn one(alloc: Global, reference: u64, view: View) -> Result<Vec<(u64, View)>, AllocError>
+    ensures { IfOk result (λ list. list.items ≡ (reference, view) ∷ []) }
+{
+    let mut list = Vec::new(alloc);
+    list.push((reference, view))?;
+    Ok(list)
+}
+
+/// The references that a record of this number binds, with their views.
+pub(crate) fn bindings(
+    alloc: Global,
+    bound: &Bound,
+    lives: &Lives,
+    questions: &Questions,
+    number: usize,
+    event: &Event,
+) -> Result<Vec<(u64, View)>, AllocError>
+    ensures { IfOk result (λ list. list.items ≡ bindings (bound_at bound.now) lives.now (question_at questions.now) number event.now) }
+{
+    match event {
+        Event::Host { reference, object } => one(alloc, *reference, View::Object(*object)),
+        Event::Vow { reference } => one(alloc, *reference, View::Promise(*reference)),
+        Event::Field {
+            reference,
+            call,
+            path,
+        } => one(alloc, *reference, View::Field(*call, path.copy()?)),
+        Event::Wire { sent: false, .. } => noted(alloc, bound, lives, questions, number, event),
+        _ => Ok(Vec::new(alloc)),
+    }
+}
+
+/// The references that a record newly binds.
+pub(crate) fn new_references(event: &Event) -> &[u64]
+    ensures { result.now ≡ new_references event.now }
+{
+    match event {
+        Event::Host { reference, .. } | Event::Vow { reference } | Event::Field { reference, .. } =>
+            slice::from_ref(reference),
+        Event::Wire {
+            sent: false,
+            references,
+            ..
+        } => references.as_slice(),
+        _ => &[],
+    }
+}

@@ -1,0 +1,42 @@
+//! Laws of a log's records, which hold of every log and not of one call.
+
+ghost use Rattle.std.specs.Prelude.{◌≡◌, ◌≤◌, ◌++◌, ℕ, List, Some, true, IsSome};
+ghost use Rattle.vat_view.specs.Types.{Event, View, Id};
+ghost use Rattle.vat_view.specs.Past.{Past, Each};
+ghost use Rattle.vat_view.specs.Questions.{opens, returns, finishes};
+ghost use Rattle.vat_view.specs.Lives.{came, went, GivesBackHeld};
+ghost use Rattle.vat_view.specs.Uses.{UsesQuestions};
+ghost use Rattle.vat_view.specs.Views.{view_of_reference, view_of_number};
+ghost use Rattle.vat_view.specs.Bindings.{Refers, is_bound};
+ghost use Rattle.vat_view.specs.Sound.{IsSound};
+ghost use Rattle.vat_view.specs.Laws.{count_since, LivesOn, EachAfter};
+
+/// Since its last opening a question has one Return and one Finish at most, where the records before use questions as
+/// they should.
+pub fn openings_are_closed_once()
+    ensures one_return { (past : Past) → Each UsesQuestions past → (q : Id) → count_since (opens q) (returns q) past ≤ 1 }
+    ensures one_finish { (past : Past) → Each UsesQuestions past → (q : Id) → count_since (opens q) (finishes q) past ≤ 1 }
+{}
+
+/// No number goes more often than it came, where no record gives back more than is held. So what is held is the
+/// difference, and not cut off at 0.
+pub fn no_more_goes()
+    ensures { (past : Past) → Each GivesBackHeld past → (i : Id) → went i past ≤ came i past }
+{}
+
+/// A reference keeps its view, where the records that follow bind references as they should.
+pub fn references_keep_views()
+    ensures { (later : List Event) (past : Past) → EachAfter Refers later past → (r : ℕ) (v : View) → view_of_reference past r ≡ Some v
+        → view_of_reference (later ++ past) r ≡ Some v }
+{}
+
+/// A number keeps its view while it is in life, where the records that follow bind references as they should.
+pub fn numbers_keep_views()
+    ensures { (i : Id) (later : List Event) (past : Past) → LivesOn i later past → EachAfter Refers later past → (v : View)
+        → view_of_number i past ≡ Some v → view_of_number i (later ++ past) ≡ Some v }
+{}
+
+/// Every reference that is bound has a view, where each record is as it should be after those before it.
+pub fn bound_references_have_views()
+    ensures { (past : Past) → Each IsSound past → (r : ℕ) → is_bound past r ≡ true → IsSome (view_of_reference past r) }
+{}

@@ -1,0 +1,20 @@
+//! What is known of one question.
+
+use crate::ids::Ids;
+
+/// What is known of a question by its last opening and what came since.
+#[derive(Debug, Drop)]
+pub(crate) struct Question {
+    /// The call noted beside its opening.
+    pub(crate) call: u64,
+    /// Whether its Return has passed.
+    pub(crate) returned: bool,
+    /// Whether its Finish has passed.
+    pub(crate) finished: bool,
+    /// Whether a Finish of it with releaseResultCaps true has passed.
+    pub(crate) released: bool,
+    /// The numbers that its opening introduced.
+    pub(crate) asked: Ids,
+    /// The numbers that its Return introduced.
+    pub(crate) brought: Ids,
+}

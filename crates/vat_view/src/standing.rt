@@ -1,0 +1,67 @@
+//! What numbers stand for, by the tables.
+
+ghost use Rattle.std.specs.Prelude.{◌≡◌, option_map, IfOk};
+ghost use Rattle.vat_view.specs.Types.{FieldOf};
+ghost use Rattle.vat_view.specs.Tables.{bound_at, number_by, question_at, call_by};
+
+use crate::bound::Bound;
+use crate::id::Id;
+use crate::lives::Lives;
+use crate::questions::Questions;
+use crate::view::View;
+use cap_frame::Path;
+use std::alloc::AllocError;
+
+/// The view of a reference, if it has one.
+pub(crate) fn view_of_reference(bound: &Bound, reference: u64) -> Result<Option<View>, AllocError>
+    ensures { IfOk result (λ v. v ≡ bound_at bound.now reference) }
+{
+    match bound.of(reference) {
+        Some(view) => Ok(Some(view.copy()?)),
+        None => Ok(None),
+    }
+}
+
+/// What an export or import number stands for.
+pub(crate) fn view_of_number(
+    bound: &Bound,
+    lives: &Lives,
+    number: Id,
+) -> Result<Option<View>, AllocError>
+    ensures { IfOk result (λ v. v ≡ number_by (bound_at bound.now) lives.now number) }
+{
+    let Some(origin) = lives.origin_of(number) else {
+        return Ok(None);
+    };
+    if !number.ours {
+        return Ok(Some(View::Import(origin.number, origin.place)));
+    }
+    match origin.reference {
+        Some(reference) => view_of_reference(bound, reference),
+        None => Ok(None),
+    }
+}
+
+/// The call of a question that isn't free.
+pub(crate) fn call_of(questions: &Questions, question: Id) -> Option<u64>
+    ensures { result ≡ call_by (question_at questions.now question) }
+{
+    match questions.of(question) {
+        Some(known) if !(known.returned && known.finished) => Some(known.call),
+        _ => None,
+    }
+}
+
+/// The field at a path of the call of a question that isn't free.
+pub(crate) fn field_of(
+    questions: &Questions,
+    question: Id,
+    path: &Path,
+) -> Result<Option<View>, AllocError>
+    ensures { IfOk result (λ v. v ≡ option_map (λ call. FieldOf call path.now) (call_by (question_at questions.now question))) }
+{
+    match call_of(questions, question) {
+        Some(call) => Ok(Some(View::Field(call, path.copy()?))),
+        None => Ok(None),
+    }
+}

@@ -30,7 +30,7 @@ struct Entry {
 
 /// A word and the path behind its `@`.
 fn placed<'a>(alloc: Global, word: &'a str) -> Result<(&'a str, Option<Vec<u16>>), Fault> {
-    match word.split_once('@') {
+    match word.split_once("@") {
         None => Ok((word, None)),
         Some((word, place)) => Ok((word, Some(path(alloc, place)?))),
     }

@@ -49,7 +49,7 @@ pub struct Log {
 impl Log {
     /// A log of this vat, without records.
     pub fn new(alloc: Global, vat: u32) -> Result<Log, AllocError> {
-        let mut bytes = Vec::from_slice(alloc, b"VATLOG01")?;
+        let mut bytes = Vec::from_slice(alloc, "VATLOG01".as_bytes())?;
         bytes.extend_from_slice(&vat.to_le_bytes())?;
         Ok(Log { bytes })
     }
@@ -109,7 +109,7 @@ impl Log {
     fn put_results(&mut self, alloc: Global, results: &[&str]) -> Result<(), Fault> {
         self.put_count(results.len())?;
         for answered in results {
-            let (reference, place) = answered.split_once('@').ok_or(Fault::Unread)?;
+            let (reference, place) = answered.split_once("@").ok_or(Fault::Unread)?;
             self.put_u64(named('r', reference)?)?;
             self.put_path(alloc, place)?;
         }

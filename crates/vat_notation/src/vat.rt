@@ -142,14 +142,20 @@ fn changed<'a>(alloc: Global, vat: &Vat<'a>, changes: &[&'a str]) -> Result<Vec<
     Ok(records)
 }
 
+/// To how many bytes a change cuts the log of this vat, if it does.
+fn bytes_kept<'a>(number: &str, words: &[&'a str]) -> Option<&'a str> {
+    match words {
+        ["vat", vat, "cut", "to", count, "bytes"] if *vat == number => Some(*count),
+        _ => None,
+    }
+}
+
 /// At how many bytes the changes cut the log of a vat, if they do.
 fn cut_at(alloc: Global, number: &str, changes: &[&str]) -> Result<Option<usize>, Fault> {
     for text in changes {
         let words = words_of(alloc, text)?;
-        if let ["vat", vat, "cut", "to", count, "bytes"] = words.as_slice() {
-            if *vat == number {
-                return Ok(Some(place(count)?));
-            }
+        if let Some(count) = bytes_kept(number, &words) {
+            return Ok(Some(place(count)?));
         }
     }
     Ok(None)

@@ -32,6 +32,3 @@ pub use limits::Limits;
 pub use place::{ListAt, StructAt};
 pub use read_error::ReadError;
 pub use visiting::{list_field, root, struct_field};
-
-#[cfg(test)]
-mod tests;

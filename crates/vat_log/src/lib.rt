@@ -23,6 +23,3 @@ pub use error::LogError;
 pub use laws::one_spelling;
 pub use log::{VatLog, parse_log, write_log};
 pub use record::Record;
-
-#[cfg(test)]
-mod tests;

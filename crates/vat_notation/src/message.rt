@@ -10,7 +10,7 @@
 
 use crate::fault::Fault;
 use crate::segment::Segment;
-use crate::words::{named, number, path, small};
+use crate::words::{alone, behind, ended, named, next, path, small};
 use std::alloc::Global;
 
 /// The interface of each call.
@@ -30,7 +30,7 @@ struct Entry {
 
 /// A word and the path behind its `@`.
 fn placed<'a>(alloc: Global, word: &'a str) -> Result<(&'a str, Option<Vec<u16>>), Fault> {
-    match word.split_once('@') {
+    match word.split_once("@") {
         None => Ok((word, None)),
         Some((word, place)) => Ok((word, Some(path(alloc, place)?))),
     }
@@ -214,116 +214,189 @@ fn body(segment: &mut Segment, tag: u64, data: u8, pointers: u16) -> Result<usiz
     Ok(segment.add_struct(message.wrapping_add(1), data, pointers)?)
 }
 
-/// Writes a Call, of the question `q`.
-fn put_call(
-    alloc: Global,
-    segment: &mut Segment,
-    question: u64,
-    words: &[&str],
-) -> Result<(), Fault> {
+/// The method that a call says, or the one of a call that says none, and the words behind it.
+fn method_of<'a, 'w>(words: &'w [&'a str]) -> Result<(u32, &'w [&'a str]), Fault> {
+    match words {
+        [name, method, rest @ ..] if *name == "method" => Ok((small(method)?, rest)),
+        _ => Ok((METHOD as u32, words)),
+    }
+}
+
+/// Writes a Call.
+fn put_call(alloc: Global, segment: &mut Segment, words: &[&str]) -> Result<(), Fault> {
+    let (question, rest) = next(words)?;
     let call = body(segment, 2, 3, 3)?;
-    segment.put(call, 0, question);
+    segment.put(call, 0, named('q', question)?);
     segment.put(call.wrapping_add(1), 0, INTERFACE);
-    let rest = put_target(alloc, segment, call.wrapping_add(3), words)?;
-    let (method, rest) = match rest {
-        ["method", method, rest @ ..] => (small(method)? as u64, rest),
-        _ => (METHOD as u64, rest),
-    };
-    segment.put(call, 32, method);
+    let rest = put_target(alloc, segment, call.wrapping_add(3), rest)?;
+    let (method, rest) = method_of(rest)?;
+    segment.put(call, 32, method as u64);
     put_payload(alloc, segment, call.wrapping_add(4), rest)
 }
 
-/// Writes a Return to the question `q`.
-fn put_return(
+/// Whether a word comes first, and the words without it.
+fn without<'a, 'w>(word: &str, words: &'w [&'a str]) -> (bool, &'w [&'a str]) {
+    match words {
+        [first, rest @ ..] if *first == word => (true, rest),
+        _ => (false, words),
+    }
+}
+
+/// Writes how a Return ends, by its words.
+fn put_ending(
     alloc: Global,
     segment: &mut Segment,
-    question: u64,
+    returned: usize,
     words: &[&str],
 ) -> Result<(), Fault> {
-    let returned = body(segment, 3, 2, 1)?;
-    segment.put(returned, 0, question);
-    let rest = match words {
-        ["keep", rest @ ..] => {
-            segment.put(returned, 32, 1);
-            rest
-        }
-        _ => words,
-    };
-    match rest {
-        ["exception"] => segment.put(returned, 48, 1),
-        ["canceled"] => segment.put(returned, 48, 2),
-        _ => return put_payload(alloc, segment, returned.wrapping_add(2), rest),
+    match words {
+        [word] if *word == "exception" => segment.put(returned, 48, 1),
+        [word] if *word == "canceled" => segment.put(returned, 48, 2),
+        _ => return put_payload(alloc, segment, returned.wrapping_add(2), words),
     }
     Ok(())
 }
 
+/// Writes a Return.
+fn put_return(alloc: Global, segment: &mut Segment, words: &[&str]) -> Result<(), Fault> {
+    let (question, rest) = next(words)?;
+    let returned = body(segment, 3, 2, 1)?;
+    segment.put(returned, 0, named('q', question)?);
+    let (keeps, rest) = without("keep", rest);
+    segment.put(returned, 32, keeps as u64);
+    put_ending(alloc, segment, returned, rest)
+}
+
 /// Writes a Resolve.
-fn put_resolve(
-    alloc: Global,
-    segment: &mut Segment,
-    promise: &str,
-    words: &[&str],
-) -> Result<(), Fault> {
+fn put_resolve(alloc: Global, segment: &mut Segment, words: &[&str]) -> Result<(), Fault> {
+    let (promise, rest) = next(behind("promise", words)?)?;
     let resolve = body(segment, 5, 1, 1)?;
     segment.put(resolve, 0, small(promise)? as u64);
-    if let ["exception"] = words {
-        segment.put(resolve, 32, 1);
-        return Ok(());
+    put_resolution(alloc, segment, resolve, rest)
+}
+
+/// Writes what a Resolve says of its promise.
+fn put_resolution(
+    alloc: Global,
+    segment: &mut Segment,
+    resolve: usize,
+    words: &[&str],
+) -> Result<(), Fault> {
+    match words {
+        [word] if *word == "exception" => {
+            segment.put(resolve, 32, 1);
+            Ok(())
+        }
+        _ => {
+            let (found, _) = take_entry(alloc, words)?;
+            let descriptor = segment.add_struct(resolve.wrapping_add(1), 1, 1)?;
+            put_entry(segment, descriptor, &found)
+        }
     }
-    let (found, _) = take_entry(alloc, words)?;
-    let descriptor = segment.add_struct(resolve.wrapping_add(1), 1, 1)?;
-    put_entry(segment, descriptor, &found)
+}
+
+/// The context of a Disembargo.
+fn context_of(word: &str) -> Result<u64, Fault> {
+    match word {
+        "senderLoopback" => Ok(0),
+        "receiverLoopback" => Ok(1),
+        _ => Err(Fault::Unread),
+    }
 }
 
 /// Writes a Disembargo.
-fn put_disembargo(
-    alloc: Global,
-    segment: &mut Segment,
-    id: &str,
-    words: &[&str],
-) -> Result<(), Fault> {
+fn put_disembargo(alloc: Global, segment: &mut Segment, words: &[&str]) -> Result<(), Fault> {
+    let (id, rest) = next(words)?;
+    let (context, target) = next(rest)?;
     let disembargo = body(segment, 13, 1, 1)?;
     segment.put(disembargo, 0, small(id)? as u64);
-    let target = match words {
-        ["senderLoopback", target @ ..] => target,
-        ["receiverLoopback", target @ ..] => {
-            segment.put(disembargo, 32, 1);
-            target
-        }
-        _ => return Err(Fault::Unread),
-    };
+    segment.put(disembargo, 32, context_of(context)?);
     put_target(alloc, segment, disembargo.wrapping_add(1), target)?;
     Ok(())
 }
 
+/// Writes a Bootstrap.
+fn put_bootstrap(segment: &mut Segment, words: &[&str]) -> Result<(), Fault> {
+    let bootstrap = body(segment, 8, 1, 1)?;
+    segment.put(bootstrap, 0, named('q', alone(words)?)?);
+    Ok(())
+}
+
+/// Writes a Finish.
+fn put_finish(segment: &mut Segment, words: &[&str]) -> Result<(), Fault> {
+    let (question, rest) = next(words)?;
+    let finish = body(segment, 4, 1, 0)?;
+    segment.put(finish, 0, named('q', question)?);
+    segment.put(finish, 32, rest.len() as u64);
+    Ok(())
+}
+
+/// Writes a Release.
+fn put_release(segment: &mut Segment, words: &[&str]) -> Result<(), Fault> {
+    let (id, rest) = next(behind("id", words)?)?;
+    let count = alone(behind("count", rest)?)?;
+    let release = body(segment, 6, 1, 0)?;
+    segment.put(release, 0, small(id)? as u64);
+    segment.put(release, 32, small(count)? as u64);
+    Ok(())
+}
+
+/// Writes an Abort, without a body.
+fn put_abort(segment: &mut Segment, words: &[&str]) -> Result<(), Fault> {
+    ended(words)?;
+    let message = segment.add_struct(0, 1, 1)?;
+    segment.put(message, 0, 1);
+    Ok(())
+}
+
+/// The kinds of messages.
+#[derive(Clone, Copy)]
+enum Kind {
+    Bootstrap,
+    Call,
+    Return,
+    Finish,
+    Resolve,
+    Release,
+    Disembargo,
+    Abort,
+}
+
+/// Their words.
+const KINDS: [(&str, Kind); 8] = [
+    ("boot", Kind::Bootstrap),
+    ("call", Kind::Call),
+    ("ret", Kind::Return),
+    ("fin", Kind::Finish),
+    ("resolve", Kind::Resolve),
+    ("release", Kind::Release),
+    ("disembargo", Kind::Disembargo),
+    ("abort", Kind::Abort),
+];
+
+/// The kind whose word this is.
+fn kind_of(word: &str) -> Result<Kind, Fault> {
+    for (name, kind) in KINDS {
+        if name == word {
+            return Ok(kind);
+        }
+    }
+    Err(Fault::Unread)
+}
+
 /// Writes the message that the words spell.
 fn put_message(alloc: Global, segment: &mut Segment, words: &[&str]) -> Result<(), Fault> {
-    match words {
-        ["boot", question] => {
-            let bootstrap = body(segment, 8, 1, 1)?;
-            segment.put(bootstrap, 0, named('q', question)?);
-        }
-        ["call", question, rest @ ..] => put_call(alloc, segment, named('q', question)?, rest)?,
-        ["ret", question, rest @ ..] => put_return(alloc, segment, named('q', question)?, rest)?,
-        ["fin", question, rest @ ..] => {
-            let finish = body(segment, 4, 1, 0)?;
-            segment.put(finish, 0, named('q', question)?);
-            segment.put(finish, 32, rest.len() as u64);
-        }
-        ["resolve", "promise", promise, rest @ ..] => put_resolve(alloc, segment, promise, rest)?,
-        ["release", "id", id, "count", count] => {
-            let release = body(segment, 6, 1, 0)?;
-            segment.put(release, 0, small(id)? as u64);
-            segment.put(release, 32, small(count)? as u64);
-        }
-        ["disembargo", id, rest @ ..] => put_disembargo(alloc, segment, id, rest)?,
-        ["abort"] => {
-            let message = segment.add_struct(0, 1, 1)?;
-            segment.put(message, 0, 1);
-        }
-        _ => return Err(Fault::Unread),
+    let (first, rest) = next(words)?;
+    match kind_of(first)? {
+        Kind::Bootstrap => put_bootstrap(segment, rest),
+        Kind::Call => put_call(alloc, segment, rest),
+        Kind::Return => put_return(alloc, segment, rest),
+        Kind::Finish => put_finish(segment, rest),
+        Kind::Resolve => put_resolve(alloc, segment, rest),
+        Kind::Release => put_release(segment, rest),
+        Kind::Disembargo => put_disembargo(alloc, segment, rest),
+        Kind::Abort => put_abort(segment, rest),
     }
-    Ok(())
 }
 
 /// The bytes that hexadecimal digits give.

@@ -9,6 +9,37 @@ use crate::message::{INTERFACE, METHOD, frame_of};
 use crate::words::{lettered, named, number, path, small};
 use std::alloc::{AllocError, Global};
 
+/// What stands behind the numbers of a record.
+#[derive(Clone, Copy)]
+enum Rest {
+    Nothing,
+    Method,
+    Path,
+    Results,
+}
+
+/// The records that aren't messages: the word, the byte for the kind, the letters of the numbers behind it, where `#` is a
+/// number without a letter, and what stands behind these.
+const KINDS: [(&str, u8, &[char], Rest); 9] = [
+    ("HOST", 1, &['r', '#'], Rest::Nothing),
+    ("VOW", 2, &['r'], Rest::Nothing),
+    ("FULFIL", 3, &['r', 'r'], Rest::Nothing),
+    ("BREAK", 4, &['r'], Rest::Nothing),
+    ("MAKE", 5, &['c', 'r'], Rest::Method),
+    ("FIELD", 6, &['r', 'c'], Rest::Path),
+    ("DELIVER", 7, &['c', '#'], Rest::Nothing),
+    ("ANSWER", 8, &['c'], Rest::Results),
+    ("FAULT", 9, &['c'], Rest::Nothing),
+];
+
+/// A number behind its letter, or without one.
+fn number_of(letter: char, word: &str) -> Result<u64, Fault> {
+    match letter {
+        '#' => number(word),
+        _ => named(letter, word),
+    }
+}
+
 /// The bytes of a log.
 #[derive(Drop)]
 pub struct Log {
@@ -18,7 +49,7 @@ pub struct Log {
 impl Log {
     /// A log of this vat, without records.
     pub fn new(alloc: Global, vat: u32) -> Result<Log, AllocError> {
-        let mut bytes = Vec::from_slice(alloc, b"VATLOG01")?;
+        let mut bytes = Vec::from_slice(alloc, "VATLOG01".as_bytes())?;
         bytes.extend_from_slice(&vat.to_le_bytes())?;
         Ok(Log { bytes })
     }
@@ -54,24 +85,46 @@ impl Log {
         Ok(())
     }
 
-    /// A kind, and the numbers behind it.
-    fn put_numbers(&mut self, kind: u8, numbers: &[u64]) -> Result<(), Fault> {
-        self.kind(kind)?;
-        for value in numbers {
-            self.put_u64(*value)?;
+    /// Numbers behind these letters.
+    fn put_numbers(&mut self, letters: &[char], words: &[&str]) -> Result<(), Fault> {
+        for i in 0..letters.len() {
+            let word = words.get(i).ok_or(Fault::Unread)?;
+            self.put_u64(number_of(letters[i], word)?)?;
         }
         Ok(())
     }
 
-    fn put_answer(&mut self, alloc: Global, call: &str, results: &[&str]) -> Result<(), Fault> {
-        self.put_numbers(8, &[named('c', call)?])?;
+    fn put_method(&mut self, words: &[&str]) -> Result<(), Fault> {
+        self.put_u64(INTERFACE)?;
+        let method = match words {
+            [] => METHOD,
+            [name, method] if *name == "method" => {
+                method.parse::<u16>().map_err(|_| Fault::Unread)?
+            }
+            _ => return Err(Fault::Unread),
+        };
+        Ok(self.put_u16(method)?)
+    }
+
+    fn put_results(&mut self, alloc: Global, results: &[&str]) -> Result<(), Fault> {
         self.put_count(results.len())?;
         for answered in results {
-            let (reference, place) = answered.split_once('@').ok_or(Fault::Unread)?;
+            let (reference, place) = answered.split_once("@").ok_or(Fault::Unread)?;
             self.put_u64(named('r', reference)?)?;
             self.put_path(alloc, place)?;
         }
         Ok(())
+    }
+
+    /// What stands behind a record's numbers.
+    fn put_rest(&mut self, alloc: Global, rest: Rest, words: &[&str]) -> Result<(), Fault> {
+        match (rest, words) {
+            (Rest::Nothing, []) => Ok(()),
+            (Rest::Method, words) => self.put_method(words),
+            (Rest::Path, [way]) => self.put_path(alloc, way),
+            (Rest::Results, results) => self.put_results(alloc, results),
+            _ => Err(Fault::Unread),
+        }
     }
 
     /// A call that is noted first, if there is one, and the words behind it.
@@ -105,40 +158,28 @@ impl Log {
         Ok(())
     }
 
-    fn put_make(&mut self, call: &str, reference: &str, method: u16) -> Result<(), Fault> {
-        self.put_numbers(5, &[named('c', call)?, named('r', reference)?, INTERFACE])?;
-        Ok(self.put_u16(method)?)
+    /// A message that was sent or received, by the letter of its first word, with the connection behind it.
+    fn put_message(&mut self, alloc: Global, first: &str, rest: &[&str]) -> Result<(), Fault> {
+        for (letter, kind) in [('S', 10), ('R', 11)] {
+            if let Some(connection) = first.strip_prefix(letter) {
+                self.kind(kind)?;
+                return self.put_passage(alloc, small(connection)?, rest);
+            }
+        }
+        Err(Fault::Unread)
     }
 
     /// Adds the record that the words spell.
     pub fn put_record(&mut self, alloc: Global, words: &[&str]) -> Result<(), Fault> {
-        match words {
-            ["HOST", r, object] => self.put_numbers(1, &[named('r', r)?, number(object)?]),
-            ["VOW", r] => self.put_numbers(2, &[named('r', r)?]),
-            ["FULFIL", r, to] => self.put_numbers(3, &[named('r', r)?, named('r', to)?]),
-            ["BREAK", r] => self.put_numbers(4, &[named('r', r)?]),
-            ["MAKE", c, r] => self.put_make(c, r, METHOD),
-            ["MAKE", c, r, "method", method] => {
-                let method = method.parse::<u16>().map_err(|_| Fault::Unread)?;
-                self.put_make(c, r, method)
+        let (first, rest) = words.split_first().ok_or(Fault::Unread)?;
+        for (word, kind, letters, behind) in KINDS {
+            if *first == word {
+                self.kind(kind)?;
+                let (numbers, rest) = rest.split_at_checked(letters.len()).ok_or(Fault::Unread)?;
+                self.put_numbers(letters, numbers)?;
+                return self.put_rest(alloc, behind, rest);
             }
-            ["FIELD", r, c, way] => {
-                self.put_numbers(6, &[named('r', r)?, named('c', c)?])?;
-                self.put_path(alloc, way)
-            }
-            ["DELIVER", c, object] => self.put_numbers(7, &[named('c', c)?, number(object)?]),
-            ["ANSWER", c, results @ ..] => self.put_answer(alloc, c, results),
-            ["FAULT", c] => self.put_numbers(9, &[named('c', c)?]),
-            [passage, rest @ ..] => {
-                if let Some(sent) = passage.strip_prefix('S') {
-                    self.kind(10)?;
-                    return self.put_passage(alloc, small(sent)?, rest);
-                }
-                let received = passage.strip_prefix('R').ok_or(Fault::Unread)?;
-                self.kind(11)?;
-                self.put_passage(alloc, small(received)?, rest)
-            }
-            [] => Err(Fault::Unread),
         }
+        self.put_message(alloc, first, rest)
     }
 }

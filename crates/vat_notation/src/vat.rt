@@ -2,7 +2,7 @@
 
 use crate::fault::Fault;
 use crate::record::Log;
-use crate::words::number;
+use crate::words::{alone, behind, ended, next, number};
 use std::alloc::Global;
 
 /// The words of a text.
@@ -50,38 +50,68 @@ fn take_out<'a>(records: &mut Vec<&'a str>, at: usize) -> Result<&'a str, Fault>
     Ok(records.remove(at))
 }
 
+/// Puts the record of a place back in, as the words say.
+fn put_back<'a>(
+    records: &mut Vec<&'a str>,
+    at: usize,
+    record: &'a str,
+    words: &[&str],
+) -> Result<(), Fault> {
+    let (first, rest) = next(words)?;
+    match first {
+        "twice" => {
+            ended(rest)?;
+            put_in(records, at, record)?;
+            put_in(records, at, record)
+        }
+        "left" => ended(behind("out", rest)?),
+        "moved" => put_in(records, place(alone(behind("to", rest)?)?)?, record),
+        _ => Err(Fault::Unread),
+    }
+}
+
+/// Changes the record of a place.
+fn change_record<'a>(
+    records: &mut Vec<&'a str>,
+    words: &[&str],
+    becomes: Option<&'a str>,
+) -> Result<(), Fault> {
+    let (at, rest) = next(words)?;
+    let at = place(at)?;
+    let record = take_out(records, at)?;
+    match becomes {
+        None => put_back(records, at, record, rest),
+        Some(other) => {
+            ended(rest)?;
+            put_in(records, at, other)
+        }
+    }
+}
+
+/// Leaves out the records from a place on; a cut of bytes is made in the log.
+fn cut(records: &mut Vec<&str>, words: &[&str]) -> Result<(), Fault> {
+    let (count, rest) = next(behind("to", words)?)?;
+    match alone(rest)? {
+        "records" => records.truncate(place(count)?),
+        "bytes" => {}
+        _ => return Err(Fault::Unread),
+    }
+    Ok(())
+}
+
 /// Makes one change in the records; `becomes` is the record behind ` is `, if there is one.
 fn change<'a>(
     records: &mut Vec<&'a str>,
     words: &[&str],
     becomes: Option<&'a str>,
 ) -> Result<(), Fault> {
-    match (words, becomes) {
-        (["record", at], Some(record)) => {
-            let at = place(at)?;
-            take_out(records, at)?;
-            put_in(records, at, record)
+    let (first, rest) = next(words)?;
+    match (first, becomes) {
+        ("record", becomes) => change_record(records, rest, becomes),
+        ("new", Some(record)) => {
+            put_in(records, place(alone(behind("record", rest)?)?)?, record)
         }
-        (["new", "record", at], Some(record)) => put_in(records, place(at)?, record),
-        (["record", at, "twice"], None) => {
-            let at = place(at)?;
-            let record = take_out(records, at)?;
-            put_in(records, at, record)?;
-            put_in(records, at, record)
-        }
-        (["record", at, "left", "out"], None) => {
-            take_out(records, place(at)?)?;
-            Ok(())
-        }
-        (["record", at, "moved", "to", to], None) => {
-            let record = take_out(records, place(at)?)?;
-            put_in(records, place(to)?, record)
-        }
-        (["cut", "to", count, "records"], None) => {
-            records.truncate(place(count)?);
-            Ok(())
-        }
-        (["cut", "to", _, "bytes"], None) => Ok(()),
+        ("cut", None) => cut(records, rest),
         _ => Err(Fault::Unread),
     }
 }
@@ -112,14 +142,20 @@ fn changed<'a>(alloc: Global, vat: &Vat<'a>, changes: &[&'a str]) -> Result<Vec<
     Ok(records)
 }
 
+/// To how many bytes a change cuts the log of this vat, if it does.
+fn bytes_kept<'a>(number: &str, words: &[&'a str]) -> Option<&'a str> {
+    match words {
+        ["vat", vat, "cut", "to", count, "bytes"] if *vat == number => Some(*count),
+        _ => None,
+    }
+}
+
 /// At how many bytes the changes cut the log of a vat, if they do.
 fn cut_at(alloc: Global, number: &str, changes: &[&str]) -> Result<Option<usize>, Fault> {
     for text in changes {
         let words = words_of(alloc, text)?;
-        if let ["vat", vat, "cut", "to", count, "bytes"] = words.as_slice() {
-            if *vat == number {
-                return Ok(Some(place(count)?));
-            }
+        if let Some(count) = bytes_kept(number, &words) {
+            return Ok(Some(place(count)?));
         }
     }
     Ok(None)

@@ -1,7 +1,41 @@
-//! Numbers and paths in the notation.
+//! Words, numbers and paths in the notation.
 
 use crate::fault::Fault;
 use std::alloc::Global;
+
+/// The first word, and the words behind it.
+pub fn next<'a, 'w>(words: &'w [&'a str]) -> Result<(&'a str, &'w [&'a str]), Fault> {
+    match words {
+        [first, rest @ ..] => Ok((*first, rest)),
+        [] => Err(Fault::Unread),
+    }
+}
+
+/// The words behind this one, which has to come first.
+pub fn behind<'a, 'w>(word: &str, words: &'w [&'a str]) -> Result<&'w [&'a str], Fault> {
+    let (first, rest) = next(words)?;
+    if first == word {
+        Ok(rest)
+    } else {
+        Err(Fault::Unread)
+    }
+}
+
+/// The one word that there is.
+pub fn alone<'a>(words: &[&'a str]) -> Result<&'a str, Fault> {
+    match words {
+        [word] => Ok(*word),
+        _ => Err(Fault::Unread),
+    }
+}
+
+/// That no word is left.
+pub fn ended(words: &[&str]) -> Result<(), Fault> {
+    match words {
+        [] => Ok(()),
+        _ => Err(Fault::Unread),
+    }
+}
 
 /// A number of 64 bits.
 pub fn number(word: &str) -> Result<u64, Fault> {

@@ -5,8 +5,9 @@ use case_files::FileList;
 use clap::error::ErrorKind;
 use command_line::command_of;
 use command_run::run_on;
-use std::alloc::Global;
-use vat_notation::Fault;
+use std::alloc::{AllocError, Global};
+use std::fmt::Write;
+use vat_notation::{Fault, Script, words_of};
 
 /// What a run wrote to its output, its exit status, and what it wrote to the file of an order.
 #[derive(Drop)]
@@ -33,4 +34,44 @@ pub fn ask(alloc: Global, words: &[&str], files: Vec<(String, Bytes)>) -> Result
         Err(error) if error.kind() == ErrorKind::OutOfMemory => Err(Fault::OutOfMemory),
         Err(_) => Ok(told),
     }
+}
+
+/// Appends the vats of an order file.
+fn put_made(text: &mut String, made: &[u8]) -> Result<(), AllocError> {
+    let Some(steps) = made.strip_prefix(b"VATORD01".as_slice()) else {
+        return text.push_str("made no order\n");
+    };
+    text.push_str("made")?;
+    for step in steps.chunks(4) {
+        match step {
+            [a, b, c, d] => {
+                let vat = u32::from_le_bytes([*a, *b, *c, *d]);
+                write!(text, " {vat}")?;
+            }
+            _ => text.push_str(" ..")?,
+        }
+    }
+    text.push_str("\n")
+}
+
+/// All that a run told, line by line.
+fn text_of(alloc: Global, told: &Told) -> Result<String, Fault> {
+    let out = std::str::from_utf8(&told.out).map_err(|_| Fault::Unread)?;
+    let mut text = String::from_str(alloc, out)?;
+    if !told.made.is_empty() {
+        put_made(&mut text, &told.made)?;
+    }
+    let status = told.status;
+    write!(text, "status {status}\n")?;
+    Ok(text)
+}
+
+/// What the run that a conversation asks for prints, with `made V V ..` behind it where it wrote an order, and its status as
+/// a last line.
+pub fn answer(alloc: Global, script: &Script<'_>) -> Result<String, Fault> {
+    let asked = script.asked.unwrap_or("");
+    let text = format!(in alloc; "vataudit {asked}")?;
+    let words = words_of(alloc, text.as_str())?;
+    let told = ask(alloc, &words, script.files(alloc)?)?;
+    text_of(alloc, &told)
 }

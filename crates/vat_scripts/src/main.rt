@@ -1,19 +1,18 @@
 //! Runs the program on conversations that are written as text, and compares what it prints with what must come.
 //!
-//! `conversations.txt` names the files, one a line; `script.rt` says how one is written. Each line that differs is printed
-//! with the one that must come, and last how many lines came as they must. `vat_notation` writes the frames and logs of
-//! the notation; `asking.rt` calls the program.
+//! `conversations.txt` names the files, one a line; `notation.txt` says how one is written, and `vat_notation` reads it. Each
+//! line that differs is printed with the one that must come, and last how many lines came as they must. `asking.rt` calls
+//! the program.
 #![tactic(auto)]
 
 mod asking;
-mod script;
 #[cfg(test)]
 mod tests;
 
-use script::Script;
+use asking::answer;
 use std::rt::Files;
 use std::{fs, io};
-use vat_notation::Fault;
+use vat_notation::{Fault, Script};
 
 /// How many lines came as they must, and how many didn't.
 #[derive(Clone, Copy)]
@@ -85,7 +84,7 @@ fn run<R: Print + AllocGlobal>(
             Ok(true) => {
                 let asked = script.asked.unwrap_or("");
                 let place = format!(in alloc; "{name}: {asked}")?;
-                match script.answer(alloc) {
+                match answer(alloc, &script) {
                     Ok(came) => tally.compare(rt, place.as_str(), &script.wanted, came.as_str())?,
                     Err(fault) => tally.refuse(rt, place.as_str(), asked, fault)?,
                 }

@@ -6,7 +6,7 @@ use std::alloc::Global;
 use std::fmt::Debug;
 use std::sync::Arc;
 use vat_log::{VatLog, parse_log};
-use vat_notation::{Vat, add_records, log_of};
+use vat_notation::{Vat, add_records, bytes_of, log_of, words_of};
 
 /// That a call was refused, as where memory was, or that an answer isn't of the form that is wanted.
 #[derive(Drop)]
@@ -36,6 +36,12 @@ pub fn bytes_of_words(alloc: Global, words: &str) -> Result<Bytes, Refused> {
 /// 3, the high half its index.
 pub fn frame(alloc: Global, words: &str) -> Result<Frame, Refused> {
     Ok(Frame::read(bytes_of_words(alloc, words)?)?)
+}
+
+/// The bytes that hexadecimal digits give, two a byte.
+pub fn bytes_of_digits(alloc: Global, digits: &str) -> Result<Vec<u8>, Refused> {
+    let words = words_of(alloc, digits)?;
+    Ok(bytes_of(alloc, &words)?)
 }
 
 /// The bytes of the log of a vat that recorded these records, in the notation of the conversations.

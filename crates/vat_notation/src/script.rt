@@ -12,17 +12,16 @@
 //! `vat V record I is RECORD` · `vat V new record I is RECORD` · `vat V record I twice` · `vat V record I left out` ·
 //! `vat V record I moved to J` · `vat V cut to N records` · `vat V cut to N bytes` · `order V V ..`, which the case names ·
 //! `case TEXT`, the case file itself · `frames MESSAGE; MESSAGE`, a file of that name · `file NAME DIGITS..`, a file's bytes.
-//!
-//! Behind the lines that a run prints comes `made V V ..` where it wrote an order.
 
-use crate::asking::{Told, ask};
+use crate::fault::Fault;
+use crate::message::{bytes_of, frame_of};
+use crate::vat::{Vat, add_records, log_of, words_of};
 use bytes::Bytes;
 use std::alloc::{AllocError, Global};
 use std::fmt::Write;
-use vat_notation::{Fault, Vat, add_records, bytes_of, frame_of, log_of, words_of};
 
 /// Files by name.
-type Files = Vec<(String, Bytes)>;
+pub type Files = Vec<(String, Bytes)>;
 
 /// Puts a file behind the others.
 fn put_file(
@@ -35,6 +34,18 @@ fn put_file(
     let bytes = Bytes::from_vec(bytes)?;
     files.push((name, bytes))?;
     Ok(())
+}
+
+/// Appends a link: its connection and the vats at its ends.
+fn put_link(alloc: Global, text: &mut String, link: &str) -> Result<(), Fault> {
+    let words = words_of(alloc, link)?;
+    match words.as_slice() {
+        [connection, one, other] => {
+            write!(text, "[{connection}, {one}, {other}]")?;
+            Ok(())
+        }
+        _ => Err(Fault::Unread),
+    }
 }
 
 /// A conversation, as far as it is read, and what is asked of it.
@@ -90,7 +101,7 @@ impl<'a> Script<'a> {
             return Ok(());
         }
         let rest = line.strip_prefix("vat ").ok_or(Fault::Unread)?;
-        let (number, records) = rest.split_once(':').ok_or(Fault::Unread)?;
+        let (number, records) = rest.split_once(":").ok_or(Fault::Unread)?;
         let mut vat = Vat {
             number,
             records: Vec::new(alloc),
@@ -110,30 +121,40 @@ impl<'a> Script<'a> {
         Ok(line.starts_with("status "))
     }
 
-    /// The text of the case file: all logs and links.
-    fn case_text(&self, alloc: Global, has_order: bool) -> Result<String, Fault> {
-        let mut text = String::from_str(alloc, "{\"logs\": [")?;
+    /// Appends the names of all logs.
+    fn put_logs(&self, text: &mut String) -> Result<(), Fault> {
         let mut between = "";
         for vat in &self.vats {
             let number = vat.number;
             write!(text, "{between}\"vat{number}\"")?;
             between = ", ";
         }
-        text.push_str("], \"links\": [")?;
-        between = "";
+        Ok(())
+    }
+
+    /// Appends all links.
+    fn put_links(&self, alloc: Global, text: &mut String) -> Result<(), Fault> {
+        let mut between = "";
         for link in &self.links {
-            let words = words_of(alloc, link)?;
-            let [connection, one, other] = words.as_slice() else {
-                return Err(Fault::Unread);
-            };
-            write!(text, "{between}[{connection}, {one}, {other}]")?;
+            text.push_str(between)?;
+            put_link(alloc, text, link)?;
             between = ", ";
         }
-        text.push_str("]")?;
-        if has_order {
-            text.push_str(", \"order\": \"order\"")?;
-        }
-        text.push_str("}")?;
+        Ok(())
+    }
+
+    /// The text of the case file: all logs and links.
+    fn case_text(&self, alloc: Global, has_order: bool) -> Result<String, Fault> {
+        let mut text = String::from_str(alloc, "{\"logs\": [")?;
+        self.put_logs(&mut text)?;
+        text.push_str("], \"links\": [")?;
+        self.put_links(alloc, &mut text)?;
+        let end = if has_order {
+            "], \"order\": \"order\"}"
+        } else {
+            "]}"
+        };
+        text.push_str(end)?;
         Ok(text)
     }
 
@@ -163,7 +184,7 @@ impl<'a> Script<'a> {
     }
 
     /// The files of the conversation, with its changes.
-    fn files(&self, alloc: Global) -> Result<Files, Fault> {
+    pub fn files(&self, alloc: Global) -> Result<Files, Fault> {
         let mut files = Vec::new(alloc);
         let has_order = self.put_given(alloc, &mut files)?;
         for vat in &self.vats {
@@ -175,15 +196,6 @@ impl<'a> Script<'a> {
         let case = self.case_text(alloc, has_order)?;
         put_file(alloc, &mut files, "case", case.into_bytes())?;
         Ok(files)
-    }
-
-    /// What the run that is asked for prints, with `made V V ..` where it wrote an order, and its status as a last line.
-    pub fn answer(&self, alloc: Global) -> Result<String, Fault> {
-        let asked = self.asked.unwrap_or("");
-        let text = format!(in alloc; "vataudit {asked}")?;
-        let words = words_of(alloc, text.as_str())?;
-        let told = ask(alloc, &words, self.files(alloc)?)?;
-        text_of(alloc, &told)
     }
 }
 
@@ -200,40 +212,10 @@ fn frames_of(alloc: Global, messages: &str) -> Result<Vec<u8>, Fault> {
 
 /// The bytes of an order file.
 fn order_of(alloc: Global, vats: &str) -> Result<Vec<u8>, Fault> {
-    let mut bytes = Vec::from_slice(alloc, b"VATORD01")?;
+    let mut bytes = Vec::from_slice(alloc, "VATORD01".as_bytes())?;
     for vat in &words_of(alloc, vats)? {
         let vat = vat.parse::<u32>().map_err(|_| Fault::Unread)?;
         bytes.extend_from_slice(&vat.to_le_bytes())?;
     }
     Ok(bytes)
-}
-
-/// Appends the vats of an order file.
-fn put_made(text: &mut String, made: &[u8]) -> Result<(), AllocError> {
-    let Some(steps) = made.strip_prefix(b"VATORD01".as_slice()) else {
-        return text.push_str("made no order\n");
-    };
-    text.push_str("made")?;
-    for step in steps.chunks(4) {
-        match step {
-            [a, b, c, d] => {
-                let vat = u32::from_le_bytes([*a, *b, *c, *d]);
-                write!(text, " {vat}")?;
-            }
-            _ => text.push_str(" ..")?,
-        }
-    }
-    text.push_str("\n")
-}
-
-/// All that a run told, line by line.
-fn text_of(alloc: Global, told: &Told) -> Result<String, Fault> {
-    let out = std::str::from_utf8(&told.out).map_err(|_| Fault::Unread)?;
-    let mut text = String::from_str(alloc, out)?;
-    if !told.made.is_empty() {
-        put_made(&mut text, &told.made)?;
-    }
-    let status = told.status;
-    write!(text, "status {status}\n")?;
-    Ok(text)
 }

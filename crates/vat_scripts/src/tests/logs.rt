@@ -1,0 +1,288 @@
+//! Logs: their bytes by the notation, what is read of them, and the same bytes written again.
+
+use super::given::{Refused, bytes_of_digits, bytes_of_log};
+use bytes::Bytes;
+use std::alloc::Global;
+use std::fmt::Write;
+use std::process::Abort;
+use vat_log::{Body, LogError, Record, References, VatLog, parse_log, write_log};
+
+/// Records in the notation, as the bytes of vat 3's log in hexadecimal, and as they are read.
+const RECORDS: [(&str, &str, &str); 8] = [
+    (
+        "VOW r2; FULFIL r2 r1; BREAK r3; FIELD r4 c5 [0,258]; FAULT c5",
+        "02 0200000000000000 03 0200000000000000 0100000000000000 04 0300000000000000 \
+        06 0400000000000000 0500000000000000 0200 0000 0201 09 0500000000000000",
+        "vat 3: Vow { reference: 2 }; Fulfil { reference: 2, to: 1 }; Break { reference: 3 }; \
+        Field { reference: 4, call: 5, path: Path { fields: [0, 258] } }; Fault { call: 5 };",
+    ),
+    (
+        "HOST r1 7",
+        "01 0100000000000000 0700000000000000",
+        "vat 3: Host { reference: 1, object: 7 };",
+    ),
+    (
+        "MAKE c5 r1 method 258",
+        "05 0500000000000000 0100000000000000 3412000000000000 0201",
+        "vat 3: Make { call: 5, reference: 1, interface: 4660, method: 258 };",
+    ),
+    (
+        "DELIVER c2 7",
+        "07 0200000000000000 0700000000000000",
+        "vat 3: Deliver { call: 2, object: 7 };",
+    ),
+    (
+        "ANSWER c5 r9@[] r4@[0,258]",
+        "08 0500000000000000 0200 0900000000000000 0000 0400000000000000 0200 0000 0201",
+        "vat 3: Answer { call: 5, results: Results { items: [(9, Path { fields: [] }), \
+        (4, Path { fields: [0, 258] })] } };",
+    ),
+    (
+        "S6 c5 r7 r1 r18446744073709551615 hex 61",
+        "0a 06000000 0500000000000000 0300 0700000000000000 0100000000000000 ffffffffffffffff 01000000 61",
+        "vat 3: Send { connection: 6, call: 5, references: References { items: [7, 1, 18446744073709551615] }, \
+        frame: b\"a\" };",
+    ),
+    (
+        "R6 hex 6162",
+        "0b 06000000 0000000000000000 0000 02000000 6162",
+        "vat 3: Receive { connection: 6, call: 0, references: References { items: [] }, frame: b\"ab\" };",
+    ),
+    ("", "", "vat 3:"),
+];
+
+/// What vats 1 and 2 of pipelined_call recorded, and the bytes of the files in `samples`.
+const SAMPLES: [(&str, &str, &str); 2] = [
+    (
+        "1",
+        "S0 c1 boot q0; FIELD r1 c1 []; MAKE c2 r1; S0 c2 call q1 answer 0 []; R0 r2 ret q0 senderHosted 0@[]; \
+        R0 ret q1",
+        "5641544c4f473031 01000000 0a 00000000 0100000000000000 0000 30000000 0000000005000000 0000000001000100 \
+        0800000000000000 0000000001000100 0000000000000000 0000000000000000 06 0100000000000000 0100000000000000 \
+        0000 05 0200000000000000 0100000000000000 3412000000000000 0200 0a 00000000 0200000000000000 0000 \
+        70000000 000000000d000000 0000000001000100 0200000000000000 0000000003000300 0100000002000000 \
+        3412000000000000 0000000000000000 0800000001000100 0000000000000000 0000000000000000 0000000001000000 \
+        0000000001000100 0000000000000000 0000000000000000 0b 00000000 0000000000000000 0100 0200000000000000 \
+        60000000 000000000b000000 0000000001000100 0300000000000000 0000000002000100 0000000000000000 \
+        0000000000000000 0000000000000200 0300000000000000 0100000017000000 0400000001000100 0100000000000000 \
+        0000000000000000 0b 00000000 0000000000000000 0000 38000000 0000000006000000 0000000001000100 \
+        0300000000000000 0000000002000100 0100000000000000 0000000000000000 0000000000000000",
+    ),
+    (
+        "2",
+        "HOST r1 7; R0 c1 boot q0; R0 c2 call q1 answer 0 []; ANSWER c1 r1@[]; DELIVER c2 7; \
+        S0 r1 ret q0 senderHosted 0@[]; ANSWER c2; S0 ret q1",
+        "5641544c4f473031 02000000 01 0100000000000000 0700000000000000 0b 00000000 0100000000000000 0000 30000000 \
+        0000000005000000 0000000001000100 0800000000000000 0000000001000100 0000000000000000 0000000000000000 0b \
+        00000000 0200000000000000 0000 70000000 000000000d000000 0000000001000100 0200000000000000 \
+        0000000003000300 0100000002000000 3412000000000000 0000000000000000 0800000001000100 0000000000000000 \
+        0000000000000000 0000000001000000 0000000001000100 0000000000000000 0000000000000000 08 0100000000000000 \
+        0100 0100000000000000 0000 07 0200000000000000 0700000000000000 0a 00000000 0000000000000000 0100 \
+        0100000000000000 60000000 000000000b000000 0000000001000100 0300000000000000 0000000002000100 \
+        0000000000000000 0000000000000000 0000000000000200 0300000000000000 0100000017000000 0400000001000100 \
+        0100000000000000 0000000000000000 08 0200000000000000 0000 0a 00000000 0000000000000000 0000 38000000 \
+        0000000006000000 0000000001000100 0300000000000000 0000000002000100 0100000000000000 0000000000000000 \
+        0000000000000000",
+    ),
+];
+
+/// The vat and the records of a log.
+fn shown(alloc: Global, log: &VatLog) -> Result<String, Refused> {
+    let vat = log.vat();
+    let mut text = format!(in alloc; "vat {vat}:")?;
+    for index in 0..log.len() {
+        let record = log.get(index).ok_or("a record")?;
+        write!(text, " {:?};", record.body())?;
+    }
+    Ok(text)
+}
+
+/// A second body that says the same.
+fn copied(body: &Body) -> Result<Body, Refused> {
+    Ok(match body {
+        Body::Host { reference, object } => Body::Host {
+            reference: *reference,
+            object: *object,
+        },
+        Body::Vow { reference } => Body::Vow {
+            reference: *reference,
+        },
+        Body::Fulfil { reference, to } => Body::Fulfil {
+            reference: *reference,
+            to: *to,
+        },
+        Body::Break { reference } => Body::Break {
+            reference: *reference,
+        },
+        Body::Make {
+            call,
+            reference,
+            interface,
+            method,
+        } => Body::Make {
+            call: *call,
+            reference: *reference,
+            interface: *interface,
+            method: *method,
+        },
+        Body::Field {
+            reference,
+            call,
+            path,
+        } => Body::Field {
+            reference: *reference,
+            call: *call,
+            path: path.copy()?,
+        },
+        Body::Deliver { call, object } => Body::Deliver {
+            call: *call,
+            object: *object,
+        },
+        Body::Answer { call, results } => Body::Answer {
+            call: *call,
+            results: results.copy()?,
+        },
+        Body::Fault { call } => Body::Fault { call: *call },
+        Body::Send {
+            connection,
+            call,
+            references,
+            frame,
+        } => Body::Send {
+            connection: *connection,
+            call: *call,
+            references: references.copy()?,
+            frame: frame.clone()?,
+        },
+        Body::Receive {
+            connection,
+            call,
+            references,
+            frame,
+        } => Body::Receive {
+            connection: *connection,
+            call: *call,
+            references: references.copy()?,
+            frame: frame.clone()?,
+        },
+    })
+}
+
+/// The log of the same vat with a second record for each.
+fn written_again(alloc: Global, log: &VatLog) -> Result<VatLog, Refused> {
+    let mut records = Vec::new(alloc);
+    for index in 0..log.len() {
+        let record = log.get(index).ok_or("a record")?;
+        let body = copied(record.body())?;
+        records.push(Record::new(body)?)?;
+    }
+    Ok(write_log(alloc, log.vat(), &records)?)
+}
+
+/// Whether records are spelled so, and bytes of that spelling are written again.
+fn is_spelled(alloc: Global, vat: &str, records: &str, digits: &str) -> Result<bool, Refused> {
+    let bytes = bytes_of_digits(alloc, digits)?;
+    let spelled = bytes_of_log(alloc, vat, records)?;
+    let log = parse_log(alloc, spelled)?;
+    let written = written_again(alloc, &log)?;
+    Ok(log.bytes().as_slice() == bytes.as_slice() && written.bytes().as_slice() == bytes.as_slice())
+}
+
+/// Whether records are read so.
+fn is_shown(alloc: Global, vat: &str, records: &str, text: &str) -> Result<bool, Refused> {
+    let log = parse_log(alloc, bytes_of_log(alloc, vat, records)?)?;
+    Ok(shown(alloc, &log)?.as_str() == text && log.get(log.len()).is_none())
+}
+
+/// The same two questions of vat 3's log.
+fn is_row(alloc: Global, records: &str, digits: &str, text: &str) -> Result<bool, Refused> {
+    let digits = format!(in alloc; "5641544c4f473031 03000000 {digits}")?;
+    Ok(is_spelled(alloc, "3", records, digits.as_str())? && is_shown(alloc, "3", records, text)?)
+}
+
+#[test]
+fn each_kind_of_record(rt: HostRuntime) {
+    for (records, digits, text) in RECORDS {
+        let is_so = match is_row(rt.alloc(), records, digits, text) {
+            Ok(is_so) => is_so,
+            Err(_) => is_row(rt.alloc(), records, digits, text).unwrap_or(false),
+        };
+        assert!(rt; is_so, "{records}");
+    }
+}
+
+#[test]
+fn logs_of_a_pipelined_call(rt: HostRuntime) {
+    for (vat, records, digits) in SAMPLES {
+        let is_so = match is_spelled(rt.alloc(), vat, records, digits) {
+            Ok(is_so) => is_so,
+            Err(_) => is_spelled(rt.alloc(), vat, records, digits).unwrap_or(false),
+        };
+        assert!(rt; is_so, "vat {vat}");
+    }
+}
+
+/// Why no log can hold a body, and what is handed back.
+fn refused(alloc: Global, body: Body) -> Result<String, Refused> {
+    match Record::new(body) {
+        Ok(_) => Err(Refused),
+        Err((fault, body)) => Ok(format!(in alloc; "{fault:?} {body:?}")?),
+    }
+}
+
+fn refusals_once(rt: &(impl Abort + AllocGlobal)) -> Result<(), Refused> {
+    let host = refused(
+        rt.alloc(),
+        Body::Host {
+            reference: 0,
+            object: 7,
+        },
+    )?;
+    assert_eq!(rt;
+        host.as_str(),
+        "ZeroNumber(0) Host { reference: 0, object: 7 }"
+    );
+    let fulfil = refused(
+        rt.alloc(),
+        Body::Fulfil {
+            reference: 1,
+            to: 0,
+        },
+    )?;
+    assert_eq!(rt;
+        fulfil.as_str(),
+        "ZeroNumber(0) Fulfil { reference: 1, to: 0 }"
+    );
+    Ok(())
+}
+
+#[test]
+fn a_body_with_a_zero_is_handed_back(rt: HostRuntime) {
+    assert!(rt; refusals_once(&rt).is_ok() || refusals_once(&rt).is_ok());
+}
+
+/// How many references are noted beside a frame that goes out.
+fn sent_with(body: &Body) -> usize {
+    match body {
+        Body::Send { references, .. } => references.as_slice().len(),
+        _ => 0,
+    }
+}
+
+fn long_once(rt: &(impl Abort + AllocGlobal)) -> Result<(), Refused> {
+    let send = Body::Send {
+        connection: 0,
+        call: 0,
+        references: References::new(vec![in rt.alloc(); 1u64; 65_536]?),
+        frame: Bytes::new(),
+    };
+    let (fault, body) = Record::new(send).err().ok_or("a refusal")?;
+    assert_eq!(rt; fault, LogError::TooLong);
+    assert_eq!(rt; sent_with(&body), 65_536);
+    Ok(())
+}
+
+#[test]
+fn a_list_past_its_count_is_handed_back(rt: HostRuntime) {
+    assert!(rt; long_once(&rt).is_ok() || long_once(&rt).is_ok());
+}

@@ -19,6 +19,7 @@ mod laws;
 mod lives;
 mod number;
 mod origin;
+mod parts;
 mod question;
 mod questions;
 mod records;

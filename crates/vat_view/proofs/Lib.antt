@@ -11,5 +11,9 @@ pub mod Lasting
 pub mod Viewed
 pub mod Binding
 pub mod Meaning
+pub mod Describing
 pub mod Arriving
 pub mod Learning
+pub mod Keeping
+pub mod Answering
+pub mod Tallying

@@ -12,3 +12,5 @@ pub mod Sound
 pub mod Numbers
 pub mod Laws
 pub mod Tables
+pub mod Asking
+pub mod Kept

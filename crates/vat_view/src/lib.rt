@@ -11,6 +11,7 @@
 #![tactic(auto)]
 
 mod arrivals;
+mod asking;
 mod bound;
 mod event;
 mod id;
@@ -25,6 +26,7 @@ mod questions;
 mod records;
 mod standing;
 mod state;
+mod tally;
 mod telling;
 mod view;
 

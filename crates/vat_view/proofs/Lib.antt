@@ -13,3 +13,4 @@ pub mod Binding
 pub mod Meaning
 pub mod Arriving
 pub mod Learning
+pub mod Turning

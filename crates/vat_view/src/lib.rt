@@ -30,8 +30,8 @@ mod view;
 pub use event::Event;
 pub use id::Id;
 pub use laws::{
-    bound_references_have_views, no_more_goes, numbers_keep_views, openings_are_closed_once,
-    references_keep_views,
+    bound_references_have_views, ends_are_one, no_more_goes, numbers_keep_views,
+    openings_are_closed_once, references_keep_views, turns_only_grow,
 };
 pub use number::Number;
 pub use state::VatState;

@@ -17,3 +17,4 @@ pub mod Learning
 pub mod Keeping
 pub mod Answering
 pub mod Tallying
+pub mod Turning

@@ -24,6 +24,7 @@ mod parts;
 mod question;
 mod questions;
 mod records;
+mod rules;
 mod standing;
 mod state;
 mod tally;
@@ -33,8 +34,8 @@ mod view;
 pub use event::Event;
 pub use id::Id;
 pub use laws::{
-    bound_references_have_views, no_more_goes, numbers_keep_views, openings_are_closed_once,
-    references_keep_views,
+    bound_references_have_views, ends_are_one, no_more_goes, numbers_keep_views,
+    openings_are_closed_once, references_keep_views, turns_only_grow,
 };
 pub use number::Number;
 pub use state::VatState;

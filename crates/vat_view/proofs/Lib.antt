@@ -18,3 +18,4 @@ pub mod Keeping
 pub mod Answering
 pub mod Tallying
 pub mod Turning
+pub mod Using

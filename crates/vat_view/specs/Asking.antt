@@ -51,3 +51,8 @@ given_by known i e = count_by (same_id i) (closed_by known e) + lets_go i e
 -- how often a number was counted
 abbrev pub tally_at : Tally → Id → ℕ
 tally_at tally i = unwrap_or (get id_cmp tally.entries i) 0
+
+-- a number that may be named passes a test, if it is
+abbrev pub passes_if : (Id → Bool) → Option Id → Bool
+passes_if test (Some i) = test i
+passes_if test None = true

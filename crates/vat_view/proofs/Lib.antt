@@ -14,3 +14,7 @@ pub mod Meaning
 pub mod Arriving
 pub mod Learning
 pub mod Turning
+pub mod Walking
+pub mod Landed
+pub mod Settled
+pub mod Ending

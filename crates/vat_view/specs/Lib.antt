@@ -12,3 +12,4 @@ pub mod Sound
 pub mod Numbers
 pub mod Laws
 pub mod Tables
+pub mod TurnTables

@@ -240,7 +240,7 @@ bindings_apart named lives begun known e q v h =
     bound_apart q (bindings named lives begun known e) [] v
     (ap (λ l. contains q (map (λ x. x.0) l)) (append_nothing (bindings named lives begun known e)) ∙ keys_new named lives begun known e q h)
 
-no_view : (past : Past) (q : ℕ) (o : Option View) → view_of_reference past q ≡ o → is_bound past q ≡ false → o ≡ None
+pub no_view : (past : Past) (q : ℕ) (o : Option View) → view_of_reference past q ≡ o → is_bound past q ≡ false → o ≡ None
 no_view past q None e h = refl
 no_view past q (Some v) e h = absurd (false≢true (sym h ∙ view_bound past q v e))
 

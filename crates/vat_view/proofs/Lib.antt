@@ -19,3 +19,7 @@ pub mod Answering
 pub mod Tallying
 pub mod Turning
 pub mod Using
+pub mod Walking
+pub mod Landed
+pub mod Settled
+pub mod Ending

@@ -14,3 +14,4 @@ pub mod Laws
 pub mod Tables
 pub mod Asking
 pub mod Kept
+pub mod TurnTables

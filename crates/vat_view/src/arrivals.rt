@@ -98,7 +98,11 @@ pub(crate) fn view_by(
 }
 
 /// The reference noted for a descriptor, where so many were noted before it.
-fn reference_by(references: &[u64], before: usize, descriptor: &Descriptor) -> Option<u64>
+pub(crate) fn reference_by(
+    references: &[u64],
+    before: usize,
+    descriptor: &Descriptor,
+) -> Option<u64>
     ensures { result ≡ reference_by references.now before descriptor.now }
 {
     if is_cap(descriptor) {

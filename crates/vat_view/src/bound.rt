@@ -4,6 +4,7 @@ ghost use Rattle.std.specs.Prelude.{◌≡◌, ◌==◌, ℕ, None, Some, OnOk, 
 ghost use Rattle.std.specs.Option.{option_copied};
 ghost use Rattle.vat_view.specs.Bindings.{contains};
 ghost use Rattle.vat_view.specs.Tables.{bound_at, bound_by};
+ghost use Rattle.vat_view.specs.TurnTables.{bound_len};
 
 use crate::view::View;
 use std::alloc::{AllocError, Global};
@@ -37,6 +38,13 @@ impl Bound {
         ensures { result ≡ is_some (bound_at self.now reference) }
     {
         self.entries.contains_key(&reference)
+    }
+
+    /// How many references are bound.
+    pub(crate) fn len(&self) -> usize
+        ensures { result ≡ bound_len self.now }
+    {
+        self.entries.len()
     }
 
     /// This reference has this view. Where memory is refused, nothing changes.

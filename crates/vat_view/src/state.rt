@@ -1,11 +1,13 @@
 //! The state of a vat's numbers after some records of its log.
 
-ghost use Rattle.std.specs.Prelude.{◌≡◌, [], ◌∷◌, Decides, IfOk, OnOk, OnErr};
+ghost use Rattle.std.specs.Prelude.{◌≡◌, ◌↔◌, [], ◌∷◌, Decides, IfOk, OnOk, OnErr, IsTrue, MatchOption};
+ghost use Rattle.vat_view.specs.declared.view.View.{View};
 ghost use Rattle.vat_view.specs.Numbers.{number_held, number_stands};
 ghost use Rattle.vat_view.specs.Questions.{is_free, is_unfinished, is_finished, is_unreturned, call_at, call_of, opening, is_late};
 ghost use Rattle.vat_view.specs.Lives.{GivesBackHeld, is_in_life};
 ghost use Rattle.vat_view.specs.Uses.{UsesQuestions, UsesNumbers};
 ghost use Rattle.vat_view.specs.Views.{view_of_reference, view_of_target, view_of_descriptor, views_of_descriptors};
+ghost use Rattle.vat_view.specs.Walks.{Leads, LeadsByTurns, IsEnd};
 ghost use Rattle.vat_view.specs.Bindings.{Refers, NotesEach, is_bound};
 
 use crate::bound::Bound;
@@ -14,8 +16,10 @@ use crate::id::Id;
 use crate::lives::Lives;
 use crate::number::Number;
 use crate::questions::Questions;
+use crate::settling::settled;
+use crate::turns::Turns;
 use crate::view::View;
-use crate::{arrivals, asking, records, standing, telling};
+use crate::{arrivals, asking, records, standing, telling, walk};
 use cap_frame::Path;
 use std::alloc::{AllocError, Global};
 use std::marker::Model;
@@ -28,18 +32,21 @@ pub struct VatState {
     questions: Questions,
     lives: Lives,
     bound: Bound,
+    turns: Turns,
 }
 
 impl Model for VatState {
     ghost use Rattle.std.specs.Prelude.{List, reverse};
     ghost use Rattle.vat_view.specs.declared.event.Event.{Event};
     ghost use Rattle.vat_view.specs.Kept.{AreKept};
+    ghost use Rattle.vat_view.specs.TurnTables.{AreSettled};
 
     ghost Value = { List Event };
 
     ghost view = { λ state. reverse state.events.items };
 
-    ghost invariant = { λ state. AreKept (reverse state.events.items) state.questions state.lives state.bound };
+    ghost invariant = { λ state. AreKept (reverse state.events.items) state.questions state.lives state.bound
+        × AreSettled (reverse state.events.items) state.turns };
 }
 
 impl VatState {
@@ -52,6 +59,7 @@ impl VatState {
             questions: Questions::new(alloc),
             lives: Lives::new(alloc),
             bound: Bound::new(alloc),
+            turns: Turns::new(alloc),
         }
     }
 
@@ -102,6 +110,29 @@ impl VatState {
         }
     }
 
+    /// Whether a view leads to another, by 0 or more turns. It makes at most as many turns as references are bound, and
+    /// takes no memory.
+    pub fn leads(&self, from: &View, to: &View) -> bool
+        ensures { IsTrue result ↔ Leads self.now from.now to.now }
+    {
+        walk::leads(self.events.as_slice(), &self.turns, &self.bound, from, to)
+    }
+
+    /// Whether a view leads to another by 1 or more turns; a view of a circle leads so to itself. It takes no memory.
+    pub fn leads_by_turns(&self, from: &View, to: &View) -> bool
+        ensures { IsTrue result ↔ LeadsByTurns self.now from.now to.now }
+    {
+        walk::leads_by_turns(self.events.as_slice(), &self.turns, &self.bound, from, to)
+    }
+
+    /// The end of a view: the view to which it leads and which goes on nowhere. It has none where its walk stops or
+    /// goes in a circle. It takes no memory.
+    pub fn end<'a>(&'a self, view: &'a View) -> Option<&'a View>
+        ensures { MatchOption result ((end : View) → IsEnd self.now view.now end → ⊥) (λ end. IsEnd self.now view.now end.now) }
+    {
+        walk::end(self.events.as_slice(), &self.turns, &self.bound, view)
+    }
+
     /// Applies a record, which keeps the rules that are named after those applied.
     ///
     /// # Errors
@@ -119,6 +150,8 @@ impl VatState {
         self.events.reserve(1)?;
         let alloc = *self.events.allocator();
         let number = self.events.len();
+        let pending = settled(&self.questions, &self.lives, &self.bound, &event);
+        self.turns.make_room(pending)?;
         telling::learn(
             alloc,
             number,
@@ -127,6 +160,7 @@ impl VatState {
             &mut self.bound,
             &event,
         )?;
+        self.turns.note(pending, number);
         self.events.push(event)?;
         Ok(())
     }

@@ -17,3 +17,6 @@ pub mod Learning
 pub mod Keeping
 pub mod Answering
 pub mod Tallying
+pub mod Unbound
+pub mod Calling
+pub mod Called

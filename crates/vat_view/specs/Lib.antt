@@ -13,4 +13,5 @@ pub mod Numbers
 pub mod Laws
 pub mod Tables
 pub mod Asking
+pub mod CallTables
 pub mod Kept

@@ -10,16 +10,21 @@
 //! the functions of `src/laws.rt`, which do nothing.
 #![tactic(auto)]
 
+mod applying;
 mod arrivals;
+mod asked;
 mod asking;
 mod bound;
+mod calls;
 mod event;
 mod id;
 mod ids;
 mod laws;
 mod lives;
+mod news;
 mod number;
 mod origin;
+mod progress;
 mod question;
 mod questions;
 mod records;
@@ -29,6 +34,7 @@ mod tally;
 mod telling;
 mod view;
 
+pub use asked::Asked;
 pub use event::Event;
 pub use id::Id;
 pub use laws::{

@@ -2,11 +2,11 @@ use Rattle.std.proofs.Common.{◌≡◌, length, arith}
 use Rattle.std.proofs.lemmas.Grind.{common_steps}
 use Rattle.vat_view.specs.Sound.{IsSound}
 use Rattle.vat_view.specs.Kept.{AreKept}
-use Rattle.vat_view.proofs.Keeping.{fits, state_refused, state_applied}
+use Rattle.vat_view.proofs.Keeping.{state_refused, state_applied}
 use Rattle.vat_view.proofs.state.VatState.apply.Goals as goal
 
-pub invariant_of-self-in_err-learn : goal.invariant_of-self-in_err-learn
-invariant_of-self-in_err-learn c =
+pub invariant_of-self-in_err-learn_all : goal.invariant_of-self-in_err-learn_all
+invariant_of-self-in_err-learn_all c =
     let place : c.len-number.result ≡ length c.reserve.new.self.items = grind (arith, common_steps) in
     let sound : IsSound c.args.self.now c.args.event = record {
       refers = c.requires.refers;
@@ -16,9 +16,9 @@ invariant_of-self-in_err-learn c =
       notes_each = c.requires.notes;
     } in
     state_refused c.self.inside.events.items c.reserve.new.self.items c.args.self.now c.args.event c.len-number.result
-    (λ p. AreKept p c.self.inside.questions c.self.inside.lives c.self.inside.bound) (λ p. AreKept p c.learn.new.questions c.learn.new.lives c.learn.new.bound)
+    (λ p. AreKept p c.self.inside.questions c.self.inside.lives c.self.inside.bound c.self.inside.calls) (λ p. AreKept p c.learn_all.new.questions c.learn_all.new.lives c.learn_all.new.bound c.learn_all.new.calls)
     c.self.view_is c.in_ok-reserve.ensures.items place c.self.invariant sound
-    (λ before at kept good. record { sound = kept.sound; tabled = c.in_err-learn.ensures.err before at kept.tabled (fits before c.args.event good) })
+    c.in_err-learn_all.ensures.err
 
 pub invariant_of-self-2 : goal.invariant_of-self-2
 invariant_of-self-2 c =
@@ -31,6 +31,6 @@ invariant_of-self-2 c =
       notes_each = c.requires.notes;
     } in
     state_applied c.self.inside.events.items c.reserve.new.self.items c.args.self.now c.args.event c.len-number.result
-    (λ p. AreKept p c.self.inside.questions c.self.inside.lives c.self.inside.bound) (λ p. AreKept p c.learn.new.questions c.learn.new.lives c.learn.new.bound)
+    (λ p. AreKept p c.self.inside.questions c.self.inside.lives c.self.inside.bound c.self.inside.calls) (λ p. AreKept p c.learn_all.new.questions c.learn_all.new.lives c.learn_all.new.bound c.learn_all.new.calls)
     c.self.view_is c.in_ok-reserve.ensures.items place c.self.invariant sound c.push.new.self.items c.in_ok-push.ensures.items
-    (λ before at kept good. record { sound = (good, kept.sound); tabled = c.in_ok-learn.ensures.ok before at kept.tabled (fits before c.args.event good) })
+    c.in_ok-learn_all.ensures.ok

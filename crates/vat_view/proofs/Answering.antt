@@ -6,6 +6,7 @@ use Rattle.std.proofs.lemmas.Bool.{cases_Bool, and_parts, false≢true}
 use Rattle.vat_view.specs.declared.questions.Questions.{Questions}
 use Rattle.vat_view.specs.declared.lives.Lives.{Lives}
 use Rattle.vat_view.specs.declared.bound.Bound.{Bound}
+use Rattle.vat_view.specs.declared.calls.Calls.{Calls}
 use Rattle.vat_view.specs.Types.{Descriptor, Target, Imported, Promised, Return, Finish, Event, Wire, View, FieldOf, Id}
 use Rattle.vat_view.specs.Past.{Past, Point, point, id, same_id, last_since, Each}
 use Rattle.vat_view.specs.Questions.{opens, returns, finishes, releases, opening, return_of, is_opened, is_returned, is_finished, is_released, is_free, is_unfinished, is_unreturned, is_late, closes, call_at}
@@ -101,7 +102,7 @@ mapped : {A B : Type 0} (f g : A → B) → ((x : A) → f x ≡ g x) → (xs : 
 mapped f g same [] = refl
 mapped f g same (x ∷ xs) = ap (λ y. y ∷ map f xs) (same x) ∙ ap (λ ys. g x ∷ ys) (mapped f g same xs)
 
-module _ (past : Past) (questions : Questions) (lives : Lives) (bound : Bound) (kept : AreKept past questions lives bound) where
+module _ (past : Past) (questions : Questions) (lives : Lives) (bound : Bound) (calls : Calls) (kept : AreKept past questions lives bound calls) where
   pub free_known : (q : Id) → free_in (question_at questions q) ≡ is_free q past
   free_known q = ap (λ o. free_in o) (kept.tabled.tabled.known q) ∙ free_at q past (opening q past)
 

@@ -23,3 +23,6 @@ pub mod Walking
 pub mod Landed
 pub mod Settled
 pub mod Ending
+pub mod Unbound
+pub mod Calling
+pub mod Called

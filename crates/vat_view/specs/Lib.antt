@@ -13,5 +13,6 @@ pub mod Numbers
 pub mod Laws
 pub mod Tables
 pub mod Asking
+pub mod CallTables
 pub mod Kept
 pub mod TurnTables

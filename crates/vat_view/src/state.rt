@@ -8,9 +8,13 @@ ghost use Rattle.vat_view.specs.Lives.{GivesBackHeld, is_in_life};
 ghost use Rattle.vat_view.specs.Uses.{UsesQuestions, UsesNumbers};
 ghost use Rattle.vat_view.specs.Views.{view_of_reference, view_of_target, view_of_descriptor, views_of_descriptors};
 ghost use Rattle.vat_view.specs.Walks.{Leads, LeadsByTurns, IsEnd};
-ghost use Rattle.vat_view.specs.Bindings.{Refers, NotesEach, is_bound};
+ghost use Rattle.vat_view.specs.Bindings.{Refers, NotesEach, is_bound, is_bound_call};
+ghost use Rattle.vat_view.specs.Calls.{asked, goal_of, is_at_vat, is_served, is_settled, is_known};
 
+use crate::applying::learn_all;
+use crate::asked::Asked;
 use crate::bound::Bound;
+use crate::calls::Calls;
 use crate::event::Event;
 use crate::id::Id;
 use crate::lives::Lives;
@@ -32,6 +36,7 @@ pub struct VatState {
     questions: Questions,
     lives: Lives,
     bound: Bound,
+    calls: Calls,
     turns: Turns,
 }
 
@@ -45,7 +50,7 @@ impl Model for VatState {
 
     ghost view = { λ state. reverse state.events.items };
 
-    ghost invariant = { λ state. AreKept (reverse state.events.items) state.questions state.lives state.bound
+    ghost invariant = { λ state. AreKept (reverse state.events.items) state.questions state.lives state.bound state.calls
         × AreSettled (reverse state.events.items) state.turns };
 }
 
@@ -59,6 +64,7 @@ impl VatState {
             questions: Questions::new(alloc),
             lives: Lives::new(alloc),
             bound: Bound::new(alloc),
+            calls: Calls::new(alloc),
             turns: Turns::new(alloc),
         }
     }
@@ -152,12 +158,13 @@ impl VatState {
         let number = self.events.len();
         let pending = settled(&self.questions, &self.lives, &self.bound, &event);
         self.turns.make_room(pending)?;
-        telling::learn(
+        learn_all(
             alloc,
             number,
             &mut self.questions,
             &mut self.lives,
             &mut self.bound,
+            &mut self.calls,
             &event,
         )?;
         self.turns.note(pending, number);
@@ -304,5 +311,67 @@ impl VatState {
     {
         let alloc = *self.events.allocator();
         asking::gives_back_held(alloc, &self.questions, &self.lives, event)
+    }
+}
+
+/// What can be asked of calls.
+impl VatState {
+    /// Whether a call is bound.
+    pub fn is_bound_call(&self, call: u64) -> bool
+        ensures { result ≡ is_bound_call self.now call }
+    {
+        self.calls.has(call)
+    }
+
+    /// What a call asked for when it came to the vat, by MAKE or by a received Call; nothing of one that didn't come.
+    ///
+    /// # Errors
+    ///
+    /// Want of memory.
+    pub fn asked(&self, call: u64) -> Result<Option<Asked>, AllocError>
+        ensures { IfOk result (λ asks. asks ≡ asked call self.now) }
+    {
+        self.calls.asked(call)
+    }
+
+    /// A call's goal, if it came to the vat with one: what the reference of its MAKE, or the target of its received
+    /// Call, stood for then.
+    ///
+    /// # Errors
+    ///
+    /// Want of memory.
+    pub fn goal_of(&self, call: u64) -> Result<Option<View>, AllocError>
+        ensures { IfOk result (λ goal. goal ≡ goal_of call self.now) }
+    {
+        self.calls.goal_of(call)
+    }
+
+    /// Whether a call is at the vat: it came, and wasn't delivered, faulted, sent on, or answered by a sent Return with
+    /// exception or canceled since.
+    pub fn is_at_vat(&self, call: u64) -> bool
+        ensures { result ≡ is_at_vat call self.now }
+    {
+        self.calls.is_at_vat(call)
+    }
+
+    /// Whether a call was delivered here, or is that of a received Bootstrap.
+    pub fn is_served(&self, call: u64) -> bool
+        ensures { result ≡ is_served call self.now }
+    {
+        self.calls.is_served(call)
+    }
+
+    /// Whether a call has an answer or fault.
+    pub fn is_settled(&self, call: u64) -> bool
+        ensures { result ≡ is_settled call self.now }
+    {
+        self.calls.is_settled(call)
+    }
+
+    /// Whether a call's results are known: by ANSWER, or by a received Return with results that isn't late.
+    pub fn is_known(&self, call: u64) -> bool
+        ensures { result ≡ is_known call self.now }
+    {
+        self.calls.is_known(call)
     }
 }

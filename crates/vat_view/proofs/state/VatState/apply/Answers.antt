@@ -10,12 +10,12 @@ use Rattle.vat_view.proofs.state.VatState.apply.Goals as goal
 
 pub invariant_of-self-in_err-make_room : goal.invariant_of-self-in_err-make_room
 invariant_of-self-in_err-make_room c = (
-  subst (λ l. AreKept (reverse l) c.self.inside.questions c.self.inside.lives c.self.inside.bound) (sym c.in_ok-reserve.ensures.items) c.self.invariant.0,
+  subst (λ l. AreKept (reverse l) c.self.inside.questions c.self.inside.lives c.self.inside.bound c.self.inside.calls) (sym c.in_ok-reserve.ensures.items) c.self.invariant.0,
   turns_refused c.self.inside.events.items c.reserve.new.self.items c.self.inside.turns c.make_room.new.self c.in_ok-reserve.ensures.items c.make_room.ensures.same c.self.invariant.1,
 )
 
-pub invariant_of-self-in_err-learn : goal.invariant_of-self-in_err-learn
-invariant_of-self-in_err-learn c =
+pub invariant_of-self-in_err-learn_all : goal.invariant_of-self-in_err-learn_all
+invariant_of-self-in_err-learn_all c =
     let place : c.len-number.result ≡ length c.reserve.new.self.items = grind (arith, common_steps) in
     let sound : IsSound c.args.self.now c.args.event = record {
       refers = c.requires.refers;
@@ -25,9 +25,8 @@ invariant_of-self-in_err-learn c =
       notes_each = c.requires.notes;
     } in (
       state_refused c.self.inside.events.items c.reserve.new.self.items c.args.self.now c.args.event c.len-number.result
-          (λ p. AreKept p c.self.inside.questions c.self.inside.lives c.self.inside.bound) (λ p. AreKept p c.learn.new.questions c.learn.new.lives c.learn.new.bound)
-          c.self.view_is c.in_ok-reserve.ensures.items place c.self.invariant.0 sound
-          (λ before at kept good. record { sound = kept.sound; tabled = c.in_err-learn.ensures.err before at kept.tabled (fits before c.args.event good) }),
+          (λ p. AreKept p c.self.inside.questions c.self.inside.lives c.self.inside.bound c.self.inside.calls) (λ p. AreKept p c.learn_all.new.questions c.learn_all.new.lives c.learn_all.new.bound c.learn_all.new.calls)
+          c.self.view_is c.in_ok-reserve.ensures.items place c.self.invariant.0 sound c.in_err-learn_all.ensures.err,
       turns_refused c.self.inside.events.items c.reserve.new.self.items c.self.inside.turns c.make_room.new.self c.in_ok-reserve.ensures.items c.make_room.ensures.same c.self.invariant.1,
     )
 
@@ -43,9 +42,8 @@ invariant_of-self-2 c =
     } in
     let fit : IsFit c.args.self.now c.args.event = fits c.args.self.now c.args.event sound in (
       state_applied c.self.inside.events.items c.reserve.new.self.items c.args.self.now c.args.event c.len-number.result
-          (λ p. AreKept p c.self.inside.questions c.self.inside.lives c.self.inside.bound) (λ p. AreKept p c.learn.new.questions c.learn.new.lives c.learn.new.bound)
-          c.self.view_is c.in_ok-reserve.ensures.items place c.self.invariant.0 sound c.push.new.self.items c.in_ok-push.ensures.items
-          (λ before at kept good. record { sound = (good, kept.sound); tabled = c.in_ok-learn.ensures.ok before at kept.tabled (fits before c.args.event good) }),
+          (λ p. AreKept p c.self.inside.questions c.self.inside.lives c.self.inside.bound c.self.inside.calls) (λ p. AreKept p c.learn_all.new.questions c.learn_all.new.lives c.learn_all.new.bound c.learn_all.new.calls)
+          c.self.view_is c.in_ok-reserve.ensures.items place c.self.invariant.0 sound c.push.new.self.items c.in_ok-push.ensures.items c.in_ok-learn_all.ensures.ok,
       turns_applied c.self.inside.events.items c.reserve.new.self.items c.push.new.self.items c.args.event c.len-number.result c.settled-pending.result c.self.inside.questions c.self.inside.lives
           c.self.inside.bound c.self.inside.turns c.make_room.new.self c.note.new.self c.in_ok-reserve.ensures.items place c.in_ok-push.ensures.items
           (subst (λ p. IsFit p c.args.event) (sym c.self.view_is) fit) c.self.invariant.0.tabled c.self.invariant.1 c.settled-pending.ensures c.make_room.ensures.same c.note.ensures,

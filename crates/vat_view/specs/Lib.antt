@@ -16,3 +16,4 @@ pub mod Asking
 pub mod CallTables
 pub mod Kept
 pub mod TurnTables
+pub mod Seen

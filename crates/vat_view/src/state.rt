@@ -173,6 +173,13 @@ impl VatState {
     }
 }
 
+impl VatState {
+    /// Where its memory comes from.
+    pub(crate) fn allocator(&self) -> Global {
+        *self.events.allocator()
+    }
+}
+
 /// What can be asked before a record is applied.
 impl VatState {
     /// Whether a question is free: it was never opened, or both its Return and its Finish have passed since its last

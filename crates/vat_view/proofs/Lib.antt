@@ -20,3 +20,4 @@ pub mod Tallying
 pub mod Unbound
 pub mod Calling
 pub mod Called
+pub mod Promising

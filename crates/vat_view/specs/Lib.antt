@@ -14,4 +14,5 @@ pub mod Laws
 pub mod Tables
 pub mod Asking
 pub mod CallTables
+pub mod KindTables
 pub mod Kept

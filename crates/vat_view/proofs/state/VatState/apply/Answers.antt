@@ -1,8 +1,10 @@
-use Rattle.std.proofs.Common.{◌≡◌, length, arith}
+use Rattle.std.proofs.Common.{◌≡◌, ◌∙◌, length, arith}
 use Rattle.std.proofs.lemmas.Grind.{common_steps}
 use Rattle.vat_view.specs.Sound.{IsSound}
+use Rattle.vat_view.specs.KindTables.{AreResolved}
 use Rattle.vat_view.specs.Kept.{AreKept}
 use Rattle.vat_view.proofs.Keeping.{state_refused, state_applied}
+use Rattle.vat_view.proofs.Promising.{resolves_after}
 use Rattle.vat_view.proofs.state.VatState.apply.Goals as goal
 
 pub invariant_of-self-in_err-learn_all : goal.invariant_of-self-in_err-learn_all
@@ -14,11 +16,15 @@ invariant_of-self-in_err-learn_all c =
       uses_numbers = c.requires.numbers;
       gives_back_held = c.requires.gives;
       notes_each = c.requires.notes;
-    } in
-    state_refused c.self.inside.events.items c.reserve.new.self.items c.args.self.now c.args.event c.len-number.result
-    (λ p. AreKept p c.self.inside.questions c.self.inside.lives c.self.inside.bound c.self.inside.calls) (λ p. AreKept p c.learn_all.new.questions c.learn_all.new.lives c.learn_all.new.bound c.learn_all.new.calls)
-    c.self.view_is c.in_ok-reserve.ensures.items place c.self.invariant sound
-    c.in_err-learn_all.ensures.err
+    } in (
+      state_refused c.self.inside.events.items c.reserve.new.self.items c.args.self.now c.args.event c.len-number.result
+          (λ p. AreKept p c.self.inside.questions c.self.inside.lives c.self.inside.bound c.self.inside.calls) (λ p. AreKept p c.learn_all.new.questions c.learn_all.new.lives c.learn_all.new.bound c.learn_all.new.calls)
+          c.self.view_is c.in_ok-reserve.ensures.items place c.self.invariant.0 sound
+          c.in_err-learn_all.ensures.err,
+      state_refused c.self.inside.events.items c.reserve.new.self.items c.args.self.now c.args.event c.len-number.result
+          (λ p. AreResolved p c.self.inside.resolves) (λ p. AreResolved p c.make_room.new.self) c.self.view_is c.in_ok-reserve.ensures.items place c.self.invariant.1 sound
+          (λ before at kept good i. c.make_room.ensures.same i ∙ kept i),
+    )
 
 pub invariant_of-self-2 : goal.invariant_of-self-2
 invariant_of-self-2 c =
@@ -29,8 +35,14 @@ invariant_of-self-2 c =
       uses_numbers = c.requires.numbers;
       gives_back_held = c.requires.gives;
       notes_each = c.requires.notes;
-    } in
-    state_applied c.self.inside.events.items c.reserve.new.self.items c.args.self.now c.args.event c.len-number.result
-    (λ p. AreKept p c.self.inside.questions c.self.inside.lives c.self.inside.bound c.self.inside.calls) (λ p. AreKept p c.learn_all.new.questions c.learn_all.new.lives c.learn_all.new.bound c.learn_all.new.calls)
-    c.self.view_is c.in_ok-reserve.ensures.items place c.self.invariant sound c.push.new.self.items c.in_ok-push.ensures.items
-    c.in_ok-learn_all.ensures.ok
+    } in (
+      state_applied c.self.inside.events.items c.reserve.new.self.items c.args.self.now c.args.event c.len-number.result
+          (λ p. AreKept p c.self.inside.questions c.self.inside.lives c.self.inside.bound c.self.inside.calls) (λ p. AreKept p c.learn_all.new.questions c.learn_all.new.lives c.learn_all.new.bound c.learn_all.new.calls)
+          c.self.view_is c.in_ok-reserve.ensures.items place c.self.invariant.0 sound c.push.new.self.items c.in_ok-push.ensures.items
+          c.in_ok-learn_all.ensures.ok,
+      state_applied c.self.inside.events.items c.reserve.new.self.items c.args.self.now c.args.event c.len-number.result
+          (λ p. AreResolved p c.self.inside.resolves) (λ p. AreResolved p c.note.new.self) c.self.view_is c.in_ok-reserve.ensures.items place c.self.invariant.1 sound
+          c.push.new.self.items c.in_ok-push.ensures.items
+          (λ before at kept good. resolves_after before c.args.event c.make_room.new.self c.note.new.self (λ i. c.make_room.ensures.same i ∙ kept i) c.resolved-promise.result
+          c.resolved-promise.ensures c.len-number.result at c.note.ensures),
+    )

@@ -27,3 +27,4 @@ pub mod Unbound
 pub mod Calling
 pub mod Called
 pub mod Distinct
+pub mod Promising

@@ -6,7 +6,7 @@ ghost use Rattle.vat_view.specs.Numbers.{number_held, number_stands};
 ghost use Rattle.vat_view.specs.Lives.{GivesBackHeld};
 ghost use Rattle.vat_view.specs.Uses.{UsesQuestions};
 ghost use Rattle.vat_view.specs.Views.{view_of_reference};
-ghost use Rattle.vat_view.specs.Walks.{Leads, LeadsByTurns, IsEnd};
+ghost use Rattle.vat_view.specs.Walks.{next, stays, Leads, LeadsByTurns, IsEnd};
 ghost use Rattle.vat_view.specs.Bindings.{Refers, NotesEach};
 
 use crate::bound::Bound;
@@ -107,6 +107,13 @@ impl VatState {
                 standing::field_of(&self.questions, id, path)
             }
         }
+    }
+
+    /// Whether a view goes on nowhere: it has neither turned nor stopped. It takes no memory.
+    pub fn stays(&self, view: &View) -> bool
+        ensures { IsTrue result ↔ (next self.now view.now ≡ stays) }
+    {
+        walk::stays(self.events.as_slice(), &self.turns, view)
     }
 
     /// Whether a view leads to another, by 0 or more turns. It makes at most as many turns as references are bound, and

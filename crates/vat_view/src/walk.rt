@@ -65,6 +65,13 @@ fn settler<'a>(events: &'a [Event], turns: &Turns, view: &View) -> Option<&'a Ev
     events.get(number)
 }
 
+/// Whether no record settled a view.
+pub(crate) fn stays(events: &[Event], turns: &Turns, view: &View) -> bool
+    ensures { result ≡ is_none (settler_by turns.now events.now view.now) }
+{
+    settler(events, turns, view).is_none()
+}
+
 /// The view to which a view turns, if it does.
 fn turned<'a>(events: &[Event], turns: &Turns, bound: &'a Bound, view: &View) -> Option<&'a View>
     ensures { option_copied result ≡ turn_by events.now turns.now (bound_at bound.now) view.now }
@@ -107,13 +114,14 @@ pub(crate) fn leads_by_turns(
     }
 }
 
-/// A view, where nothing settled it.
+/// A view, where no record settled it.
 fn resting<'a>(events: &[Event], turns: &Turns, view: &'a View) -> Option<&'a View>
     ensures { option_copied result ≡ (if is_none (settler_by turns.now events.now view.now) then Some view.now else None) }
 {
-    match settler(events, turns, view) {
-        Some(_settler) => None,
-        None => Some(view),
+    if stays(events, turns, view) {
+        Some(view)
+    } else {
+        None
     }
 }
 

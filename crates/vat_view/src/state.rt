@@ -2,6 +2,8 @@
 
 ghost use Rattle.std.specs.Prelude.{◌≡◌, ◌↔◌, [], ◌∷◌, IfOk, OnOk, OnErr, IsTrue, MatchOption};
 ghost use Rattle.vat_view.specs.declared.view.View.{View};
+ghost use Rattle.std.specs.Option.{option_copied};
+ghost use Rattle.vat_view.specs.Past.{record_at};
 ghost use Rattle.vat_view.specs.Numbers.{number_held, number_stands};
 ghost use Rattle.vat_view.specs.Lives.{GivesBackHeld};
 ghost use Rattle.vat_view.specs.Uses.{UsesQuestions};
@@ -107,6 +109,14 @@ impl VatState {
                 standing::field_of(&self.questions, id, path)
             }
         }
+    }
+
+    /// The record of this number among those applied, counted from 0, if there are so many. An import's view has the
+    /// number of the record that brought it.
+    pub fn event_at(&self, number: usize) -> Option<&Event>
+        ensures { option_copied result ≡ record_at number self.now }
+    {
+        walk::event_at(self.events.as_slice(), number)
     }
 
     /// Whether a view goes on nowhere: it has neither turned nor stopped. It takes no memory.

@@ -12,4 +12,7 @@ pub mod Sound
 pub mod Numbers
 pub mod Laws
 pub mod Tables
+pub mod Asking
+pub mod CallTables
+pub mod Kept
 pub mod TurnTables

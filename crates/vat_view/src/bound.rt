@@ -1,6 +1,6 @@
 //! The table of references.
 
-ghost use Rattle.std.specs.Prelude.{◌≡◌, ◌==◌, ℕ, None, Some, OnOk, OnErr, true, false, map, if◌then◌else◌};
+ghost use Rattle.std.specs.Prelude.{◌≡◌, ◌==◌, ℕ, None, Some, OnOk, OnErr, true, false, map, is_some, if◌then◌else◌};
 ghost use Rattle.std.specs.Option.{option_copied};
 ghost use Rattle.vat_view.specs.Bindings.{contains};
 ghost use Rattle.vat_view.specs.Tables.{bound_at, bound_by};
@@ -31,6 +31,13 @@ impl Bound {
         ensures { option_copied result ≡ bound_at self.now reference }
     {
         self.entries.get(&reference)
+    }
+
+    /// Whether this reference has a view.
+    pub(crate) fn has(&self, reference: u64) -> bool
+        ensures { result ≡ is_some (bound_at self.now reference) }
+    {
+        self.entries.contains_key(&reference)
     }
 
     /// How many references are bound.

@@ -10,28 +10,38 @@
 //! the functions of `src/laws.rt`, which do nothing.
 #![tactic(auto)]
 
+mod applying;
 mod arrivals;
+mod asked;
+mod asking;
 mod bound;
+mod calls;
 mod event;
 mod id;
 mod ids;
 mod landing;
 mod laws;
 mod lives;
+mod news;
 mod number;
 mod origin;
+mod parts;
 mod pending;
+mod progress;
 mod question;
 mod questions;
 mod records;
+mod rules;
 mod settling;
 mod standing;
 mod state;
+mod tally;
 mod telling;
 mod turns;
 mod view;
 mod walk;
 
+pub use asked::Asked;
 pub use event::Event;
 pub use id::Id;
 pub use laws::{

@@ -103,6 +103,21 @@ module _ (going : View → Next) (past : Past) (same : (v : View) → going v �
   end_known now a (Some r) h = end_by a (now r) h
   end_known now a None h = λ w e. h w (by_end a w e)
 
+-- a view that no record settled stays, and no other
+pub stays_known : (going : View → Next) (past : Past) → ((v : View) → going v ≡ next past v) → (events : List Event) (table : Turns) (named : ℕ → Option View) →
+    ((v : View) → going v ≡ goes_by events table named v) → (v : View) (r : Bool) → r ≡ is_none (settler_by table events v) → IsTrue r ↔ (next past v ≡ stays)
+stays_known going past same events table named is_going v r rests = inner (settler_by table events v) refl
+  where
+    now : next past v ≡ goes_by events table named v
+    now = sym (same v) ∙ is_going v
+
+    inner : (s : Option Event) → settler_by table events v ≡ s → IsTrue r ↔ (next past v ≡ stays)
+    inner None settled = ((λ h. now ∙ ap (λ s. goes named (path_of v) s) settled), λ h. rests ∙ ap (λ s. is_none s) settled)
+    inner (Some e) settled = (
+      (λ h. absurd (false≢true (sym (rests ∙ ap (λ s. is_none s) settled) ∙ h))),
+      λ h. absurd (on_to_moves (option_and_then named (landing (path_of v) e)) (sym (now ∙ ap (λ s. goes named (path_of v) s) settled) ∙ h)),
+    )
+
 -- where views go by a state is where they go by the records that were applied
 pub goes_so : (items given : List Event) (past : Past) (questions : Questions) (lives : Lives) (bound : Bound) (table : Turns) → reverse items ≡ past → given ≡ items →
     AreTabled (reverse items) questions lives bound → AreSettled (reverse items) table → (v : View) → goes_by given table (bound_at bound) v ≡ next past v

@@ -13,7 +13,8 @@ use Rattle.vat_view.specs.Questions.{is_late, call_at, opening}
 use Rattle.vat_view.specs.Lives.{Birth, birth, descriptors, descriptors_of}
 use Rattle.vat_view.specs.Views.{view_of_reference, view_of_descriptor, binds, described, described_at, noted, places, places_from, references}
 use Rattle.vat_view.specs.Bindings.{Refers, NotesEach, contains, is_distinct, is_bound, new_references}
-use Rattle.vat_view.specs.Walks.{Next, stops, stays, on_to, is_promise, keeps, began_at, resolves, result_at, answers, turn, next}
+use Rattle.vat_view.specs.Sound.{IsSound}
+use Rattle.vat_view.specs.Walks.{Next, turns, stops, stays, on_to, is_promise, keeps, began_at, resolves, result_at, answers, turn, next}
 use Rattle.vat_view.specs.Tables.{is_cap, reference_by}
 use Rattle.vat_view.specs.declared.pending.Pending.{Pending}
 use Rattle.vat_view.specs.declared.pending.Pending.TheVariants.{Promise as PromiseToKeep, Results as ResultsOf, Import as ImportToResolve}
@@ -406,6 +407,49 @@ module _ (before : Past) (e : Event) (refers : Refers before e) (notes : NotesEa
         ∙ known ∙ goes_kept v (settler_of v before) refl
         ∙ sym (ap (λ o. goes (view_of_reference (e ∷ before)) (path_of v) o) (settler_more v before e ∙ ap (λ b. if b then Some e else settler_of v before) apart))
   ]
+
+-- ---- at every point of a log
+
+still : (v : View) → stays ≡ goes (view_of_reference []) (path_of v) (settler_of v [])
+still (Object object) = refl
+still (Promise p) = refl
+still (FieldOf call path) = refl
+still (Import i place) = refl
+
+goings : (past : Past) → Each IsSound past → ((v : View) → next past v ≡ goes (view_of_reference past) (path_of v) (settler_of v past)) × Each LandsBound past
+goings [] all = (still, tt)
+goings (e ∷ before) all =
+    let rest = goings before all.1 in
+    ((λ v. going_step before e all.0.refers all.0.notes_each rest.1 v (rest.0 v)), (lands_bound before e all.0.refers, rest.1))
+
+stays_not_turns : {w : View} → stays ≡ turns w → ⊥
+stays_not_turns e = cc
+
+stops_not_turns : {w : View} → stops ≡ turns w → ⊥
+stops_not_turns e = cc
+
+same_turn : {v w : View} → turns v ≡ turns w → v ≡ w
+same_turn e = cc
+
+on_to_turns : (o : Option View) (w : View) → on_to o ≡ turns w → o ≡ Some w
+on_to_turns (Some v) w e = ap (λ x. Some x) (same_turn e)
+on_to_turns None w e = absurd (stops_not_turns e)
+
+-- a view of a bound reference
+abbrev IsOfReference : Past → View → Type 0
+IsOfReference past w = (r : ℕ) × (is_bound past r ≡ true) × (view_of_reference past r ≡ Some w)
+
+module _ (past : Past) (all : Each LandsBound past) (v w : View) where
+  by_landing : (x : Event) → settler_of v past ≡ Some x → (o : Option ℕ) → landing (path_of v) x ≡ o → option_and_then (view_of_reference past) o ≡ Some w → IsOfReference past w
+  by_landing x settled None there e = absurd (none_some e)
+  by_landing x settled (Some r) there e = (r, settled_lands v past all x settled (path_of v) r there, e)
+
+  by_settler : (o : Option Event) → settler_of v past ≡ o → goes (view_of_reference past) (path_of v) o ≡ turns w → IsOfReference past w
+  by_settler None settled e = absurd (stays_not_turns e)
+  by_settler (Some x) settled e = by_landing x settled (landing (path_of v) x) refl (on_to_turns (option_and_then (view_of_reference past) (landing (path_of v) x)) w e)
+
+pub turned_to_reference : (past : Past) → Each IsSound past → (v w : View) → next past v ≡ turns w → (r : ℕ) × (is_bound past r ≡ true) × (view_of_reference past r ≡ Some w)
+turned_to_reference past all v w e = let facts = goings past all in by_settler past facts.1 v w (settler_of v past) refl (sym (facts.0 v) ∙ e)
 
 -- ---- as the code finds it
 

@@ -4,7 +4,7 @@ use Rattle.std.specs.Prelude.{slice_get, unwrap_or, reverse}
 use Rattle.std.specs.Ordering.{nat_cmp, is_eq}
 use Rattle.std.specs.Map.{lookup}
 use Rattle.std.proofs.lemmas.List.{length-reverse, reverse-append, reverse-reverse}
-use Rattle.std.proofs.lemmas.Bool.{cases_Bool, ltb-true, ltb-false, eq-eqb}
+use Rattle.std.proofs.lemmas.Bool.{cases_Bool, false≢true, ltb-true, ltb-false, eqb-true, eq-eqb, ne_eqb}
 use Rattle.vat_view.specs.declared.questions.Questions.{Questions}
 use Rattle.vat_view.specs.declared.lives.Lives.{Lives}
 use Rattle.vat_view.specs.declared.bound.Bound.{Bound}
@@ -12,7 +12,8 @@ use Rattle.vat_view.specs.declared.turns.Turns.{Turns}
 use Rattle.vat_view.specs.declared.pending.Pending.{Pending}
 use Rattle.vat_view.specs.declared.pending.Pending.TheVariants.{Promise as PromiseToKeep, Results as ResultsOf, Import as ImportToResolve}
 use Rattle.vat_view.specs.Types.{Return, Resolve, Event, Fulfil, Break, Answer, Fault, Wire, View, Object, Promise, FieldOf, Import, Id}
-use Rattle.vat_view.specs.Past.{Past, Point, id, point, number_of, last_answer, last_where}
+use Rattle.std.specs.Option.{option_or}
+use Rattle.vat_view.specs.Past.{Past, Point, id, point, number_of, record_at, last_answer, last_where}
 use Rattle.vat_view.specs.Questions.{call_at, opening}
 use Rattle.vat_view.specs.Lives.{Birth, birth, begins, held, is_in_life}
 use Rattle.vat_view.specs.Views.{view_of_reference}
@@ -108,6 +109,29 @@ get_front (y ∷ xs) ys (suc k) x h = get_front xs ys k x h
 get_last : (xs : List Event) (y : Event) → slice_get (xs ++ y ∷ []) (length xs) ≡ Some y
 get_last [] y = refl
 get_last (x ∷ xs) y = get_last xs y
+
+get_apart : (xs : List Event) (y : Event) (k : ℕ) → (length xs == k) ≡ false → slice_get (xs ++ y ∷ []) k ≡ slice_get xs k
+get_apart [] y zero h = absurd (false≢true (sym h))
+get_apart [] y (suc zero) h = refl
+get_apart [] y (suc (suc k)) h = refl
+get_apart (x ∷ xs) y zero h = refl
+get_apart (x ∷ xs) y (suc k) h =
+    get_apart xs y k (ne_eqb (length xs) k (λ same. let again : suc (length xs) ≡ suc k = omega (arith, same) in false≢true (sym h ∙ eq-eqb (suc (length xs)) (suc k) again)))
+
+-- the record of a number stands there
+pub record_there : (past : Past) (k : ℕ) → slice_get (reverse past) k ≡ record_at k past
+record_there [] zero = refl
+record_there [] (suc k) = refl
+record_there (e ∷ before) k = elim (cases_Bool (length before == k)) [
+  | inl here ↦
+      ap₂ (λ l n. slice_get l n) (reverse-append (e ∷ []) before) (sym (eqb-true (length before) k here) ∙ sym (length-reverse before)) ∙ get_last (reverse before) e
+      ∙ sym (ap (λ b. option_or (if b then Some e else None) (record_at k before)) here)
+  | inr apart ↦
+      ap (λ l. slice_get l k) (reverse-append (e ∷ []) before)
+      ∙ get_apart (reverse before) e k (ap (λ n. n == k) (length-reverse before) ∙ apart)
+      ∙ record_there before k
+      ∙ sym (ap (λ b. option_or (if b then Some e else None) (record_at k before)) apart)
+]
 
 -- the record of a point has its number
 at_point : (test : Past → Event → Bool) (past : Past) (p : Point) → last_where test past ≡ Some p → slice_get (reverse past) (number_of p) ≡ Some p.event

@@ -55,6 +55,12 @@ pub fn turns_only_grow()
         → LeadsByTurns (later ++ past) a b }
 {}
 
+/// What a view turns to is the view of a bound reference, where each record is as it should be after those before it.
+pub fn turns_go_to_references()
+    ensures { (past : Past) → Each IsSound past → (a b : View) → next past a ≡ turns b
+        → (r : ℕ) × (is_bound past r ≡ true) × (view_of_reference past r ≡ Some b) }
+{}
+
 /// A view has one end at most.
 pub fn ends_are_one()
     ensures { (past : Past) (a b c : View) → IsEnd past a b → IsEnd past a c → b ≡ c }

@@ -2,12 +2,14 @@
 
 ghost use Rattle.std.specs.Prelude.{◌≡◌, ◌↔◌, [], ◌∷◌, Decides, IfOk, OnOk, OnErr, IsTrue, MatchOption, option_map};
 ghost use Rattle.vat_view.specs.declared.view.View.{View};
+ghost use Rattle.std.specs.Option.{option_copied};
+ghost use Rattle.vat_view.specs.Past.{record_at};
 ghost use Rattle.vat_view.specs.Numbers.{number_held, number_stands};
 ghost use Rattle.vat_view.specs.Questions.{is_free, is_unfinished, is_finished, is_unreturned, call_at, call_of, opening, is_late};
 ghost use Rattle.vat_view.specs.Lives.{GivesBackHeld, birth, began_promised, is_in_life, is_resolved};
 ghost use Rattle.vat_view.specs.Uses.{UsesQuestions, UsesNumbers};
 ghost use Rattle.vat_view.specs.Views.{view_of_reference, view_of_target, view_of_descriptor, views_of_descriptors};
-ghost use Rattle.vat_view.specs.Walks.{Leads, LeadsByTurns, IsEnd};
+ghost use Rattle.vat_view.specs.Walks.{next, stays, Leads, LeadsByTurns, IsEnd};
 ghost use Rattle.vat_view.specs.Bindings.{Refers, NotesEach, is_bound, is_bound_call};
 ghost use Rattle.vat_view.specs.Calls.{asked, goal_of, is_at_vat, is_served, is_settled, is_known};
 
@@ -119,6 +121,21 @@ impl VatState {
                 standing::field_of(&self.questions, id, path)
             }
         }
+    }
+
+    /// The record of this number among those applied, counted from 0, if there are so many. An import's view has the
+    /// number of the record that brought it.
+    pub fn event_at(&self, number: usize) -> Option<&Event>
+        ensures { option_copied result ≡ record_at number self.now }
+    {
+        walk::event_at(self.events.as_slice(), number)
+    }
+
+    /// Whether a view goes on nowhere: it has neither turned nor stopped. It takes no memory.
+    pub fn stays(&self, view: &View) -> bool
+        ensures { IsTrue result ↔ (next self.now view.now ≡ stays) }
+    {
+        walk::stays(self.events.as_slice(), &self.turns, view)
     }
 
     /// Whether a view leads to another, by 0 or more turns. It makes at most as many turns as references are bound, and

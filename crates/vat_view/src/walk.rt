@@ -1,6 +1,6 @@
 //! Walks from view to view.
 
-ghost use Rattle.std.specs.Prelude.{◌≡◌, ◌↔◌, IsTrue, Some, MatchOption, None, if◌then◌else◌, is_none};
+ghost use Rattle.std.specs.Prelude.{◌≡◌, ◌↔◌, IsTrue, Some, MatchOption, None, if◌then◌else◌, is_none, slice_get};
 ghost use Rattle.std.specs.Option.{option_copied};
 ghost use Rattle.vat_view.specs.Types.{View};
 ghost use Rattle.vat_view.specs.Tables.{bound_at};
@@ -56,13 +56,27 @@ fn path_of(view: &View) -> &[u16]
     }
 }
 
+/// The record of this number.
+pub(crate) fn event_at(events: &[Event], number: usize) -> Option<&Event>
+    ensures { option_copied result ≡ slice_get events.now number }
+{
+    events.get(number)
+}
+
 /// The record that settled a view, if one did.
 fn settler<'a>(events: &'a [Event], turns: &Turns, view: &View) -> Option<&'a Event>
     ensures { option_copied result ≡ settler_by turns.now events.now view.now }
 {
     let pending = awaited(view)?;
     let number = turns.of(pending)?;
-    events.get(number)
+    event_at(events, number)
+}
+
+/// Whether no record settled a view.
+pub(crate) fn stays(events: &[Event], turns: &Turns, view: &View) -> bool
+    ensures { result ≡ is_none (settler_by turns.now events.now view.now) }
+{
+    settler(events, turns, view).is_none()
 }
 
 /// The view to which a view turns, if it does.
@@ -107,13 +121,14 @@ pub(crate) fn leads_by_turns(
     }
 }
 
-/// A view, where nothing settled it.
+/// A view, where no record settled it.
 fn resting<'a>(events: &[Event], turns: &Turns, view: &'a View) -> Option<&'a View>
     ensures { option_copied result ≡ (if is_none (settler_by turns.now events.now view.now) then Some view.now else None) }
 {
-    match settler(events, turns, view) {
-        Some(_settler) => None,
-        None => Some(view),
+    if stays(events, turns, view) {
+        Some(view)
+    } else {
+        None
     }
 }
 

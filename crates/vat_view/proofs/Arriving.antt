@@ -1,7 +1,7 @@
 -- What a record binds by the tables is what looking back finds.
-use Rattle.std.proofs.Common.{◌≡◌, ◌+◌, ◌<◌, ◌≤◌, inl, inr, refl, sym, ◌∙◌, ap, ap₂, subst, ℕ, zero, suc, ◌==◌, List, [], ◌∷◌, ◌++◌, length, drop, add-zero, zero-add, map, count_by, cond, Bool, true, false, not, ◌&&◌, ◌||◌, Option, Some, None, if◌then◌else◌, option_map, option_and_then, arith, ◌⊎◌}
+use Rattle.std.proofs.Common.{◌≡◌, ◌+◌, inl, inr, refl, sym, ◌∙◌, ap, subst, ℕ, zero, suc, ◌==◌, List, [], ◌∷◌, ◌++◌, drop, add-zero, zero-add, map, count_by, cond, Bool, true, false, not, ◌||◌, Option, Some, None, if◌then◌else◌, option_map, option_and_then, arith}
 use Rattle.std.specs.Prelude.{find, slice_get}
-use Rattle.std.specs.List.{zip, cons_option, list_any, position_from}
+use Rattle.std.specs.List.{zip, cons_option}
 use Rattle.std.specs.Option.{option_or, option_to_list}
 use Rattle.std.proofs.lemmas.List.Sums.{sum_by-cons}
 use Rattle.std.proofs.lemmas.Bool.{and_parts, cases_Bool, false≢true, not-true, eqb-true, or_parts}
@@ -9,19 +9,16 @@ use Rattle.vat_view.specs.declared.question.Question.{Question}
 use Rattle.vat_view.specs.declared.questions.Questions.{Questions}
 use Rattle.vat_view.specs.declared.lives.Lives.{Lives}
 use Rattle.vat_view.specs.declared.bound.Bound.{Bound}
-use Rattle.vat_view.specs.Types.{Descriptor, NoCap, SenderHosted, SenderPromise, ReceiverHosted, ReceiverAnswer, RpcMessage, Event, Host, Vow, Field, Wire, View, Object, Promise, FieldOf, Import, Id}
-use Rattle.vat_view.specs.Past.{Past, point, id, names, last_answer, number_of}
-use Rattle.vat_view.specs.Questions.{is_late, call_of}
-use Rattle.vat_view.specs.Lives.{Birth, birth, begins, introduced, introduces, held, came, went, gives_back, descriptors, is_in_life, GivesBackHeld}
-use Rattle.vat_view.specs.Views.{view_of_reference, binds, view_given, number_view, described, described_at, places, places_from, noted, references}
-use Rattle.vat_view.specs.Bindings.{Refers, contains, is_distinct, is_bound, new_references, NotesEach}
-use Rattle.vat_view.specs.Tables.{question_at, question_known, is_cap, bound_at, bound_by, number_by, call_by, first_place, sender_view, view_by, reference_by, bound_one, bound_from, bindings, IsTabled, AreBound}
+use Rattle.vat_view.specs.Types.{Descriptor, NoCap, SenderHosted, SenderPromise, ReceiverHosted, ReceiverAnswer, RpcMessage, Event, Host, Vow, Field, Wire, View, Object, Promise, FieldOf, Id}
+use Rattle.vat_view.specs.Past.{Past}
+use Rattle.vat_view.specs.Lives.{descriptors}
+use Rattle.vat_view.specs.Views.{view_of_reference, described, described_at, places_from, noted}
+use Rattle.vat_view.specs.Bindings.{Refers, contains, is_distinct, is_bound, new_references}
+use Rattle.vat_view.specs.Tables.{question_at, is_cap, bound_at, bound_by, origins, AreBegun, view_by, reference_by, bound_one, bound_from, bindings, IsTabled, AreBound}
 use Rattle.vat_view.proofs.Originating.{get_drop, cons_append}
-use Rattle.vat_view.proofs.Meaning.{number_known, call_known}
-use Rattle.vat_view.proofs.Lasting.{birth_kept, view_bound, all_not}
+use Rattle.vat_view.proofs.Lasting.{view_bound, all_not}
 use Rattle.vat_view.proofs.Binding.{bound_apart}
-use Rattle.vat_view.proofs.Viewed.{Has, birth_of, begins_some, introduced_there}
-use Rattle.std.proofs.lemmas.Bool.{lt-ltb}
+use Rattle.vat_view.proofs.Describing.{described_known}
 
 some_same : {A : Type 0} {x y : A} → Some x ≡ Some y → x ≡ y
 some_same e = cc
@@ -190,136 +187,60 @@ module _ (f : Descriptor → Option View) where
         (bound_one_more ds (b + (if is_cap x then 1 else 0)) d ∙ ap (λ z. bound_from f rs (b + (if is_cap x then 1 else 0)) ds ++ option_to_list (bound_one f d (reference_by rs z d))) noted)
         ∙ cons_append (bound_one f x (reference_by rs b x)) (bound_from f rs (b + (if is_cap x then 1 else 0)) ds) (option_to_list (bound_one f d (reference_by rs (b + count_by is_cap (x ∷ ds)) d)))
 
--- ---- what a descriptor stands for
+-- ---- what a record binds
 
-abbrev birth_there : Past → Event → ℕ → Birth
-birth_there before e place = record { from = point before e; place = place }
+module _ (before : Past) (questions : Questions) (lives begun : Lives) (bound : Bound) (tabled : IsTabled before questions lives) (bounds : AreBound before bound) where
+  module _ (k c : ℕ) (rs : List ℕ) (m : RpcMessage) (starts : AreBegun (origins before (Wire false k c rs m)) begun) where
+    at_known : (o : Option Descriptor) → option_and_then (view_by (bound_at bound) lives begun (question_at questions) (Wire false k c rs m)) o
+        ≡ option_and_then (described (view_of_reference before) before (Wire false k c rs m)) o
+    at_known (Some d) = described_known before questions lives bound tabled bounds begun (Wire false k c rs m) starts d
+    at_known None = refl
 
-same_noted : (named other : ℕ → Option View) → ((r : ℕ) → named r ≡ other r) → (o : Option (ℕ × ℕ)) → option_and_then (λ n. named n.0) o ≡ option_and_then (λ n. other n.0) o
-same_noted named other h (Some n) = h n.0
-same_noted named other h None = refl
+    found_known : (o : Option (ℕ × ℕ)) →
+        option_and_then (λ n. option_and_then (view_by (bound_at bound) lives begun (question_at questions) (Wire false k c rs m)) (slice_get (descriptors (Wire false k c rs m)) n.1)) o
+        ≡ option_and_then (λ n. described_at (view_of_reference before) before (Wire false k c rs m) n.1) o
+    found_known (Some n) = at_known (slice_get (descriptors (Wire false k c rs m)) n.1)
+    found_known None = refl
 
-same_given : (named other : ℕ → Option View) → ((r : ℕ) → named r ≡ other r) → (ours : Bool) (o : Option Birth) →
-    option_and_then (view_given named ours) o ≡ option_and_then (view_given other ours) o
-same_given named other h true (Some b) = same_noted named other h (find (λ n. n.1 == b.place) (noted b.from.event))
-same_given named other h false (Some b) = refl
-same_given named other h ours None = refl
-
-module _ (before : Past) (questions : Questions) (lives : Lives) (bound : Bound) (tabled : IsTabled before questions lives) (bounds : AreBound before bound) where
-  pub by_number : (i : Id) → number_by (bound_at bound) lives i ≡ number_view (view_of_reference before) i before
-  by_number i = number_known before questions lives tabled (bound_at bound) i ∙ same_given (bound_at bound) (view_of_reference before) bounds i.ours (birth i before)
-
-  module _ (k c : ℕ) (rs : List ℕ) (m : RpcMessage) (gives : GivesBackHeld before (Wire false k c rs m)) where
-    alive_now : (i : Id) → 0 < introduces i before (Wire false k c rs m) → is_in_life i (Wire false k c rs m ∷ before) ≡ true
-    alive_now i more = let below = tabled.balanced i in let given = gives i in lt-ltb 0 (held i (Wire false k c rs m ∷ before)) (omega (arith, below, given, more))
-
-    born_at : (o : Option ℕ) (last : Option Birth) → Has (option_map (birth_there before (Wire false k c rs m)) o) →
-        option_map (λ place. Import (length before) place) o
-        ≡ option_and_then (view_given (view_of_reference before) false) (option_or (option_map (birth_there before (Wire false k c rs m)) o) last)
-    born_at (Some q) last h = refl
-    born_at None last h = absurd (none_some h.1)
-
-    module _ (late : is_late before (Wire false k c rs m) ≡ false) where
-      sender_known : (n j : ℕ) (d : Descriptor) → slice_get (descriptors (Wire false k c rs m)) j ≡ Some d → introduced (Wire false k c rs m) d ≡ Some (id k false n) →
-          sender_view (bound_at bound) lives (length before) (Wire false k c rs m) (id k false n) ≡ number_view (view_of_reference before) (id k false n) (Wire false k c rs m ∷ before)
-      sender_known n j d g h =
-          let e : Event = Wire false k c rs m in
-          let i : Id = id k false n in
-          let now : is_in_life i (e ∷ before) ≡ true = alive_now i (introduced_there i before e j d late g h) in
-          elim (cases_Bool (is_in_life i before)) [
-            | inl alive ↦
-                let b = birth_of i before alive in
-                ap (λ o. option_or o (option_map (λ place. Import (length before) place) (first_place e i)))
-                (by_number i ∙ ap (λ o. option_and_then (view_given (view_of_reference before) false) o) b.1)
-                ∙ sym (ap (λ o. option_and_then (view_given (view_of_reference before) false) o) (birth_kept i e before alive now ∙ b.1))
-            | inr out ↦
-                let here : begins i before e ≡ option_map (birth_there before e) (first_place e i) =
-                ap₂ (λ a b. if a || b then None else option_map (birth_there before e) (first_place e i)) out late in
-                let some = begins_some i before e out now in
-                ap (λ o. option_or o (option_map (λ place. Import (length before) place) (first_place e i)))
-                (by_number i ∙ ap (λ b. option_and_then (view_given (view_of_reference before) false) (if b then last_answer (begins i) before else None)) out)
-                ∙ born_at (first_place e i) (last_answer (begins i) before) (some.0, sym here ∙ some.1)
-                ∙ ap (λ o. option_and_then (view_given (view_of_reference before) false) (option_or o (last_answer (begins i) before))) (sym here)
-                ∙ sym (ap (λ b. option_and_then (view_given (view_of_reference before) false) (if b then option_or (begins i before e) (last_answer (begins i) before) else None)) now)
-          ]
-
-      view_known : (d : Descriptor) (j : ℕ) → slice_get (descriptors (Wire false k c rs m)) j ≡ Some d →
-          view_by (bound_at bound) lives (question_at questions) (length before) (Wire false k c rs m) d ≡ described (view_of_reference before) before (Wire false k c rs m) d
-      view_known NoCap j g = refl
-      view_known (SenderHosted n) j g = sender_known n j (SenderHosted n) g refl
-      view_known (SenderPromise n) j g = sender_known n j (SenderPromise n) g refl
-      view_known (ReceiverHosted n) j g = by_number (id k true n)
-      view_known (ReceiverAnswer n path) j g =
-          ap (λ o. option_map (λ call. FieldOf call path) o) (ap (λ o. call_by o) (tabled.known (id k false n)) ∙ call_known (id k false n) before)
-
-      each_known : (j : ℕ) (x : Option Descriptor) → slice_get (descriptors (Wire false k c rs m)) j ≡ x →
-          option_and_then (view_by (bound_at bound) lives (question_at questions) (length before) (Wire false k c rs m)) x
-          ≡ option_and_then (described (view_of_reference before) before (Wire false k c rs m)) x
-      each_known j (Some d) g = view_known d j g
-      each_known j None g = refl
-
-      found_known : (o : Option (ℕ × ℕ)) →
-          option_and_then (λ n. option_and_then (view_by (bound_at bound) lives (question_at questions) (length before) (Wire false k c rs m)) (slice_get (descriptors (Wire false k c rs m)) n.1)) o
-          ≡ option_and_then (λ n. described_at (view_of_reference before) before (Wire false k c rs m) n.1) o
-      found_known (Some n) = each_known n.1 (slice_get (descriptors (Wire false k c rs m)) n.1) refl
-      found_known None = refl
-
-      wire_bound : is_distinct rs ≡ true → (q : ℕ) →
-          bound_by q (bindings (bound_at bound) lives (question_at questions) (length before) (Wire false k c rs m)) (view_of_reference before q)
-          ≡ view_of_reference (Wire false k c rs m ∷ before) q
-      wire_bound distinct q =
-          let e : Event = Wire false k c rs m in
-          bound_found (view_by (bound_at bound) lives (question_at questions) (length before) e) rs q (view_of_reference before q) (λ j. slice_get (descriptors e) j) (descriptors e) 0 0
-          (λ j. ap (λ x. slice_get (descriptors e) x) (zero-add j)) distinct
-          ∙ ap (λ o. option_or o (view_of_reference before q)) (found_known (find (λ n. n.0 == q) (noted e)))
-
-    late_bound : is_late before (Wire false k c rs m) ≡ true → NotesEach before (Wire false k c rs m) → (q : ℕ) →
-        bound_by q (bindings (bound_at bound) lives (question_at questions) (length before) (Wire false k c rs m)) (view_of_reference before q)
-        ≡ view_of_reference (Wire false k c rs m ∷ before) q
-    late_bound late notes q =
+    wire_bound : is_distinct rs ≡ true → (q : ℕ) →
+        bound_by q (bindings (bound_at bound) lives begun (question_at questions) (Wire false k c rs m)) (view_of_reference before q) ≡ view_of_reference (Wire false k c rs m ∷ before) q
+    wire_bound distinct q =
         let e : Event = Wire false k c rs m in
-        let none : rs ≡ [] = empty rs (notes ∙ ap (λ b. if b then 0 else length (places e)) late) in
-        bound_later (view_by (bound_at bound) lives (question_at questions) (length before) e) rs (descriptors e) 0 q (view_of_reference before q) (ap (λ l. contains q l) none)
-        ∙ sym (ap (λ l. option_or (option_and_then (λ n. described_at (view_of_reference before) before e n.1) (find (λ n. n.0 == q) (zip l (places e)))) (view_of_reference before q)) none)
-      where
-        empty : (l : List ℕ) → length l ≡ 0 → l ≡ []
-        empty [] h = refl
-        empty (x ∷ l) h = absurd (let no : ⊥ = omega (arith, h) in no)
+        bound_found (view_by (bound_at bound) lives begun (question_at questions) e) rs q (view_of_reference before q) (λ j. slice_get (descriptors e) j) (descriptors e) 0 0
+        (λ j. ap (λ x. slice_get (descriptors e) x) (zero-add j)) distinct
+        ∙ ap (λ o. option_or o (view_of_reference before q)) (found_known (find (λ n. n.0 == q) (noted e)))
 
-  pub all_bound : (e : Event) → is_distinct (new_references e) ≡ true → NotesEach before e → GivesBackHeld before e → (q : ℕ) →
-      bound_by q (bindings (bound_at bound) lives (question_at questions) (length before) e) (view_of_reference before q) ≡ view_of_reference (e ∷ before) q
-  all_bound (Host r object) distinct notes gives q = one_bound q r (Object object) (view_of_reference before q)
-  all_bound (Vow r) distinct notes gives q = one_bound q r (Promise r) (view_of_reference before q)
-  all_bound (Field r call path) distinct notes gives q = one_bound q r (FieldOf call path) (view_of_reference before q)
-  all_bound (Wire false k c rs m) distinct notes gives q = elim (cases_Bool (is_late before (Wire false k c rs m))) [
-    | inl late ↦ late_bound k c rs m gives late notes q
-    | inr early ↦ wire_bound k c rs m gives early distinct q
-  ]
-  all_bound (Wire true k c rs m) distinct notes gives q = refl
-  all_bound _ distinct notes gives q = refl
+  pub all_bound : (e : Event) → AreBegun (origins before e) begun → is_distinct (new_references e) ≡ true → (q : ℕ) →
+      bound_by q (bindings (bound_at bound) lives begun (question_at questions) e) (view_of_reference before q) ≡ view_of_reference (e ∷ before) q
+  all_bound (Host r object) starts distinct q = one_bound q r (Object object) (view_of_reference before q)
+  all_bound (Vow r) starts distinct q = one_bound q r (Promise r) (view_of_reference before q)
+  all_bound (Field r call path) starts distinct q = one_bound q r (FieldOf call path) (view_of_reference before q)
+  all_bound (Wire false k c rs m) starts distinct q = wire_bound k c rs m starts distinct q
+  all_bound (Wire true k c rs m) starts distinct q = refl
+  all_bound _ starts distinct q = refl
 
 -- ---- references that a record binds are new
 
-pub keys_new : (named : ℕ → Option View) (lives : Lives) (known : Id → Option Question) (number : ℕ) (e : Event) (q : ℕ) → contains q (new_references e) ≡ false →
-    contains q (map (λ x. x.0) (bindings named lives known number e)) ≡ false
-keys_new named lives known number (Host r object) q h = h
-keys_new named lives known number (Vow r) q h = h
-keys_new named lives known number (Field r call path) q h = h
-keys_new named lives known number (Wire false k c rs m) q h = keys_later (view_by named lives known number (Wire false k c rs m)) rs (descriptors (Wire false k c rs m)) 0 q h
-keys_new named lives known number (Wire true k c rs m) q h = refl
-keys_new named lives known number _ q h = refl
+pub keys_new : (named : ℕ → Option View) (lives begun : Lives) (known : Id → Option Question) (e : Event) (q : ℕ) → contains q (new_references e) ≡ false →
+    contains q (map (λ x. x.0) (bindings named lives begun known e)) ≡ false
+keys_new named lives begun known (Host r object) q h = h
+keys_new named lives begun known (Vow r) q h = h
+keys_new named lives begun known (Field r call path) q h = h
+keys_new named lives begun known (Wire false k c rs m) q h = keys_later (view_by named lives begun known (Wire false k c rs m)) rs (descriptors (Wire false k c rs m)) 0 q h
+keys_new named lives begun known (Wire true k c rs m) q h = refl
+keys_new named lives begun known _ q h = refl
 
 append_nothing : {A : Type 0} (xs : List A) → xs ++ [] ≡ xs
 append_nothing [] = refl
 append_nothing (x ∷ xs) = ap (λ l. x ∷ l) (append_nothing xs)
 
-pub bindings_apart : (named : ℕ → Option View) (lives : Lives) (known : Id → Option Question) (number : ℕ) (e : Event) (q : ℕ) (v : Option View) → contains q (new_references e) ≡ false →
-    bound_by q (bindings named lives known number e) v ≡ v
-bindings_apart named lives known number e q v h =
-    bound_apart q (bindings named lives known number e) [] v
-    (ap (λ l. contains q (map (λ x. x.0) l)) (append_nothing (bindings named lives known number e)) ∙ keys_new named lives known number e q h)
+pub bindings_apart : (named : ℕ → Option View) (lives begun : Lives) (known : Id → Option Question) (e : Event) (q : ℕ) (v : Option View) → contains q (new_references e) ≡ false →
+    bound_by q (bindings named lives begun known e) v ≡ v
+bindings_apart named lives begun known e q v h =
+    bound_apart q (bindings named lives begun known e) [] v
+    (ap (λ l. contains q (map (λ x. x.0) l)) (append_nothing (bindings named lives begun known e)) ∙ keys_new named lives begun known e q h)
 
-no_view : (past : Past) (q : ℕ) (o : Option View) → view_of_reference past q ≡ o → is_bound past q ≡ false → o ≡ None
+pub no_view : (past : Past) (q : ℕ) (o : Option View) → view_of_reference past q ≡ o → is_bound past q ≡ false → o ≡ None
 no_view past q None e h = refl
 no_view past q (Some v) e h = absurd (false≢true (sym h ∙ view_bound past q v e))
 

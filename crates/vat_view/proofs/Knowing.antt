@@ -29,7 +29,7 @@ brought_at : (q : Id) (past : Past) (o : Option Point) → is_some o ≡ true �
 brought_at q past (Some p) e = refl
 brought_at q past None e = absurd (false≢true e)
 
-asked_at : (q : Id) (past : Past) (o : Option Point) → asked_in (option_map (known_from q past) o) ≡ introductions_at o
+pub asked_at : (q : Id) (past : Past) (o : Option Point) → asked_in (option_map (known_from q past) o) ≡ introductions_at o
 asked_at q past (Some p) = refl
 asked_at q past None = refl
 

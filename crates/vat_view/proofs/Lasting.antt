@@ -52,7 +52,7 @@ if_some true v w e = refl
 if_some false v w e = absurd (let no : ⊥ = cc in no)
 
 -- what a record binds is new in it
-binds_new : (named : ℕ → Option View) (before : Past) (e : Event) (r : ℕ) (v : View) → binds named before e r ≡ Some v → contains r (new_references e) ≡ true
+pub binds_new : (named : ℕ → Option View) (before : Past) (e : Event) (r : ℕ) (v : View) → binds named before e r ≡ Some v → contains r (new_references e) ≡ true
 binds_new named before (Host q object) r v h = or_left _ _ (if_some (q == r) (Object object) v h)
 binds_new named before (Vow q) r v h = or_left _ _ (if_some (q == r) (Promise q) v h)
 binds_new named before (Field q call path) r v h = or_left _ _ (if_some (q == r) (FieldOf call path) v h)

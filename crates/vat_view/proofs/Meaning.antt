@@ -7,9 +7,9 @@ use Rattle.vat_view.specs.declared.lives.Lives.{Lives}
 use Rattle.vat_view.specs.Types.{View, Id}
 use Rattle.vat_view.specs.Past.{Past, Point, last_answer}
 use Rattle.vat_view.specs.Questions.{opening, is_returned, is_finished, call_at, call_of}
-use Rattle.vat_view.specs.Lives.{Birth, begins, held, is_in_life}
+use Rattle.vat_view.specs.Lives.{Birth, birth, begins, held, is_in_life}
 use Rattle.vat_view.specs.Views.{view_given, number_view, noted}
-use Rattle.vat_view.specs.Tables.{question_known, count_at, origin_at, origin_of, view_from, number_by, call_by, IsTabled}
+use Rattle.vat_view.specs.Tables.{question_known, count_at, origin_at, origin_of, held_origin, view_from, number_by, call_by, IsTabled}
 use Rattle.vat_view.proofs.Knowing.{known_from}
 use Rattle.vat_view.proofs.Raising.{positive}
 
@@ -17,27 +17,28 @@ mapped : (named : ℕ → Option View) (o : Option (ℕ × ℕ)) → option_and_
 mapped named (Some n) = refl
 mapped named None = refl
 
-given : (named : ℕ → Option View) (ours : Bool) (o : Option Birth) → option_and_then (view_from named ours) (option_map origin_of o) ≡ option_and_then (view_given named ours) o
+pub given : (named : ℕ → Option View) (ours : Bool) (o : Option Birth) → option_and_then (view_from named ours) (option_map origin_of o) ≡ option_and_then (view_given named ours) o
 given named true (Some b) = mapped named (find (λ n. n.1 == b.place) (noted b.from.event))
 given named false (Some b) = refl
 given named ours None = refl
 
-pub number_known : (past : Past) (questions : Questions) (lives : Lives) → IsTabled past questions lives → (named : ℕ → Option View) (i : Id) →
-    number_by named lives i ≡ number_view named i past
-number_known past questions lives tabled named i = elim (cases_Bool (is_in_life i past)) [
+-- where the life of a number began by the table is where it began
+pub held_known : (past : Past) (questions : Questions) (lives : Lives) → IsTabled past questions lives → (i : Id) → held_origin lives i ≡ option_map origin_of (birth i past)
+held_known past questions lives tabled i = elim (cases_Bool (is_in_life i past)) [
   | inl alive ↦
       let some : (count_at lives i == 0) ≡ false =
       positive (count_at lives i) (let more : 0 < held i past = ltb-true 0 (held i past) alive in let same = tabled.counted i in omega (arith, more, same)) in
-      ap (λ b. option_and_then (view_from named i.ours) (if b then None else origin_at lives i)) some
-      ∙ ap (λ o. option_and_then (view_from named i.ours) o) (tabled.born i alive)
-      ∙ given named i.ours (last_answer (begins i) past)
-      ∙ sym (ap (λ b. option_and_then (view_given named i.ours) (if b then last_answer (begins i) past else None)) alive)
+      ap (λ b. if b then None else origin_at lives i) some ∙ tabled.born i alive ∙ sym (ap (λ b. option_map origin_of (if b then last_answer (begins i) past else None)) alive)
   | inr out ↦
       let none : (count_at lives i == 0) ≡ true =
       eq-eqb (count_at lives i) 0 (let less : held i past ≤ 0 = ltb-false 0 (held i past) out in let same = tabled.counted i in omega (arith, less, same)) in
-      ap (λ b. option_and_then (view_from named i.ours) (if b then None else origin_at lives i)) none
-      ∙ sym (ap (λ b. option_and_then (view_given named i.ours) (if b then last_answer (begins i) past else None)) out)
+      ap (λ b. if b then None else origin_at lives i) none ∙ sym (ap (λ b. option_map origin_of (if b then last_answer (begins i) past else None)) out)
 ]
+
+pub number_known : (past : Past) (questions : Questions) (lives : Lives) → IsTabled past questions lives → (named : ℕ → Option View) (i : Id) →
+    number_by named lives i ≡ number_view named i past
+number_known past questions lives tabled named i =
+    ap (λ o. option_and_then (view_from named i.ours) o) (held_known past questions lives tabled i) ∙ given named i.ours (birth i past)
 
 call_from : (q : Id) (past : Past) (o : Option Point) → call_by (option_map (known_from q past) o)
     ≡ (if not (is_some o) || (is_returned q past && is_finished q past) then None else call_at o)

@@ -63,17 +63,17 @@ get_drop (r ∷ rs) zero = refl
 get_drop (r ∷ rs) (suc b) = get_drop rs b
 
 -- the first of the references that are left is noted at the first of the places that are left
-noted_first : (rs ps : List ℕ) (p : ℕ) → slice_get rs 0 ≡ noted_at rs (p ∷ ps) p
+pub noted_first : (rs ps : List ℕ) (p : ℕ) → slice_get rs 0 ≡ noted_at rs (p ∷ ps) p
 noted_first [] ps p = refl
 noted_first (r ∷ rs) ps p = ap (λ b. option_map (λ m. m.0) (if b then Some (r, p) else find (λ m. m.1 == p) (zip rs ps))) (sym (eq-eqb p p refl))
 
-tail_drop : (rs : List ℕ) (b : ℕ) (ps : List ℕ) (p q : ℕ) → (p == q) ≡ false → noted_at (drop b rs) (p ∷ ps) q ≡ noted_at (drop (suc b) rs) ps q
+pub tail_drop : (rs : List ℕ) (b : ℕ) (ps : List ℕ) (p q : ℕ) → (p == q) ≡ false → noted_at (drop b rs) (p ∷ ps) q ≡ noted_at (drop (suc b) rs) ps q
 tail_drop [] zero ps p q e = refl
 tail_drop [] (suc b) ps p q e = refl
 tail_drop (r ∷ rs) zero ps p q e = ap (λ b. option_map (λ m. m.0) (if b then Some (r, p) else find (λ m. m.1 == q) (zip rs ps))) e
 tail_drop (r ∷ rs) (suc b) ps p q e = tail_drop rs b ps p q e
 
-places_cons : (p : ℕ) (d : Descriptor) (ds : List Descriptor) → places_from p (d ∷ ds) ≡ (if is_cap d then p ∷ places_from (p + 1) ds else places_from (p + 1) ds)
+pub places_cons : (p : ℕ) (d : Descriptor) (ds : List Descriptor) → places_from p (d ∷ ds) ≡ (if is_cap d then p ∷ places_from (p + 1) ds else places_from (p + 1) ds)
 places_cons p NoCap ds = refl
 places_cons p (SenderHosted m) ds = refl
 places_cons p (SenderPromise m) ds = refl

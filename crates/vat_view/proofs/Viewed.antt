@@ -87,7 +87,7 @@ zip_found r (x ∷ rs) (p ∷ ps) h l = elim (cases_Bool (x == r)) [
 ]
 
 -- a place among the places has a reference among those noted
-zip_noted : (q : ℕ) (rs ps : List ℕ) → contains q ps ≡ true → length rs ≡ length ps → (n : ℕ × ℕ) × (find (λ n. n.1 == q) (zip rs ps) ≡ Some n) × (contains n.0 rs ≡ true)
+pub zip_noted : (q : ℕ) (rs ps : List ℕ) → contains q ps ≡ true → length rs ≡ length ps → (n : ℕ × ℕ) × (find (λ n. n.1 == q) (zip rs ps) ≡ Some n) × (contains n.0 rs ≡ true)
 zip_noted q rs [] h l = absurd (false≢true h)
 zip_noted q [] (p ∷ ps) h l = absurd (let no : ⊥ = omega (arith, l) in no)
 zip_noted q (x ∷ rs) (p ∷ ps) h l = elim (cases_Bool (p == q)) [
@@ -97,7 +97,7 @@ zip_noted q (x ∷ rs) (p ∷ ps) h l = elim (cases_Bool (p == q)) [
       (rest.0, ap (λ b. if b then Some (x, p) else find (λ n. n.1 == q) (zip rs ps)) apart ∙ rest.1, or_right _ _ rest.2)
 ]
 
-all_at : (test : ℕ → Bool) (xs : List ℕ) (x : ℕ) → list_all test xs ≡ true → contains x xs ≡ true → test x ≡ true
+pub all_at : (test : ℕ → Bool) (xs : List ℕ) (x : ℕ) → list_all test xs ≡ true → contains x xs ≡ true → test x ≡ true
 all_at test [] x h e = absurd (false≢true e)
 all_at test (y ∷ xs) x h e = let parts = and_parts (test y) (list_all test xs) h in elim (cases_Bool (y == x)) [
   | inl here ↦ subst (λ z. test z ≡ true) (eqb-true y x here) parts.0
@@ -113,7 +113,7 @@ later (SenderPromise m) ds p q apart h = sym (ap (λ b. b || contains q (places_
 later (ReceiverHosted m) ds p q apart h = sym (ap (λ b. b || contains q (places_from (p + 1) ds)) apart) ∙ h
 later (ReceiverAnswer m path) ds p q apart h = sym (ap (λ b. b || contains q (places_from (p + 1) ds)) apart) ∙ h
 
-places_above : (ds : List Descriptor) (p q : ℕ) → contains q (places_from p ds) ≡ true → p ≤ q
+pub places_above : (ds : List Descriptor) (p q : ℕ) → contains q (places_from p ds) ≡ true → p ≤ q
 places_above [] p q h = absurd (false≢true h)
 places_above (d ∷ ds) p q h = elim (cases_Bool (p == q)) [
   | inl here ↦ let same : p ≡ q = eqb-true p q here in omega (arith, same)
@@ -136,14 +136,14 @@ place_there (d ∷ ds) p q h = elim (cases_Bool (p == q)) [
   | inr apart ↦ let rest = place_there ds (p + 1) q (later d ds p q apart h) in let e = rest.2 in (suc rest.0, rest.1, omega (arith, e), rest.3, rest.4)
 ]
 
-cap_here : (d : Descriptor) (ds : List Descriptor) (p q : ℕ) → is_cap d ≡ true → p ≡ q → contains q (places_from p (d ∷ ds)) ≡ true
+pub cap_here : (d : Descriptor) (ds : List Descriptor) (p q : ℕ) → is_cap d ≡ true → p ≡ q → contains q (places_from p (d ∷ ds)) ≡ true
 cap_here NoCap ds p q c same = absurd (false≢true c)
 cap_here (SenderHosted m) ds p q c same = or_left _ _ (eq-eqb p q same)
 cap_here (SenderPromise m) ds p q c same = or_left _ _ (eq-eqb p q same)
 cap_here (ReceiverHosted m) ds p q c same = or_left _ _ (eq-eqb p q same)
 cap_here (ReceiverAnswer m path) ds p q c same = or_left _ _ (eq-eqb p q same)
 
-cap_later : (d : Descriptor) (ds : List Descriptor) (p q : ℕ) → contains q (places_from (p + 1) ds) ≡ true → contains q (places_from p (d ∷ ds)) ≡ true
+pub cap_later : (d : Descriptor) (ds : List Descriptor) (p q : ℕ) → contains q (places_from (p + 1) ds) ≡ true → contains q (places_from p (d ∷ ds)) ≡ true
 cap_later NoCap ds p q h = h
 cap_later (SenderHosted m) ds p q h = or_right _ _ h
 cap_later (SenderPromise m) ds p q h = or_right _ _ h
@@ -210,7 +210,7 @@ counted_there e i (x ∷ ds) (suc j) d g h = count_rest i (introduced e x) (filt
 noted_length : (before : Past) (e : Event) → is_late before e ≡ false → NotesEach before e → length (references e) ≡ length (places e)
 noted_length before e late h = h ∙ ap (λ b. if b then 0 else length (places e)) late
 
-begins_parts : (i : Id) (before : Past) (e : Event) (b : Birth) → begins i before e ≡ Some b →
+pub begins_parts : (i : Id) (before : Past) (e : Event) (b : Birth) → begins i before e ≡ Some b →
     (q : ℕ) × (position_from (λ d. names i (introduced e d)) 0 (descriptors e) ≡ Some q) × (b ≡ record { from = point before e; place = q }) × (is_late before e ≡ false)
 begins_parts i before e b h = parts (is_in_life i before) (is_late before e) (position_from (λ d. names i (introduced e d)) 0 (descriptors e)) h
   where
@@ -246,7 +246,7 @@ sent_bound i before (Wire false k c rs m) r q ours refers found there =
     absurd (none_some (sym (none_found (λ d. names i (introduced (Wire false k c rs m) d)) (descriptors (Wire false k c rs m)) 0 (λ d. not_ours i k c rs m d ours)) ∙ found))
 sent_bound i before _ r q ours refers found there = absurd (none_some found)
 
-cases_option : {A : Type 0} (o : Option A) → Has o ⊎ (o ≡ None)
+pub cases_option : {A : Type 0} (o : Option A) → Has o ⊎ (o ≡ None)
 cases_option (Some x) = inl (x, refl)
 cases_option None = inr refl
 

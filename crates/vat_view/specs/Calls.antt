@@ -1,16 +1,10 @@
 -- Calls at the vat, what they ask for, and what is known of their results (rpc.capnp, the comments of Call and
 -- Return).
 use Rattle.std.specs.Prelude.{ℕ, ◌==◌, Bool, true, false, not, ◌&&◌, ◌||◌, Option, Some, None, if◌then◌else◌, option_and_then, unwrap_or, is_some}
-use Rattle.vat_view.specs.Types.{Bootstrap, Call, Return, Results, Exception, Canceled, Event, Make, Deliver, Answer, Fault, Wire, View}
+use Rattle.vat_view.specs.Types.{Bootstrap, Call, Return, Results, Exception, Canceled, Event, Make, Deliver, Answer, Fault, Wire, View, Asked}
 use Rattle.vat_view.specs.Past.{Past, id, is, last_answer, last_where}
 use Rattle.vat_view.specs.Questions.{call_at, opening, is_late}
 use Rattle.vat_view.specs.Views.{view_of_reference, view_of_target}
-
--- where a call is to go, and by which method
-pub record Asked : Type 0 where
-  pub goal : Option View
-  pub interface : ℕ
-  pub method : ℕ
 
 -- MAKE brings a call to the vat, its goal the view of the reference; so does a received Call, its goal what the
 -- target stands for. A Bootstrap's call is never at a vat

@@ -12,3 +12,9 @@ pub mod Sound
 pub mod Numbers
 pub mod Laws
 pub mod Tables
+pub mod Asking
+pub mod CallTables
+pub mod KindTables
+pub mod Kept
+pub mod TurnTables
+pub mod Seen

@@ -26,6 +26,10 @@ abbrev pub last_answer : {A : Type 0} → (Past → Event → Option A) → Past
 last_answer ask [] = None
 last_answer ask (e ∷ before) = option_or (ask before e) (last_answer ask before)
 
+-- the record of this number, if there are so many
+abbrev pub record_at : ℕ → Past → Option Event
+record_at number past = last_answer (λ before e. if length before == number then Some e else None) past
+
 -- the last record that passes a test
 abbrev pub last_where : (Past → Event → Bool) → Past → Option Point
 last_where test [] = None

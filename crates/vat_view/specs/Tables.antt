@@ -2,7 +2,7 @@
 -- keys.
 use Rattle.std.specs.Prelude.{◌≡◌, ℕ, ◌+◌, ◌≤◌, ◌==◌, ◌&&◌, length, List, [], ◌∷◌, Bool, true, false, not, Option, Some, None, if◌then◌else◌, option_map, option_and_then, unwrap_or, find, slice_get}
 use Rattle.std.specs.Ordering.{nat_cmp}
-use Rattle.std.specs.List.{cons_option, position_from}
+use Rattle.std.specs.List.{cons_option}
 use Rattle.std.specs.Option.{option_or}
 use Rattle.std.specs.declared.cmp.Ordering.{Ordering}
 use Rattle.std.specs.BTreeMap.{get}
@@ -94,9 +94,13 @@ origins_from number e place before [] = []
 origins_from number e place before (d ∷ ds) =
     cons_option (origin_by number e place before d) (origins_from number e (place + 1) (before + (if is_cap d then 1 else 0)) ds)
 
+-- what a record of this number introduces, with the origins, where it is late or isn't
+abbrev pub origins_if : Bool → ℕ → Event → List (Id × Origin)
+origins_if late number e = if late then [] else origins_from number e 0 0 (descriptors e)
+
 -- what a record introduces, with the origins
 abbrev pub origins : Past → Event → List (Id × Origin)
-origins before e = if is_late before e then [] else origins_from (length before) e 0 0 (descriptors e)
+origins before e = origins_if (is_late before e) (length before) e
 
 -- the table of questions has what looking back finds
 abbrev pub AreKnown : Questions → Past → Type 0
@@ -189,21 +193,25 @@ abbrev pub call_by : Option Question → Option ℕ
 call_by (Some known) = if known.returned && known.finished then None else Some known.call
 call_by None = None
 
--- the first place at which a record introduces a number
-abbrev pub first_place : Event → Id → Option ℕ
-first_place e i = position_from (λ d. names i (introduced e d)) 0 (descriptors e)
+-- where the life of a number would begin by these introductions
+abbrev pub first_in : Id → List (Id × Origin) → Option Origin
+first_in i introduced = option_map (λ x. x.1) (find (λ x. same_id i x.0) introduced)
 
--- what a number of the sender stands for with a record of this number counted: what it stood for, or what its first introduction there brings
-abbrev pub sender_view : (ℕ → Option View) → Lives → ℕ → Event → Id → Option View
-sender_view named lives number e i = option_or (number_by named lives i) (option_map (λ place. Import number place) (first_place e i))
+-- a table of what these introduce
+abbrev pub AreBegun : List (Id × Origin) → Lives → Type 0
+AreBegun introduced begun = (i : Id) → held_origin begun i ≡ first_in i introduced
 
--- what a descriptor of a received record stands for, by the tables before it
-abbrev pub view_by : (ℕ → Option View) → Lives → (Id → Option Question) → ℕ → Event → Descriptor → Option View
-view_by named lives known number (Wire s k c rs m) (SenderHosted n) = sender_view named lives number (Wire s k c rs m) (id k s n)
-view_by named lives known number (Wire s k c rs m) (SenderPromise n) = sender_view named lives number (Wire s k c rs m) (id k s n)
-view_by named lives known number (Wire s k c rs m) (ReceiverHosted n) = number_by named lives (id k (not s) n)
-view_by named lives known number (Wire s k c rs m) (ReceiverAnswer q path) = option_map (λ call. FieldOf call path) (call_by (known (id k s q)))
-view_by named lives known number _ _ = None
+-- what a number of the sender stands for with a record counted: its life began before, or begins there
+abbrev pub sender_view : (ℕ → Option View) → Lives → Lives → Id → Option View
+sender_view named lives begun i = option_and_then (view_from named i.ours) (option_or (held_origin lives i) (held_origin begun i))
+
+-- what a descriptor of a record stands for, by the tables before it and the one of what it introduces
+abbrev pub view_by : (ℕ → Option View) → Lives → Lives → (Id → Option Question) → Event → Descriptor → Option View
+view_by named lives begun known (Wire s k c rs m) (SenderHosted n) = sender_view named lives begun (id k s n)
+view_by named lives begun known (Wire s k c rs m) (SenderPromise n) = sender_view named lives begun (id k s n)
+view_by named lives begun known (Wire s k c rs m) (ReceiverHosted n) = number_by named lives (id k (not s) n)
+view_by named lives begun known (Wire s k c rs m) (ReceiverAnswer q path) = option_map (λ call. FieldOf call path) (call_by (known (id k s q)))
+view_by named lives begun known _ _ = None
 
 -- the reference noted for a descriptor, where so many were noted before it
 abbrev pub reference_by : List ℕ → ℕ → Descriptor → Option ℕ
@@ -220,13 +228,13 @@ bound_from view rs before [] = []
 bound_from view rs before (d ∷ ds) = cons_option (bound_one view d (reference_by rs before d)) (bound_from view rs (before + (if is_cap d then 1 else 0)) ds)
 
 -- the references that a record binds, with their views
-abbrev pub bindings : (ℕ → Option View) → Lives → (Id → Option Question) → ℕ → Event → List (ℕ × View)
-bindings named lives known number (Host r object) = (r, Object object) ∷ []
-bindings named lives known number (Vow r) = (r, Promise r) ∷ []
-bindings named lives known number (Field r call path) = (r, FieldOf call path) ∷ []
-bindings named lives known number (Wire false k c rs m) =
-    bound_from (view_by named lives known number (Wire false k c rs m)) rs 0 (descriptors (Wire false k c rs m))
-bindings named lives known number _ = []
+abbrev pub bindings : (ℕ → Option View) → Lives → Lives → (Id → Option Question) → Event → List (ℕ × View)
+bindings named lives begun known (Host r object) = (r, Object object) ∷ []
+bindings named lives begun known (Vow r) = (r, Promise r) ∷ []
+bindings named lives begun known (Field r call path) = (r, FieldOf call path) ∷ []
+bindings named lives begun known (Wire false k c rs m) =
+    bound_from (view_by named lives begun known (Wire false k c rs m)) rs 0 (descriptors (Wire false k c rs m))
+bindings named lives begun known _ = []
 
 -- the table of references has what looking back finds
 abbrev pub AreBound : Past → Bound → Type 0

@@ -16,3 +16,4 @@ pub use Rattle.vat_view.specs.declared.event.Event.TheVariants.{Host, Vow, Fulfi
 pub use Rattle.vat_view.specs.declared.view.View.{View}
 pub use Rattle.vat_view.specs.declared.view.View.TheVariants.{Object, Promise, Field as FieldOf, Import}
 pub use Rattle.vat_view.specs.declared.id.Id.{Id}
+pub use Rattle.vat_view.specs.declared.asked.Asked.{Asked}

@@ -1,6 +1,6 @@
 -- What references, numbers, descriptors and targets stand for (rpc.capnp, the comments of CapDescriptor,
 -- MessageTarget and PromisedAnswer).
-use Rattle.std.specs.Prelude.{ℕ, ◌+◌, ◌==◌, List, [], ◌∷◌, Bool, true, false, not, Option, Some, None, if◌then◌else◌, slice_get, option_and_then, option_map, find}
+use Rattle.std.specs.Prelude.{ℕ, ◌+◌, ◌==◌, List, [], ◌∷◌, map, Bool, true, false, not, Option, Some, None, if◌then◌else◌, slice_get, option_and_then, option_map, find}
 use Rattle.std.specs.List.{zip}
 use Rattle.std.specs.Option.{option_or}
 use Rattle.vat_view.specs.Types.{Descriptor, NoCap, SenderHosted, SenderPromise, ReceiverHosted, ReceiverAnswer, Target, Imported, Promised, RpcMessage, Call, Disembargo, Event, Host, Vow, Field, Wire, View, Object, Promise, FieldOf, Import, Id}
@@ -75,6 +75,10 @@ view_of_number i past = number_view (view_of_reference past) i past
 -- what the descriptor at a place of a record stands for
 abbrev pub view_of_descriptor : Past → Event → ℕ → Option View
 view_of_descriptor before e place = described_at (view_of_reference before) before e place
+
+-- what the descriptors of a record stand for, by place
+abbrev pub views_of_descriptors : Past → Event → List (Option View)
+views_of_descriptors before e = map (described (view_of_reference before) before e) (descriptors e)
 
 -- the target of a message
 abbrev pub target_of : RpcMessage → Option Target

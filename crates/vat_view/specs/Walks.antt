@@ -1,5 +1,5 @@
 -- Where views turn, and where that leads (rpc.capnp, the comments of PromisedAnswer, Payload and Resolve).
-use Rattle.std.specs.Prelude.{◌≡◌, ℕ, ◌==◌, List, Bool, true, false, ◌&&◌, Option, Some, None, if◌then◌else◌, unwrap_or, option_and_then, find}
+use Rattle.std.specs.Prelude.{◌≡◌, ℕ, ◌==◌, List, Bool, true, false, ◌&&◌, Option, Some, None, if◌then◌else◌, unwrap_or, option_and_then, find, IsSome}
 use Rattle.std.specs.Str.{bytes_eq as same_path}
 use Rattle.vat_view.specs.Types.{Results, Return, Resolve, Event, Fulfil, Break, Answer, Fault, Wire, View, Object, Promise, FieldOf, Import}
 use Rattle.vat_view.specs.Past.{Past, id, is, number_of, last_answer}
@@ -60,12 +60,21 @@ answers call path before (Wire false k c rs (Return q release outcome)) =
     if is call (call_at (opening (id k true q) before)) then Some (if is_late before e then stops else on_to (result_at path before e)) else None
 answers call path before _ = None
 
--- where a view goes next
+-- where a record turns a view, if it does: it keeps or breaks a promise, ends a call, or resolves an import
+abbrev pub turn : View → Past → Event → Option Next
+turn (Object object) before e = None
+turn (Promise p) before e = keeps p before e
+turn (FieldOf call path) before e = answers call path before e
+turn (Import i place) before e = resolves i place before e
+
+-- where a view goes next: where the last record that turned it did, or it stays
 abbrev pub next : Past → View → Next
-next past (Object object) = stays
-next past (Promise p) = unwrap_or (last_answer (keeps p) past) stays
-next past (FieldOf call path) = unwrap_or (last_answer (answers call path) past) stays
-next past (Import i place) = unwrap_or (last_answer (resolves i place) past) stays
+next past v = unwrap_or (last_answer (turn v) past) stays
+
+-- (rpc.capnp, Resolve.promiseId and Return: a promise is resolved once, and a question has one Return)
+-- a record turns or stops only views that stay before it: the rules on promises, answers, Returns and Resolves together
+abbrev pub TurnsOnce : Past → Event → Type 0
+TurnsOnce before e = (v : View) → IsSome (turn v before e) → next before v ≡ stays
 
 -- one view leads to another: by no turn, or by a turn to a view that leads there
 pub data Leads (past : Past) : View → View → Type 0 where

@@ -1,79 +1,64 @@
 //! Which references a record binds, and to which views.
 
 ghost use Rattle.std.specs.Prelude.{◌≡◌, ◌∷◌, [], IfOk};
-ghost use Rattle.vat_view.specs.Past.{names};
-ghost use Rattle.vat_view.specs.Lives.{descriptors, introduced};
+ghost use Rattle.vat_view.specs.Lives.{descriptors};
 ghost use Rattle.vat_view.specs.Views.{references};
 ghost use Rattle.vat_view.specs.Bindings.{new_references};
-ghost use Rattle.vat_view.specs.Tables.{bound_at, question_at, first_place, sender_view, view_by, reference_by, bound_one, bound_from, bindings};
+ghost use Rattle.vat_view.specs.Tables.{bound_at, question_at, origins_if, AreBegun, sender_view, view_by, reference_by, bound_one, bound_from, bindings};
 
 use crate::bound::Bound;
 use crate::event::Event;
 use crate::id::Id;
 use crate::lives::Lives;
 use crate::questions::Questions;
-use crate::records::{descriptors, introduced, is_cap, references};
-use crate::standing::{call_of, view_of_number};
+use crate::records::{descriptors, is_cap, origins, references};
+use crate::standing::{field_of, view_from, view_of_number};
 use crate::view::View;
 use rpc_view::Descriptor;
 use std::alloc::{AllocError, Global};
 use std::slice;
 
-/// Whether a descriptor of a record introduces this number.
-fn introduces(event: &Event, descriptor: &Descriptor, number: Id) -> bool
-    ensures { result ≡ names number (introduced event.now descriptor.now) }
+/// A table of what a record of this number introduces, with the places of the first of each; a late Return's
+/// introductions aren't counted.
+pub(crate) fn begun(
+    alloc: Global,
+    late: bool,
+    number: usize,
+    event: &Event,
+) -> Result<Lives, AllocError>
+    ensures { IfOk result (λ begun. AreBegun (origins_if late number event.now) begun) }
 {
-    match introduced(event, descriptor) {
-        Some(id) => {
-            number.connection == id.connection
-                && number.ours == id.ours
-                && number.number == id.number
-        }
-        None => false,
-    }
+    let origins = origins(alloc, late, number, event)?;
+    let mut begun = Lives::new(alloc);
+    begun.raise_each(origins.as_slice())?;
+    Ok(begun)
 }
 
-/// The first place at which a record introduces this number.
-fn first_place(event: &Event, number: Id) -> Option<usize>
-    ensures { result ≡ first_place event.now number }
-{
-    for (place, descriptor) in descriptors(event).iter().enumerate() {
-        if introduces(event, descriptor, number) {
-            return Some(place);
-        }
-    }
-    None
-}
-
-/// What a number of the sender stands for, with the record of this number counted.
+/// What a number of the sender stands for with a record counted: its life began before, or begins there.
 fn sender_view(
     bound: &Bound,
     lives: &Lives,
-    number: usize,
-    event: &Event,
-    id: Id,
+    begun: &Lives,
+    number: Id,
 ) -> Result<Option<View>, AllocError>
-    ensures { IfOk result (λ v. v ≡ sender_view (bound_at bound.now) lives.now number event.now id) }
+    ensures { IfOk result (λ v. v ≡ sender_view (bound_at bound.now) lives.now begun.now number) }
 {
-    if let Some(view) = view_of_number(bound, lives, id)? {
-        return Ok(Some(view));
-    }
-    match first_place(event, id) {
-        Some(place) => Ok(Some(View::Import(number, place))),
+    match lives.origin_of(number).or(begun.origin_of(number)) {
+        Some(origin) => view_from(bound, number.ours, origin),
         None => Ok(None),
     }
 }
 
-/// What a descriptor of a record of this number stands for.
-fn view_by(
+/// What a descriptor of a record stands for, by the tables before it and the one of what it introduces.
+pub(crate) fn view_by(
     bound: &Bound,
     lives: &Lives,
+    begun: &Lives,
     questions: &Questions,
-    number: usize,
     event: &Event,
     descriptor: &Descriptor,
 ) -> Result<Option<View>, AllocError>
-    ensures { IfOk result (λ v. v ≡ view_by (bound_at bound.now) lives.now (question_at questions.now) number event.now descriptor.now) }
+    ensures { IfOk result (λ v. v ≡ view_by (bound_at bound.now) lives.now begun.now (question_at questions.now) event.now descriptor.now) }
 {
     let Event::Wire {
         sent,
@@ -91,7 +76,7 @@ fn view_by(
                 ours: *sent,
                 number: *n,
             };
-            sender_view(bound, lives, number, event, id)
+            sender_view(bound, lives, begun, id)
         }
         Descriptor::ReceiverHosted(n) => {
             let id = Id {
@@ -107,16 +92,17 @@ fn view_by(
                 ours: *sent,
                 number: *q,
             };
-            match call_of(questions, id) {
-                Some(call) => Ok(Some(View::Field(call, path.copy()?))),
-                None => Ok(None),
-            }
+            field_of(questions, id, path)
         }
     }
 }
 
 /// The reference noted for a descriptor, where so many were noted before it.
-fn reference_by(references: &[u64], before: usize, descriptor: &Descriptor) -> Option<u64>
+pub(crate) fn reference_by(
+    references: &[u64],
+    before: usize,
+    descriptor: &Descriptor,
+) -> Option<u64>
     ensures { result ≡ reference_by references.now before descriptor.now }
 {
     if is_cap(descriptor) {
@@ -130,18 +116,18 @@ fn reference_by(references: &[u64], before: usize, descriptor: &Descriptor) -> O
 fn bound_one(
     bound: &Bound,
     lives: &Lives,
+    begun: &Lives,
     questions: &Questions,
-    number: usize,
     event: &Event,
     descriptor: &Descriptor,
     reference: Option<u64>,
 ) -> Result<Option<(u64, View)>, AllocError>
-    ensures { IfOk result (λ v. v ≡ bound_one (view_by (bound_at bound.now) lives.now (question_at questions.now) number event.now) descriptor.now reference) }
+    ensures { IfOk result (λ v. v ≡ bound_one (view_by (bound_at bound.now) lives.now begun.now (question_at questions.now) event.now) descriptor.now reference) }
 {
     let Some(reference) = reference else {
         return Ok(None);
     };
-    match view_by(bound, lives, questions, number, event, descriptor)? {
+    match view_by(bound, lives, begun, questions, event, descriptor)? {
         Some(view) => Ok(Some((reference, view))),
         None => Ok(None),
     }
@@ -152,11 +138,11 @@ fn noted(
     alloc: Global,
     bound: &Bound,
     lives: &Lives,
+    begun: &Lives,
     questions: &Questions,
-    number: usize,
     event: &Event,
 ) -> Result<Vec<(u64, View)>, AllocError>
-    ensures { IfOk result (λ list. list.items ≡ bound_from (view_by (bound_at bound.now) lives.now (question_at questions.now) number event.now) (references event.now) 0 (descriptors event.now)) }
+    ensures { IfOk result (λ list. list.items ≡ bound_from (view_by (bound_at bound.now) lives.now begun.now (question_at questions.now) event.now) (references event.now) 0 (descriptors event.now)) }
 {
     let mut list = Vec::new(alloc);
     let noted = references(event);
@@ -164,7 +150,7 @@ fn noted(
     for descriptor in descriptors(event) {
         let reference = reference_by(noted, before, descriptor);
         if let Some(one) = bound_one(
-            bound, lives, questions, number, event, descriptor, reference,
+            bound, lives, begun, questions, event, descriptor, reference,
         )? {
             list.push(one)?;
         }
@@ -184,16 +170,16 @@ fn one(alloc: Global, reference: u64, view: View) -> Result<Vec<(u64, View)>, Al
     Ok(list)
 }
 
-/// The references that a record of this number binds, with their views.
+/// The references that a record binds, with their views.
 pub(crate) fn bindings(
     alloc: Global,
     bound: &Bound,
     lives: &Lives,
+    begun: &Lives,
     questions: &Questions,
-    number: usize,
     event: &Event,
 ) -> Result<Vec<(u64, View)>, AllocError>
-    ensures { IfOk result (λ list. list.items ≡ bindings (bound_at bound.now) lives.now (question_at questions.now) number event.now) }
+    ensures { IfOk result (λ list. list.items ≡ bindings (bound_at bound.now) lives.now begun.now (question_at questions.now) event.now) }
 {
     match event {
         Event::Host { reference, object } => one(alloc, *reference, View::Object(*object)),
@@ -203,7 +189,7 @@ pub(crate) fn bindings(
             call,
             path,
         } => one(alloc, *reference, View::Field(*call, path.copy()?)),
-        Event::Wire { sent: false, .. } => noted(alloc, bound, lives, questions, number, event),
+        Event::Wire { sent: false, .. } => noted(alloc, bound, lives, begun, questions, event),
         _ => Ok(Vec::new(alloc)),
     }
 }

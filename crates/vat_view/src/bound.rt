@@ -1,9 +1,10 @@
 //! The table of references.
 
-ghost use Rattle.std.specs.Prelude.{◌≡◌, ◌==◌, ℕ, None, Some, OnOk, OnErr, true, false, map, if◌then◌else◌};
+ghost use Rattle.std.specs.Prelude.{◌≡◌, ◌==◌, ℕ, None, Some, OnOk, OnErr, true, false, map, is_some, if◌then◌else◌};
 ghost use Rattle.std.specs.Option.{option_copied};
 ghost use Rattle.vat_view.specs.Bindings.{contains};
 ghost use Rattle.vat_view.specs.Tables.{bound_at, bound_by};
+ghost use Rattle.vat_view.specs.TurnTables.{bound_len};
 
 use crate::view::View;
 use std::alloc::{AllocError, Global};
@@ -30,6 +31,20 @@ impl Bound {
         ensures { option_copied result ≡ bound_at self.now reference }
     {
         self.entries.get(&reference)
+    }
+
+    /// Whether this reference has a view.
+    pub(crate) fn has(&self, reference: u64) -> bool
+        ensures { result ≡ is_some (bound_at self.now reference) }
+    {
+        self.entries.contains_key(&reference)
+    }
+
+    /// How many references are bound.
+    pub(crate) fn len(&self) -> usize
+        ensures { result ≡ bound_len self.now }
+    {
+        self.entries.len()
     }
 
     /// This reference has this view. Where memory is refused, nothing changes.

@@ -9,6 +9,7 @@ ghost use Rattle.vat_view.specs.Uses.{UsesQuestions};
 ghost use Rattle.vat_view.specs.Views.{view_of_reference, view_of_number};
 ghost use Rattle.vat_view.specs.Bindings.{Refers, is_bound};
 ghost use Rattle.vat_view.specs.Sound.{IsSound};
+ghost use Rattle.vat_view.specs.Walks.{next, turns, stops, TurnsOnce, Leads, LeadsByTurns, IsEnd};
 ghost use Rattle.vat_view.specs.Laws.{count_since, LivesOn, EachAfter};
 
 /// Since its last opening a question has one Return and one Finish at most, where the records before use questions as
@@ -39,4 +40,28 @@ pub fn numbers_keep_views()
 /// Every reference that is bound has a view, where each record is as it should be after those before it.
 pub fn bound_references_have_views()
     ensures { (past : Past) → Each IsSound past → (r : ℕ) → is_bound past r ≡ true → IsSome (view_of_reference past r) }
+{}
+
+/// Turns only grow: where the records that follow turn only views that stay, a view that turned or stopped does so for
+/// ever after, and what it leads to it leads to for ever after, by 1 or more turns too.
+pub fn turns_only_grow()
+    ensures turned { (later : List Event) (past : Past) → EachAfter TurnsOnce later past → (a b : View) → next past a ≡ turns b
+        → next (later ++ past) a ≡ turns b }
+    ensures stopped { (later : List Event) (past : Past) → EachAfter TurnsOnce later past → (a : View) → next past a ≡ stops
+        → next (later ++ past) a ≡ stops }
+    ensures leads { (later : List Event) (past : Past) → EachAfter TurnsOnce later past → (a b : View) → Leads past a b
+        → Leads (later ++ past) a b }
+    ensures by_turns { (later : List Event) (past : Past) → EachAfter TurnsOnce later past → (a b : View) → LeadsByTurns past a b
+        → LeadsByTurns (later ++ past) a b }
+{}
+
+/// What a view turns to is the view of a bound reference, where each record is as it should be after those before it.
+pub fn turns_go_to_references()
+    ensures { (past : Past) → Each IsSound past → (a b : View) → next past a ≡ turns b
+        → (r : ℕ) × (is_bound past r ≡ true) × (view_of_reference past r ≡ Some b) }
+{}
+
+/// A view has one end at most.
+pub fn ends_are_one()
+    ensures { (past : Past) (a b c : View) → IsEnd past a b → IsEnd past a c → b ≡ c }
 {}

@@ -10,28 +10,47 @@
 //! the functions of `src/laws.rt`, which do nothing.
 #![tactic(auto)]
 
+mod applying;
 mod arrivals;
+mod asked;
+mod asking;
 mod bound;
+mod calls;
 mod event;
 mod id;
 mod ids;
+mod kinds;
+mod landing;
 mod laws;
 mod lives;
+mod news;
 mod number;
 mod origin;
+mod parts;
+mod pending;
+mod progress;
 mod question;
 mod questions;
 mod records;
+mod referring;
+mod resolves;
+mod rules;
+mod seen;
+mod settling;
 mod standing;
 mod state;
+mod tally;
 mod telling;
+mod turns;
 mod view;
+mod walk;
 
+pub use asked::Asked;
 pub use event::Event;
 pub use id::Id;
 pub use laws::{
-    bound_references_have_views, no_more_goes, numbers_keep_views, openings_are_closed_once,
-    references_keep_views,
+    bound_references_have_views, ends_are_one, no_more_goes, numbers_keep_views,
+    openings_are_closed_once, references_keep_views, turns_go_to_references, turns_only_grow,
 };
 pub use number::Number;
 pub use state::VatState;

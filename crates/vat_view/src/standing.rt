@@ -2,11 +2,12 @@
 
 ghost use Rattle.std.specs.Prelude.{◌≡◌, option_map, IfOk};
 ghost use Rattle.vat_view.specs.Types.{FieldOf};
-ghost use Rattle.vat_view.specs.Tables.{bound_at, number_by, question_at, call_by};
+ghost use Rattle.vat_view.specs.Tables.{bound_at, view_from, number_by, question_at, call_by};
 
 use crate::bound::Bound;
 use crate::id::Id;
 use crate::lives::Lives;
+use crate::origin::Origin;
 use crate::questions::Questions;
 use crate::view::View;
 use cap_frame::Path;
@@ -22,6 +23,23 @@ pub(crate) fn view_of_reference(bound: &Bound, reference: u64) -> Result<Option<
     }
 }
 
+/// What a number stands for, of this vat or of its peer, whose life began so.
+pub(crate) fn view_from(
+    bound: &Bound,
+    ours: bool,
+    origin: Origin,
+) -> Result<Option<View>, AllocError>
+    ensures { IfOk result (λ v. v ≡ view_from (bound_at bound.now) ours origin) }
+{
+    if !ours {
+        return Ok(Some(View::Import(origin.number, origin.place)));
+    }
+    match origin.reference {
+        Some(reference) => view_of_reference(bound, reference),
+        None => Ok(None),
+    }
+}
+
 /// What an export or import number stands for.
 pub(crate) fn view_of_number(
     bound: &Bound,
@@ -30,14 +48,8 @@ pub(crate) fn view_of_number(
 ) -> Result<Option<View>, AllocError>
     ensures { IfOk result (λ v. v ≡ number_by (bound_at bound.now) lives.now number) }
 {
-    let Some(origin) = lives.origin_of(number) else {
-        return Ok(None);
-    };
-    if !number.ours {
-        return Ok(Some(View::Import(origin.number, origin.place)));
-    }
-    match origin.reference {
-        Some(reference) => view_of_reference(bound, reference),
+    match lives.origin_of(number) {
+        Some(origin) => view_from(bound, number.ours, origin),
         None => Ok(None),
     }
 }

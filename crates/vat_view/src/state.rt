@@ -1,20 +1,32 @@
 //! The state of a vat's numbers after some records of its log.
 
-ghost use Rattle.std.specs.Prelude.{◌≡◌, [], ◌∷◌, IfOk, OnOk, OnErr};
+ghost use Rattle.std.specs.Prelude.{◌≡◌, ◌↔◌, [], ◌∷◌, Decides, IfOk, OnOk, OnErr, IsTrue, MatchOption, option_map};
+ghost use Rattle.vat_view.specs.declared.view.View.{View};
+ghost use Rattle.std.specs.Option.{option_copied};
+ghost use Rattle.vat_view.specs.Past.{record_at};
 ghost use Rattle.vat_view.specs.Numbers.{number_held, number_stands};
-ghost use Rattle.vat_view.specs.Lives.{GivesBackHeld};
-ghost use Rattle.vat_view.specs.Uses.{UsesQuestions};
-ghost use Rattle.vat_view.specs.Views.{view_of_reference};
-ghost use Rattle.vat_view.specs.Bindings.{Refers, NotesEach};
+ghost use Rattle.vat_view.specs.Questions.{is_free, is_unfinished, is_finished, is_unreturned, call_at, call_of, opening, is_late};
+ghost use Rattle.vat_view.specs.Lives.{GivesBackHeld, birth, began_promised, is_in_life, is_resolved};
+ghost use Rattle.vat_view.specs.Uses.{UsesQuestions, UsesNumbers};
+ghost use Rattle.vat_view.specs.Views.{view_of_reference, view_of_target, view_of_descriptor, views_of_descriptors};
+ghost use Rattle.vat_view.specs.Walks.{next, stays, Leads, LeadsByTurns, IsEnd};
+ghost use Rattle.vat_view.specs.Bindings.{Refers, NotesEach, is_bound, is_bound_call};
+ghost use Rattle.vat_view.specs.Calls.{asked, goal_of, is_at_vat, is_served, is_settled, is_known};
 
+use crate::applying::learn_all;
+use crate::asked::Asked;
 use crate::bound::Bound;
+use crate::calls::Calls;
 use crate::event::Event;
+use crate::id::Id;
 use crate::lives::Lives;
 use crate::number::Number;
 use crate::questions::Questions;
-use crate::standing;
-use crate::telling::learn;
+use crate::resolves::Resolves;
+use crate::settling::settled;
+use crate::turns::Turns;
 use crate::view::View;
+use crate::{arrivals, asking, kinds, records, standing, telling, walk};
 use cap_frame::Path;
 use std::alloc::{AllocError, Global};
 use std::marker::Model;
@@ -27,18 +39,25 @@ pub struct VatState {
     questions: Questions,
     lives: Lives,
     bound: Bound,
+    calls: Calls,
+    resolves: Resolves,
+    turns: Turns,
 }
 
 impl Model for VatState {
     ghost use Rattle.std.specs.Prelude.{List, reverse};
     ghost use Rattle.vat_view.specs.declared.event.Event.{Event};
-    ghost use Rattle.vat_view.specs.Tables.{AreTabled};
+    ghost use Rattle.vat_view.specs.KindTables.{AreResolved};
+    ghost use Rattle.vat_view.specs.Kept.{AreKept};
+    ghost use Rattle.vat_view.specs.TurnTables.{AreSettled};
 
     ghost Value = { List Event };
 
     ghost view = { λ state. reverse state.events.items };
 
-    ghost invariant = { λ state. AreTabled (reverse state.events.items) state.questions state.lives state.bound };
+    ghost invariant = { λ state. AreKept (reverse state.events.items) state.questions state.lives state.bound state.calls
+        × AreResolved (reverse state.events.items) state.resolves
+        × AreSettled (reverse state.events.items) state.turns };
 }
 
 impl VatState {
@@ -51,6 +70,9 @@ impl VatState {
             questions: Questions::new(alloc),
             lives: Lives::new(alloc),
             bound: Bound::new(alloc),
+            calls: Calls::new(alloc),
+            resolves: Resolves::new(alloc),
+            turns: Turns::new(alloc),
         }
     }
 
@@ -101,6 +123,44 @@ impl VatState {
         }
     }
 
+    /// The record of this number among those applied, counted from 0, if there are so many. An import's view has the
+    /// number of the record that brought it.
+    pub fn event_at(&self, number: usize) -> Option<&Event>
+        ensures { option_copied result ≡ record_at number self.now }
+    {
+        walk::event_at(self.events.as_slice(), number)
+    }
+
+    /// Whether a view goes on nowhere: it has neither turned nor stopped. It takes no memory.
+    pub fn stays(&self, view: &View) -> bool
+        ensures { IsTrue result ↔ (next self.now view.now ≡ stays) }
+    {
+        walk::stays(self.events.as_slice(), &self.turns, view)
+    }
+
+    /// Whether a view leads to another, by 0 or more turns. It makes at most as many turns as references are bound, and
+    /// takes no memory.
+    pub fn leads(&self, from: &View, to: &View) -> bool
+        ensures { IsTrue result ↔ Leads self.now from.now to.now }
+    {
+        walk::leads(self.events.as_slice(), &self.turns, &self.bound, from, to)
+    }
+
+    /// Whether a view leads to another by 1 or more turns; a view of a circle leads so to itself. It takes no memory.
+    pub fn leads_by_turns(&self, from: &View, to: &View) -> bool
+        ensures { IsTrue result ↔ LeadsByTurns self.now from.now to.now }
+    {
+        walk::leads_by_turns(self.events.as_slice(), &self.turns, &self.bound, from, to)
+    }
+
+    /// The end of a view: the view to which it leads and which goes on nowhere. It has none where its walk stops or
+    /// goes in a circle. It takes no memory.
+    pub fn end<'a>(&'a self, view: &'a View) -> Option<&'a View>
+        ensures { MatchOption result ((end : View) → IsEnd self.now view.now end → ⊥) (λ end. IsEnd self.now view.now end.now) }
+    {
+        walk::end(self.events.as_slice(), &self.turns, &self.bound, view)
+    }
+
     /// Applies a record, which keeps the rules that are named after those applied.
     ///
     /// # Errors
@@ -109,6 +169,7 @@ impl VatState {
     pub fn apply(&mut self, event: Event) -> Result<(), AllocError>
         requires refers { Refers self.old event }
         requires uses { UsesQuestions self.old event }
+        requires numbers { UsesNumbers self.old event }
         requires gives { GivesBackHeld self.old event }
         requires notes { NotesEach self.old event }
         ensures ok { OnOk result (self.new ≡ event ∷ self.old) }
@@ -117,15 +178,249 @@ impl VatState {
         self.events.reserve(1)?;
         let alloc = *self.events.allocator();
         let number = self.events.len();
-        learn(
+        let pending = settled(&self.questions, &self.lives, &self.bound, &event);
+        self.turns.make_room(pending)?;
+        let promise = records::resolved(&event);
+        self.resolves.room_for(promise)?;
+        learn_all(
             alloc,
             number,
             &mut self.questions,
             &mut self.lives,
             &mut self.bound,
+            &mut self.calls,
             &event,
         )?;
+        self.turns.note(pending, number);
+        self.resolves.note_resolve(promise, number);
         self.events.push(event)?;
         Ok(())
+    }
+}
+
+impl VatState {
+    /// Where its memory comes from.
+    pub(crate) fn allocator(&self) -> Global {
+        *self.events.allocator()
+    }
+}
+
+/// What can be asked before a record is applied.
+impl VatState {
+    /// Whether a question is free: it was never opened, or both its Return and its Finish have passed since its last
+    /// opening (rpc.capnp, `Call.questionId`).
+    pub fn is_free(&self, question: Id) -> bool
+        ensures { result ≡ is_free question self.now }
+    {
+        asking::is_free(&self.questions, question)
+    }
+
+    /// Whether a question is opened and no Finish has passed since (rpc.capnp, `Finish.questionId`).
+    pub fn is_unfinished(&self, question: Id) -> bool
+        ensures { result ≡ is_unfinished question self.now }
+    {
+        asking::is_unfinished(&self.questions, question)
+    }
+
+    /// Whether a Finish of a question has passed since its last opening.
+    pub fn is_finished(&self, question: Id) -> bool
+        ensures { result ≡ is_finished question self.now }
+    {
+        asking::is_finished(&self.questions, question)
+    }
+
+    /// Whether a question is opened and no Return has passed since (rpc.capnp, `Return.answerId`).
+    pub fn is_unreturned(&self, question: Id) -> bool
+        ensures { result ≡ is_unreturned question self.now }
+    {
+        asking::is_unreturned(&self.questions, question)
+    }
+
+    /// The call that a question stands for, if it isn't free.
+    pub fn call_of(&self, question: Id) -> Option<u64>
+        ensures { result ≡ call_of question self.now }
+    {
+        standing::call_of(&self.questions, question)
+    }
+
+    /// The call of a question's last opening, free or not, if it was ever opened.
+    pub fn opening_call(&self, question: Id) -> Option<u64>
+        ensures { result ≡ call_at (opening question self.now) }
+    {
+        asking::opening_call(&self.questions, question)
+    }
+
+    /// Whether a record is a late Return: a Finish with releaseResultCaps true has passed before it, for the same
+    /// opening of its question.
+    pub fn is_late(&self, event: &Event) -> bool
+        ensures { result ≡ is_late self.now event.now }
+    {
+        telling::is_late(&self.questions, event)
+    }
+
+    /// Whether an export or import number is in life: whether it is held (rpc.capnp, the comment of `Release`).
+    pub fn is_in_life(&self, number: Id) -> bool
+        ensures { result ≡ is_in_life number self.now }
+    {
+        self.lives.count_of(number) > 0
+    }
+
+    /// Whether the present life of an export or import number began with a senderPromise, where it is in life.
+    pub fn began_promised(&self, number: Id) -> Option<bool>
+        ensures { result ≡ option_map began_promised (birth number self.now) }
+    {
+        match self.lives.origin_of(number) {
+            Some(origin) => Some(kinds::promised_at(&self.events, origin)),
+            None => None,
+        }
+    }
+
+    /// Whether a Resolve passed in the present life of an export or import number.
+    pub fn is_resolved(&self, number: Id) -> bool
+        ensures { result ≡ is_resolved number self.now }
+    {
+        kinds::resolved_since(self.lives.origin_of(number), self.resolves.of(number))
+    }
+
+    /// Whether a reference is bound.
+    pub fn is_bound(&self, reference: u64) -> bool
+        ensures { result ≡ is_bound self.now reference }
+    {
+        self.bound.has(reference)
+    }
+
+    /// What the target of a record stands for that may be applied next, if it has one.
+    ///
+    /// # Errors
+    ///
+    /// Want of memory.
+    pub fn view_of_target(&self, event: &Event) -> Result<Option<View>, AllocError>
+        ensures { IfOk result (λ view. view ≡ view_of_target self.now event.now) }
+    {
+        asking::view_of_target(&self.bound, &self.lives, &self.questions, event)
+    }
+
+    /// What the descriptor at a place of a record stands for that may be applied next, if it has one there. It takes
+    /// time with the width of the record: `views_of_descriptors` answers all places in as much.
+    ///
+    /// # Errors
+    ///
+    /// Want of memory.
+    pub fn view_of_descriptor(
+        &self,
+        event: &Event,
+        place: usize,
+    ) -> Result<Option<View>, AllocError>
+        ensures { IfOk result (λ view. view ≡ view_of_descriptor self.now event.now place) }
+    {
+        let Some(descriptor) = records::descriptors(event).get(place) else {
+            return Ok(None);
+        };
+        let alloc = *self.events.allocator();
+        let late = telling::is_late(&self.questions, event);
+        let begun = arrivals::begun(alloc, late, self.events.len(), event)?;
+        arrivals::view_by(
+            &self.bound,
+            &self.lives,
+            &begun,
+            &self.questions,
+            event,
+            descriptor,
+        )
+    }
+
+    /// What the descriptors of a record stand for that may be applied next, by place.
+    ///
+    /// # Errors
+    ///
+    /// Want of memory.
+    pub fn views_of_descriptors(&self, event: &Event) -> Result<Vec<Option<View>>, AllocError>
+        ensures { IfOk result (λ views. views.items ≡ views_of_descriptors self.now event.now) }
+    {
+        let alloc = *self.events.allocator();
+        let late = telling::is_late(&self.questions, event);
+        let begun = arrivals::begun(alloc, late, self.events.len(), event)?;
+        asking::views_of_descriptors(
+            alloc,
+            &self.bound,
+            &self.lives,
+            &begun,
+            &self.questions,
+            event,
+        )
+    }
+
+    /// Whether a record that may be applied next gives back no more of each number than is held.
+    ///
+    /// # Errors
+    ///
+    /// Want of memory.
+    pub fn gives_back_held(&self, event: &Event) -> Result<bool, AllocError>
+        ensures { IfOk result (λ held. Decides held (GivesBackHeld self.now event.now)) }
+    {
+        let alloc = *self.events.allocator();
+        asking::gives_back_held(alloc, &self.questions, &self.lives, event)
+    }
+}
+
+/// What can be asked of calls.
+impl VatState {
+    /// Whether a call is bound.
+    pub fn is_bound_call(&self, call: u64) -> bool
+        ensures { result ≡ is_bound_call self.now call }
+    {
+        self.calls.has(call)
+    }
+
+    /// What a call asked for when it came to the vat, by MAKE or by a received Call; nothing of one that didn't come.
+    ///
+    /// # Errors
+    ///
+    /// Want of memory.
+    pub fn asked(&self, call: u64) -> Result<Option<Asked>, AllocError>
+        ensures { IfOk result (λ asks. asks ≡ asked call self.now) }
+    {
+        self.calls.asked(call)
+    }
+
+    /// A call's goal, if it came to the vat with one: what the reference of its MAKE, or the target of its received
+    /// Call, stood for then.
+    ///
+    /// # Errors
+    ///
+    /// Want of memory.
+    pub fn goal_of(&self, call: u64) -> Result<Option<View>, AllocError>
+        ensures { IfOk result (λ goal. goal ≡ goal_of call self.now) }
+    {
+        self.calls.goal_of(call)
+    }
+
+    /// Whether a call is at the vat: it came, and wasn't delivered, faulted, sent on, or answered by a sent Return with
+    /// exception or canceled since.
+    pub fn is_at_vat(&self, call: u64) -> bool
+        ensures { result ≡ is_at_vat call self.now }
+    {
+        self.calls.is_at_vat(call)
+    }
+
+    /// Whether a call was delivered here, or is that of a received Bootstrap.
+    pub fn is_served(&self, call: u64) -> bool
+        ensures { result ≡ is_served call self.now }
+    {
+        self.calls.is_served(call)
+    }
+
+    /// Whether a call has an answer or fault.
+    pub fn is_settled(&self, call: u64) -> bool
+        ensures { result ≡ is_settled call self.now }
+    {
+        self.calls.is_settled(call)
+    }
+
+    /// Whether a call's results are known: by ANSWER, or by a received Return with results that isn't late.
+    pub fn is_known(&self, call: u64) -> bool
+        ensures { result ≡ is_known call self.now }
+    {
+        self.calls.is_known(call)
     }
 }

@@ -8,7 +8,7 @@ ghost use Rattle.vat_view.specs.Lives.{GivesBackHeld};
 ghost use Rattle.vat_view.specs.Uses.{UsesQuestions};
 ghost use Rattle.vat_view.specs.Tables.{question_at, late_by, closed_by, count_at, origin_at, raised_origin, lets_go, just_opened, noted_by, IsPut, IsSame, IsTabled, AreTabled, IsFit};
 
-use crate::arrivals::{bindings, new_references};
+use crate::arrivals::{begun, bindings, new_references};
 use crate::bound::Bound;
 use crate::event::Event;
 use crate::id::Id;
@@ -212,7 +212,9 @@ pub(crate) fn learn(
     ensures err { OnErr result ((before : Past) → number ≡ length before → AreTabled before questions.old lives.old bound.old → IsFit before event.now
         → AreTabled before questions.new lives.new bound.new) }
 {
-    let list = bindings(alloc, bound, lives, questions, number, event)?;
+    let late = is_late(questions, event);
+    let begun = begun(alloc, late, number, event)?;
+    let list = bindings(alloc, bound, lives, &begun, questions, event)?;
     if bound.bind_each(list).is_err() {
         bound.unbind_each(new_references(event));
         return Err(AllocError);

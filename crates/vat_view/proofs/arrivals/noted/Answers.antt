@@ -1,4 +1,4 @@
-use Rattle.std.proofs.Common.{◌≡◌, ◌+◌, refl, sym, ◌∙◌, ap, ap₂, ℕ, List, [], ◌∷◌, ◌++◌, take, length, get_or, Option, Some, None, count_by, cond, arith, zero-add}
+use Rattle.std.proofs.Common.{◌≡◌, ◌+◌, sym, ◌∙◌, ap, ap₂, ℕ, List, [], ◌∷◌, ◌++◌, take, Option, count_by, cond, arith, zero-add}
 use Rattle.std.specs.Option.{option_to_list}
 use Rattle.std.proofs.lemmas.Grind.{common_steps}
 use Rattle.std.proofs.lemmas.List.{take_more}
@@ -15,7 +15,7 @@ loop-descriptor-preserved c =
     let rs : List ℕ = references c.args.event.now in
     let k : ℕ = c.loop-descriptor.descriptor-index in
     let d : Descriptor = c.descriptor-item.result in
-    let f : Descriptor → Option View = view_by (bound_at c.args.bound.now) c.args.lives.now (question_at c.args.questions.now) c.args.number c.args.event.now in
+    let f : Descriptor → Option View = view_by (bound_at c.args.bound.now) c.args.lives.now c.args.begun.now (question_at c.args.questions.now) c.args.event.now in
     let before : List Descriptor = take k ds in
     let more : take (k + 1) ds ≡ before ++ d ∷ [] = take_more ds k d c.loop-descriptor-test.true ∙ ap (λ x. before ++ x ∷ []) (sym c.descriptor-item.is) in
     let pushed : c.match-branch-2.list.items ≡ c.loop-descriptor.list.items ++ option_to_list c.in_ok-one.field-0 = grind (arith, common_steps) in

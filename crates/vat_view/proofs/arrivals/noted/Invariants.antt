@@ -5,6 +5,6 @@ use Rattle.vat_view.proofs.arrivals.noted.Given as goal
 
 abbrev pub invariant-loop-descriptor : goal.invariant-loop-descriptor
 invariant-loop-descriptor l = record {
-  listed : l.list.items ≡ bound_from (view_by (bound_at l.bound) l.lives (question_at l.questions) l.number l.event) (references l.event) 0 (take l.descriptor-index l.descriptor-items);
+  listed : l.list.items ≡ bound_from (view_by (bound_at l.bound) l.lives l.begun (question_at l.questions) l.event) (references l.event) 0 (take l.descriptor-index l.descriptor-items);
   before : l.before ≡ count_by is_cap (take l.descriptor-index l.descriptor-items);
 }

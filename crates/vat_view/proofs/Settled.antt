@@ -1,0 +1,218 @@
+-- The table of turns after a record, and what it says of views.
+use Rattle.std.proofs.Common.{◌≡◌, ◌<◌, ◌≤◌, inl, inr, refl, sym, ◌∙◌, ap, ap₂, subst, ℕ, zero, suc, ◌==◌, List, [], ◌∷◌, ◌++◌, length, cond, Bool, true, false, Option, Some, None, if◌then◌else◌, option_map, option_and_then, arith}
+use Rattle.std.specs.Prelude.{slice_get, unwrap_or, reverse}
+use Rattle.std.specs.Ordering.{nat_cmp, is_eq}
+use Rattle.std.specs.Map.{lookup}
+use Rattle.std.proofs.lemmas.List.{length-reverse, reverse-append, reverse-reverse}
+use Rattle.std.proofs.lemmas.Bool.{cases_Bool, false≢true, ltb-true, ltb-false, eqb-true, eq-eqb, ne_eqb}
+use Rattle.vat_view.specs.declared.questions.Questions.{Questions}
+use Rattle.vat_view.specs.declared.lives.Lives.{Lives}
+use Rattle.vat_view.specs.declared.bound.Bound.{Bound}
+use Rattle.vat_view.specs.declared.turns.Turns.{Turns}
+use Rattle.vat_view.specs.declared.pending.Pending.{Pending}
+use Rattle.vat_view.specs.declared.pending.Pending.TheVariants.{Promise as PromiseToKeep, Results as ResultsOf, Import as ImportToResolve}
+use Rattle.vat_view.specs.Types.{Return, Resolve, Event, Fulfil, Break, Answer, Fault, Wire, View, Object, Promise, FieldOf, Import, Id}
+use Rattle.std.specs.Option.{option_or}
+use Rattle.vat_view.specs.Past.{Past, Point, id, point, number_of, record_at, last_answer, last_where}
+use Rattle.vat_view.specs.Questions.{call_at, opening}
+use Rattle.vat_view.specs.Lives.{Birth, birth, begins, held, is_in_life}
+use Rattle.vat_view.specs.Views.{view_of_reference}
+use Rattle.vat_view.specs.Walks.{on_to, next}
+use Rattle.vat_view.specs.Tables.{question_at, count_at, origin_at, origin_of, held_origin, bound_at, AreTabled, IsFit}
+use Rattle.vat_view.specs.TurnTables.{is_this, path_of, promise_of, import_at, results_by, import_by, settled, settled_by, landing, goes, settler, settler_of, settler_at, AreSettled, settler_by, goes_by, turned_to, turn_by, bound_len}
+use Rattle.vat_view.proofs.Knowing.{known_from}
+use Rattle.vat_view.proofs.Raising.{positive}
+use Rattle.vat_view.proofs.Landed.{going_step, lands_bound}
+use Rattle.vat_view.proofs.Walking.{some_same, none_some, Lands}
+
+-- ---- what a record settles, by the tables before it
+
+module _ (before : Past) (questions : Questions) (lives : Lives) (bound : Bound) (kept : AreTabled before questions lives bound) where
+  results_from : (q : Id) (o : Option Point) → results_by (option_map (known_from q before) o) ≡ option_map ResultsOf (call_at o)
+  results_from q (Some p) = refl
+  results_from q None = refl
+
+  import_from : (o : Option Birth) → import_by (option_map origin_of o) ≡ option_map import_at o
+  import_from (Some b) = refl
+  import_from None = refl
+
+  import_known : (i : Id) → import_by (held_origin lives i) ≡ option_map import_at (birth i before)
+  import_known i = elim (cases_Bool (is_in_life i before)) [
+    | inl alive ↦
+        let some : (count_at lives i == 0) ≡ false =
+        positive (count_at lives i) (let more : 0 < held i before = ltb-true 0 (held i before) alive in let same = kept.tabled.counted i in omega (arith, more, same)) in
+        ap (λ b. import_by (if b then None else origin_at lives i)) some
+        ∙ ap (λ o. import_by o) (kept.tabled.born i alive)
+        ∙ import_from (last_answer (begins i) before)
+        ∙ sym (ap (λ b. option_map import_at (if b then last_answer (begins i) before else None)) alive)
+    | inr out ↦
+        let none : (count_at lives i == 0) ≡ true =
+        eq-eqb (count_at lives i) 0 (let less : held i before ≤ 0 = ltb-false 0 (held i before) out in let same = kept.tabled.counted i in omega (arith, less, same)) in
+        ap (λ b. import_by (if b then None else origin_at lives i)) none
+        ∙ sym (ap (λ b. option_map import_at (if b then last_answer (begins i) before else None)) out)
+  ]
+
+  pub settled_known : (e : Event) → settled_by (bound_at bound) lives (question_at questions) e ≡ settled before e
+  settled_known (Fulfil r to) = ap (λ o. promise_of o) (kept.bounds r)
+  settled_known (Break r) = ap (λ o. promise_of o) (kept.bounds r)
+  settled_known (Answer c results) = refl
+  settled_known (Fault c) = refl
+  settled_known (Wire false k c rs (Return q release outcome)) = let i : Id = id k true q in ap (λ o. results_by o) (kept.tabled.known i) ∙ results_from i (opening i before)
+  settled_known (Wire false k c rs (Resolve n resolution)) = import_known (id k false n)
+  settled_known _ = refl
+
+-- ---- the table after a record
+
+number_if : (b : Bool) (before : Past) (e : Event) (o : Option Point) →
+    (if b then Some (length before) else option_map number_of o) ≡ option_map number_of (if b then Some (point before e) else o)
+number_if true before e o = refl
+number_if false before e o = refl
+
+-- a table that says the same
+pub settled_same : (past : Past) (table other : Turns) → ((p : Pending) → settler_at other p ≡ settler_at table p) → AreSettled past table → AreSettled past other
+settled_same past table other same kept = record { settlers = λ p. same p ∙ kept.settlers p; going = kept.going; landed = kept.landed }
+
+pub settled_more : (before : Past) (e : Event) (table other : Turns) (number : ℕ) (s : Option Pending) → IsFit before e → number ≡ length before → s ≡ settled before e →
+    ((p : Pending) → settler_at other p ≡ (if is_this p s then Some number else settler_at table p)) → AreSettled before table → AreSettled (e ∷ before) other
+settled_more before e table other number s fit place settles noted kept = record {
+  settlers = λ p.
+      noted p ∙ ap₂ (λ x n. if is_this p x then Some n else settler_at table p) settles place
+      ∙ ap (λ o. if is_this p (settled before e) then Some (length before) else o) (kept.settlers p)
+      ∙ number_if (is_this p (settled before e)) before e (settler p before);
+  going = λ v. going_step before e fit.refers fit.notes kept.landed v (kept.going v);
+  landed = (lands_bound before e fit.refers, kept.landed);
+}
+
+-- the state, whose records stand with the oldest first
+
+pub turns_refused : (items other : List Event) (table room : Turns) → other ≡ items → ((p : Pending) → settler_at room p ≡ settler_at table p) →
+    AreSettled (reverse items) table → AreSettled (reverse other) room
+turns_refused items other table room same says kept = settled_same (reverse other) table room says (subst (λ l. AreSettled (reverse l) table) (sym same) kept)
+
+pub turns_applied : (items other pushed : List Event) (e : Event) (number : ℕ) (s : Option Pending) (questions : Questions) (lives : Lives) (bound : Bound) (table room more : Turns) →
+    other ≡ items → number ≡ length other → pushed ≡ other ++ e ∷ [] → IsFit (reverse items) e → AreTabled (reverse items) questions lives bound → AreSettled (reverse items) table →
+    s ≡ settled_by (bound_at bound) lives (question_at questions) e → ((p : Pending) → settler_at room p ≡ settler_at table p) →
+    ((p : Pending) → settler_at more p ≡ (if is_this p s then Some number else settler_at room p)) → AreSettled (reverse pushed) more
+turns_applied items other pushed e number s questions lives bound table room more same place is_pushed fit tabled kept settles says noted =
+    subst (λ l. AreSettled l more) (sym (ap (λ l. reverse l) (is_pushed ∙ ap (λ l. l ++ e ∷ []) same) ∙ reverse-append items (e ∷ [])))
+    (settled_more (reverse items) e room more number s fit (place ∙ ap (λ l. length l) same ∙ sym (length-reverse items))
+    (settles ∙ settled_known (reverse items) questions lives bound tabled e) noted (settled_same (reverse items) table room says kept))
+
+-- ---- where views go, by the table
+
+get_front : (xs ys : List Event) (k : ℕ) (x : Event) → slice_get xs k ≡ Some x → slice_get (xs ++ ys) k ≡ Some x
+get_front [] ys zero x h = absurd (none_some x h)
+get_front [] ys (suc k) x h = absurd (none_some x h)
+get_front (y ∷ xs) ys zero x h = h
+get_front (y ∷ xs) ys (suc k) x h = get_front xs ys k x h
+
+get_last : (xs : List Event) (y : Event) → slice_get (xs ++ y ∷ []) (length xs) ≡ Some y
+get_last [] y = refl
+get_last (x ∷ xs) y = get_last xs y
+
+get_apart : (xs : List Event) (y : Event) (k : ℕ) → (length xs == k) ≡ false → slice_get (xs ++ y ∷ []) k ≡ slice_get xs k
+get_apart [] y zero h = absurd (false≢true (sym h))
+get_apart [] y (suc zero) h = refl
+get_apart [] y (suc (suc k)) h = refl
+get_apart (x ∷ xs) y zero h = refl
+get_apart (x ∷ xs) y (suc k) h =
+    get_apart xs y k (ne_eqb (length xs) k (λ same. let again : suc (length xs) ≡ suc k = omega (arith, same) in false≢true (sym h ∙ eq-eqb (suc (length xs)) (suc k) again)))
+
+-- the record of a number stands there
+pub record_there : (past : Past) (k : ℕ) → slice_get (reverse past) k ≡ record_at k past
+record_there [] zero = refl
+record_there [] (suc k) = refl
+record_there (e ∷ before) k = elim (cases_Bool (length before == k)) [
+  | inl here ↦
+      ap₂ (λ l n. slice_get l n) (reverse-append (e ∷ []) before) (sym (eqb-true (length before) k here) ∙ sym (length-reverse before)) ∙ get_last (reverse before) e
+      ∙ sym (ap (λ b. option_or (if b then Some e else None) (record_at k before)) here)
+  | inr apart ↦
+      ap (λ l. slice_get l k) (reverse-append (e ∷ []) before)
+      ∙ get_apart (reverse before) e k (ap (λ n. n == k) (length-reverse before) ∙ apart)
+      ∙ record_there before k
+      ∙ sym (ap (λ b. option_or (if b then Some e else None) (record_at k before)) apart)
+]
+
+-- the record of a point has its number
+at_point : (test : Past → Event → Bool) (past : Past) (p : Point) → last_where test past ≡ Some p → slice_get (reverse past) (number_of p) ≡ Some p.event
+at_point test [] p h = absurd (none_some p h)
+at_point test (e ∷ before) p h = elim (cases_Bool (test before e)) [
+  | inl here ↦
+      let same : point before e ≡ p = some_same (point before e) p (sym (ap (λ b. if b then Some (point before e) else last_where test before) here) ∙ h) in
+      subst (λ q. slice_get (reverse (e ∷ before)) (number_of q) ≡ Some q.event) same
+      (ap₂ (λ l n. slice_get l n) (reverse-append (e ∷ []) before) (sym (length-reverse before)) ∙ get_last (reverse before) e)
+  | inr apart ↦
+      ap (λ l. slice_get l (number_of p)) (reverse-append (e ∷ []) before)
+      ∙ get_front (reverse before) (e ∷ []) (number_of p) p.event
+      (at_point test before p (sym (ap (λ b. if b then Some (point before e) else last_where test before) apart) ∙ h))
+]
+
+module _ (items : List Event) (table : Turns) (kept : AreSettled (reverse items) table) where
+  settler_there : (p : Pending) → option_and_then (λ n. slice_get items n) (settler_at table p) ≡ option_map (λ q. q.event) (settler p (reverse items))
+  settler_there p = ap (λ o. option_and_then (λ n. slice_get items n) o) (kept.settlers p) ∙ inner (settler p (reverse items)) refl
+    where
+      inner : (o : Option Point) → settler p (reverse items) ≡ o → option_and_then (λ n. slice_get items n) (option_map number_of o) ≡ option_map (λ q. q.event) o
+      inner None h = refl
+      inner (Some q) h = ap (λ l. slice_get l (number_of q)) (sym (reverse-reverse items)) ∙ at_point (λ before e. is_this p (settled before e)) (reverse items) q h
+
+  settler_known : (v : View) → settler_by table items v ≡ settler_of v (reverse items)
+  settler_known (Object object) = refl
+  settler_known (Promise p) = settler_there (PromiseToKeep p)
+  settler_known (FieldOf call path) = settler_there (ResultsOf call)
+  settler_known (Import i place) = settler_there (ImportToResolve i place)
+
+  goes_named : (named other : ℕ → Option View) → ((r : ℕ) → named r ≡ other r) → (path : List ℕ) (o : Option Event) → goes named path o ≡ goes other path o
+  goes_named named other h path None = refl
+  goes_named named other h path (Some e) = inner (landing path e)
+    where
+      inner : (o : Option ℕ) → on_to (option_and_then named o) ≡ on_to (option_and_then other o)
+      inner None = refl
+      inner (Some r) = ap (λ w. on_to w) (h r)
+
+  pub goes_known : (bound : Bound) → ((r : ℕ) → bound_at bound r ≡ view_of_reference (reverse items) r) → (v : View) → goes_by items table (bound_at bound) v ≡ next (reverse items) v
+  goes_known bound bounds v =
+      goes_named (bound_at bound) (view_of_reference (reverse items)) bounds (path_of v) (settler_by table items v)
+      ∙ ap (λ o. goes (view_of_reference (reverse items)) (path_of v) o) (settler_known v) ∙ sym (kept.going v)
+
+-- ---- each turn lands on the view of a bound reference
+
+-- the place of a reference in a table
+abbrev pub spot : ℕ → List (ℕ × View) → ℕ
+spot r [] = 0
+spot r (e ∷ es) = cond (is_eq (nat_cmp r e.0)) 0 (suc (spot r es))
+
+-- the view at a place
+abbrev pub view_there : List (ℕ × View) → ℕ → Option View
+view_there es k = option_map (λ e. e.1) (slice_get es k)
+
+choose : (b : Bool) (e : ℕ × View) (es : List (ℕ × View)) (o : Option View) (s : ℕ) (w : View) → (o ≡ Some w → (s < length es) × (view_there es s ≡ Some w)) →
+    cond b (Some e.1) o ≡ Some w → (cond b 0 (suc s) < length (e ∷ es)) × (view_there (e ∷ es) (cond b 0 (suc s)) ≡ Some w)
+choose true e es o s w rest h = (omega arith, h)
+choose false e es o s w rest h = (omega (arith, (rest h).0), (rest h).1)
+
+spot_found : (r : ℕ) (es : List (ℕ × View)) (w : View) → lookup (λ k. is_eq (nat_cmp r k)) es ≡ Some w → (spot r es < length es) × (view_there es (spot r es) ≡ Some w)
+spot_found r [] w h = absurd (none_some w h)
+spot_found r (e ∷ es) w h = choose (is_eq (nat_cmp r e.0)) e es (lookup (λ k. is_eq (nat_cmp r k)) es) (spot r es) w (spot_found r es w) h
+
+turned_on_to : (o : Option View) → turned_to (on_to o) ≡ o
+turned_on_to (Some v) = refl
+turned_on_to None = refl
+
+-- a view turns to the view of the reference where it lands
+pub turn_landing : (named : ℕ → Option View) (path : List ℕ) (o : Option Event) → turned_to (goes named path o) ≡ option_and_then named (option_and_then (landing path) o)
+turn_landing named path (Some e) = turned_on_to (option_and_then named (landing path e))
+turn_landing named path None = refl
+
+module _ (events : List Event) (table : Turns) (bound : Bound) where
+  -- the place in the table of references of the one where a view lands
+  abbrev pub place_of : View → ℕ
+  place_of v = unwrap_or (option_map (λ r. spot r bound.entries.entries) (option_and_then (landing (path_of v)) (settler_by table events v))) 0
+
+  pub few : Lands (turn_by events table (bound_at bound)) place_of (view_there bound.entries.entries) (bound_len bound)
+  few v w h = inner (option_and_then (landing (path_of v)) (settler_by table events v)) (sym (turn_landing (bound_at bound) (path_of v) (settler_by table events v)) ∙ h)
+    where
+      inner : (o : Option ℕ) → option_and_then (bound_at bound) o ≡ Some w →
+          (unwrap_or (option_map (λ r. spot r bound.entries.entries) o) 0 < bound_len bound)
+          × (view_there bound.entries.entries (unwrap_or (option_map (λ r. spot r bound.entries.entries) o) 0) ≡ Some w)
+      inner (Some r) g = spot_found r bound.entries.entries w g
+      inner None g = absurd (none_some w g)

@@ -1,0 +1,52 @@
+-- Turns only grow.
+use Rattle.std.proofs.Common.{◌≡◌, refl, sym, ◌∙◌, subst, List, [], ◌∷◌, ◌++◌, Option, Some, None}
+use Rattle.std.specs.Prelude.{unwrap_or, IsSome}
+use Rattle.std.specs.Option.{option_or}
+use Rattle.vat_view.specs.Types.{Event, View}
+use Rattle.vat_view.specs.Past.{Past, last_answer}
+use Rattle.vat_view.specs.Laws.{EachAfter}
+use Rattle.vat_view.specs.Walks.{Next, turns, stops, stays, turn, next, TurnsOnce, Leads, here, onward, LeadsByTurns, turned, IsEnd}
+
+turns_not_stays : {b : View} → turns b ≡ stays → ⊥
+turns_not_stays e = cc
+
+stops_not_stays : stops ≡ stays → ⊥
+stops_not_stays e = cc
+
+turns_same : {b c : View} → turns b ≡ turns c → b ≡ c
+turns_same e = cc
+
+-- a record that turned the view would find that it stays
+unturned : (now before : Option Next) (n : Next) → (IsSome now → unwrap_or before stays ≡ stays) → unwrap_or before stays ≡ n → (n ≡ stays → ⊥) →
+    unwrap_or (option_or now before) stays ≡ n
+unturned None before n once e moved = e
+unturned (Some x) before n once e moved = absurd (moved (sym e ∙ once refl))
+
+pub goes_on : (later : List Event) (past : Past) (a : View) (n : Next) → EachAfter TurnsOnce later past → next past a ≡ n → (n ≡ stays → ⊥) → next (later ++ past) a ≡ n
+goes_on [] past a n once e moved = e
+goes_on (x ∷ later) past a n once e moved =
+    unturned (turn a (later ++ past) x) (last_answer (turn a) (later ++ past)) n (once.0 a) (goes_on later past a n once.1 e moved) moved
+
+pub turned_on : (later : List Event) (past : Past) (a b : View) → EachAfter TurnsOnce later past → next past a ≡ turns b → next (later ++ past) a ≡ turns b
+turned_on later past a b once e = goes_on later past a (turns b) once e turns_not_stays
+
+pub stopped_on : (later : List Event) (past : Past) (a : View) → EachAfter TurnsOnce later past → next past a ≡ stops → next (later ++ past) a ≡ stops
+stopped_on later past a once e = goes_on later past a stops once e stops_not_stays
+
+pub leads_on : (later : List Event) (past : Past) (a b : View) → EachAfter TurnsOnce later past → Leads past a b → Leads (later ++ past) a b
+leads_on later past a b once here = here
+leads_on later past a c once (onward {b = b} e rest) = onward (turned_on later past a b once e) (leads_on later past b c once rest)
+
+pub by_turns_on : (later : List Event) (past : Past) (a b : View) → EachAfter TurnsOnce later past → LeadsByTurns past a b → LeadsByTurns (later ++ past) a b
+by_turns_on later past a c once (turned {b = b} e rest) = turned (turned_on later past a b once e) (leads_on later past b c once rest)
+
+-- two walks from one view that go on nowhere end in one
+one_last : (past : Past) (a b c : View) → Leads past a b → next past b ≡ stays → Leads past a c → next past c ≡ stays → b ≡ c
+one_last past a b c here last here also = refl
+one_last past a b c here last (onward e rest) also = absurd (turns_not_stays (sym e ∙ last))
+one_last past a b c (onward e rest) last here also = absurd (turns_not_stays (sym e ∙ also))
+one_last past a b c (onward {b = m} e rest) last (onward {b = n} f others) also =
+    one_last past m b c rest last (subst (λ x. Leads past x c) (sym (turns_same (sym e ∙ f))) others) also
+
+pub one_end : (past : Past) (a b c : View) → IsEnd past a b → IsEnd past a c → b ≡ c
+one_end past a b c first second = one_last past a b c first.led first.last second.led second.last

@@ -1,0 +1,8 @@
+use Rattle.std.proofs.Common.{subst}
+use Rattle.vat_view.specs.Kept.{AreKept}
+use Rattle.vat_view.proofs.Answering.{if_ok, gives_decided}
+use Rattle.vat_view.proofs.state.VatState.gives_back_held.Goals as goal
+
+pub returns : goal.returns
+returns c = if_ok c.gives_back_held.result (λ held decides. gives_decided c.args.self.now c.self.inside.questions c.self.inside.lives c.self.inside.bound c.self.inside.calls
+    (subst (λ p. AreKept p c.self.inside.questions c.self.inside.lives c.self.inside.bound c.self.inside.calls) c.self.view_is c.self.invariant.0) c.args.event.now held decides) c.gives_back_held.ensures

@@ -1,0 +1,15 @@
+use Rattle.std.proofs.Common.{◌≡◌, refl}
+use Rattle.vat_view.specs.Types.{View}
+use Rattle.vat_view.specs.Walks.{Next, next}
+use Rattle.vat_view.specs.Tables.{bound_at}
+use Rattle.vat_view.specs.TurnTables.{goes_by}
+use Rattle.vat_view.proofs.Ending.{stays_known, goes_so}
+use Rattle.vat_view.proofs.state.VatState.stays.Goals as goal
+
+pub returns : goal.returns
+returns c =
+    let going : View → Next = λ v. goes_by c.as_slice.result.now c.self.inside.turns (bound_at c.self.inside.bound) v in
+    let same : (v : View) → going v ≡ next c.args.self.now v =
+    goes_so c.self.inside.events.items c.as_slice.result.now c.args.self.now c.self.inside.questions c.self.inside.lives c.self.inside.bound c.self.inside.turns
+    c.self.view_is c.as_slice.ensures.value c.self.invariant.0.tabled c.self.invariant.2 in
+    stays_known going c.args.self.now same c.as_slice.result.now c.self.inside.turns (bound_at c.self.inside.bound) (λ v. refl) c.args.view.now c.stays.result c.stays.ensures

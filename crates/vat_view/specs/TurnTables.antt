@@ -1,0 +1,179 @@
+-- For the code's contracts, and no part of the meaning: the table of turns, what looking back finds for its keys, and
+-- walks by so many turns.
+use Rattle.std.specs.Prelude.{◌≡◌, ℕ, zero, suc, ◌==◌, ◌&&◌, List, ◌∷◌, [], Bool, true, false, Option, Some, None, option_map, option_and_then, find, slice_get, is_some}
+use Rattle.std.specs.declared.cmp.Ordering.{Ordering}
+use Rattle.std.specs.BTreeMap.{get, btree_map_len}
+use Rattle.std.specs.Str.{bytes_eq as same_path}
+use Rattle.vat_view.specs.declared.question.Question.{Question}
+use Rattle.vat_view.specs.declared.lives.Lives.{Lives}
+use Rattle.vat_view.specs.declared.bound.Bound.{Bound}
+use Rattle.vat_view.specs.declared.origin.Origin.{Origin}
+use Rattle.vat_view.specs.declared.pending.Pending.{Pending}
+use Rattle.vat_view.specs.declared.pending.Pending.TheVariants.{Promise as PromiseToKeep, Results as ResultsOf, Import as ImportToResolve}
+use Rattle.vat_view.specs.declared.turns.Turns.{Turns}
+use Rattle.vat_view.specs.contracts.pending.PendingOrd.TheImpl as pending_order
+use Rattle.vat_view.specs.Types.{Results, Return, Resolve, Event, Fulfil, Break, Answer, Fault, Wire, View, Object, Promise, FieldOf, Import, Id}
+use Rattle.vat_view.specs.Past.{Past, Point, id, number_of, last_where, Each}
+use Rattle.vat_view.specs.Questions.{call_at, opening}
+use Rattle.vat_view.specs.Lives.{Birth, birth}
+use Rattle.vat_view.specs.Views.{noted, view_of_reference}
+use Rattle.vat_view.specs.Walks.{Next, turns, stays, on_to, next}
+use Rattle.vat_view.specs.Bindings.{is_bound}
+use Rattle.vat_view.specs.Tables.{held_origin}
+
+-- ---- what records settle
+
+-- two are one
+abbrev pub same_pending : Pending → Pending → Bool
+same_pending (PromiseToKeep p) (PromiseToKeep q) = q == p
+same_pending (ResultsOf c) (ResultsOf d) = d == c
+same_pending (ImportToResolve i place) (ImportToResolve j other) = (j == i) && (other == place)
+same_pending _ _ = false
+
+-- something is settled, and it is this
+abbrev pub is_this : Pending → Option Pending → Bool
+is_this p (Some q) = same_pending p q
+is_this p None = false
+
+-- what a view waits for; an object for nothing
+abbrev pub awaited : View → Option Pending
+awaited (Object object) = None
+awaited (Promise p) = Some (PromiseToKeep p)
+awaited (FieldOf call path) = Some (ResultsOf call)
+awaited (Import i place) = Some (ImportToResolve i place)
+
+-- the path of a field; the empty one of every other view
+abbrev pub path_of : View → List ℕ
+path_of (FieldOf call path) = path
+path_of _ = []
+
+-- the own promise for which a reference stands
+abbrev pub promise_of : Option View → Option Pending
+promise_of (Some (Promise p)) = Some (PromiseToKeep p)
+promise_of _ = None
+
+-- the import whose life began so
+abbrev pub import_at : Birth → Pending
+import_at b = ImportToResolve (number_of b.from) b.place
+
+-- what a record settles: the promise that it keeps or breaks, the call that it ends, the import that it resolves
+abbrev pub settled : Past → Event → Option Pending
+settled before (Fulfil r to) = promise_of (view_of_reference before r)
+settled before (Break r) = promise_of (view_of_reference before r)
+settled before (Answer c results) = Some (ResultsOf c)
+settled before (Fault c) = Some (ResultsOf c)
+settled before (Wire false k c rs (Return q release outcome)) = option_map ResultsOf (call_at (opening (id k true q) before))
+settled before (Wire false k c rs (Resolve n resolution)) = option_map import_at (birth (id k false n) before)
+settled before _ = None
+
+-- the call of a question, by what is known of it
+abbrev pub results_by : Option Question → Option Pending
+results_by known = option_map (λ question. ResultsOf question.call) known
+
+-- an import, by where its life began
+abbrev pub import_by : Option Origin → Option Pending
+import_by origin = option_map (λ o. ImportToResolve o.number o.place) origin
+
+-- the same by the tables before the record
+abbrev pub settled_by : (ℕ → Option View) → Lives → (Id → Option Question) → Event → Option Pending
+settled_by named lives known (Fulfil r to) = promise_of (named r)
+settled_by named lives known (Break r) = promise_of (named r)
+settled_by named lives known (Answer c results) = Some (ResultsOf c)
+settled_by named lives known (Fault c) = Some (ResultsOf c)
+settled_by named lives known (Wire false k c rs (Return q release outcome)) = results_by (known (id k true q))
+settled_by named lives known (Wire false k c rs (Resolve n resolution)) = import_by (held_origin lives (id k false n))
+settled_by named lives known _ = None
+
+-- ---- where they turn it
+
+-- the reference noted for the descriptor at a place of a record
+abbrev pub reference_at : Event → ℕ → Option ℕ
+reference_at e place = option_map (λ n. n.0) (find (λ n. n.1 == place) (noted e))
+
+-- the reference to which a record turns a view of this path that it settles
+abbrev pub landing : List ℕ → Event → Option ℕ
+landing path (Fulfil r to) = Some to
+landing path (Answer c results) = option_map (λ answer. answer.0) (find (λ answer. same_path answer.1 path) results)
+landing path (Wire s k c rs (Return q release (Results payload))) =
+    option_and_then (λ field. reference_at (Wire s k c rs (Return q release (Results payload))) field.1) (find (λ field. same_path field.0 path) payload.fields)
+landing path (Wire s k c rs (Resolve n resolution)) = reference_at (Wire s k c rs (Resolve n resolution)) 0
+landing path _ = None
+
+-- where a view of this path goes by the record that settled it, where references are named; it stays where none did
+abbrev pub goes : (ℕ → Option View) → List ℕ → Option Event → Next
+goes named path (Some e) = on_to (option_and_then named (landing path e))
+goes named path None = stays
+
+-- the last record that settled this
+abbrev pub settler : Pending → Past → Option Point
+settler p past = last_where (λ before e. is_this p (settled before e)) past
+
+-- the last record that settled a view
+abbrev pub settler_of : View → Past → Option Event
+settler_of v past = option_map (λ p. p.event) (option_and_then (λ p. settler p past) (awaited v))
+
+-- each reference to which a record turns something is bound
+abbrev pub LandsBound : Past → Event → Type 0
+LandsBound before e = (path : List ℕ) (r : ℕ) → landing path e ≡ Some r → is_bound (e ∷ before) r ≡ true
+
+-- ---- the table
+
+-- the order of what views wait for
+abbrev pub pending_cmp : Pending → Pending → Ordering
+pending_cmp = (pending_order.ghosts).cmp
+
+-- the number of the record that the table has for this
+abbrev pub settler_at : Turns → Pending → Option ℕ
+settler_at table p = option_and_then (λ number. number) (get pending_cmp table.entries p)
+
+-- the table has room for what is settled
+abbrev pub has_room : Turns → Option Pending → Bool
+has_room table (Some p) = is_some (get pending_cmp table.entries p)
+has_room table None = true
+
+-- the table of turns at a point of a log: for each thing it has the last record that settled it; each view goes where
+-- the record that settled it says, and what it goes to is bound
+pub record AreSettled (past : Past) (table : Turns) : Type 0 where
+  pub settlers : (p : Pending) → settler_at table p ≡ option_map number_of (settler p past)
+  pub going : (v : View) → next past v ≡ goes (view_of_reference past) (path_of v) (settler_of v past)
+  pub landed : Each LandsBound past
+
+-- the record that settled a view, by the table, among these records with the oldest first
+abbrev pub settler_by : Turns → List Event → View → Option Event
+settler_by table events v = option_and_then (slice_get events) (option_and_then (settler_at table) (awaited v))
+
+-- where a view goes next, by the table
+abbrev pub goes_by : List Event → Turns → (ℕ → Option View) → View → Next
+goes_by events table named v = goes named (path_of v) (settler_by table events v)
+
+-- how many references are bound
+abbrev pub bound_len : Bound → ℕ
+bound_len table = btree_map_len table.entries
+
+-- ---- walks
+
+-- the view to which a view turns
+abbrev pub turned_to : Next → Option View
+turned_to (turns v) = Some v
+turned_to _ = None
+
+-- the same by the table
+abbrev pub turn_by : List Event → Turns → (ℕ → Option View) → View → Option View
+turn_by events table named v = turned_to (goes_by events table named v)
+
+-- what is reached by n turns, if there is something
+abbrev pub reached : {A : Type 0} → (A → Option A) → ℕ → Option A → Option A
+reached turn zero v = v
+reached turn (suc n) v = reached turn n (option_and_then turn v)
+
+-- one is reached from another by some number of turns
+abbrev pub Reaches : {A : Type 0} → (A → Option A) → A → A → Type 0
+Reaches turn a b = (n : ℕ) × (reached turn n (Some a) ≡ Some b)
+
+-- it is so by 1 or more turns
+abbrev pub ReachesByTurns : {A : Type 0} → (A → Option A) → A → A → Type 0
+ReachesByTurns turn a c = (n : ℕ) × (reached turn n (turn a) ≡ Some c)
+
+-- the last that is reached, where it stays
+abbrev pub EndsBy : (View → Next) → View → View → Type 0
+EndsBy goes a end = Reaches (λ v. turned_to (goes v)) a end × (goes end ≡ stays)

@@ -1,0 +1,179 @@
+//! What is asked of questions, numbers and records, by the tables.
+
+ghost use Rattle.std.specs.Prelude.{◌≡◌, ◌≤◌, ◌<◌, count_by, map, Decides, IfOk};
+ghost use Rattle.vat_view.specs.Past.{same_id};
+ghost use Rattle.vat_view.specs.Types.{Id};
+ghost use Rattle.vat_view.specs.Lives.{descriptors};
+ghost use Rattle.vat_view.specs.Tables.{question_at, count_at, bound_at, view_by};
+ghost use Rattle.vat_view.specs.Asking.{free_in, unfinished_in, finished_in, unreturned_in, opening_call_in, targeted_by, let_go_of, given_by};
+
+use crate::arrivals::view_by;
+use crate::bound::Bound;
+use crate::event::Event;
+use crate::id::Id;
+use crate::lives::Lives;
+use crate::questions::Questions;
+use crate::records::descriptors;
+use crate::standing::{field_of, view_of_number};
+use crate::tally::Tally;
+use crate::telling::closed;
+use crate::view::View;
+use rpc_view::{RpcMessage, Target};
+use std::alloc::{AllocError, Global};
+
+/// Whether a question is free.
+pub(crate) fn is_free(questions: &Questions, question: Id) -> bool
+    ensures { result ≡ free_in (question_at questions.now question) }
+{
+    match questions.of(question) {
+        Some(known) => known.returned && known.finished,
+        None => true,
+    }
+}
+
+/// Whether a question is opened and not finished.
+pub(crate) fn is_unfinished(questions: &Questions, question: Id) -> bool
+    ensures { result ≡ unfinished_in (question_at questions.now question) }
+{
+    match questions.of(question) {
+        Some(known) => !known.finished,
+        None => false,
+    }
+}
+
+/// Whether a question is finished.
+pub(crate) fn is_finished(questions: &Questions, question: Id) -> bool
+    ensures { result ≡ finished_in (question_at questions.now question) }
+{
+    match questions.of(question) {
+        Some(known) => known.finished,
+        None => false,
+    }
+}
+
+/// Whether a question is opened and not returned.
+pub(crate) fn is_unreturned(questions: &Questions, question: Id) -> bool
+    ensures { result ≡ unreturned_in (question_at questions.now question) }
+{
+    match questions.of(question) {
+        Some(known) => !known.returned,
+        None => false,
+    }
+}
+
+/// The call of a question's last opening.
+pub(crate) fn opening_call(questions: &Questions, question: Id) -> Option<u64>
+    ensures { result ≡ opening_call_in (question_at questions.now question) }
+{
+    match questions.of(question) {
+        Some(known) => Some(known.call),
+        None => None,
+    }
+}
+
+/// What a record's target stands for.
+pub(crate) fn view_of_target(
+    bound: &Bound,
+    lives: &Lives,
+    questions: &Questions,
+    event: &Event,
+) -> Result<Option<View>, AllocError>
+    ensures { IfOk result (λ v. v ≡ targeted_by (bound_at bound.now) lives.now (question_at questions.now) event.now) }
+{
+    let Event::Wire {
+        sent,
+        connection,
+        message: RpcMessage::Call { target, .. } | RpcMessage::Disembargo { target, .. },
+        ..
+    } = event
+    else {
+        return Ok(None);
+    };
+    match target {
+        Target::Imported(n) => {
+            let number = Id {
+                connection: *connection,
+                ours: !*sent,
+                number: *n,
+            };
+            view_of_number(bound, lives, number)
+        }
+        Target::Promised(q, path) => {
+            let question = Id {
+                connection: *connection,
+                ours: *sent,
+                number: *q,
+            };
+            field_of(questions, question, path)
+        }
+    }
+}
+
+/// What the descriptors of a record stand for, by place, by the tables before it and the one of what it introduces.
+pub(crate) fn views_of_descriptors(
+    alloc: Global,
+    bound: &Bound,
+    lives: &Lives,
+    begun: &Lives,
+    questions: &Questions,
+    event: &Event,
+) -> Result<Vec<Option<View>>, AllocError>
+    ensures { IfOk result (λ list. list.items ≡ map (view_by (bound_at bound.now) lives.now begun.now (question_at questions.now) event.now) (descriptors event.now)) }
+{
+    let mut list = Vec::new(alloc);
+    for descriptor in descriptors(event) {
+        let view = view_by(bound, lives, begun, questions, event, descriptor)?;
+        list.push(view)?;
+    }
+    Ok(list)
+}
+
+/// The number that a Release gives back, and how much of it.
+fn let_go_of(event: &Event) -> Option<(Id, u64)>
+    ensures { result ≡ let_go_of event.now }
+{
+    match event {
+        Event::Wire {
+            sent,
+            connection,
+            message: RpcMessage::Release { id: number, count },
+            ..
+        } => {
+            let number = Id {
+                connection: *connection,
+                ours: !*sent,
+                number: *number,
+            };
+            Some((number, u64::from(*count)))
+        }
+        _ => None,
+    }
+}
+
+/// Whether each number is held at least as often as it is one of these.
+fn are_held(alloc: Global, lives: &Lives, numbers: &[Id]) -> Result<bool, AllocError>
+    ensures { IfOk result (λ held. Decides held ((i : Id) → count_by (same_id i) numbers.now ≤ count_at lives.now i)) }
+{
+    let mut tally = Tally::new(alloc);
+    for number in numbers {
+        if tally.count(*number)? > lives.count_of(*number) {
+            return Ok(false);
+        }
+    }
+    Ok(true)
+}
+
+/// Whether a record gives back no more of each number than is held.
+pub(crate) fn gives_back_held(
+    alloc: Global,
+    questions: &Questions,
+    lives: &Lives,
+    event: &Event,
+) -> Result<bool, AllocError>
+    ensures { IfOk result (λ held. Decides held ((i : Id) → given_by (question_at questions.now) i event.now ≤ count_at lives.now i)) }
+{
+    match let_go_of(event) {
+        Some((number, count)) => Ok(count <= lives.count_of(number)),
+        None => are_held(alloc, lives, closed(questions, event)),
+    }
+}

@@ -1,0 +1,157 @@
+//! The table of calls.
+
+ghost use Rattle.std.specs.Prelude.{◌≡◌, ◌==◌, ℕ, None, Some, OnOk, OnErr, if◌then◌else◌, is_some, option_map, IfOk};
+ghost use Rattle.std.specs.Option.{option_copied};
+ghost use Rattle.vat_view.specs.CallTables.{progress_at, asked_in, goal_in, at_vat_in, served_in, settled_in, known_in, stepped};
+
+use crate::asked::Asked;
+use crate::progress::{Progress, Step};
+use crate::view::View;
+use std::alloc::{AllocError, Global};
+use std::collections::BTreeMap;
+
+/// How far each call that is bound has come.
+#[derive(Debug, Drop)]
+pub(crate) struct Calls {
+    entries: BTreeMap<u64, Progress>,
+}
+
+impl Calls {
+    /// Before any call is bound.
+    pub(crate) fn new(alloc: Global) -> Calls
+        ensures { (c : ℕ) → progress_at result c ≡ None }
+    {
+        Calls {
+            entries: BTreeMap::new(alloc),
+        }
+    }
+
+    /// What is known of this call, if it is bound.
+    pub(crate) fn of(&self, call: u64) -> Option<&Progress>
+        ensures { option_copied result ≡ progress_at self.now call }
+    {
+        self.entries.get(&call)
+    }
+
+    /// Whether this call is bound.
+    pub(crate) fn has(&self, call: u64) -> bool
+        ensures { result ≡ is_some (progress_at self.now call) }
+    {
+        self.entries.contains_key(&call)
+    }
+
+    /// What this call asked for when it came to the vat, if it came.
+    pub(crate) fn asked(&self, call: u64) -> Result<Option<Asked>, AllocError>
+        ensures { IfOk result (λ asked. asked ≡ asked_in (progress_at self.now call)) }
+    {
+        match self.of(call) {
+            Some(
+                Progress {
+                    asked: Some(asked),
+                    ..
+                },
+            ) => Ok(Some(asked.copy()?)),
+            _ => Ok(None),
+        }
+    }
+
+    /// The goal of this call, if it came to the vat with one.
+    pub(crate) fn goal_of(&self, call: u64) -> Result<Option<View>, AllocError>
+        ensures { IfOk result (λ goal. goal ≡ goal_in (progress_at self.now call)) }
+    {
+        match self.of(call) {
+            Some(
+                Progress {
+                    asked: Some(
+                        Asked {
+                            goal: Some(goal),
+                            ..
+                        },
+                    ),
+                    ..
+                },
+            ) => Ok(Some(goal.copy()?)),
+            _ => Ok(None),
+        }
+    }
+
+    /// Whether this call is at the vat.
+    pub(crate) fn is_at_vat(&self, call: u64) -> bool
+        ensures { result ≡ at_vat_in (progress_at self.now call) }
+    {
+        match self.of(call) {
+            Some(progress) => progress.at_vat,
+            None => false,
+        }
+    }
+
+    /// Whether this call was delivered here, or is that of a received Bootstrap.
+    pub(crate) fn is_served(&self, call: u64) -> bool
+        ensures { result ≡ served_in (progress_at self.now call) }
+    {
+        match self.of(call) {
+            Some(progress) => progress.served,
+            None => false,
+        }
+    }
+
+    /// Whether this call has an answer or fault.
+    pub(crate) fn is_settled(&self, call: u64) -> bool
+        ensures { result ≡ settled_in (progress_at self.now call) }
+    {
+        match self.of(call) {
+            Some(progress) => progress.settled,
+            None => false,
+        }
+    }
+
+    /// Whether the results of this call are known.
+    pub(crate) fn is_known(&self, call: u64) -> bool
+        ensures { result ≡ known_in (progress_at self.now call) }
+    {
+        match self.of(call) {
+            Some(progress) => progress.known,
+            None => false,
+        }
+    }
+
+    /// This call is bound, and has come so far. Where memory is refused, nothing changes.
+    pub(crate) fn begin(&mut self, call: u64, progress: Progress) -> Result<(), AllocError>
+        ensures ok { OnOk result ((c : ℕ) → progress_at self.new c ≡ (if call == c then Some progress else progress_at self.old c)) }
+        ensures err { OnErr result ((c : ℕ) → progress_at self.new c ≡ progress_at self.old c) }
+    {
+        self.entries.insert(call, progress)?;
+        Ok(())
+    }
+
+    /// This call isn't bound.
+    pub(crate) fn forget(&mut self, call: u64)
+        ensures { (c : ℕ) → progress_at self.new c ≡ (if call == c then None else progress_at self.old c) }
+    {
+        let _ = self.entries.remove(&call);
+    }
+
+    /// This happens to a call, if it is bound.
+    pub(crate) fn note(&mut self, call: u64, step: Step)
+        ensures { (c : ℕ) → progress_at self.new c ≡ (if call == c then option_map (stepped step) (progress_at self.old c) else progress_at self.old c) }
+    {
+        if let Some(progress) = self.entries.get_mut(&call) {
+            match step {
+                Step::Left => progress.at_vat = false,
+                Step::Delivered => {
+                    progress.at_vat = false;
+                    progress.served = true;
+                }
+                Step::Faulted => {
+                    progress.at_vat = false;
+                    progress.settled = true;
+                }
+                Step::Answered => {
+                    progress.settled = true;
+                    progress.known = true;
+                }
+                Step::Known => progress.known = true,
+            }
+        }
+    }
+}

@@ -1,0 +1,225 @@
+//! What one record opens, binds, names and uses.
+
+ghost use Rattle.std.specs.Prelude.{◌≡◌, option_to_list};
+ghost use Rattle.vat_view.specs.Questions.{opened, returned, finished, noted_call};
+ghost use Rattle.vat_view.specs.Lives.{descriptors, introduced};
+ghost use Rattle.vat_view.specs.Views.{references};
+ghost use Rattle.vat_view.specs.Uses.{question_targeted, question_described, number_targeted, number_described, number_released};
+ghost use Rattle.vat_view.specs.Bindings.{new_references, new_calls, named_calls};
+
+use crate::event::Event;
+use crate::id::Id;
+use crate::{arrivals, records};
+use rpc_view::{Descriptor, RpcMessage, Target};
+
+impl Event {
+    /// The question that it opens: a Bootstrap's or a Call's.
+    pub(crate) fn opened(&self) -> Option<Id>
+        ensures { result ≡ opened self.now }
+    {
+        records::opened(self)
+    }
+
+    /// The question that it returns.
+    pub(crate) fn returned(&self) -> Option<Id>
+        ensures { result ≡ returned self.now }
+    {
+        records::returned(self)
+    }
+
+    /// The question that it finishes.
+    pub(crate) fn finished(&self) -> Option<Id>
+        ensures { result ≡ finished self.now }
+    {
+        records::finished(self)
+    }
+
+    /// The call noted beside it, 0 where none is.
+    pub(crate) fn noted_call(&self) -> u64
+        ensures { result ≡ noted_call self.now }
+    {
+        records::noted_call(self)
+    }
+
+    /// Its descriptors, by place, counted from 0; a Resolve's stands at place 0.
+    pub(crate) fn descriptors(&self) -> &[Descriptor]
+        ensures { result.now ≡ descriptors self.now }
+    {
+        records::descriptors(self)
+    }
+
+    /// The number that one of its descriptors introduces: senderHosted and senderPromise name one of the sender's
+    /// exports.
+    pub(crate) fn introduced(&self, descriptor: &Descriptor) -> Option<Id>
+        ensures { result ≡ introduced self.now descriptor.now }
+    {
+        records::introduced(self, descriptor)
+    }
+
+    /// The references noted beside it.
+    pub(crate) fn references(&self) -> &[u64]
+        ensures { result.now ≡ references self.now }
+    {
+        records::references(self)
+    }
+
+    /// The references that it newly binds.
+    pub(crate) fn new_references(&self) -> &[u64]
+        ensures { result.now ≡ new_references self.now }
+    {
+        arrivals::new_references(self)
+    }
+
+    /// The call that it newly binds.
+    pub(crate) fn new_call(&self) -> Option<u64>
+        ensures { option_to_list result ≡ new_calls self.now }
+    {
+        match self {
+            Event::Make { call, .. }
+            | Event::Wire {
+                call,
+                message: RpcMessage::Bootstrap { .. },
+                ..
+            }
+            | Event::Wire {
+                sent: false,
+                call,
+                message: RpcMessage::Call { .. },
+                ..
+            } => Some(*call),
+            _ => None,
+        }
+    }
+
+    /// The other call that it names.
+    pub(crate) fn named_call(&self) -> Option<u64>
+        ensures { option_to_list result ≡ named_calls self.now }
+    {
+        match self {
+            Event::Field { call, .. }
+            | Event::Deliver { call, .. }
+            | Event::Answer { call, .. }
+            | Event::Fault { call }
+            | Event::Wire {
+                sent: true,
+                call,
+                message: RpcMessage::Call { .. },
+                ..
+            } => Some(*call),
+            _ => None,
+        }
+    }
+
+    /// The question that its target names: one of the sender's.
+    pub(crate) fn question_targeted(&self) -> Option<Id>
+        ensures { result ≡ question_targeted self.now }
+    {
+        match self {
+            Event::Wire {
+                sent,
+                connection,
+                message: RpcMessage::Call {
+                    target: Target::Promised(number, _),
+                    ..
+                }
+                | RpcMessage::Disembargo {
+                    target: Target::Promised(number, _),
+                    ..
+                },
+                ..
+            } => Some(Id {
+                connection: *connection,
+                ours: *sent,
+                number: *number,
+            }),
+            _ => None,
+        }
+    }
+
+    /// The question that one of its descriptors names: one of the sender's.
+    pub(crate) fn question_described(&self, descriptor: &Descriptor) -> Option<Id>
+        ensures { result ≡ question_described self.now descriptor.now }
+    {
+        match (self, descriptor) {
+            (
+                Event::Wire {
+                    sent,
+                    connection,
+                    ..
+                },
+                Descriptor::ReceiverAnswer(number, _),
+            ) => Some(Id {
+                connection: *connection,
+                ours: *sent,
+                number: *number,
+            }),
+            _ => None,
+        }
+    }
+
+    /// The number that its target names: one of the receiver's exports.
+    pub(crate) fn number_targeted(&self) -> Option<Id>
+        ensures { result ≡ number_targeted self.now }
+    {
+        match self {
+            Event::Wire {
+                sent,
+                connection,
+                message: RpcMessage::Call {
+                    target: Target::Imported(number),
+                    ..
+                }
+                | RpcMessage::Disembargo {
+                    target: Target::Imported(number),
+                    ..
+                },
+                ..
+            } => Some(Id {
+                connection: *connection,
+                ours: !*sent,
+                number: *number,
+            }),
+            _ => None,
+        }
+    }
+
+    /// The number that one of its descriptors uses: receiverHosted names one of the receiver's exports.
+    pub(crate) fn number_described(&self, descriptor: &Descriptor) -> Option<Id>
+        ensures { result ≡ number_described self.now descriptor.now }
+    {
+        match (self, descriptor) {
+            (
+                Event::Wire {
+                    sent,
+                    connection,
+                    ..
+                },
+                Descriptor::ReceiverHosted(number),
+            ) => Some(Id {
+                connection: *connection,
+                ours: !*sent,
+                number: *number,
+            }),
+            _ => None,
+        }
+    }
+
+    /// The number that it releases: one of the receiver's exports.
+    pub(crate) fn number_released(&self) -> Option<Id>
+        ensures { result ≡ number_released self.now }
+    {
+        match self {
+            Event::Wire {
+                sent,
+                connection,
+                message: RpcMessage::Release { id: number, .. },
+                ..
+            } => Some(Id {
+                connection: *connection,
+                ours: !*sent,
+                number: *number,
+            }),
+            _ => None,
+        }
+    }
+}

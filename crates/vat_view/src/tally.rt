@@ -1,0 +1,48 @@
+//! How often numbers stand in a list.
+
+ghost use Rattle.std.specs.Prelude.{◌≡◌, ◌+◌, OnOk, IfOk, if◌then◌else◌};
+ghost use Rattle.vat_view.specs.declared.id.Id.{Id};
+ghost use Rattle.vat_view.specs.Past.{same_id};
+ghost use Rattle.vat_view.specs.Asking.{tally_at};
+
+use crate::id::Id;
+use std::alloc::{AllocError, Global};
+use std::collections::BTreeMap;
+
+/// How often each number was counted.
+#[derive(Debug, Drop)]
+pub(crate) struct Tally {
+    entries: BTreeMap<Id, u64>,
+}
+
+impl Tally {
+    /// Before any is counted.
+    pub(crate) fn new(alloc: Global) -> Tally
+        ensures { (i : Id) → tally_at result i ≡ 0 }
+    {
+        Tally {
+            entries: BTreeMap::new(alloc),
+        }
+    }
+
+    /// How often this number was counted.
+    fn of(&self, number: Id) -> u64
+        ensures { result ≡ tally_at self.now number }
+    {
+        match self.entries.get(&number) {
+            Some(count) => *count,
+            None => 0,
+        }
+    }
+
+    /// Counts this number once more, and answers how often it was counted now. A count that is full, which no list in
+    /// memory reaches, is answered as want of memory is.
+    pub(crate) fn count(&mut self, number: Id) -> Result<u64, AllocError>
+        ensures counts { OnOk result ((i : Id) → tally_at self.new i ≡ tally_at self.old i + (if same_id i number then 1 else 0)) }
+        ensures answer { IfOk result (λ count. count ≡ tally_at self.old number + 1) }
+    {
+        let count = self.of(number).checked_add(1).ok_or(AllocError)?;
+        self.entries.insert(number, count)?;
+        Ok(count)
+    }
+}

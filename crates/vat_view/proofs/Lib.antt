@@ -26,3 +26,5 @@ pub mod Ending
 pub mod Unbound
 pub mod Calling
 pub mod Called
+pub mod Distinct
+pub mod Promising

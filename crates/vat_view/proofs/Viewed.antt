@@ -210,7 +210,7 @@ counted_there e i (x ∷ ds) (suc j) d g h = count_rest i (introduced e x) (filt
 noted_length : (before : Past) (e : Event) → is_late before e ≡ false → NotesEach before e → length (references e) ≡ length (places e)
 noted_length before e late h = h ∙ ap (λ b. if b then 0 else length (places e)) late
 
-begins_parts : (i : Id) (before : Past) (e : Event) (b : Birth) → begins i before e ≡ Some b →
+pub begins_parts : (i : Id) (before : Past) (e : Event) (b : Birth) → begins i before e ≡ Some b →
     (q : ℕ) × (position_from (λ d. names i (introduced e d)) 0 (descriptors e) ≡ Some q) × (b ≡ record { from = point before e; place = q }) × (is_late before e ≡ false)
 begins_parts i before e b h = parts (is_in_life i before) (is_late before e) (position_from (λ d. names i (introduced e d)) 0 (descriptors e)) h
   where
@@ -246,7 +246,7 @@ sent_bound i before (Wire false k c rs m) r q ours refers found there =
     absurd (none_some (sym (none_found (λ d. names i (introduced (Wire false k c rs m) d)) (descriptors (Wire false k c rs m)) 0 (λ d. not_ours i k c rs m d ours)) ∙ found))
 sent_bound i before _ r q ours refers found there = absurd (none_some found)
 
-cases_option : {A : Type 0} (o : Option A) → Has o ⊎ (o ≡ None)
+pub cases_option : {A : Type 0} (o : Option A) → Has o ⊎ (o ≡ None)
 cases_option (Some x) = inl (x, refl)
 cases_option None = inr refl
 

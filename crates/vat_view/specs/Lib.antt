@@ -14,5 +14,7 @@ pub mod Laws
 pub mod Tables
 pub mod Asking
 pub mod CallTables
+pub mod KindTables
 pub mod Kept
 pub mod TurnTables
+pub mod Seen

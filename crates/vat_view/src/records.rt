@@ -3,7 +3,7 @@
 ghost use Rattle.std.specs.Prelude.{◌≡◌, [], IfOk, if◌then◌else◌};
 ghost use Rattle.std.specs.List.{filter_map};
 ghost use Rattle.vat_view.specs.Questions.{opened, returned, finished, released, noted_call};
-ghost use Rattle.vat_view.specs.Lives.{descriptors, introduced};
+ghost use Rattle.vat_view.specs.Lives.{descriptors, introduced, resolved};
 ghost use Rattle.vat_view.specs.Views.{references};
 ghost use Rattle.vat_view.specs.Tables.{is_cap, origin_by, origins_from};
 
@@ -90,6 +90,28 @@ pub(crate) fn released(event: &Event) -> Option<Id>
             message: RpcMessage::Finish {
                 question: number,
                 release_result_caps: true,
+            },
+            ..
+        } => Some(Id {
+            connection: *connection,
+            ours: *sent,
+            number: *number,
+        }),
+        _ => None,
+    }
+}
+
+/// The promise that a record resolves.
+pub(crate) fn resolved(event: &Event) -> Option<Id>
+    ensures { result ≡ resolved event.now }
+{
+    match event {
+        Event::Wire {
+            sent,
+            connection,
+            message: RpcMessage::Resolve {
+                promise: number,
+                ..
             },
             ..
         } => Some(Id {

@@ -15,7 +15,7 @@ use crate::records::is_cap;
 use crate::state::VatState;
 
 /// Whether three things are so.
-fn all_three(first: bool, second: bool, third: bool) -> bool
+pub(crate) fn all_three(first: bool, second: bool, third: bool) -> bool
     ensures { result ≡ ((first && second) && third) }
 {
     first && second && third

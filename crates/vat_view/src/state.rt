@@ -1,12 +1,12 @@
 //! The state of a vat's numbers after some records of its log.
 
-ghost use Rattle.std.specs.Prelude.{◌≡◌, ◌↔◌, [], ◌∷◌, Decides, IfOk, OnOk, OnErr, IsTrue, MatchOption};
+ghost use Rattle.std.specs.Prelude.{◌≡◌, ◌↔◌, [], ◌∷◌, Decides, IfOk, OnOk, OnErr, IsTrue, MatchOption, option_map};
 ghost use Rattle.vat_view.specs.declared.view.View.{View};
 ghost use Rattle.std.specs.Option.{option_copied};
 ghost use Rattle.vat_view.specs.Past.{record_at};
 ghost use Rattle.vat_view.specs.Numbers.{number_held, number_stands};
 ghost use Rattle.vat_view.specs.Questions.{is_free, is_unfinished, is_finished, is_unreturned, call_at, call_of, opening, is_late};
-ghost use Rattle.vat_view.specs.Lives.{GivesBackHeld, is_in_life};
+ghost use Rattle.vat_view.specs.Lives.{GivesBackHeld, birth, began_promised, is_in_life, is_resolved};
 ghost use Rattle.vat_view.specs.Uses.{UsesQuestions, UsesNumbers};
 ghost use Rattle.vat_view.specs.Views.{view_of_reference, view_of_target, view_of_descriptor, views_of_descriptors};
 ghost use Rattle.vat_view.specs.Walks.{next, stays, Leads, LeadsByTurns, IsEnd};
@@ -22,10 +22,11 @@ use crate::id::Id;
 use crate::lives::Lives;
 use crate::number::Number;
 use crate::questions::Questions;
+use crate::resolves::Resolves;
 use crate::settling::settled;
 use crate::turns::Turns;
 use crate::view::View;
-use crate::{arrivals, asking, records, standing, telling, walk};
+use crate::{arrivals, asking, kinds, records, standing, telling, walk};
 use cap_frame::Path;
 use std::alloc::{AllocError, Global};
 use std::marker::Model;
@@ -39,12 +40,14 @@ pub struct VatState {
     lives: Lives,
     bound: Bound,
     calls: Calls,
+    resolves: Resolves,
     turns: Turns,
 }
 
 impl Model for VatState {
     ghost use Rattle.std.specs.Prelude.{List, reverse};
     ghost use Rattle.vat_view.specs.declared.event.Event.{Event};
+    ghost use Rattle.vat_view.specs.KindTables.{AreResolved};
     ghost use Rattle.vat_view.specs.Kept.{AreKept};
     ghost use Rattle.vat_view.specs.TurnTables.{AreSettled};
 
@@ -53,6 +56,7 @@ impl Model for VatState {
     ghost view = { λ state. reverse state.events.items };
 
     ghost invariant = { λ state. AreKept (reverse state.events.items) state.questions state.lives state.bound state.calls
+        × AreResolved (reverse state.events.items) state.resolves
         × AreSettled (reverse state.events.items) state.turns };
 }
 
@@ -67,6 +71,7 @@ impl VatState {
             lives: Lives::new(alloc),
             bound: Bound::new(alloc),
             calls: Calls::new(alloc),
+            resolves: Resolves::new(alloc),
             turns: Turns::new(alloc),
         }
     }
@@ -175,6 +180,8 @@ impl VatState {
         let number = self.events.len();
         let pending = settled(&self.questions, &self.lives, &self.bound, &event);
         self.turns.make_room(pending)?;
+        let promise = records::resolved(&event);
+        self.resolves.room_for(promise)?;
         learn_all(
             alloc,
             number,
@@ -185,8 +192,16 @@ impl VatState {
             &event,
         )?;
         self.turns.note(pending, number);
+        self.resolves.note_resolve(promise, number);
         self.events.push(event)?;
         Ok(())
+    }
+}
+
+impl VatState {
+    /// Where its memory comes from.
+    pub(crate) fn allocator(&self) -> Global {
+        *self.events.allocator()
     }
 }
 
@@ -248,6 +263,23 @@ impl VatState {
         ensures { result ≡ is_in_life number self.now }
     {
         self.lives.count_of(number) > 0
+    }
+
+    /// Whether the present life of an export or import number began with a senderPromise, where it is in life.
+    pub fn began_promised(&self, number: Id) -> Option<bool>
+        ensures { result ≡ option_map began_promised (birth number self.now) }
+    {
+        match self.lives.origin_of(number) {
+            Some(origin) => Some(kinds::promised_at(&self.events, origin)),
+            None => None,
+        }
+    }
+
+    /// Whether a Resolve passed in the present life of an export or import number.
+    pub fn is_resolved(&self, number: Id) -> bool
+        ensures { result ≡ is_resolved number self.now }
+    {
+        kinds::resolved_since(self.lives.origin_of(number), self.resolves.of(number))
     }
 
     /// Whether a reference is bound.

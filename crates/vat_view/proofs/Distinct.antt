@@ -1,0 +1,120 @@
+-- Numbers of which none stands twice, and the rule REF from its parts.
+use Rattle.std.proofs.Common.{◌≡◌, ◌≢◌, ◌⊎◌, inl, inr, ℕ, ◌+◌, ◌<◌, ◌==◌, List, [], ◌∷◌, ◌++◌, take, drop, Bool, true, false, not, ◌&&◌, ◌||◌, if◌then◌else◌, refl, sym, ◌∙◌, ap, ap₂}
+use Rattle.std.specs.Prelude.{Decides}
+use Rattle.std.specs.List.{list_any, list_all}
+use Rattle.std.proofs.lemmas.Bool.{false≢true, eqb-true, eq-eqb}
+use Rattle.std.proofs.lemmas.Bool.Decides.{eqb_tells}
+use Rattle.std.proofs.lemmas.List.{take-append-drop}
+use Rattle.std.proofs.lemmas.List.Folds.{list_any-append}
+use Rattle.vat_view.specs.Types.{Event}
+use Rattle.vat_view.specs.Past.{Past}
+use Rattle.vat_view.specs.Bindings.{Refers, contains, is_bound, is_bound_call, is_distinct, new_references, new_calls, named_references, named_calls, notes_call}
+
+both : (a b : Bool) → (a && b) ≡ true → (a ≡ true) × (b ≡ true)
+both true true e = (refl, refl)
+both true false e = absurd (false≢true e)
+both false b e = absurd (false≢true e)
+
+join : (a b : Bool) → a ≡ true → b ≡ true → (a && b) ≡ true
+join true true x y = refl
+join true false x y = y
+join false b x y = x
+
+-- what stands in a list stands in a longer one, or is what was added
+contains_more : (q x : ℕ) (xs : List ℕ) → contains q (xs ++ x ∷ []) ≡ (if x == q then true else contains q xs)
+contains_more q x xs = list_any-append (λ y. y == q) xs (x ∷ []) ∙ swap (contains q xs) (x == q)
+  where
+    swap : (a b : Bool) → (a || (b || false)) ≡ (if b then true else a)
+    swap true true = refl
+    swap true false = refl
+    swap false true = refl
+    swap false false = refl
+
+pub met_more : (q x : ℕ) (xs : List ℕ) (had has : Bool) → had ≡ contains q xs → has ≡ (if x == q then true else had) → has ≡ contains q (xs ++ x ∷ [])
+met_more q x xs had has was is = is ∙ ap (λ b. if x == q then true else b) was ∙ sym (contains_more q x xs)
+
+or_left : (a b : Bool) → a ≡ true → (a || b) ≡ true
+or_left true b e = refl
+or_left false b e = absurd (false≢true e)
+
+neither : (a b : Bool) → (a || b) ≡ false → (a ≡ false) × (b ≡ false)
+neither true b e = absurd (false≢true (sym e))
+neither false b e = (refl, e)
+
+one_of : (a b : Bool) → (a || b) ≡ true → (a ≡ true) ⊎ (b ≡ true)
+one_of true b e = inl refl
+one_of false b e = inr e
+
+turned : (x y : ℕ) (b : Bool) → (x == y) ≡ b → (y == x) ≡ b
+turned x y true e = eq-eqb y x (sym (eqb-true x y e))
+turned x y false e = case (eqb_tells y x)
+  where
+    case : ((((y == x) ≡ true) × (y ≡ x)) ⊎ (((y == x) ≡ false) × (y ≢ x))) → (y == x) ≡ false
+    case (inl same) = absurd (false≢true (sym e ∙ eq-eqb x y (sym same.1)))
+    case (inr apart) = apart.0
+
+-- a list of which none stands twice, and a number that isn't there
+pub distinct_more : (x : ℕ) (xs : List ℕ) → is_distinct xs ≡ true → contains x xs ≡ false → is_distinct (xs ++ x ∷ []) ≡ true
+distinct_more x [] d no_x = refl
+distinct_more x (y ∷ ys) d no_x =
+    let parts = both (not (contains y ys)) (is_distinct ys) d in
+    let away = neither (y == x) (contains x ys) no_x in
+    let apart : contains y (ys ++ x ∷ []) ≡ contains y ys = contains_more y x ys ∙ ap (λ b. if b then true else contains y ys) (turned y x false away.0) in
+    join (not (contains y (ys ++ x ∷ []))) (is_distinct (ys ++ x ∷ [])) (ap not apart ∙ parts.0) (distinct_more x ys parts.1 away.1)
+
+-- a number that is there stands twice
+pub distinct_not : (x : ℕ) (xs ys : List ℕ) → contains x xs ≡ true → is_distinct ((xs ++ x ∷ []) ++ ys) ≡ false
+distinct_not x [] ys has_x = absurd (false≢true has_x)
+distinct_not x (y ∷ zs) ys has_x = either (one_of (y == x) (contains x zs) has_x) (distinct_not x zs ys)
+  where
+    rest : List ℕ
+    rest = (zs ++ x ∷ []) ++ ys
+
+    and_false : (a : Bool) → (a && false) ≡ false
+    and_false true = refl
+    and_false false = refl
+
+    either : (((y == x) ≡ true) ⊎ (contains x zs ≡ true)) → (contains x zs ≡ true → is_distinct rest ≡ false) → (not (contains y rest) && is_distinct rest) ≡ false
+    either (inl same) below =
+        let there : contains y (zs ++ x ∷ []) ≡ true = contains_more y x zs ∙ ap (λ b. if b then true else contains y zs) (turned y x true same) in
+        ap (λ b. not b && is_distinct rest) (list_any-append (λ z. z == y) (zs ++ x ∷ []) ys ∙ or_left (contains y (zs ++ x ∷ [])) (contains y ys) there)
+    either (inr later) below = ap (λ b. not (contains y rest) && b) (below later) ∙ and_false (not (contains y rest))
+
+-- at a number of a list that stands before it too
+pub distinct_none : (xs : List ℕ) (k : ℕ) (x : ℕ) → take (k + 1) xs ≡ take k xs ++ x ∷ [] → contains x (take k xs) ≡ true → is_distinct xs ≡ false
+distinct_none xs k x more has_x =
+    ap is_distinct (sym (take-append-drop (k + 1) xs) ∙ ap (λ l. l ++ drop (k + 1) xs) more) ∙ distinct_not x (take k xs) (drop (k + 1) xs) has_x
+
+-- REF from its parts
+pub refers_from : (before : Past) (e : Event) (distinct unused unused_call bound bound_call noted first second all : Bool) →
+    distinct ≡ is_distinct (new_references e) → unused ≡ list_all (λ r. not (is_bound before r)) (new_references e) →
+    unused_call ≡ list_all (λ c. not (is_bound_call before c)) (new_calls e) → bound ≡ list_all (is_bound before) (named_references e) →
+    bound_call ≡ list_all (is_bound_call before) (named_calls e) → noted ≡ notes_call e →
+    first ≡ ((distinct && unused) && unused_call) → second ≡ ((bound && bound_call) && noted) → all ≡ (first && second) → Decides all (Refers before e)
+refers_from before e distinct unused unused_call bound bound_call noted first second all is_a is_b is_c is_d is_e is_f is_first is_second is_all = (so, from)
+  where
+    so : all ≡ true → Refers before e
+    so holds =
+        let halves = both first second (sym is_all ∙ holds) in
+        let left = both (distinct && unused) unused_call (sym is_first ∙ halves.0) in
+        let right = both (bound && bound_call) noted (sym is_second ∙ halves.1) in
+        let ab = both distinct unused left.0 in
+        let de = both bound bound_call right.0 in
+        record {
+          distinct = sym is_a ∙ ab.0;
+          unused = sym is_b ∙ ab.1;
+          unused_call = sym is_c ∙ left.1;
+          bound = sym is_d ∙ de.0;
+          bound_call = sym is_e ∙ de.1;
+          noted = sym is_f ∙ right.1;
+        }
+
+    from : Refers before e → all ≡ true
+    from refers =
+        is_all ∙ join first second
+        (is_first ∙ join (distinct && unused) unused_call (join distinct unused (is_a ∙ refers.distinct) (is_b ∙ refers.unused)) (is_c ∙ refers.unused_call))
+        (is_second ∙ join (bound && bound_call) noted (join bound bound_call (is_d ∙ refers.bound) (is_e ∙ refers.bound_call)) (is_f ∙ refers.noted))
+
+pub not_false : (b : Bool) → not b ≡ false → b ≡ true
+not_false true e = refl
+not_false false e = absurd (false≢true (sym e))

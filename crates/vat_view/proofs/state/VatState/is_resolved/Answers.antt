@@ -1,0 +1,12 @@
+use Rattle.std.proofs.Common.{subst, ◌∙◌, ap₂}
+use Rattle.vat_view.specs.Kept.{AreKept}
+use Rattle.vat_view.specs.KindTables.{AreResolved, resolved_since}
+use Rattle.vat_view.proofs.Promising.{resolved_known}
+use Rattle.vat_view.proofs.state.VatState.is_resolved.Goals as goal
+
+pub returns : goal.returns
+returns c =
+    let kept = subst (λ p. AreKept p c.self.inside.questions c.self.inside.lives c.self.inside.bound c.self.inside.calls) c.self.view_is c.self.invariant.0 in
+    c.resolved_since.ensures ∙ ap₂ (λ o n. resolved_since o n) c.origin_of.ensures c.of.ensures
+    ∙ resolved_known c.args.self.now c.self.inside.questions c.self.inside.lives c.self.inside.resolves kept.tabled.tabled
+    (subst (λ p. AreResolved p c.self.inside.resolves) c.self.view_is c.self.invariant.1.0) c.args.number

@@ -1,0 +1,36 @@
+-- For the code's contracts, and no part of the meaning: the table of Resolves, and the kinds of lives.
+use Rattle.std.specs.Prelude.{◌≡◌, ℕ, nat_lt, List, Bool, true, false, Option, Some, None, option_map, option_and_then, is_some, slice_get}
+use Rattle.std.specs.BTreeMap.{get}
+use Rattle.vat_view.specs.declared.origin.Origin.{Origin}
+use Rattle.vat_view.specs.declared.resolves.Resolves.{Resolves}
+use Rattle.vat_view.specs.Types.{Event, Id}
+use Rattle.vat_view.specs.Past.{Past, Point, names, number_of, last_where}
+use Rattle.vat_view.specs.Lives.{descriptors, is_promised, resolved}
+use Rattle.vat_view.specs.Tables.{id_cmp}
+
+-- the record that the table has for a promise
+abbrev pub resolve_at : Resolves → Id → Option ℕ
+resolve_at table i = option_and_then (λ number. number) (get id_cmp table.entries i)
+
+-- the table has room for what is resolved
+abbrev pub has_room : Resolves → Option Id → Bool
+has_room table (Some i) = is_some (get id_cmp table.entries i)
+has_room table None = true
+
+-- the last Resolve of a number
+abbrev pub last_resolve : Id → Past → Option Point
+last_resolve i past = last_where (λ before e. names i (resolved e)) past
+
+-- the table of Resolves has what looking back finds
+abbrev pub AreResolved : Past → Resolves → Type 0
+AreResolved past table = (i : Id) → resolve_at table i ≡ option_map number_of (last_resolve i past)
+
+-- whether a life that began so began with a senderPromise, in these records with the oldest first
+abbrev pub promised_at : List Event → Origin → Bool
+promised_at events origin = is_promised (option_and_then (λ e. slice_get (descriptors e) origin.place) (slice_get events origin.number))
+
+-- whether the last Resolve came after the record where a life began
+abbrev pub resolved_since : Option Origin → Option ℕ → Bool
+resolved_since (Some origin) (Some last) = nat_lt origin.number last
+resolved_since (Some origin) None = false
+resolved_since None last = false

@@ -1,8 +1,8 @@
 -- Turns only grow.
-use Rattle.std.proofs.Common.{◌≡◌, refl, sym, ◌∙◌, subst, List, [], ◌∷◌, ◌++◌, Option, Some, None}
+use Rattle.std.proofs.Common.{◌≡◌, ℕ, refl, sym, ◌∙◌, subst, List, [], ◌∷◌, ◌++◌, Option, Some, None}
 use Rattle.std.specs.Prelude.{unwrap_or, IsSome}
 use Rattle.std.specs.Option.{option_or}
-use Rattle.vat_view.specs.Types.{Event, View}
+use Rattle.vat_view.specs.Types.{Event, View, Object}
 use Rattle.vat_view.specs.Past.{Past, last_answer}
 use Rattle.vat_view.specs.Laws.{EachAfter}
 use Rattle.vat_view.specs.Walks.{Next, turns, stops, stays, turn, next, TurnsOnce, Leads, here, onward, LeadsByTurns, turned, IsEnd}
@@ -39,6 +39,10 @@ leads_on later past a c once (onward {b = b} e rest) = onward (turned_on later p
 
 pub by_turns_on : (later : List Event) (past : Past) (a b : View) → EachAfter TurnsOnce later past → LeadsByTurns past a b → LeadsByTurns (later ++ past) a b
 by_turns_on later past a c once (turned {b = b} e rest) = turned (turned_on later past a b once e) (leads_on later past b c once rest)
+
+pub object_stays : (past : Past) (object : ℕ) → next past (Object object) ≡ stays
+object_stays [] object = refl
+object_stays (e ∷ before) object = object_stays before object
 
 -- two walks from one view that go on nowhere end in one
 one_last : (past : Past) (a b c : View) → Leads past a b → next past b ≡ stays → Leads past a c → next past c ≡ stays → b ≡ c

@@ -1,7 +1,7 @@
 //! Laws of a log's records, which hold of every log and not of one call.
 
 ghost use Rattle.std.specs.Prelude.{◌≡◌, ◌≤◌, ◌++◌, ℕ, List, Some, true, IsSome};
-ghost use Rattle.vat_view.specs.Types.{Event, View, Id};
+ghost use Rattle.vat_view.specs.Types.{Event, View, Object, Id};
 ghost use Rattle.vat_view.specs.Past.{Past, Each};
 ghost use Rattle.vat_view.specs.Questions.{opens, returns, finishes};
 ghost use Rattle.vat_view.specs.Lives.{came, went, GivesBackHeld};
@@ -9,7 +9,7 @@ ghost use Rattle.vat_view.specs.Uses.{UsesQuestions};
 ghost use Rattle.vat_view.specs.Views.{view_of_reference, view_of_number};
 ghost use Rattle.vat_view.specs.Bindings.{Refers, is_bound};
 ghost use Rattle.vat_view.specs.Sound.{IsSound};
-ghost use Rattle.vat_view.specs.Walks.{next, turns, stops, TurnsOnce, Leads, LeadsByTurns, IsEnd};
+ghost use Rattle.vat_view.specs.Walks.{next, turns, stops, stays, TurnsOnce, Leads, LeadsByTurns, IsEnd};
 ghost use Rattle.vat_view.specs.Laws.{count_since, LivesOn, EachAfter};
 
 /// Since its last opening a question has one Return and one Finish at most, where the records before use questions as
@@ -59,6 +59,11 @@ pub fn turns_only_grow()
 pub fn turns_go_to_references()
     ensures { (past : Past) → Each IsSound past → (a b : View) → next past a ≡ turns b
         → (r : ℕ) × (is_bound past r ≡ true) × (view_of_reference past r ≡ Some b) }
+{}
+
+/// An object goes on nowhere.
+pub fn objects_stay()
+    ensures { (past : Past) (object : ℕ) → next past (Object object) ≡ stays }
 {}
 
 /// A view has one end at most.

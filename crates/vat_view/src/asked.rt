@@ -19,7 +19,7 @@ pub struct Asked {
 
 impl Asked {
     /// A second one that is the same. The only error is want of memory.
-    pub fn copy(&self) -> Result<Asked, AllocError>
+    pub(crate) fn copy(&self) -> Result<Asked, AllocError>
         ensures { IfOk result (λ copied. copied ≡ self.now) }
     {
         let goal = match &self.goal {

@@ -5,10 +5,10 @@ ghost use Rattle.vat_view.specs.declared.view.View.{View};
 ghost use Rattle.std.specs.Option.{option_copied};
 ghost use Rattle.vat_view.specs.Past.{record_at};
 ghost use Rattle.vat_view.specs.Numbers.{number_held, number_stands};
-ghost use Rattle.vat_view.specs.Questions.{is_free, is_unfinished, is_finished, is_unreturned, call_at, call_of, opening, is_late};
+ghost use Rattle.vat_view.specs.Questions.{is_free, is_unfinished, is_finished, is_unreturned, call_at, opening, is_late};
 ghost use Rattle.vat_view.specs.Lives.{GivesBackHeld, birth, began_promised, is_in_life, is_resolved};
 ghost use Rattle.vat_view.specs.Uses.{UsesQuestions, UsesNumbers};
-ghost use Rattle.vat_view.specs.Views.{view_of_reference, view_of_target, view_of_descriptor, views_of_descriptors};
+ghost use Rattle.vat_view.specs.Views.{view_of_reference, view_of_target, views_of_descriptors};
 ghost use Rattle.vat_view.specs.Walks.{next, stays, Leads, LeadsByTurns, IsEnd};
 ghost use Rattle.vat_view.specs.Bindings.{Refers, NotesEach, is_bound, is_bound_call};
 ghost use Rattle.vat_view.specs.Calls.{asked, goal_of, is_at_vat, is_served, is_settled, is_known};
@@ -209,14 +209,14 @@ impl VatState {
 impl VatState {
     /// Whether a question is free: it was never opened, or both its Return and its Finish have passed since its last
     /// opening (rpc.capnp, `Call.questionId`).
-    pub fn is_free(&self, question: Id) -> bool
+    pub(crate) fn is_free(&self, question: Id) -> bool
         ensures { result ≡ is_free question self.now }
     {
         asking::is_free(&self.questions, question)
     }
 
     /// Whether a question is opened and no Finish has passed since (rpc.capnp, `Finish.questionId`).
-    pub fn is_unfinished(&self, question: Id) -> bool
+    pub(crate) fn is_unfinished(&self, question: Id) -> bool
         ensures { result ≡ is_unfinished question self.now }
     {
         asking::is_unfinished(&self.questions, question)
@@ -230,17 +230,10 @@ impl VatState {
     }
 
     /// Whether a question is opened and no Return has passed since (rpc.capnp, `Return.answerId`).
-    pub fn is_unreturned(&self, question: Id) -> bool
+    pub(crate) fn is_unreturned(&self, question: Id) -> bool
         ensures { result ≡ is_unreturned question self.now }
     {
         asking::is_unreturned(&self.questions, question)
-    }
-
-    /// The call that a question stands for, if it isn't free.
-    pub fn call_of(&self, question: Id) -> Option<u64>
-        ensures { result ≡ call_of question self.now }
-    {
-        standing::call_of(&self.questions, question)
     }
 
     /// The call of a question's last opening, free or not, if it was ever opened.
@@ -259,7 +252,7 @@ impl VatState {
     }
 
     /// Whether an export or import number is in life: whether it is held (rpc.capnp, the comment of `Release`).
-    pub fn is_in_life(&self, number: Id) -> bool
+    pub(crate) fn is_in_life(&self, number: Id) -> bool
         ensures { result ≡ is_in_life number self.now }
     {
         self.lives.count_of(number) > 0
@@ -283,7 +276,7 @@ impl VatState {
     }
 
     /// Whether a reference is bound.
-    pub fn is_bound(&self, reference: u64) -> bool
+    pub(crate) fn is_bound(&self, reference: u64) -> bool
         ensures { result ≡ is_bound self.now reference }
     {
         self.bound.has(reference)
@@ -298,35 +291,6 @@ impl VatState {
         ensures { IfOk result (λ view. view ≡ view_of_target self.now event.now) }
     {
         asking::view_of_target(&self.bound, &self.lives, &self.questions, event)
-    }
-
-    /// What the descriptor at a place of a record stands for that may be applied next, if it has one there. It takes
-    /// time with the width of the record: `views_of_descriptors` answers all places in as much.
-    ///
-    /// # Errors
-    ///
-    /// Want of memory.
-    pub fn view_of_descriptor(
-        &self,
-        event: &Event,
-        place: usize,
-    ) -> Result<Option<View>, AllocError>
-        ensures { IfOk result (λ view. view ≡ view_of_descriptor self.now event.now place) }
-    {
-        let Some(descriptor) = records::descriptors(event).get(place) else {
-            return Ok(None);
-        };
-        let alloc = *self.events.allocator();
-        let late = telling::is_late(&self.questions, event);
-        let begun = arrivals::begun(alloc, late, self.events.len(), event)?;
-        arrivals::view_by(
-            &self.bound,
-            &self.lives,
-            &begun,
-            &self.questions,
-            event,
-            descriptor,
-        )
     }
 
     /// What the descriptors of a record stand for that may be applied next, by place.
@@ -366,7 +330,7 @@ impl VatState {
 /// What can be asked of calls.
 impl VatState {
     /// Whether a call is bound.
-    pub fn is_bound_call(&self, call: u64) -> bool
+    pub(crate) fn is_bound_call(&self, call: u64) -> bool
         ensures { result ≡ is_bound_call self.now call }
     {
         self.calls.has(call)

@@ -23,7 +23,7 @@ pub enum View {
 
 impl View {
     /// A second view that is the same. The only error is want of memory.
-    pub fn copy(&self) -> Result<View, AllocError>
+    pub(crate) fn copy(&self) -> Result<View, AllocError>
         ensures { IfOk result (λ copied. copied ≡ self.now) }
     {
         match self {

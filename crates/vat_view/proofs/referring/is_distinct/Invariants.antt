@@ -1,4 +1,4 @@
-use Rattle.std.proofs.Common.{◌≡◌, ℕ, Bool, true, take}
+use Rattle.std.proofs.Common.{◌≡◌, ℕ, true, take}
 use Rattle.vat_view.specs.Bindings.{contains, is_distinct}
 use Rattle.vat_view.specs.Seen.{has_in}
 use Rattle.vat_view.proofs.referring.is_distinct.Given as goal

@@ -1,4 +1,4 @@
-use Rattle.std.proofs.Common.{◌≡◌, ◌∙◌, sym, ap, ap₂, length, ◌==◌}
+use Rattle.std.proofs.Common.{◌∙◌, ap, length}
 use Rattle.vat_view.specs.Lives.{descriptors}
 use Rattle.vat_view.proofs.Using.{caps_placed, same_lengths}
 use Rattle.vat_view.proofs.state.VatState.notes_each.Goals as goal

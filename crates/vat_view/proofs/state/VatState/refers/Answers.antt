@@ -1,4 +1,4 @@
-use Rattle.std.proofs.Common.{◌≡◌, ◌∙◌, sym, ap, ◌&&◌}
+use Rattle.std.proofs.Common.{◌∙◌, sym, ap, ◌&&◌}
 use Rattle.vat_view.specs.Bindings.{is_distinct}
 use Rattle.vat_view.proofs.Distinct.{refers_from}
 use Rattle.vat_view.proofs.state.VatState.refers.Goals as goal

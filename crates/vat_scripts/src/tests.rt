@@ -11,3 +11,4 @@ mod orders;
 mod pointers;
 mod rules;
 mod runs;
+mod states;

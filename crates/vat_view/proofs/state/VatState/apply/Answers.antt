@@ -13,15 +13,15 @@ use Rattle.vat_view.proofs.state.VatState.apply.Goals as goal
 pub invariant_of-self-in_err-make_room : goal.invariant_of-self-in_err-make_room
 invariant_of-self-in_err-make_room c = (
   subst (λ l. AreKept (reverse l) c.self.inside.questions c.self.inside.lives c.self.inside.bound c.self.inside.calls) (sym c.in_ok-reserve.ensures.items) c.self.invariant.0,
-  subst (λ l. AreResolved (reverse l) c.self.inside.resolves) (sym c.in_ok-reserve.ensures.items) c.self.invariant.1.0,
-  turns_refused c.self.inside.events.items c.reserve.new.self.items c.self.inside.turns c.make_room.new.self c.in_ok-reserve.ensures.items c.make_room.ensures.same c.self.invariant.1.1,
+  subst (λ l. AreResolved (reverse l) c.self.inside.resolves) (sym c.in_ok-reserve.ensures.items) c.self.invariant.1,
+  turns_refused c.self.inside.events.items c.reserve.new.self.items c.self.inside.turns c.make_room.new.self c.in_ok-reserve.ensures.items c.make_room.ensures.same c.self.invariant.2,
 )
 
 pub invariant_of-self-in_err-room_for : goal.invariant_of-self-in_err-room_for
 invariant_of-self-in_err-room_for c = (
   subst (λ l. AreKept (reverse l) c.self.inside.questions c.self.inside.lives c.self.inside.bound c.self.inside.calls) (sym c.in_ok-reserve.ensures.items) c.self.invariant.0,
-  (λ i. c.room_for.ensures.same i ∙ (subst (λ l. AreResolved (reverse l) c.self.inside.resolves) (sym c.in_ok-reserve.ensures.items) c.self.invariant.1.0) i),
-  turns_refused c.self.inside.events.items c.reserve.new.self.items c.self.inside.turns c.make_room.new.self c.in_ok-reserve.ensures.items c.make_room.ensures.same c.self.invariant.1.1,
+  (λ i. c.room_for.ensures.same i ∙ (subst (λ l. AreResolved (reverse l) c.self.inside.resolves) (sym c.in_ok-reserve.ensures.items) c.self.invariant.1) i),
+  turns_refused c.self.inside.events.items c.reserve.new.self.items c.self.inside.turns c.make_room.new.self c.in_ok-reserve.ensures.items c.make_room.ensures.same c.self.invariant.2,
 )
 
 pub invariant_of-self-in_err-learn_all : goal.invariant_of-self-in_err-learn_all
@@ -37,8 +37,8 @@ invariant_of-self-in_err-learn_all c =
       state_refused c.self.inside.events.items c.reserve.new.self.items c.args.self.now c.args.event c.len-number.result
           (λ p. AreKept p c.self.inside.questions c.self.inside.lives c.self.inside.bound c.self.inside.calls) (λ p. AreKept p c.learn_all.new.questions c.learn_all.new.lives c.learn_all.new.bound c.learn_all.new.calls)
           c.self.view_is c.in_ok-reserve.ensures.items place c.self.invariant.0 sound c.in_err-learn_all.ensures.err,
-      (λ i. c.room_for.ensures.same i ∙ (subst (λ l. AreResolved (reverse l) c.self.inside.resolves) (sym c.in_ok-reserve.ensures.items) c.self.invariant.1.0) i),
-      turns_refused c.self.inside.events.items c.reserve.new.self.items c.self.inside.turns c.make_room.new.self c.in_ok-reserve.ensures.items c.make_room.ensures.same c.self.invariant.1.1,
+      (λ i. c.room_for.ensures.same i ∙ (subst (λ l. AreResolved (reverse l) c.self.inside.resolves) (sym c.in_ok-reserve.ensures.items) c.self.invariant.1) i),
+      turns_refused c.self.inside.events.items c.reserve.new.self.items c.self.inside.turns c.make_room.new.self c.in_ok-reserve.ensures.items c.make_room.ensures.same c.self.invariant.2,
     )
 
 pub invariant_of-self-2 : goal.invariant_of-self-2
@@ -56,11 +56,11 @@ invariant_of-self-2 c =
           (λ p. AreKept p c.self.inside.questions c.self.inside.lives c.self.inside.bound c.self.inside.calls) (λ p. AreKept p c.learn_all.new.questions c.learn_all.new.lives c.learn_all.new.bound c.learn_all.new.calls)
           c.self.view_is c.in_ok-reserve.ensures.items place c.self.invariant.0 sound c.push.new.self.items c.in_ok-push.ensures.items c.in_ok-learn_all.ensures.ok,
       state_applied c.self.inside.events.items c.reserve.new.self.items c.args.self.now c.args.event c.len-number.result
-          (λ p. AreResolved p c.self.inside.resolves) (λ p. AreResolved p c.note_resolve.new.self) c.self.view_is c.in_ok-reserve.ensures.items place c.self.invariant.1.0 sound
+          (λ p. AreResolved p c.self.inside.resolves) (λ p. AreResolved p c.note_resolve.new.self) c.self.view_is c.in_ok-reserve.ensures.items place c.self.invariant.1 sound
           c.push.new.self.items c.in_ok-push.ensures.items
           (λ before at kept good. resolves_after before c.args.event c.room_for.new.self c.note_resolve.new.self (λ i. c.room_for.ensures.same i ∙ kept i) c.resolved-promise.result
           c.resolved-promise.ensures c.len-number.result at c.note_resolve.ensures),
       turns_applied c.self.inside.events.items c.reserve.new.self.items c.push.new.self.items c.args.event c.len-number.result c.settled-pending.result c.self.inside.questions c.self.inside.lives
           c.self.inside.bound c.self.inside.turns c.make_room.new.self c.note.new.self c.in_ok-reserve.ensures.items place c.in_ok-push.ensures.items
-          (subst (λ p. IsFit p c.args.event) (sym c.self.view_is) fit) c.self.invariant.0.tabled c.self.invariant.1.1 c.settled-pending.ensures c.make_room.ensures.same c.note.ensures,
+          (subst (λ p. IsFit p c.args.event) (sym c.self.view_is) fit) c.self.invariant.0.tabled c.self.invariant.2 c.settled-pending.ensures c.make_room.ensures.same c.note.ensures,
     )

@@ -11,5 +11,5 @@ returns c =
     let going : View → Next = λ v. goes_by c.as_slice.result.now c.self.inside.turns (bound_at c.self.inside.bound) v in
     let same : (v : View) → going v ≡ next c.args.self.now v =
     goes_so c.self.inside.events.items c.as_slice.result.now c.args.self.now c.self.inside.questions c.self.inside.lives c.self.inside.bound c.self.inside.turns
-    c.self.view_is c.as_slice.ensures.value c.self.invariant.0.tabled c.self.invariant.1.1 in
+    c.self.view_is c.as_slice.ensures.value c.self.invariant.0.tabled c.self.invariant.2 in
     let now : Bor View → View = λ r. r.now in end_known going c.args.self.now same now c.args.view.now c.end.result c.end.ensures

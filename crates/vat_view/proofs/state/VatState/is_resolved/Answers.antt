@@ -9,4 +9,4 @@ returns c =
     let kept = subst (λ p. AreKept p c.self.inside.questions c.self.inside.lives c.self.inside.bound c.self.inside.calls) c.self.view_is c.self.invariant.0 in
     c.resolved_since.ensures ∙ ap₂ (λ o n. resolved_since o n) c.origin_of.ensures c.of.ensures
     ∙ resolved_known c.args.self.now c.self.inside.questions c.self.inside.lives c.self.inside.resolves kept.tabled.tabled
-    (subst (λ p. AreResolved p c.self.inside.resolves) c.self.view_is c.self.invariant.1.0) c.args.number
+    (subst (λ p. AreResolved p c.self.inside.resolves) c.self.view_is c.self.invariant.1) c.args.number

@@ -11,5 +11,5 @@ returns c =
     let going : View → Next = λ v. goes_by c.as_slice.result.now c.self.inside.turns (bound_at c.self.inside.bound) v in
     let same : (v : View) → going v ≡ next c.args.self.now v =
     goes_so c.self.inside.events.items c.as_slice.result.now c.args.self.now c.self.inside.questions c.self.inside.lives c.self.inside.bound c.self.inside.turns
-    c.self.view_is c.as_slice.ensures.value c.self.invariant.0.tabled c.self.invariant.1.1 in
+    c.self.view_is c.as_slice.ensures.value c.self.invariant.0.tabled c.self.invariant.2 in
     by_turns_known going c.args.self.now same c.args.from.now c.args.to.now c.leads_by_turns.result c.leads_by_turns.ensures

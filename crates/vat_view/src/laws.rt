@@ -1,7 +1,7 @@
 //! Laws of a log's records, which hold of every log and not of one call.
 
 ghost use Rattle.std.specs.Prelude.{◌≡◌, ◌≤◌, ◌++◌, ℕ, List, Some, true, false, IsSome};
-ghost use Rattle.vat_view.specs.Types.{Event, Wire, Resolution, Resolve, View, Object, Id};
+ghost use Rattle.vat_view.specs.Types.{Event, Fulfil, Break, Wire, Resolution, Resolve, View, Object, Promise, Id};
 ghost use Rattle.vat_view.specs.Past.{Past, Each, id};
 ghost use Rattle.vat_view.specs.Questions.{opens, returns, finishes};
 ghost use Rattle.vat_view.specs.Lives.{came, went, is_resolved, GivesBackHeld};
@@ -53,6 +53,14 @@ pub fn turns_only_grow()
         → Leads (later ++ past) a b }
     ensures by_turns { (later : List Event) (past : Past) → EachAfter TurnsOnce later past → (a b : View) → LeadsByTurns past a b
         → LeadsByTurns (later ++ past) a b }
+{}
+
+/// FULFIL and BREAK turn a view that stays, where the first reference stands for an own promise that had neither.
+pub fn a_promise_is_kept_once()
+    ensures fulfilled { (before : Past) (r to p : ℕ) → view_of_reference before r ≡ Some (Promise p) → next before (Promise p) ≡ stays
+        → TurnsOnce before (Fulfil r to) }
+    ensures broken { (before : Past) (r p : ℕ) → view_of_reference before r ≡ Some (Promise p) → next before (Promise p) ≡ stays
+        → TurnsOnce before (Break r) }
 {}
 
 /// A Resolve that is received turns a view that stays, where no Resolve passed in the present life of its number.

@@ -28,3 +28,4 @@ pub mod Calling
 pub mod Called
 pub mod Distinct
 pub mod Promising
+pub mod Unresolved

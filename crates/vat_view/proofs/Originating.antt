@@ -93,7 +93,7 @@ later_if : (b : Bool) (p q : ℕ) (o : Option ℕ) → (o ≡ Some q → p + 1 �
 later_if true p q o rest h = let same : p ≡ q = cc in omega (arith, same)
 later_if false p q o rest h = let later = rest h in omega (arith, later)
 
-found_later : {A : Type 0} (test : A → Bool) (xs : List A) (p q : ℕ) → position_from test p xs ≡ Some q → p ≤ q
+pub found_later : {A : Type 0} (test : A → Bool) (xs : List A) (p q : ℕ) → position_from test p xs ≡ Some q → p ≤ q
 found_later test [] p q h = absurd (let no : ⊥ = cc in no)
 found_later test (x ∷ xs) p q h = later_if (test x) p q (position_from test (p + 1) xs) (found_later test xs (p + 1) q) h
 

@@ -25,10 +25,10 @@ none_some e = cc
 -- ---- the records of lives
 
 -- the record where a life begins now
-begins_number : (i : Id) (before : Past) (e : Event) (b : Birth) → begins i before e ≡ Some b → b.from ≡ point before e
+pub begins_number : (i : Id) (before : Past) (e : Event) (b : Birth) → begins i before e ≡ Some b → b.from ≡ point before e
 begins_number i before e b h = let parts = begins_parts i before e b h in ap (λ x. x.from) parts.2
 
-birth_below : (i : Id) (past : Past) (b : Birth) → last_answer (begins i) past ≡ Some b → number_of b.from < length past
+pub birth_below : (i : Id) (past : Past) (b : Birth) → last_answer (begins i) past ≡ Some b → number_of b.from < length past
 birth_below i [] b h = absurd (none_some h)
 birth_below i (e ∷ before) b h = elim (cases_option (begins i before e)) [
   | inl some ↦

@@ -1,11 +1,13 @@
 -- Turns only grow.
-use Rattle.std.proofs.Common.{◌≡◌, ℕ, refl, sym, ◌∙◌, subst, List, [], ◌∷◌, ◌++◌, Option, Some, None}
+use Rattle.std.proofs.Common.{◌≡◌, ℕ, refl, sym, ◌∙◌, subst, List, [], ◌∷◌, ◌++◌, Option, Some, None, ap, Bool, true, false, if◌then◌else◌}
 use Rattle.std.specs.Prelude.{unwrap_or, IsSome}
 use Rattle.std.specs.Option.{option_or}
-use Rattle.vat_view.specs.Types.{Event, View, Object}
+use Rattle.vat_view.specs.Types.{Event, Fulfil, Break, View, Object, Promise, FieldOf, Import}
+use Rattle.vat_view.specs.Views.{view_of_reference}
+use Rattle.std.proofs.lemmas.Bool.{false≢true, eqb-true}
 use Rattle.vat_view.specs.Past.{Past, last_answer}
 use Rattle.vat_view.specs.Laws.{EachAfter}
-use Rattle.vat_view.specs.Walks.{Next, turns, stops, stays, turn, next, TurnsOnce, Leads, here, onward, LeadsByTurns, turned, IsEnd}
+use Rattle.vat_view.specs.Walks.{Next, turns, stops, stays, turn, next, TurnsOnce, Leads, here, onward, LeadsByTurns, turned, IsEnd, is_promise}
 
 turns_not_stays : {b : View} → turns b ≡ stays → ⊥
 turns_not_stays e = cc
@@ -54,3 +56,25 @@ one_last past a b c (onward {b = m} e rest) last (onward {b = n} f others) also 
 
 pub one_end : (past : Past) (a b c : View) → IsEnd past a b → IsEnd past a c → b ≡ c
 one_end past a b c first second = one_last past a b c first.led first.last second.led second.last
+
+-- ---- a promise that had neither is kept or broken once
+
+some_of : (x : Next) (b : Bool) → IsSome (if b then Some x else None) → b ≡ true
+some_of x true h = refl
+some_of x false h = absurd (false≢true h)
+
+module _ (before : Past) (r p : ℕ) (stands : view_of_reference before r ≡ Some (Promise p)) (unkept : next before (Promise p) ≡ stays) where
+  promise_stays : (q : ℕ) → is_promise q (view_of_reference before r) ≡ true → next before (Promise q) ≡ stays
+  promise_stays q h = subst (λ x. next before (Promise x) ≡ stays) (eqb-true p q (sym (ap (λ o. is_promise q o) stands) ∙ h)) unkept
+
+  pub fulfil_once : (to : ℕ) → TurnsOnce before (Fulfil r to)
+  fulfil_once to (Object object) h = absurd (false≢true h)
+  fulfil_once to (Promise q) h = promise_stays q (some_of _ (is_promise q (view_of_reference before r)) h)
+  fulfil_once to (FieldOf call path) h = absurd (false≢true h)
+  fulfil_once to (Import i place) h = absurd (false≢true h)
+
+  pub break_once : TurnsOnce before (Break r)
+  break_once (Object object) h = absurd (false≢true h)
+  break_once (Promise q) h = promise_stays q (some_of _ (is_promise q (view_of_reference before r)) h)
+  break_once (FieldOf call path) h = absurd (false≢true h)
+  break_once (Import i place) h = absurd (false≢true h)

@@ -1,10 +1,10 @@
 //! Laws of a log's records, which hold of every log and not of one call.
 
-ghost use Rattle.std.specs.Prelude.{◌≡◌, ◌≤◌, ◌++◌, ℕ, List, Some, true, IsSome};
-ghost use Rattle.vat_view.specs.Types.{Event, View, Object, Id};
-ghost use Rattle.vat_view.specs.Past.{Past, Each};
+ghost use Rattle.std.specs.Prelude.{◌≡◌, ◌≤◌, ◌++◌, ℕ, List, Some, true, false, IsSome};
+ghost use Rattle.vat_view.specs.Types.{Event, Fulfil, Break, Wire, Resolution, Resolve, View, Object, Promise, Id};
+ghost use Rattle.vat_view.specs.Past.{Past, Each, id};
 ghost use Rattle.vat_view.specs.Questions.{opens, returns, finishes};
-ghost use Rattle.vat_view.specs.Lives.{came, went, GivesBackHeld};
+ghost use Rattle.vat_view.specs.Lives.{came, went, is_resolved, GivesBackHeld};
 ghost use Rattle.vat_view.specs.Uses.{UsesQuestions};
 ghost use Rattle.vat_view.specs.Views.{view_of_reference, view_of_number};
 ghost use Rattle.vat_view.specs.Bindings.{Refers, is_bound};
@@ -53,6 +53,20 @@ pub fn turns_only_grow()
         → Leads (later ++ past) a b }
     ensures by_turns { (later : List Event) (past : Past) → EachAfter TurnsOnce later past → (a b : View) → LeadsByTurns past a b
         → LeadsByTurns (later ++ past) a b }
+{}
+
+/// FULFIL and BREAK turn a view that stays, where the first reference stands for an own promise that had neither.
+pub fn a_promise_is_kept_once()
+    ensures fulfilled { (before : Past) (r to p : ℕ) → view_of_reference before r ≡ Some (Promise p) → next before (Promise p) ≡ stays
+        → TurnsOnce before (Fulfil r to) }
+    ensures broken { (before : Past) (r p : ℕ) → view_of_reference before r ≡ Some (Promise p) → next before (Promise p) ≡ stays
+        → TurnsOnce before (Break r) }
+{}
+
+/// A Resolve that is received turns a view that stays, where no Resolve passed in the present life of its number.
+pub fn a_life_is_resolved_once()
+    ensures { (before : Past) (k c : ℕ) (rs : List ℕ) (n : ℕ) (resolution : Resolution) → is_resolved (id k false n) before ≡ false
+        → TurnsOnce before (Wire false k c rs (Resolve n resolution)) }
 {}
 
 /// What a view turns to is the view of a bound reference, where each record is as it should be after those before it.

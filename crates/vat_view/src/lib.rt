@@ -49,8 +49,9 @@ pub use asked::Asked;
 pub use event::Event;
 pub use id::Id;
 pub use laws::{
-    bound_references_have_views, ends_are_one, no_more_goes, numbers_keep_views, objects_stay,
-    openings_are_closed_once, references_keep_views, turns_go_to_references, turns_only_grow,
+    a_life_is_resolved_once, a_promise_is_kept_once, bound_references_have_views, ends_are_one,
+    no_more_goes, numbers_keep_views, objects_stay, openings_are_closed_once,
+    references_keep_views, turns_go_to_references, turns_only_grow,
 };
 pub use number::Number;
 pub use state::VatState;

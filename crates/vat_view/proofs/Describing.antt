@@ -160,7 +160,7 @@ module _ (before : Past) (questions : Questions) (lives : Lives) (bound : Bound)
             ∙ sym (ap (λ b. option_map origin_of (if b then option_or (begins i before e) (last_answer (begins i) before) else None)) gone)
       ]
 
-      origin_after : option_or (held_origin lives i) (held_origin begun i) ≡ option_map origin_of (birth i (e ∷ before))
+      pub origin_after : option_or (held_origin lives i) (held_origin begun i) ≡ option_map origin_of (birth i (e ∷ before))
       origin_after = elim (cases_Bool (is_in_life i before)) [
         | inl alive ↦
             let some : 0 < held i before = ltb-true 0 (held i before) alive in

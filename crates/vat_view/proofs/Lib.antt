@@ -29,3 +29,4 @@ pub mod Called
 pub mod Distinct
 pub mod Promising
 pub mod Unresolved
+pub mod Alike

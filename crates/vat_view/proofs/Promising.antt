@@ -57,7 +57,7 @@ get_front (z ∷ xs) ys zero x h = h
 get_front (z ∷ xs) ys (suc k) x h = get_front xs ys k x h
 
 -- the record where a life began stands at its number
-birth_stands : (i : Id) (past : Past) (b : Birth) → last_answer (begins i) past ≡ Some b → slice_get (reverse past) (number_of b.from) ≡ Some b.from.event
+pub birth_stands : (i : Id) (past : Past) (b : Birth) → last_answer (begins i) past ≡ Some b → slice_get (reverse past) (number_of b.from) ≡ Some b.from.event
 birth_stands i [] b h = absurd (none_some h)
 birth_stands i (e ∷ before) b h = ap (λ l. slice_get l (number_of b.from)) (reverse-append (e ∷ []) before) ∙ elim (cases_option (begins i before e)) [
   | inl some ↦

@@ -1,12 +1,15 @@
 -- For the code's contracts, and no part of the meaning: the table of Resolves, and the kinds of lives.
-use Rattle.std.specs.Prelude.{◌≡◌, ℕ, nat_lt, List, Bool, true, false, Option, Some, None, option_map, option_and_then, is_some, slice_get}
+use Rattle.std.specs.Prelude.{◌≡◌, ℕ, nat_lt, List, Bool, true, false, not, ◌&&◌, Option, Some, None, option_map, option_and_then, unwrap_or, is_some, slice_get}
+use Rattle.std.specs.Bool.{beq}
 use Rattle.std.specs.BTreeMap.{get}
+use Rattle.std.specs.Option.{option_or, option_map_or}
+use Rattle.vat_view.specs.declared.lives.Lives.{Lives}
 use Rattle.vat_view.specs.declared.origin.Origin.{Origin}
 use Rattle.vat_view.specs.declared.resolves.Resolves.{Resolves}
-use Rattle.vat_view.specs.Types.{Event, Id}
+use Rattle.vat_view.specs.Types.{Descriptor, Event, Id}
 use Rattle.vat_view.specs.Past.{Past, Point, names, number_of, last_where}
-use Rattle.vat_view.specs.Lives.{descriptors, is_promised, resolved}
-use Rattle.vat_view.specs.Tables.{id_cmp}
+use Rattle.vat_view.specs.Lives.{descriptors, introduced, is_promised, resolved}
+use Rattle.vat_view.specs.Tables.{id_cmp, held_origin}
 
 -- the record that the table has for a promise
 abbrev pub resolve_at : Resolves → Id → Option ℕ
@@ -34,3 +37,18 @@ abbrev pub resolved_since : Option Origin → Option ℕ → Bool
 resolved_since (Some origin) (Some last) = nat_lt origin.number last
 resolved_since (Some origin) None = false
 resolved_since None last = false
+
+-- whether a life that began so, in these records with the oldest first or in the one that comes next, began with a
+-- senderPromise
+abbrev pub promised_by : List Event → Event → Origin → Bool
+promised_by events next origin = is_promised (slice_get (descriptors (unwrap_or (slice_get events origin.number) next)) origin.place)
+
+-- whether a descriptor of the record that comes next is of the kind of a life that began so, if one did
+abbrev pub of_kind_by : List Event → Event → Descriptor → Option Origin → Bool
+of_kind_by events next d origin = option_map_or (λ origin. beq (promised_by events next origin) (is_promised (Some d))) origin true
+
+-- whether the number that a descriptor of the record that comes next introduces keeps its kind, by the tables before
+-- it and the one of what it introduces
+abbrev pub keeps_by : List Event → Lives → Lives → Resolves → Event → Descriptor → Bool
+keeps_by events lives begun resolves next d =
+    option_map_or (λ i. of_kind_by events next d (option_or (held_origin lives i) (held_origin begun i)) && not (resolved_since (held_origin lives i) (resolve_at resolves i))) (introduced next d) true

@@ -1,7 +1,9 @@
 -- How often export and import numbers are held, and their lives (rpc.capnp, the comments of ExportId, ImportId,
 -- CapDescriptor, Release, Return.releaseParamCaps and Finish.releaseResultCaps).
-use Rattle.std.specs.Prelude.{ℕ, ◌-◌, ◌≤◌, nat_lt, List, [], ◌∷◌, Bool, true, false, not, ◌||◌, Option, Some, None, if◌then◌else◌, count_by, option_map, is_some, slice_get}
-use Rattle.std.specs.List.{filter_map, position_from}
+use Rattle.std.specs.Prelude.{ℕ, ◌-◌, ◌≤◌, nat_lt, List, [], ◌∷◌, Bool, true, false, not, ◌&&◌, ◌||◌, Option, Some, None, if◌then◌else◌, count_by, option_map, is_some, slice_get, IsTrue}
+use Rattle.std.specs.Bool.{beq}
+use Rattle.std.specs.List.{filter_map, position_from, list_all}
+use Rattle.std.specs.Option.{option_map_or}
 use Rattle.vat_view.specs.Types.{Descriptor, SenderHosted, SenderPromise, Results, Cap, RpcMessage, Call, Return, Resolve, Release, Event, Wire, Id}
 use Rattle.vat_view.specs.Past.{Past, Point, point, id, same_id, names, last_answer, last_since, sum_back}
 use Rattle.vat_view.specs.Questions.{is_late, closes}
@@ -102,3 +104,19 @@ resolve_of i past = if is_in_life i past then last_since (λ before e. is_some (
 -- a Resolve passed in the present life of a number
 abbrev pub is_resolved : Id → Past → Bool
 is_resolved i past = is_some (resolve_of i past)
+
+-- a descriptor is of a life's kind: both are a senderPromise, or neither is
+abbrev pub is_of_kind : Descriptor → Birth → Bool
+is_of_kind d b = beq (began_promised b) (is_promised (Some d))
+
+-- the number that a descriptor of a record introduces, if it does, is introduced as its life's first descriptor did,
+-- with the record itself counted, and no Resolve passed in its life before
+abbrev pub keeps_kind : Past → Event → Descriptor → Bool
+keeps_kind before e d = option_map_or (λ i. option_map_or (is_of_kind d) (birth i (e ∷ before)) true && not (is_resolved i before)) (introduced e d) true
+
+-- (rpc.capnp, CapDescriptor.senderHosted and senderPromise, and Resolve: after a promise is resolved its number isn't
+-- introduced again)
+-- each number that a record introduces has the kind of its life's first descriptor, and no Resolve passed in its
+-- life. A late Return's descriptors count too, for a number that is in life
+abbrev pub KeepsKinds : Past → Event → Type 0
+KeepsKinds before e = IsTrue (list_all (keeps_kind before e) (descriptors e))

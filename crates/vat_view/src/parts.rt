@@ -1,8 +1,8 @@
 //! What one record opens, binds, names and uses.
 
 ghost use Rattle.std.specs.Prelude.{◌≡◌, option_to_list};
-ghost use Rattle.vat_view.specs.Questions.{opened, returned, finished, noted_call};
-ghost use Rattle.vat_view.specs.Lives.{descriptors, introduced};
+ghost use Rattle.vat_view.specs.Questions.{opened, returned, finished};
+ghost use Rattle.vat_view.specs.Lives.{descriptors};
 ghost use Rattle.vat_view.specs.Views.{references};
 ghost use Rattle.vat_view.specs.Uses.{question_targeted, question_described, number_targeted, number_described, number_released};
 ghost use Rattle.vat_view.specs.Bindings.{new_references, new_calls, named_calls};
@@ -34,26 +34,11 @@ impl Event {
         records::finished(self)
     }
 
-    /// The call noted beside it, 0 where none is.
-    pub(crate) fn noted_call(&self) -> u64
-        ensures { result ≡ noted_call self.now }
-    {
-        records::noted_call(self)
-    }
-
     /// Its descriptors, by place, counted from 0; a Resolve's stands at place 0.
-    pub(crate) fn descriptors(&self) -> &[Descriptor]
+    pub fn descriptors(&self) -> &[Descriptor]
         ensures { result.now ≡ descriptors self.now }
     {
         records::descriptors(self)
-    }
-
-    /// The number that one of its descriptors introduces: senderHosted and senderPromise name one of the sender's
-    /// exports.
-    pub(crate) fn introduced(&self, descriptor: &Descriptor) -> Option<Id>
-        ensures { result ≡ introduced self.now descriptor.now }
-    {
-        records::introduced(self, descriptor)
     }
 
     /// The references noted beside it.
@@ -63,8 +48,8 @@ impl Event {
         records::references(self)
     }
 
-    /// The references that it newly binds.
-    pub(crate) fn new_references(&self) -> &[u64]
+    /// The references that it newly binds: of HOST, VOW, FIELD and RECV.
+    pub fn new_references(&self) -> &[u64]
         ensures { result.now ≡ new_references self.now }
     {
         arrivals::new_references(self)

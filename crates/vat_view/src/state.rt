@@ -1,12 +1,12 @@
 //! The state of a vat's numbers after some records of its log.
 
-ghost use Rattle.std.specs.Prelude.{◌≡◌, ◌↔◌, [], ◌∷◌, Decides, IfOk, OnOk, OnErr, IsTrue, MatchOption, option_map};
+ghost use Rattle.std.specs.Prelude.{◌≡◌, ◌↔◌, [], ◌∷◌, Decides, IfOk, OnOk, OnErr, IsTrue, MatchOption, option_map, reverse};
 ghost use Rattle.vat_view.specs.declared.view.View.{View};
 ghost use Rattle.std.specs.Option.{option_copied};
 ghost use Rattle.vat_view.specs.Past.{record_at};
 ghost use Rattle.vat_view.specs.Numbers.{number_held, number_stands};
 ghost use Rattle.vat_view.specs.Questions.{is_free, is_unfinished, is_finished, is_unreturned, call_at, opening, is_late};
-ghost use Rattle.vat_view.specs.Lives.{GivesBackHeld, birth, began_promised, is_in_life, is_resolved};
+ghost use Rattle.vat_view.specs.Lives.{GivesBackHeld, KeepsKinds, birth, began_promised, is_in_life, is_resolved};
 ghost use Rattle.vat_view.specs.Uses.{UsesQuestions, UsesNumbers};
 ghost use Rattle.vat_view.specs.Views.{view_of_reference, view_of_target, views_of_descriptors};
 ghost use Rattle.vat_view.specs.Walks.{next, stays, Leads, LeadsByTurns, IsEnd};
@@ -196,6 +196,13 @@ impl VatState {
         self.events.push(event)?;
         Ok(())
     }
+
+    /// The records that were applied, in their order, the oldest first. It takes no memory.
+    pub fn into_events(self) -> Vec<Event>
+        ensures { result.items ≡ reverse self }
+    {
+        self.events
+    }
 }
 
 impl VatState {
@@ -324,6 +331,22 @@ impl VatState {
     {
         let alloc = *self.events.allocator();
         asking::gives_back_held(alloc, &self.questions, &self.lives, event)
+    }
+
+    /// Whether each number that a record introduces has the kind of its life's first descriptor, with the record itself
+    /// counted, and no Resolve passed in its life (rpc.capnp, `CapDescriptor.senderHosted` and `senderPromise`, and
+    /// `Resolve`).
+    ///
+    /// # Errors
+    ///
+    /// Want of memory.
+    pub fn keeps_kinds(&self, event: &Event) -> Result<bool, AllocError>
+        ensures { IfOk result (λ keeps. Decides keeps (KeepsKinds self.now event.now)) }
+    {
+        let alloc = *self.events.allocator();
+        let late = telling::is_late(&self.questions, event);
+        let begun = arrivals::begun(alloc, late, self.events.len(), event)?;
+        Ok(kinds::keeps_kinds(&self.events, &self.lives, &begun, &self.resolves, event))
     }
 }
 

@@ -1,27 +1,29 @@
 -- One record more of a log that is good so far.
-use Rattle.std.proofs.Common.{◌≡◌, ℕ, suc, ◌+◌, ◌<◌, List, [], ◌∷◌, ◌++◌, take, length, refl, sym, ◌∙◌, ap, arith, below_more, subst}
+use Rattle.std.proofs.Common.{◌≡◌, ℕ, suc, ◌+◌, ◌<◌, List, [], ◌∷◌, ◌++◌, take, length, map, refl, sym, ◌∙◌, ap, arith, below_more, subst}
 use Rattle.std.specs.Prelude.{Option, Some, Ok, slice_get, reverse, IsSomeAnd, count_by}
-use Rattle.std.specs.List.{filter_map}
+use Rattle.std.specs.List.{filter_map, zip}
 use Rattle.std.proofs.Math.Seq.{take-suc}
-use Rattle.std.proofs.lemmas.List.{reverse-append}
+use Rattle.std.proofs.lemmas.List.{reverse-append, reverse-reverse, length-reverse, map-append}
 use Rattle.std.proofs.lemmas.List.Elements.{filter_map-append}
 use Rattle.std.proofs.lemmas.Option.{slice_get_within, get_or_from_slice_get}
 use Rattle.vat_log.specs.declared.body.Body.{Body}
-use Rattle.vat_rules.specs.declared.event.Event.{Event}
+use Rattle.vat_rules.specs.Types.{Event}
 use Rattle.vat_rules.specs.declared.outcome.Outcome.TheVariants.{Good, Broken}
 use Rattle.vat_rules.specs.declared.rule.Rule.{Rule}
 use Rattle.vat_rules.specs.declared.story.Seen.{Seen}
+use Rattle.vat_rules.specs.declared.story.Entry.{Entry}
+use Rattle.vat_view.specs.Past.{Past}
 use Rattle.vat_rules.specs.Rules.{rules}
 use Rattle.vat_rules.specs.Told.{Told}
-use Rattle.vat_rules.specs.Views.{seen_of, seen_back}
-use Rattle.vat_rules.specs.Events.{Reader, event_of, event_or_none, events_before}
-use Rattle.vat_rules.specs.Telling.{is_delivery}
+use Rattle.vat_rules.specs.Events.{Reader, event_of, event_or_none, events_before, past_at}
+use Rattle.vat_rules.specs.Telling.{seen_of, entry_of, entries_back, is_delivery}
+use Rattle.vat_rules.specs.Glue.{entries_with}
 use Rattle.vat_rules.specs.Judged.{IsGood, BreaksFirst}
 use Rattle.vat_rules.specs.First.{IsGoodAt, IsFirst}
 
 -- what a log tells, by its parts
-abbrev told : List Event → List Seen → ℕ → Told
-told events seen delivered = record { events = events; seen = seen; delivered = delivered }
+abbrev told : List Entry → ℕ → Told
+told entries delivered = record { entries = entries; delivered = delivered }
 
 -- the records before the next
 take-more : {A : Type 0} (xs : List A) (at : ℕ) (x : A) → slice_get xs at ≡ Some x → take (at + 1) xs ≡ take at xs ++ x ∷ []
@@ -42,44 +44,74 @@ events_before-more read log at b e here is =
     ap (λ bs. filter_map f bs) (take-more log at b here) ∙ filter_map-append f (take at log) (b ∷ [])
     ∙ ap (λ es. events_before read log at ++ es) (one_more f b e (ap event_or_none is))
 
--- what is seen of one record more
-seen_back-more : (events : List Event) (e : Event) →
-    reverse (seen_back (reverse (events ++ e ∷ []))) ≡ reverse (seen_back (reverse events)) ++ seen_of (reverse events) e ∷ []
-seen_back-more events e =
-    ap (λ past. reverse (seen_back past)) (reverse-append events (e ∷ [])) ∙ reverse-append (seen_of (reverse events) e ∷ []) (seen_back (reverse events))
+-- what stands before the next record, the newest first
+pub past_at-more : (read : Reader) (log : List Body) (at : ℕ) (b : Body) (e : Event) → slice_get log at ≡ Some b → event_of read b ≡ Ok e →
+    past_at read log (at + 1) ≡ e ∷ past_at read log at
+past_at-more read log at b e here is = ap reverse (events_before-more read log at b e here is) ∙ reverse-append (events_before read log at) (e ∷ [])
+
+-- what is seen of each record, the newest first
+abbrev pub seen_back : Past → List Seen
+seen_back [] = []
+seen_back (e ∷ before) = seen_of before e ∷ seen_back before
+
+length-seen : (past : Past) → length (seen_back past) ≡ length past
+length-seen [] = refl
+length-seen (e ∷ before) = ap suc (length-seen before)
 
 -- what is seen, with what was seen of that record put behind what was seen before
-pub seen_more : (events more lent : List Event) (e : Event) (seen seen_too : List Seen) (s : Seen) → more ≡ events ++ e ∷ [] → seen_too ≡ seen ++ s ∷ [] → lent ≡ events →
-    seen ≡ reverse (seen_back (reverse events)) → s ≡ seen_of (reverse lent) e → seen_too ≡ reverse (seen_back (reverse more))
-seen_more events more lent e seen seen_too s is longer same so_far here =
-    let last : s ≡ seen_of (reverse events) e = here ∙ ap (λ es. seen_of (reverse es) e) same in
-    longer ∙ ap (λ xs. xs ++ s ∷ []) so_far ∙ ap (λ x. reverse (seen_back (reverse events)) ++ x ∷ []) last ∙ sym (seen_back-more events e) ∙ ap (λ es. reverse (seen_back (reverse es))) (sym is)
+pub seen_more : (past more : Past) (e : Event) (seen longer : List Seen) → more ≡ e ∷ past → longer ≡ seen ++ seen_of past e ∷ [] →
+    seen ≡ reverse (seen_back past) → longer ≡ reverse (seen_back more)
+seen_more past more e seen longer same put so_far =
+    put ∙ ap (λ xs. xs ++ seen_of past e ∷ []) so_far ∙ sym (reverse-append (seen_of past e ∷ []) (seen_back past)) ∙ ap (λ p. reverse (seen_back p)) (sym same)
+
+zip_behind : {A B : Type 0} (xs : List A) (ys : List B) (x : A) (y : B) → length xs ≡ length ys → zip (xs ++ x ∷ []) (ys ++ y ∷ []) ≡ zip xs ys ++ (x, y) ∷ []
+zip_behind [] [] x y len = refl
+zip_behind [] (b ∷ ys) x y len = absurd (let no : ⊥ = omega (arith, len) in no)
+zip_behind (a ∷ xs) [] x y len = absurd (let no : ⊥ = omega (arith, len) in no)
+zip_behind (a ∷ xs) (b ∷ ys) x y len = ap (λ ps. (a, b) ∷ ps) (zip_behind xs ys x y (let shorter : length xs ≡ length ys = omega (arith, len) in shorter))
+
+-- records with what was seen of each are the entries
+pub same_entries : (past : Past) → entries_with (reverse past) (reverse (seen_back past)) ≡ reverse (entries_back past)
+same_entries [] = refl
+same_entries (e ∷ before) =
+    let entry : (Event × Seen) → Entry = λ p. record { event = p.0; seen = p.1 } in
+    let len : length (reverse before) ≡ length (reverse (seen_back before)) = length-reverse before ∙ sym (length-seen before) ∙ sym (length-reverse (seen_back before)) in
+    ap (λ es. entries_with es (reverse (seen_back (e ∷ before)))) (reverse-append (e ∷ []) before)
+    ∙ ap (λ ss. entries_with (reverse before ++ e ∷ []) ss) (reverse-append (seen_of before e ∷ []) (seen_back before))
+    ∙ ap (map entry) (zip_behind (reverse before) (reverse (seen_back before)) e (seen_of before e) len)
+    ∙ map-append entry (zip (reverse before) (reverse (seen_back before))) ((e, seen_of before e) ∷ [])
+    ∙ ap (λ xs. xs ++ entry_of before e ∷ []) (same_entries before)
+    ∙ sym (reverse-append (entry_of before e ∷ []) (entries_back before))
 
 -- a record is read as what its body gives
 read_at : (P : Body → Type 0) (log : List Body) (at : ℕ) (b : Body) → slice_get log at ≡ Some b → P b → IsSomeAnd (slice_get log at) P
 read_at P log at b here p = rw here p
 
 -- the first bad record
-pub is_first-Broken : (read : Reader) (log : List Body) (at : ℕ) (b : Body) (e : Event) (events : List Event) (rule : Rule) → slice_get log at ≡ Some b → event_of read b ≡ Ok e →
-    events ≡ events_before read log at → BreaksFirst rules (reverse events) e rule → ((j : ℕ) → j < at → IsGoodAt read log j) → IsFirst read log (Broken at rule)
-is_first-Broken read log at b e events rule here is before breaks good =
-    (good, (e, read_at (λ b. event_of read b ≡ Ok e) log at b here is, subst (λ es. BreaksFirst rules (reverse es) e rule) before breaks))
+pub is_first-Broken : (read : Reader) (log : List Body) (at : ℕ) (b : Body) (e : Event) (past : Past) (rule : Rule) → slice_get log at ≡ Some b → event_of read b ≡ Ok e →
+    past ≡ past_at read log at → BreaksFirst rules past e rule → ((j : ℕ) → j < at → IsGoodAt read log j) → IsFirst read log (Broken at rule)
+is_first-Broken read log at b e past rule here is before breaks good =
+    (good, (e, read_at (λ b. event_of read b ≡ Ok e) log at b here is, subst (λ p. BreaksFirst rules p e rule) before breaks))
 
 -- one good record more
-pub good-more : (read : Reader) (log : List Body) (at : ℕ) (b : Body) (e : Event) (events : List Event) → slice_get log at ≡ Some b → event_of read b ≡ Ok e →
-    events ≡ events_before read log at → IsGood (reverse events) e → ((j : ℕ) → j < at → IsGoodAt read log j) → (j : ℕ) → j < at + 1 → IsGoodAt read log j
-good-more read log at b e events here is before is_good good =
-    below_more _ at good (e, read_at (λ b. event_of read b ≡ Ok e) log at b here is, subst (λ es. IsGood (reverse es) e) before is_good)
+pub good-more : (read : Reader) (log : List Body) (at : ℕ) (b : Body) (e : Event) (past : Past) → slice_get log at ≡ Some b → event_of read b ≡ Ok e →
+    past ≡ past_at read log at → IsGood past e → ((j : ℕ) → j < at → IsGoodAt read log j) → (j : ℕ) → j < at + 1 → IsGoodAt read log j
+good-more read log at b e past here is before is_good good =
+    below_more _ at good (e, read_at (λ b. event_of read b ≡ Ok e) log at b here is, subst (λ p. IsGood p e) before is_good)
 
 -- a story is what its events tell
-same_story : (events whole : List Event) (seen : List Seen) (delivered : ℕ) → events ≡ whole → seen ≡ reverse (seen_back (reverse events)) → delivered ≡ count_by is_delivery events →
-    told events seen delivered ≡ told whole (reverse (seen_back (reverse whole))) (count_by is_delivery whole)
-same_story events whole seen delivered same is count = rw (is, count, same) refl
+same_story : (past : Past) (events : List Event) (seen : List Seen) → past ≡ reverse events → seen ≡ reverse (seen_back past) →
+    told (entries_with (reverse past) seen) (count_by is_delivery (reverse past)) ≡ told (reverse (entries_back (reverse events))) (count_by is_delivery events)
+same_story past events seen is seen_is =
+    ap (λ ss. told (entries_with (reverse past) ss) (count_by is_delivery (reverse past))) seen_is
+    ∙ ap (λ es. told es (count_by is_delivery (reverse past))) (same_entries past)
+    ∙ ap (λ p. told (reverse (entries_back p)) (count_by is_delivery (reverse p))) is
+    ∙ ap (λ es. told (reverse (entries_back (reverse events))) (count_by is_delivery es)) (reverse-reverse events)
 
 -- all records are good
-pub is_first-Good : (read : Reader) (log : List Body) (at : ℕ) (events : List Event) (seen : List Seen) (delivered : ℕ) → length log ≡ at →
-    events ≡ events_before read log at → seen ≡ reverse (seen_back (reverse events)) → delivered ≡ count_by is_delivery events →
-    ((j : ℕ) → j < at → IsGoodAt read log j) → IsFirst read log (Good (record { events = events; seen = seen; delivered = delivered }))
-is_first-Good read log at events seen delivered len before told count good =
-    let whole : events ≡ events_before read log (length log) = before ∙ ap (events_before read log) (sym len) in
-    ((λ i below. good i (omega (arith, len, below))), same_story events (events_before read log (length log)) seen delivered whole told count)
+pub is_first-Good : (read : Reader) (log : List Body) (at : ℕ) (past : Past) (seen : List Seen) (story : Told) → length log ≡ at →
+    past ≡ past_at read log at → seen ≡ reverse (seen_back past) → story ≡ told (entries_with (reverse past) seen) (count_by is_delivery (reverse past)) →
+    ((j : ℕ) → j < at → IsGoodAt read log j) → IsFirst read log (Good story)
+is_first-Good read log at past seen story len before seen_is is good =
+    let whole : past ≡ past_at read log (length log) = before ∙ ap (past_at read log) (sym len) in
+    ((λ i below. good i (omega (arith, len, below))), is ∙ same_story past (events_before read log (length log)) seen whole seen_is)

@@ -1,8 +1,4 @@
-pub mod Looking
-pub mod Asking
-pub mod Living
-pub mod Viewing
-pub mod Turning
+pub mod Placing
 pub mod Judging
 pub mod Firsts
 pub mod Unique

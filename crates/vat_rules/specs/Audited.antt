@@ -1,23 +1,25 @@
--- Which messages are audited yet.
-use Rattle.std.specs.Prelude.{◌==◌, length, Bool, true, false, ◌&&◌}
+-- Which records are audited yet.
+use Rattle.std.specs.Prelude.{Bool, true, false}
 use Rattle.std.specs.List.{list_all}
-use Rattle.vat_rules.specs.Types.{Descriptor, NoCap, SenderHosted, Target, Imported, Promised, Results, RpcMessage, Bootstrap, Call, Return}
+use Rattle.vat_rules.specs.Types.{Descriptor, SenderPromise, ReceiverAnswer, Resolve, Disembargo, Abort, Event, Vow, Fulfil, Break, Wire}
+use Rattle.vat_view.specs.Lives.{descriptors}
 
--- a target that names no field of a result
-abbrev pub is_whole : Target → Bool
-is_whole (Imported n) = true
-is_whole (Promised q path) = length path == 0
+-- a descriptor that is no promise: none, senderHosted or receiverHosted
+abbrev pub is_plain : Descriptor → Bool
+is_plain (SenderPromise n) = false
+is_plain (ReceiverAnswer q path) = false
+is_plain _ = true
 
--- a descriptor that is none or senderHosted
-abbrev pub is_hosted : Descriptor → Bool
-is_hosted NoCap = true
-is_hosted (SenderHosted n) = true
-is_hosted _ = false
+-- a record whose kind is audited: neither a promise's, nor a Resolve, a Disembargo or an abort
+abbrev pub is_judged : Event → Bool
+is_judged (Vow r) = false
+is_judged (Fulfil r to) = false
+is_judged (Break r) = false
+is_judged (Wire sent k call references (Resolve n resolution)) = false
+is_judged (Wire sent k call references (Disembargo n loopback target)) = false
+is_judged (Wire sent k call references Abort) = false
+is_judged _ = true
 
--- the messages that are audited: a Bootstrap; a Call with an empty capability table, to an import or to the whole of a
--- result; and a Return with results, whose capabilities are each none or senderHosted. No other is audited yet
-abbrev pub is_audited : RpcMessage → Bool
-is_audited (Bootstrap q) = true
-is_audited (Call q target interface method params) = is_whole target && (length params.descriptors == 0)
-is_audited (Return q release (Results payload)) = list_all is_hosted payload.descriptors
-is_audited _ = false
+-- every descriptor of a record is plain
+abbrev pub are_plain : Event → Bool
+are_plain e = list_all is_plain (descriptors e)

@@ -1,39 +1,27 @@
--- For the code's contracts, and no part of the meaning: a birth as the code names it, and what the code takes part by part.
-use Rattle.std.specs.Prelude.{ℕ, ◌==◌, List, [], Bool, true, false, not, ◌&&◌, Option, Some, None}
-use Rattle.std.specs.List.{list_all}
-use Rattle.vat_rules.specs.Types.{Results, RpcMessage, Bootstrap, Call, Return, Event, Wire}
-use Rattle.vat_rules.specs.declared.id.Id.{Id}
-use Rattle.vat_rules.specs.declared.lives.Origin.{Origin}
-use Rattle.vat_rules.specs.Past.{Past, id}
-use Rattle.vat_rules.specs.Lives.{Birth}
-use Rattle.vat_rules.specs.Rules.{is_bound, is_bound_call, is_distinct}
+-- For the code's contracts, and no part of the meaning: what is asked of a record before it is applied, at once.
+use Rattle.std.specs.Prelude.{ℕ, List, map, Option, None, slice_get, unwrap_or}
+use Rattle.std.specs.List.{zip}
+use Rattle.vat_rules.specs.Types.{Event, View}
+use Rattle.vat_view.specs.Past.{Past}
+use Rattle.vat_view.specs.Views.{view_of_target, views_of_descriptors}
+use Rattle.vat_rules.specs.Telling.{seen_question, seen_promise}
+use Rattle.vat_rules.specs.declared.standing.Standing.{Standing}
+use Rattle.vat_rules.specs.declared.story.Seen.{Seen}
+use Rattle.vat_rules.specs.declared.story.Entry.{Entry}
 
--- the birth that an origin names
-abbrev pub born : Origin → Birth
-born o = record { event = o.event.now; number = o.number; place = o.place }
+-- what the numbers of a record stand for, apart from its references
+abbrev pub standing_of : Past → Event → Standing
+standing_of before e = record {
+  question = seen_question before e;
+  promise = seen_promise before e;
+  target = view_of_target before e;
+  caps = views_of_descriptors before e;
+}
 
--- ---- a Return, part by part
+-- the view of these at a place, if one is there
+abbrev pub view_at : ℕ → List (Option View) → Option View
+view_at place views = unwrap_or (slice_get views place) None
 
--- where the results of a record have capabilities
-abbrev pub fields : Event → List (List ℕ × ℕ)
-fields (Wire sent k c rs (Return q release (Results payload))) = payload.fields
-fields _ = []
-
--- the question of ours that a received Return answers
-abbrev pub answered : Event → Option Id
-answered (Wire false k c rs (Return q release outcome)) = Some (id k true q)
-answered _ = None
-
--- ---- the rule REF for a message that passed, part by part
-
--- the references noted beside a message are bound where it is sent, else unused and distinct
-abbrev pub refers_to : Past → Bool → List ℕ → Bool
-refers_to before true references = list_all (is_bound before) references
-refers_to before false references = is_distinct references && list_all (λ r. not (is_bound before r)) references
-
--- the call noted beside a message is bound for a sent Call, unused for another that opens a question, and 0 otherwise
-abbrev pub refers_to_call : Past → Bool → ℕ → RpcMessage → Bool
-refers_to_call before sent call (Bootstrap q) = not (call == 0) && not (is_bound_call before call)
-refers_to_call before true call (Call q target interface method params) = not (call == 0) && is_bound_call before call
-refers_to_call before false call (Call q target interface method params) = not (call == 0) && not (is_bound_call before call)
-refers_to_call before sent call _ = call == 0
+-- records, each with what is seen of it
+abbrev pub entries_with : List Event → List Seen → List Entry
+entries_with events seen = map (λ p. record { event = p.0; seen = p.1 }) (zip events seen)

@@ -2,7 +2,7 @@
 use Rattle.std.specs.Prelude.{◌≡◌, ◌⊎◌, List, [], ◌∷◌}
 use Rattle.vat_rules.specs.declared.rule.Rule.{Rule}
 use Rattle.vat_rules.specs.Types.{Event}
-use Rattle.vat_rules.specs.Past.{Past}
+use Rattle.vat_view.specs.Past.{Past}
 use Rattle.vat_rules.specs.Rules.{Meets}
 
 -- a record is good where every rule holds

@@ -1,12 +1,9 @@
 pub mod Types
-pub mod Past
-pub mod Questions
-pub mod Lives
-pub mod Views
-pub mod Walks
-pub mod Calls
+pub mod Ways
+pub mod OfCalls
+pub mod OfCaps
+pub mod OfResults
 pub mod Rules
-pub mod Glue
 pub mod Told
 pub mod Audited
 pub mod Events
@@ -14,3 +11,4 @@ pub mod Judged
 pub mod Telling
 pub mod First
 pub mod Audit
+pub mod Glue

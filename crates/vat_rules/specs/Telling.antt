@@ -1,10 +1,48 @@
 -- What a log tells whose records are all good.
-use Rattle.std.specs.Prelude.{List, reverse, length, count_by, Bool, true, false}
+use Rattle.std.specs.Prelude.{ℕ, List, [], ◌∷◌, ◌++◌, map, reverse, length, count_by, Bool, true, false, Option, option_and_then}
+use Rattle.std.specs.Option.{option_or}
 use Rattle.vat_log.specs.declared.body.Body.{Body}
-use Rattle.vat_rules.specs.Types.{Event, Deliver}
+use Rattle.vat_rules.specs.Types.{Event, Deliver, View}
+use Rattle.vat_view.specs.Past.{Past}
+use Rattle.vat_view.specs.Questions.{returned, finished}
+use Rattle.vat_view.specs.Lives.{resolved}
+use Rattle.vat_view.specs.Views.{field_view, view_of_reference, view_of_number, view_of_target, views_of_descriptors}
+use Rattle.vat_view.specs.Bindings.{new_references, named_references}
+use Rattle.vat_rules.specs.declared.story.Seen.{Seen}
+use Rattle.vat_rules.specs.declared.story.Entry.{Entry}
 use Rattle.vat_rules.specs.Told.{Told}
-use Rattle.vat_rules.specs.Views.{seen_back}
 use Rattle.vat_rules.specs.Events.{Reader, events_before}
+
+-- what the references that a record binds or names stand for, the record counted
+abbrev pub seen_references : Past → Event → List (Option View)
+seen_references before e = map (view_of_reference (e ∷ before)) (new_references e ++ named_references e)
+
+-- what the question that a record returns or finishes stands for: its call, as the field at the empty path
+abbrev pub seen_question : Past → Event → Option View
+seen_question before e = option_and_then (λ q. field_view q [] before) (option_or (returned e) (finished e))
+
+-- what the promise that a record resolves stands for
+abbrev pub seen_promise : Past → Event → Option View
+seen_promise before e = option_and_then (λ i. view_of_number i before) (resolved e)
+
+-- what the numbers of a record stand for
+abbrev pub seen_of : Past → Event → Seen
+seen_of before e = record {
+  references = seen_references before e;
+  question = seen_question before e;
+  promise = seen_promise before e;
+  target = view_of_target before e;
+  caps = views_of_descriptors before e;
+}
+
+-- a record with what its numbers stand for
+abbrev pub entry_of : Past → Event → Entry
+entry_of before e = record { event = e; seen = seen_of before e }
+
+-- the same for each record, the newest first
+abbrev pub entries_back : Past → List Entry
+entries_back [] = []
+entries_back (e ∷ before) = entry_of before e ∷ entries_back before
 
 -- a record delivers a call
 unfoldable pub is_delivery : Event → Bool
@@ -14,4 +52,4 @@ is_delivery _ = false
 -- what a log tells whose records are all read
 abbrev pub told_of : Reader → List Body → Told
 told_of read log = let events = events_before read log (length log) in
-    record { events = events; seen = reverse (seen_back (reverse events)); delivered = count_by is_delivery events }
+    record { entries = reverse (entries_back (reverse events)); delivered = count_by is_delivery events }

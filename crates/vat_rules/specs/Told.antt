@@ -1,10 +1,8 @@
 -- What a good log tells.
 use Rattle.std.specs.Prelude.{ℕ, List}
-use Rattle.vat_rules.specs.declared.event.Event.{Event}
-use Rattle.vat_rules.specs.declared.story.Seen.{Seen}
+use Rattle.vat_rules.specs.declared.story.Entry.{Entry}
 
--- its records with their messages, what the numbers of each stand for, and how many calls were delivered
+-- its records, each with what its numbers stand for, and how many calls were delivered
 pub record Told : Type 0 where
-  pub events : List Event
-  pub seen : List Seen
+  pub entries : List Entry
   pub delivered : ℕ

@@ -1,130 +1,26 @@
 //! The audit of one log.
 
-ghost use Rattle.std.specs.Prelude.{◌≡◌, IfOk, count_by};
+ghost use Rattle.std.specs.Prelude.{◌≡◌, ◌∷◌, [], ◌++◌, IfOk, OnOk, MatchOption, count_by, reverse};
 ghost use Rattle.std.specs.Arc.{arc_value};
-ghost use Rattle.vat_rules.specs.Telling.{is_delivery};
-ghost use Rattle.vat_rules.specs.Events.{with_message, event_of};
-ghost use Rattle.vat_rules.specs.Audit.{why_outside, reads_within, IsTrueOf};
+ghost use Rattle.vat_rules.specs.Rules.{rules};
+ghost use Rattle.vat_rules.specs.Judged.{IsGood, BreaksFirst};
+ghost use Rattle.vat_rules.specs.Telling.{seen_of, is_delivery};
+ghost use Rattle.vat_rules.specs.Audit.{IsTrueOf};
+ghost use Rattle.vat_rules.specs.Glue.{standing_of, entries_with};
 
-use crate::audited::is_audited;
-use crate::event::Event;
 use crate::finding::VatFinding;
 use crate::judge::broken;
-use crate::outcome::{Outcome, Why};
-use crate::story::Story;
-use crate::views::seen_of;
-use bytes::Bytes;
-use rpc_view::{Limits, Outside, RpcMessage, ViewError, read_bytes};
+use crate::outcome::Outcome;
+use crate::reading::event_of;
+use crate::rule::Rule;
+use crate::seeing::{references_of, standing_of, views_of};
+use crate::standing::Standing;
+use crate::story::{Entry, Seen, Story};
+use rpc_view::Limits;
 use std::alloc::{AllocError, Global};
 use std::sync::Arc;
-use vat_log::{Body, References, VatLog};
-
-/// Why a record is outside whose message is outside of what is read.
-fn why_outside(reason: Outside) -> Why
-    ensures { result ≡ why_outside reason }
-{
-    match reason {
-        Outside::Level => Why::Level,
-        Outside::Unimplemented => Why::Unimplemented,
-        Outside::LaterField => Why::LaterField,
-        Outside::TailCall => Why::TailCall,
-    }
-}
-
-/// The message of a frame, or why its record is outside.
-fn message_of(
-    alloc: Global,
-    frame: &Bytes,
-    limits: Limits,
-) -> Result<Result<RpcMessage, Why>, AllocError>
-    ensures { IfOk result (λ r. r ≡ reads_within limits frame.now) }
-{
-    match read_bytes(alloc, frame.clone()?, limits) {
-        Ok(message) => Ok(Ok(message)),
-        Err(ViewError::OutOfMemory) => Err(AllocError),
-        Err(ViewError::Outside(reason)) => Ok(Err(why_outside(reason))),
-        Err(_) => Ok(Err(Why::Unread)),
-    }
-}
-
-/// The event of a frame that went out or came in.
-fn wire(
-    alloc: Global,
-    sent: bool,
-    connection: u32,
-    call: u64,
-    references: &References,
-    frame: &Bytes,
-    limits: Limits,
-) -> Result<Result<Event, Why>, AllocError>
-    ensures { IfOk result (λ r. r ≡ with_message (λ m. Event.Wire sent connection call references.now m) (reads_within limits frame.now)) }
-{
-    match message_of(alloc, frame, limits)? {
-        Ok(message) if is_audited(&message) => {
-            let references = references.copy()?;
-            Ok(Ok(Event::Wire {
-                sent,
-                connection,
-                call,
-                references,
-                message,
-            }))
-        }
-        Ok(_) => Ok(Err(Why::NotYet)),
-        Err(why) => Ok(Err(why)),
-    }
-}
-
-/// A stored record as it is judged, or why it is outside.
-fn event_of(alloc: Global, body: &Body, limits: Limits) -> Result<Result<Event, Why>, AllocError>
-    ensures { IfOk result (λ r. r ≡ event_of (reads_within limits) body.now) }
-{
-    match body {
-        Body::Host { reference, object } => Ok(Ok(Event::Host {
-            reference: *reference,
-            object: *object,
-        })),
-        Body::Make {
-            call,
-            reference,
-            interface,
-            method,
-        } => Ok(Ok(Event::Make {
-            call: *call,
-            reference: *reference,
-            interface: *interface,
-            method: *method,
-        })),
-        Body::Deliver { call, object } => Ok(Ok(Event::Deliver {
-            call: *call,
-            object: *object,
-        })),
-        Body::Answer { call, results } => {
-            let results = results.copy()?;
-            Ok(Ok(Event::Answer {
-                call: *call,
-                results,
-            }))
-        }
-        Body::Vow { .. }
-        | Body::Fulfil { .. }
-        | Body::Break { .. }
-        | Body::Field { .. }
-        | Body::Fault { .. } => Ok(Err(Why::NotYet)),
-        Body::Send {
-            connection,
-            call,
-            references,
-            frame,
-        } => wire(alloc, true, *connection, *call, references, frame, limits),
-        Body::Receive {
-            connection,
-            call,
-            references,
-            frame,
-        } => wire(alloc, false, *connection, *call, references, frame, limits),
-    }
-}
+use vat_log::VatLog;
+use vat_view::{Event, VatState};
 
 /// Whether a record delivers a call.
 #[tactic(auto, unfolding(crate::specs::Telling::is_delivery))]
@@ -147,11 +43,82 @@ fn deliveries(events: &[Event]) -> u64
     delivered
 }
 
+/// Applies a good record, and puts what its numbers stand for behind what was seen before.
+fn take_in(
+    alloc: Global,
+    state: &mut VatState,
+    seen: &mut Vec<Seen>,
+    standing: Standing,
+    event: Event,
+) -> Result<(), AllocError>
+    requires good { IsGood state.old event }
+    requires standing { standing ≡ standing_of state.old event }
+    ensures state { OnOk result (state.new ≡ event ∷ state.old) }
+    ensures seen { OnOk result (seen.new.items ≡ seen.old.items ++ seen_of state.old event ∷ []) }
+{
+    let references = references_of(alloc, &event)?;
+    state.apply(event)?;
+    seen.push(Seen {
+        references: views_of(alloc, state, &references)?,
+        question: standing.question,
+        promise: standing.promise,
+        target: standing.target,
+        caps: standing.caps,
+    })?;
+    Ok(())
+}
+
+/// Judges a record by those before it, and applies it where it is good: then what its numbers stand for is put behind
+/// what was seen before.
+fn judge_next(
+    alloc: Global,
+    state: &mut VatState,
+    seen: &mut Vec<Seen>,
+    event: Event,
+) -> Result<Option<Rule>, AllocError>
+    ensures { IfOk result (λ r. MatchOption r
+        (IsGood state.old event × (state.new ≡ event ∷ state.old) × (seen.new.items ≡ seen.old.items ++ seen_of state.old event ∷ []))
+        (λ rule. BreaksFirst rules state.old event rule)) }
+{
+    let standing = standing_of(alloc, state, &event)?;
+    match broken(alloc, state, &event, &standing)? {
+        Some(rule) => Ok(Some(rule)),
+        None => {
+            take_in(alloc, state, seen, standing, event)?;
+            Ok(None)
+        }
+    }
+}
+
+/// The records, each with what was seen of it.
+fn entries_with(
+    alloc: Global,
+    events: Vec<Event>,
+    seen: Vec<Seen>,
+) -> Result<Vec<Entry>, AllocError>
+    ensures { IfOk result (λ entries. entries.items ≡ entries_with events.items seen.items) }
+{
+    events
+        .into_iter()
+        .zip(seen)
+        .map(|(event, seen)| Entry { event, seen })
+        .collect(alloc)
+}
+
+/// What records tell that were applied, with what was seen of each.
+fn told(alloc: Global, state: VatState, seen: Vec<Seen>) -> Result<Story, AllocError>
+    ensures { IfOk result (λ story. story ≡ record { entries = entries_with (reverse state) seen.items; delivered = count_by is_delivery (reverse state) }) }
+{
+    let events = state.into_events();
+    let delivered = deliveries(&events);
+    Ok(Story::new(entries_with(alloc, events, seen)?, delivered))
+}
+
 /// What the rules say of a log whose frames are read within the limits.
 fn first(alloc: Global, log: &VatLog, limits: Limits) -> Result<Outcome, AllocError>
     ensures { IfOk result (λ outcome. IsTrueOf log.now limits outcome) }
 {
-    let mut events = Vec::new(alloc);
+    let mut state = VatState::new(alloc);
     let mut seen = Vec::new(alloc);
     for at in 0..log.len() {
         let Some(stored) = log.get(at) else {
@@ -161,21 +128,17 @@ fn first(alloc: Global, log: &VatLog, limits: Limits) -> Result<Outcome, AllocEr
             Ok(event) => event,
             Err(why) => return Ok(Outcome::Outside { at: at as u64, why }),
         };
-        match broken(alloc, &events, &event)? {
+        match judge_next(alloc, &mut state, &mut seen, event)? {
             Some(rule) => {
                 return Ok(Outcome::Broken {
                     at: at as u64,
                     rule,
                 });
             }
-            None => {
-                seen.push(seen_of(alloc, &events, &event)?)?;
-                events.push(event)?;
-            }
+            None => {}
         }
     }
-    let delivered = deliveries(&events);
-    Ok(Outcome::Good(Story::new(events, seen, delivered)))
+    Ok(Outcome::Good(told(alloc, state, seen)?))
 }
 
 /// The audit of a log, each of whose frames is read within the limits: the first record that is outside of what is

@@ -1,49 +1,45 @@
-//! Which messages are audited.
+//! Which records are audited.
 
 ghost use Rattle.std.specs.Prelude.{◌≡◌};
-ghost use Rattle.std.specs.List.{list_all};
-ghost use Rattle.vat_rules.specs.Audited.{is_whole, is_hosted, is_audited};
+ghost use Rattle.vat_rules.specs.Audited.{is_judged, is_plain, are_plain};
 
-use rpc_view::{Descriptor, Outcome, RpcMessage, Target};
+use rpc_view::{Descriptor, RpcMessage};
+use vat_view::Event;
 
-/// Whether a target names no field of a result.
-fn is_whole(target: &Target) -> bool
-    ensures { result ≡ is_whole target.now }
+/// Whether a record's kind is audited: neither a promise's, nor a Resolve, a Disembargo or an abort.
+pub(crate) fn is_judged(event: &Event) -> bool
+    ensures { result ≡ is_judged event.now }
 {
-    match target {
-        Target::Imported(_) => true,
-        Target::Promised(_, path) => path.as_slice().is_empty(),
-    }
+    !matches!(
+        event,
+        Event::Vow { .. }
+            | Event::Fulfil { .. }
+            | Event::Break { .. }
+            | Event::Wire {
+                message: RpcMessage::Resolve { .. }
+                    | RpcMessage::Disembargo { .. }
+                    | RpcMessage::Abort,
+                ..
+            }
+    )
 }
 
-/// Whether a descriptor is none or senderHosted.
-fn is_hosted(descriptor: &Descriptor) -> bool
-    ensures { result ≡ is_hosted descriptor.now }
+/// Whether a descriptor is no promise: none, senderHosted or receiverHosted.
+fn is_plain(descriptor: &Descriptor) -> bool
+    ensures { result ≡ is_plain descriptor.now }
 {
-    matches!(descriptor, Descriptor::NoCap | Descriptor::SenderHosted(_))
+    !matches!(
+        descriptor,
+        Descriptor::SenderPromise(_) | Descriptor::ReceiverAnswer(_, _)
+    )
 }
 
-/// Whether all descriptors are none or senderHosted.
-fn are_hosted(descriptors: &[Descriptor]) -> bool
-    ensures { result ≡ list_all is_hosted descriptors.now }
+/// Whether none of a record's descriptors is a promise.
+pub(crate) fn are_plain(event: &Event) -> bool
+    ensures { result ≡ are_plain event.now }
 {
-    descriptors.iter().all(|descriptor| is_hosted(descriptor))
-}
-
-/// Whether a message is audited yet: a Bootstrap, a Call with an empty capability table to an import or to the whole of
-/// a result, or a Return with results whose capabilities are each none or senderHosted.
-pub(crate) fn is_audited(message: &RpcMessage) -> bool
-    ensures { result ≡ is_audited message.now }
-{
-    match message {
-        RpcMessage::Bootstrap { .. } => true,
-        RpcMessage::Call { target, params, .. } => {
-            is_whole(target) && params.descriptors.as_slice().is_empty()
-        }
-        RpcMessage::Return {
-            outcome: Outcome::Results(payload),
-            ..
-        } => are_hosted(payload.descriptors.as_slice()),
-        _ => false,
-    }
+    event
+        .descriptors()
+        .iter()
+        .all(|descriptor| is_plain(descriptor))
 }

@@ -1,55 +1,60 @@
 //! The first rule that a record breaks.
 
-ghost use Rattle.std.specs.Prelude.{reverse, IfOk, MatchOption};
+ghost use Rattle.std.specs.Prelude.{◌≡◌, IfOk, MatchOption};
 ghost use Rattle.vat_rules.specs.Rules.{rules};
 ghost use Rattle.vat_rules.specs.Judged.{IsGood, BreaksFirst};
+ghost use Rattle.vat_rules.specs.Glue.{standing_of};
 
-use crate::bindings::refers;
-use crate::event::Event;
+use crate::of_calls::{goes_to_goal, is_here, may_answer};
+use crate::of_caps::{binds_each, describes};
+use crate::of_results::returns_known;
 use crate::rule::Rule;
-use crate::rules::{
-    binds_all, describes, goes_to_goal, is_here, may_answer, opens_free, returns_known,
-    uses_in_life, uses_questions,
-};
+use crate::standing::Standing;
 use std::alloc::{AllocError, Global};
+use vat_view::{Event, VatState};
 
-/// The first rule that a record breaks, if it breaks one. Nothing that is audited gives a number back that isn't held, so
-/// `Rule::Count` isn't tested.
+/// The first rule that a record breaks, if it breaks one, by the state of the records before it and by what its numbers
+/// stand for.
 pub(crate) fn broken(
     alloc: Global,
-    before: &[Event],
+    state: &VatState,
     event: &Event,
+    standing: &Standing,
 ) -> Result<Option<Rule>, AllocError>
-    ensures { IfOk result (λ r. MatchOption r (IsGood (reverse before.now) event.now) (λ rule. BreaksFirst rules (reverse before.now) event.now rule)) }
+    requires { standing.now ≡ standing_of state.now event.now }
+    ensures { IfOk result (λ r. MatchOption r (IsGood state.now event.now) (λ rule. BreaksFirst rules state.now event.now rule)) }
 {
-    if !refers(before, event) {
+    if !state.refers(event)? {
         return Ok(Some(Rule::Ref));
     }
-    if !is_here(before, event) {
+    if !is_here(state, event) {
         return Ok(Some(Rule::Here));
     }
-    if !opens_free(before, event) {
+    if !state.opens_free(event) {
         return Ok(Some(Rule::QNew));
     }
-    if !uses_questions(before, event) {
+    if !state.uses_questions(event) {
         return Ok(Some(Rule::QUse));
     }
-    if !uses_in_life(before, event) {
+    if !state.uses_numbers(event) {
         return Ok(Some(Rule::XUse));
     }
-    if !goes_to_goal(alloc, before, event)? {
+    if !goes_to_goal(state, event, standing.target.as_ref())? {
         return Ok(Some(Rule::Goal));
     }
-    if !may_answer(before, event) {
+    if !may_answer(state, event) {
         return Ok(Some(Rule::Answer));
     }
-    if !describes(alloc, before, event)? {
+    if !describes(alloc, state, event, standing.caps.as_slice())? {
         return Ok(Some(Rule::Desc));
     }
-    if !returns_known(alloc, before, event)? {
+    if !state.gives_back_held(event)? {
+        return Ok(Some(Rule::Count));
+    }
+    if !returns_known(state, event, standing.caps.as_slice())? {
         return Ok(Some(Rule::Result));
     }
-    if !binds_all(alloc, before, event)? {
+    if !binds_each(state, event) {
         return Ok(Some(Rule::RecvRef));
     }
     Ok(None)

@@ -1,35 +1,29 @@
-//! The audit of one log: each record against the rules, by looking back over the records before it.
+//! The audit of one log: each record against the rules, by the records before it.
 //!
-//! It stands on `rpc_view`, which reads the frames, on `vat_log`, and on `cap_frame` for its paths. Each rule is a
-//! sentence of `specs/Rules.antt`, by what `specs/Questions.antt`, `specs/Lives.antt`, `specs/Views.antt`,
-//! `specs/Walks.antt` and `specs/Calls.antt` say of the records before; the outcome of a log is said in
-//! `specs/First.antt` and `specs/Audit.antt`, and [`audit_vat`] answers just that. Every question searches the records
-//! anew, so the time grows with the square of the log, or worse.
+//! It stands on `rpc_view`, which reads the frames, on `vat_log`, and on `vat_view`, which says what the numbers of a
+//! log stand for and answers it by tables. The rules are sentences of `specs/OfCalls.antt`, `specs/OfCaps.antt` and
+//! `specs/OfResults.antt`, and of `vat_view` where a state of numbers asks for them itself; `specs/Rules.antt` lists
+//! them in their order. The outcome of a log is said in `specs/First.antt` and `specs/Audit.antt`, and [`audit_vat`]
+//! answers just that.
 #![tactic(auto)]
 
 mod audit;
 mod audited;
-mod bindings;
-mod calls;
-mod event;
 mod finding;
-mod id;
 mod judge;
-mod lives;
+mod of_calls;
+mod of_caps;
+mod of_results;
 mod outcome;
-mod questions;
+mod reading;
 mod rule;
-mod rules;
+mod seeing;
+mod standing;
 mod story;
-mod view;
-mod views;
-mod walks;
+mod ways;
 
 pub use audit::audit_vat;
-pub use event::Event;
 pub use finding::VatFinding;
-pub use id::Id;
 pub use outcome::{Outcome, Why};
 pub use rule::Rule;
-pub use story::{Caps, Seen, Story};
-pub use view::View;
+pub use story::{Entry, Seen, Story, Views};

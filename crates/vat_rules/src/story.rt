@@ -2,35 +2,32 @@
 
 ghost use Rattle.std.specs.Prelude.{◌≡◌};
 
-use crate::event::Event;
-use crate::view::View;
 use std::marker::Model;
+use vat_view::{Event, View};
 
-/// What the descriptors of a message stand for, by place, counted from 0; `None` where a descriptor is none, and where
-/// it stands for nothing.
+/// What several numbers stand for; `None` where one stands for nothing.
 #[derive(Debug, Drop)]
-pub struct Caps {
+pub struct Views {
     items: Vec<Option<View>>,
 }
 
-impl Model for Caps {
+impl Model for Views {
     ghost use Rattle.std.specs.Prelude.{List, Option};
-    ghost use Rattle.vat_rules.specs.declared.view.View.{View};
+    ghost use Rattle.vat_view.specs.declared.view.View.{View};
 
     ghost Value = { List (Option View) };
 
-    ghost view = { λ caps. caps.items.items };
+    ghost view = { λ views. views.items.items };
 }
 
-impl Caps {
-    /// The list of these. It takes no memory.
-    pub fn new(items: Vec<Option<View>>) -> Caps
+impl Views {
+    pub(crate) fn new(items: Vec<Option<View>>) -> Views
         ensures { result ≡ items.items }
     {
-        Caps { items }
+        Views { items }
     }
 
-    /// What the descriptors stand for, in the order of their places.
+    /// What they stand for, in their order.
     pub fn as_slice(&self) -> &[Option<View>]
         ensures { result.now ≡ self.now }
     {
@@ -42,19 +39,32 @@ impl Caps {
 /// MessageTarget and PromisedAnswer). `None` where it has no such number, or one that stands for nothing.
 #[derive(Debug, Drop)]
 pub struct Seen {
-    /// What the question that a Return answers stands for: its call, as the field at the empty path.
+    /// What the references stand for that it binds or names, in its order, with the record counted.
+    pub references: Views,
+    /// What the question stands for that it returns or finishes: its call, as the field at the empty path.
     pub question: Option<View>,
-    /// What the target of a Call stands for.
+    /// What the promise stands for that it resolves.
+    pub promise: Option<View>,
+    /// What the target of a Call or Disembargo stands for.
     pub target: Option<View>,
-    /// What the descriptors of its capability table stand for, by place.
-    pub caps: Caps,
+    /// What the descriptors of its capability table stand for, by place, counted from 0; `None` also for one that is
+    /// none.
+    pub caps: Views,
 }
 
-/// What a good log tells: each record with its message, what its numbers stand for, and how many calls were delivered.
+/// A record with its message, and what its numbers stand for.
+#[derive(Debug, Drop)]
+pub struct Entry {
+    /// The record.
+    pub event: Event,
+    /// What its numbers stand for.
+    pub seen: Seen,
+}
+
+/// What a good log tells: each record with what its numbers stand for, and how many calls were delivered.
 #[derive(Debug, Drop)]
 pub struct Story {
-    events: Vec<Event>,
-    seen: Vec<Seen>,
+    entries: Vec<Entry>,
     delivered: u64,
 }
 
@@ -63,32 +73,21 @@ impl Model for Story {
 
     ghost Value = { Told };
 
-    ghost view = { λ story. record { events = story.events.items; seen = story.seen.items; delivered = story.delivered } };
+    ghost view = { λ story. record { entries = story.entries.items; delivered = story.delivered } };
 }
 
 impl Story {
-    pub(crate) fn new(events: Vec<Event>, seen: Vec<Seen>, delivered: u64) -> Story
-        ensures { result ≡ record { events = events.items; seen = seen.items; delivered = delivered } }
+    pub(crate) fn new(entries: Vec<Entry>, delivered: u64) -> Story
+        ensures { result ≡ record { entries = entries.items; delivered = delivered } }
     {
-        Story {
-            events,
-            seen,
-            delivered,
-        }
+        Story { entries, delivered }
     }
 
-    /// The records with their messages, in their order.
-    pub fn events(&self) -> &[Event]
-        ensures { result.now ≡ self.now.events }
+    /// The records, in their order, each with what its numbers stand for.
+    pub fn entries(&self) -> &[Entry]
+        ensures { result.now ≡ self.now.entries }
     {
-        &self.events
-    }
-
-    /// What the numbers of each record stand for, in the records' order.
-    pub fn seen(&self) -> &[Seen]
-        ensures { result.now ≡ self.now.seen }
-    {
-        &self.seen
+        &self.entries
     }
 
     /// How many records deliver a call.

@@ -1,0 +1,195 @@
+//! The rules on capability tables: what is given away is what is noted, and what comes in is noted.
+
+ghost use Rattle.std.specs.Prelude.{◌≡◌, ◌&&◌, true, Decides, IfOk, IsTrue, slice_get, option_and_then};
+ghost use Rattle.std.specs.List.{AllByRecursion, zip};
+ghost use Rattle.std.specs.Option.{option_copied};
+ghost use Rattle.vat_view.specs.Questions.{is_late};
+ghost use Rattle.vat_view.specs.Lives.{descriptors};
+ghost use Rattle.vat_view.specs.Views.{places, noted, view_of_reference, view_of_descriptor, views_of_descriptors};
+ghost use Rattle.vat_rules.specs.Ways.{EndsIn};
+ghost use Rattle.vat_rules.specs.OfCaps.{is_sent, is_received, is_hosted, came_hosted, is_hosted_end, NotesView, Describes, BindsEach};
+ghost use Rattle.vat_rules.specs.Glue.{view_at};
+
+use crate::ways::leads_to;
+use rpc_view::Descriptor;
+use std::alloc::{AllocError, Global};
+use vat_view::{Event, VatState, View, ends_are_one};
+
+/// Whether a record sends a frame.
+fn is_sent(event: &Event) -> bool
+    ensures { result ≡ is_sent event.now }
+{
+    matches!(event, Event::Wire { sent: true, .. })
+}
+
+/// Whether a record receives a frame.
+fn is_received(event: &Event) -> bool
+    ensures { result ≡ is_received event.now }
+{
+    matches!(event, Event::Wire { sent: false, .. })
+}
+
+/// Whether there is a descriptor and it is senderHosted.
+fn is_hosted(descriptor: Option<&Descriptor>) -> bool
+    ensures { result ≡ is_hosted (option_copied descriptor.entry) }
+{
+    matches!(descriptor, Some(Descriptor::SenderHosted(_)))
+}
+
+/// Whether the descriptor at this place of the record of this number is senderHosted.
+fn came_hosted(state: &VatState, number: usize, place: usize) -> bool
+    ensures { result ≡ came_hosted state.now number place }
+{
+    match state.event_at(number) {
+        Some(event) => is_hosted(event.descriptors().get(place)),
+        None => false,
+    }
+}
+
+/// Whether a view is an own object, or an import that came as senderHosted.
+fn is_hosted_end(state: &VatState, view: &View) -> bool
+    ensures { result ≡ is_hosted_end state.now view.now }
+{
+    match view {
+        View::Object(_) => true,
+        View::Import(number, place) => came_hosted(state, *number, *place),
+        View::Promise(_) | View::Field(_, _) => false,
+    }
+}
+
+/// Whether the end of a view, if it has one, is an own object or an import that came as senderHosted.
+fn ends_hosted(state: &VatState, view: Option<&View>) -> bool
+    ensures { Decides result (EndsIn state.now (option_copied view.entry) (λ end. IsTrue (is_hosted_end state.now end))) }
+{
+    ends_are_one();
+    let Some(view) = view else {
+        return true;
+    };
+    match state.end(view) {
+        Some(end) => is_hosted_end(state, end),
+        None => true,
+    }
+}
+
+/// The view of these at a place, if one is there.
+pub(crate) fn view_at(views: &[Option<View>], place: usize) -> Option<&View>
+    ensures { option_copied result ≡ view_at place views.now }
+{
+    match views.get(place) {
+        Some(view) => view.as_ref(),
+        None => None,
+    }
+}
+
+/// Whether a noted reference leads to what the descriptor at this place stands for, one of these, and to one that is
+/// hosted where that says so.
+fn notes_view(
+    state: &VatState,
+    event: &Event,
+    caps: &[Option<View>],
+    reference: u64,
+    place: usize,
+) -> Result<bool, AllocError>
+    requires { caps.now ≡ views_of_descriptors state.now event.now }
+    ensures { IfOk result (λ b. Decides b (NotesView state.now event.now (reference, place))) }
+{
+    let view = state.view_of_reference(reference)?;
+    if !leads_to(state, view.as_ref(), view_at(caps, place)) {
+        return Ok(false);
+    }
+    if !is_hosted(event.descriptors().get(place)) {
+        return Ok(true);
+    }
+    Ok(ends_hosted(state, view.as_ref()))
+}
+
+/// The places of a record's descriptors that aren't none.
+fn places(alloc: Global, event: &Event) -> Result<Vec<usize>, AllocError>
+    ensures { IfOk result (λ v. v.items ≡ places event.now) }
+{
+    let mut places = Vec::new(alloc);
+    for (place, descriptor) in event.descriptors().iter().enumerate() {
+        match descriptor {
+            Descriptor::NoCap => {}
+            _ => places.push(place)?,
+        }
+    }
+    Ok(places)
+}
+
+/// Each reference with the place that stands as far on.
+fn paired(
+    alloc: Global,
+    references: &[u64],
+    places: &[usize],
+) -> Result<Vec<(u64, usize)>, AllocError>
+    ensures { IfOk result (λ v. v.items ≡ zip references.now places.now) }
+{
+    references
+        .iter()
+        .copied()
+        .zip(places.iter().copied())
+        .collect(alloc)
+}
+
+/// The references that a record notes, each with the place of its descriptor.
+fn noted(alloc: Global, event: &Event) -> Result<Vec<(u64, usize)>, AllocError>
+    ensures { IfOk result (λ v. v.items ≡ noted event.now) }
+{
+    match event {
+        Event::Wire { references, .. } => {
+            let places = places(alloc, event)?;
+            paired(alloc, references.as_slice(), &places)
+        }
+        _ => Ok(Vec::new(alloc)),
+    }
+}
+
+/// Whether each of these references leads to what the descriptor at its place stands for.
+fn notes_views(
+    state: &VatState,
+    event: &Event,
+    caps: &[Option<View>],
+    noted: &[(u64, usize)],
+) -> Result<bool, AllocError>
+    requires { caps.now ≡ views_of_descriptors state.now event.now }
+    ensures { IfOk result (λ b. Decides b (AllByRecursion (NotesView state.now event.now) noted.now)) }
+{
+    for (reference, place) in noted {
+        if !notes_view(state, event, caps, *reference, *place)? {
+            return Ok(false);
+        }
+    }
+    Ok(true)
+}
+
+/// Whether a sent record notes one reference for each descriptor that isn't none, each leading to what that stands
+/// for, and a record introduces numbers by the kind of their lives. `caps` is what its descriptors stand for.
+pub(crate) fn describes(
+    alloc: Global,
+    state: &VatState,
+    event: &Event,
+    caps: &[Option<View>],
+) -> Result<bool, AllocError>
+    requires { caps.now ≡ views_of_descriptors state.now event.now }
+    ensures { IfOk result (λ b. Decides b (Describes state.now event.now)) }
+{
+    let sent = is_sent(event);
+    if sent && !state.notes_each(event) {
+        return Ok(false);
+    }
+    if state.is_late(event) {
+        return Ok(true);
+    }
+    if sent && !notes_views(state, event, caps, &noted(alloc, event)?)? {
+        return Ok(false);
+    }
+    state.keeps_kinds(event)
+}
+
+/// Whether a received record notes one reference for each descriptor that isn't none, and none beside a late Return.
+pub(crate) fn binds_each(state: &VatState, event: &Event) -> bool
+    ensures { Decides result (BindsEach state.now event.now) }
+{
+    !is_received(event) || state.notes_each(event)
+}

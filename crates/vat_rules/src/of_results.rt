@@ -1,0 +1,113 @@
+//! The rule on Returns: what is sent back is what came back.
+
+ghost use Rattle.std.specs.Prelude.{◌≡◌, Decides, IfOk, slice_get};
+ghost use Rattle.std.specs.List.{AllByRecursion};
+ghost use Rattle.std.specs.Option.{option_copied};
+ghost use Rattle.vat_view.specs.Views.{views_of_descriptors};
+ghost use Rattle.vat_rules.specs.OfResults.{is_cap_at, ReturnsField, ReturnsFields, ReturnsKnown};
+
+use crate::of_caps::view_at;
+use crate::ways::leads_on_to;
+use cap_frame::Path;
+use rpc_view::{Descriptor, Outcome, RpcMessage};
+use std::alloc::AllocError;
+use vat_view::{Event, Number, VatState, View};
+
+/// Whether there is a descriptor and it isn't none.
+fn is_cap_at(descriptor: Option<&Descriptor>) -> bool
+    ensures { result ≡ is_cap_at (option_copied descriptor.entry) }
+{
+    match descriptor {
+        Some(descriptor) => !matches!(descriptor, Descriptor::NoCap),
+        None => false,
+    }
+}
+
+/// Whether a call's result at a path leads to what the descriptor at this place stands for, if that isn't none.
+fn returns_field(
+    state: &VatState,
+    event: &Event,
+    caps: &[Option<View>],
+    call: u64,
+    path: &Path,
+    place: usize,
+) -> Result<bool, AllocError>
+    requires { caps.now ≡ views_of_descriptors state.now event.now }
+    ensures { IfOk result (λ b. Decides b (ReturnsField state.now event.now call (path.now, place))) }
+{
+    if !is_cap_at(event.descriptors().get(place)) {
+        return Ok(true);
+    }
+    let from = View::Field(call, path.copy()?);
+    Ok(leads_on_to(state, &from, view_at(caps, place)))
+}
+
+/// Whether a call's result leads to what is sent at each of these paths.
+fn returns_each(
+    state: &VatState,
+    event: &Event,
+    caps: &[Option<View>],
+    call: u64,
+    fields: &[(Path, u32)],
+) -> Result<bool, AllocError>
+    requires { caps.now ≡ views_of_descriptors state.now event.now }
+    ensures { IfOk result (λ b. Decides b (AllByRecursion (ReturnsField state.now event.now call) fields.now)) }
+{
+    for (path, place) in fields {
+        if !returns_field(state, event, caps, call, path, *place as usize)? {
+            return Ok(false);
+        }
+    }
+    Ok(true)
+}
+
+/// Whether a call's results are known, and lead to what is sent at each of these paths.
+fn returns_fields(
+    state: &VatState,
+    event: &Event,
+    caps: &[Option<View>],
+    fields: &[(Path, u32)],
+    call: u64,
+) -> Result<bool, AllocError>
+    requires { caps.now ≡ views_of_descriptors state.now event.now }
+    ensures { IfOk result (λ b. Decides b (ReturnsFields state.now event.now fields.now call)) }
+{
+    if !state.is_known(call) {
+        return Ok(false);
+    }
+    returns_each(state, event, caps, call, fields)
+}
+
+/// Whether a sent Return that isn't late gives results that are known, and at each path what they lead to; and one that
+/// is canceled comes after a Finish. `caps` is what its descriptors stand for.
+pub(crate) fn returns_known(
+    state: &VatState,
+    event: &Event,
+    caps: &[Option<View>],
+) -> Result<bool, AllocError>
+    requires { caps.now ≡ views_of_descriptors state.now event.now }
+    ensures { IfOk result (λ b. Decides b (ReturnsKnown state.now event.now)) }
+{
+    let Event::Wire {
+        sent: true,
+        connection,
+        message: RpcMessage::Return {
+            answer,
+            outcome,
+            ..
+        },
+        ..
+    } = event
+    else {
+        return Ok(true);
+    };
+    let question = Number::Answer(*answer).on(*connection);
+    match outcome {
+        Outcome::Results(payload) if !state.is_late(event) => match state.opening_call(question) {
+            Some(call) => returns_fields(state, event, caps, payload.fields.as_slice(), call),
+            None => Ok(false),
+        },
+        Outcome::Canceled => Ok(state.is_finished(question)),
+        _ => Ok(true),
+    }
+}

@@ -1,0 +1,17 @@
+//! What the numbers of a record stand for before it is applied.
+
+use crate::story::Views;
+use vat_view::View;
+
+/// What the numbers of a record stand for, apart from its references.
+#[derive(Debug, Drop)]
+pub(crate) struct Standing {
+    /// What the question stands for that it returns or finishes.
+    pub(crate) question: Option<View>,
+    /// What the promise stands for that it resolves.
+    pub(crate) promise: Option<View>,
+    /// What its target stands for.
+    pub(crate) target: Option<View>,
+    /// What its descriptors stand for, by place.
+    pub(crate) caps: Views,
+}

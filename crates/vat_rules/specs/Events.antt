@@ -1,5 +1,5 @@
 -- The records of a log as they are judged, with their messages read.
-use Rattle.std.specs.Prelude.{ℕ, List, take, reverse, true, false, ◌&&◌, Option, Some, None, Result, Ok, Err, if◌then◌else◌}
+use Rattle.std.specs.Prelude.{ℕ, List, take, reverse, true, false, Option, Some, None, Result, Ok, Err, if◌then◌else◌}
 use Rattle.std.specs.List.{filter_map}
 use Rattle.vat_log.specs.declared.body.Body.{Body}
 use Rattle.vat_log.specs.declared.body.Body.TheVariants as body
@@ -7,7 +7,7 @@ use Rattle.vat_rules.specs.Types.{RpcMessage, Event, Host, Vow, Fulfil, Break, M
 use Rattle.vat_view.specs.Past.{Past}
 use Rattle.vat_rules.specs.declared.outcome.Why.{Why}
 use Rattle.vat_rules.specs.declared.outcome.Why.TheVariants.{NotYet}
-use Rattle.vat_rules.specs.Audited.{is_judged, are_plain}
+use Rattle.vat_rules.specs.Audited.{is_audited}
 
 -- how frames are read: a frame's message, or why it is outside
 abbrev pub Reader : Type 0
@@ -34,7 +34,7 @@ read_record read (body.Receive connection call references frame) = with_message 
 
 -- a record that is read and audited
 abbrev pub if_audited : Result Event Why → Result Event Why
-if_audited (Ok e) = if is_judged e && are_plain e then Ok e else Err NotYet
+if_audited (Ok e) = if is_audited e then Ok e else Err NotYet
 if_audited (Err why) = Err why
 
 -- a stored record as it is judged

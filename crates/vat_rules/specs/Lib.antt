@@ -3,6 +3,7 @@ pub mod Ways
 pub mod OfCalls
 pub mod OfCaps
 pub mod OfResults
+pub mod OfPromises
 pub mod Rules
 pub mod Told
 pub mod Audited

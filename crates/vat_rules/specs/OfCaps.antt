@@ -1,7 +1,7 @@
 -- The rules on capability tables: what is given away is what is noted, and what comes in is noted.
-use Rattle.std.specs.Prelude.{◌≡◌, ℕ, Bool, true, false, Option, Some, IsTrue, slice_get, option_and_then}
+use Rattle.std.specs.Prelude.{◌≡◌, ℕ, Bool, true, false, Option, Some, None, IsTrue, slice_get, option_and_then}
 use Rattle.std.specs.List.{AllByRecursion}
-use Rattle.vat_rules.specs.Types.{Descriptor, SenderHosted, Event, Wire, View, Object, Import}
+use Rattle.vat_rules.specs.Types.{Descriptor, NoCap, SenderHosted, Event, Wire, View, Object, Import}
 use Rattle.vat_view.specs.Past.{Past, record_at}
 use Rattle.vat_view.specs.Questions.{is_late}
 use Rattle.vat_view.specs.Lives.{descriptors, KeepsKinds}
@@ -18,6 +18,12 @@ is_sent _ = false
 abbrev pub is_received : Event → Bool
 is_received (Wire false k call references m) = true
 is_received _ = false
+
+-- there is a descriptor, and it isn't none
+abbrev pub is_cap_at : Option Descriptor → Bool
+is_cap_at None = false
+is_cap_at (Some NoCap) = false
+is_cap_at (Some _) = true
 
 -- a descriptor is senderHosted
 abbrev pub is_hosted : Option Descriptor → Bool

@@ -1,24 +1,19 @@
 -- The rule on Returns: what is sent back is what came back.
-use Rattle.std.specs.Prelude.{◌≡◌, ℕ, List, Bool, true, false, Option, Some, None, IsTrue, IsSomeAnd, slice_get, MatchBool, ⊤}
+use Rattle.std.specs.Prelude.{◌≡◌, ℕ, List, true, false, Some, IsTrue, IsSomeAnd, slice_get, ⊤}
 use Rattle.std.specs.List.{AllByRecursion}
-use Rattle.vat_rules.specs.Types.{Descriptor, NoCap, Results, Canceled, Return, Event, Wire, FieldOf}
+use Rattle.vat_rules.specs.Types.{Results, Canceled, Return, Event, Wire, FieldOf}
 use Rattle.vat_view.specs.Past.{Past, id}
 use Rattle.vat_view.specs.Questions.{is_finished, is_late, opening, call_at}
 use Rattle.vat_view.specs.Lives.{descriptors}
 use Rattle.vat_view.specs.Views.{view_of_descriptor}
 use Rattle.vat_view.specs.Calls.{is_known}
 use Rattle.vat_rules.specs.Ways.{LeadsOnTo}
-
--- there is a descriptor, and it isn't none
-abbrev pub is_cap_at : Option Descriptor → Bool
-is_cap_at None = false
-is_cap_at (Some NoCap) = false
-is_cap_at (Some _) = true
+use Rattle.vat_rules.specs.OfCaps.{is_cap_at}
 
 -- at a path whose index is a descriptor that isn't none, the call's result leads to what that stands for
 abbrev pub ReturnsField : Past → Event → ℕ → List ℕ × ℕ → Type 0
 ReturnsField before e call (path, place) =
-    is_cap_at (slice_get (descriptors e) place) ≡ true → LeadsOnTo before (FieldOf call path) (view_of_descriptor before e place)
+    is_cap_at (slice_get (descriptors e) place) ≡ true → LeadsOnTo before (Some (FieldOf call path)) (view_of_descriptor before e place)
 
 -- a call's results are known, and lead to what is sent at each of these paths
 abbrev pub ReturnsFields : Past → Event → List (List ℕ × ℕ) → ℕ → Type 0

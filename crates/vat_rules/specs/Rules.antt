@@ -10,10 +10,12 @@ use Rattle.vat_rules.specs.declared.rule.Rule.TheVariants as rule
 use Rattle.vat_rules.specs.OfCalls.{IsHere, GoesToGoal, MayAnswer}
 use Rattle.vat_rules.specs.OfCaps.{Describes, BindsEach}
 use Rattle.vat_rules.specs.OfResults.{ReturnsKnown}
+use Rattle.vat_rules.specs.OfPromises.{KeepsVow, ResolvesPromise}
 
 -- what each rule says
 abbrev pub Meets : Rule → Past → Event → Type 0
 Meets rule.Ref = Refers
+Meets rule.Vow = KeepsVow
 Meets rule.Here = IsHere
 Meets rule.QNew = OpensFree
 Meets rule.QUse = UsesQuestions
@@ -23,8 +25,10 @@ Meets rule.Answer = MayAnswer
 Meets rule.Desc = Describes
 Meets rule.Count = GivesBackHeld
 Meets rule.Result = ReturnsKnown
+Meets rule.Resolve = ResolvesPromise
 Meets rule.RecvRef = BindsEach
 
 -- the order in which they are tried
 abbrev pub rules : List Rule
-rules = rule.Ref ∷ rule.Here ∷ rule.QNew ∷ rule.QUse ∷ rule.XUse ∷ rule.Goal ∷ rule.Answer ∷ rule.Desc ∷ rule.Count ∷ rule.Result ∷ rule.RecvRef ∷ []
+rules = rule.Ref ∷ rule.Vow ∷ rule.Here ∷ rule.QNew ∷ rule.QUse ∷ rule.XUse ∷ rule.Goal ∷ rule.Answer ∷ rule.Desc ∷ rule.Count
+    ∷ rule.Result ∷ rule.Resolve ∷ rule.RecvRef ∷ []

@@ -8,9 +8,9 @@ use Rattle.vat_view.specs.Walks.{Leads, LeadsByTurns, IsEnd}
 abbrev pub LeadsTo : Past → Option View → Option View → Type 0
 LeadsTo past from to = IsSomeAnd from (λ a. IsSomeAnd to (λ b. Leads past a b))
 
--- there is the other view, and the one leads to it by 1 or more turns
-abbrev pub LeadsOnTo : Past → View → Option View → Type 0
-LeadsOnTo past from to = IsSomeAnd to (λ b. LeadsByTurns past from b)
+-- there are both views, and the one leads to the other by 1 or more turns
+abbrev pub LeadsOnTo : Past → Option View → Option View → Type 0
+LeadsOnTo past from to = IsSomeAnd from (λ a. IsSomeAnd to (λ b. LeadsByTurns past a b))
 
 -- every end of the view is so; where there is no view, or its walk stops or goes in a circle, it has none
 abbrev pub EndsIn : Past → Option View → (View → Type 0) → Type 0

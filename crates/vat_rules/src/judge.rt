@@ -7,6 +7,7 @@ ghost use Rattle.vat_rules.specs.Glue.{standing_of};
 
 use crate::of_calls::{goes_to_goal, is_here, may_answer};
 use crate::of_caps::{binds_each, describes};
+use crate::of_promises::{keeps_vow, resolves_promise};
 use crate::of_results::returns_known;
 use crate::rule::Rule;
 use crate::standing::Standing;
@@ -26,6 +27,9 @@ pub(crate) fn broken(
 {
     if !state.refers(event)? {
         return Ok(Some(Rule::Ref));
+    }
+    if !keeps_vow(state, event)? {
+        return Ok(Some(Rule::Vow));
     }
     if !is_here(state, event) {
         return Ok(Some(Rule::Here));
@@ -53,6 +57,9 @@ pub(crate) fn broken(
     }
     if !returns_known(state, event, standing.caps.as_slice())? {
         return Ok(Some(Rule::Result));
+    }
+    if !resolves_promise(state, event, standing) {
+        return Ok(Some(Rule::Resolve));
     }
     if !binds_each(state, event) {
         return Ok(Some(Rule::RecvRef));

@@ -7,7 +7,7 @@ ghost use Rattle.vat_view.specs.Questions.{is_late};
 ghost use Rattle.vat_view.specs.Lives.{descriptors};
 ghost use Rattle.vat_view.specs.Views.{places, noted, view_of_reference, view_of_descriptor, views_of_descriptors};
 ghost use Rattle.vat_rules.specs.Ways.{EndsIn};
-ghost use Rattle.vat_rules.specs.OfCaps.{is_sent, is_received, is_hosted, came_hosted, is_hosted_end, NotesView, Describes, BindsEach};
+ghost use Rattle.vat_rules.specs.OfCaps.{is_sent, is_received, is_cap_at, is_hosted, came_hosted, is_hosted_end, NotesView, Describes, BindsEach};
 ghost use Rattle.vat_rules.specs.Glue.{view_at};
 
 use crate::ways::leads_to;
@@ -27,6 +27,16 @@ fn is_received(event: &Event) -> bool
     ensures { result ≡ is_received event.now }
 {
     matches!(event, Event::Wire { sent: false, .. })
+}
+
+/// Whether there is a descriptor and it isn't none.
+pub(crate) fn is_cap_at(descriptor: Option<&Descriptor>) -> bool
+    ensures { result ≡ is_cap_at (option_copied descriptor.entry) }
+{
+    match descriptor {
+        Some(descriptor) => !matches!(descriptor, Descriptor::NoCap),
+        None => false,
+    }
 }
 
 /// Whether there is a descriptor and it is senderHosted.

@@ -1,27 +1,16 @@
 //! The rule on Returns: what is sent back is what came back.
 
-ghost use Rattle.std.specs.Prelude.{◌≡◌, Decides, IfOk, slice_get};
+ghost use Rattle.std.specs.Prelude.{◌≡◌, Decides, IfOk};
 ghost use Rattle.std.specs.List.{AllByRecursion};
-ghost use Rattle.std.specs.Option.{option_copied};
 ghost use Rattle.vat_view.specs.Views.{views_of_descriptors};
-ghost use Rattle.vat_rules.specs.OfResults.{is_cap_at, ReturnsField, ReturnsFields, ReturnsKnown};
+ghost use Rattle.vat_rules.specs.OfResults.{ReturnsField, ReturnsFields, ReturnsKnown};
 
-use crate::of_caps::view_at;
+use crate::of_caps::{is_cap_at, view_at};
 use crate::ways::leads_on_to;
 use cap_frame::Path;
-use rpc_view::{Descriptor, Outcome, RpcMessage};
+use rpc_view::{Outcome, RpcMessage};
 use std::alloc::AllocError;
 use vat_view::{Event, Number, VatState, View};
-
-/// Whether there is a descriptor and it isn't none.
-fn is_cap_at(descriptor: Option<&Descriptor>) -> bool
-    ensures { result ≡ is_cap_at (option_copied descriptor.entry) }
-{
-    match descriptor {
-        Some(descriptor) => !matches!(descriptor, Descriptor::NoCap),
-        None => false,
-    }
-}
 
 /// Whether a call's result at a path leads to what the descriptor at this place stands for, if that isn't none.
 fn returns_field(
@@ -39,7 +28,7 @@ fn returns_field(
         return Ok(true);
     }
     let from = View::Field(call, path.copy()?);
-    Ok(leads_on_to(state, &from, view_at(caps, place)))
+    Ok(leads_on_to(state, Some(&from), view_at(caps, place)))
 }
 
 /// Whether a call's result leads to what is sent at each of these paths.

@@ -4,7 +4,7 @@ ghost use Rattle.std.specs.Prelude.{◌≡◌, IfOk};
 ghost use Rattle.vat_rules.specs.Events.{with_message, read_record, event_of};
 ghost use Rattle.vat_rules.specs.Audit.{why_outside, reads_within};
 
-use crate::audited::{are_plain, is_judged};
+use crate::audited::is_audited;
 use crate::outcome::Why;
 use bytes::Bytes;
 use rpc_view::{Limits, Outside, RpcMessage, ViewError, read_bytes};
@@ -140,7 +140,7 @@ pub(crate) fn event_of(
     ensures { IfOk result (λ r. r ≡ event_of (reads_within limits) body.now) }
 {
     match read_record(alloc, body, limits)? {
-        Ok(event) if is_judged(&event) && are_plain(&event) => Ok(Ok(event)),
+        Ok(event) if is_audited(&event) => Ok(Ok(event)),
         Ok(_) => Ok(Err(Why::NotYet)),
         Err(why) => Ok(Err(why)),
     }

@@ -16,12 +16,12 @@ pub(crate) fn leads_to(state: &VatState, from: Option<&View>, to: Option<&View>)
     }
 }
 
-/// Whether there is the other view, and the one leads to it by 1 or more turns.
-pub(crate) fn leads_on_to(state: &VatState, from: &View, to: Option<&View>) -> bool
-    ensures { Decides result (LeadsOnTo state.now from.now (option_copied to.entry)) }
+/// Whether there are both views, and the one leads to the other by 1 or more turns.
+pub(crate) fn leads_on_to(state: &VatState, from: Option<&View>, to: Option<&View>) -> bool
+    ensures { Decides result (LeadsOnTo state.now (option_copied from.entry) (option_copied to.entry)) }
 {
-    match to {
-        Some(to) => state.leads_by_turns(from, to),
-        None => false,
+    match (from, to) {
+        (Some(from), Some(to)) => state.leads_by_turns(from, to),
+        _ => false,
     }
 }

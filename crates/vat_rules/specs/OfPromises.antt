@@ -1,0 +1,38 @@
+-- The rules on promises: own ones, which are kept or broken once, and those sent or received, which are resolved once.
+use Rattle.std.specs.Prelude.{◌≡◌, Bool, true, false, not, ◌&&◌, ◌||◌, Option, Some, IsTrue, slice_get, option_map, unwrap_or, ⊤}
+use Rattle.vat_rules.specs.Types.{Resolve, Event, Fulfil, Break, Wire, View, Promise}
+use Rattle.vat_view.specs.declared.id.Id.{Id}
+use Rattle.vat_view.specs.Past.{Past, id}
+use Rattle.vat_view.specs.Lives.{birth, began_promised, descriptors, is_in_life, is_resolved}
+use Rattle.vat_view.specs.Views.{view_of_reference, view_of_number, view_of_descriptor}
+use Rattle.vat_view.specs.Walks.{next, stays}
+use Rattle.vat_rules.specs.Ways.{LeadsOnTo}
+use Rattle.vat_rules.specs.OfCaps.{is_cap_at}
+
+-- an own promise that was neither kept nor broken
+abbrev pub IsUnkept : Past → Option View → Type 0
+IsUnkept past (Some (Promise p)) = next past (Promise p) ≡ stays
+IsUnkept past _ = ⊥
+
+-- (this project's own: a promise is kept or broken once)
+-- VOW: FULFIL and BREAK: the first reference stands for an own promise that has had neither
+abbrev pub KeepsVow : Past → Event → Type 0
+KeepsVow before (Fulfil r to) = IsUnkept before (view_of_reference before r)
+KeepsVow before (Break r) = IsUnkept before (view_of_reference before r)
+KeepsVow before _ = ⊤
+
+-- a number is in life, began as a senderPromise and has had no Resolve
+abbrev pub is_unresolved : Id → Past → Bool
+is_unresolved i past = unwrap_or (option_map began_promised (birth i past)) false && not (is_resolved i past)
+
+-- (rpc.capnp, Resolve)
+-- RESOLVE: SEND Resolve: the number is a senderPromise in life without a Resolve, and with a cap other than none its
+-- view leads by 1 or more turns to what the descriptor stands for. RECV Resolve: the number is out of life, or is a
+-- senderPromise without a Resolve
+abbrev pub ResolvesPromise : Past → Event → Type 0
+ResolvesPromise before (Wire true k c rs (Resolve n resolution)) =
+    let e = Wire true k c rs (Resolve n resolution) in
+    IsTrue (is_unresolved (id k true n) before)
+    × (is_cap_at (slice_get (descriptors e) 0) ≡ true → LeadsOnTo before (view_of_number (id k true n) before) (view_of_descriptor before e 0))
+ResolvesPromise before (Wire false k c rs (Resolve n resolution)) = IsTrue (not (is_in_life (id k false n) before) || is_unresolved (id k false n) before)
+ResolvesPromise before _ = ⊤

@@ -201,7 +201,8 @@ impl VatState {
     pub fn into_events(self) -> Vec<Event>
         ensures { result.items ≡ reverse self }
     {
-        self.events
+        let VatState { events, .. } = self;
+        events
     }
 }
 

@@ -41,6 +41,58 @@ const ROWS: [(&str, &str); 3] = [
     ),
 ];
 
+/// Records, one that comes next, and what is said of it: whether it keeps the kinds of numbers, its descriptors, and
+/// the references that it newly binds; and the records that are given back, how many and the first.
+const NEXT: [(&str, &str, &str); 8] = [
+    (
+        "",
+        "HOST r4 7",
+        "keeps true; descriptors []; new [4]; 0 None",
+    ),
+    (
+        "HOST r1 7; R0 c1 boot q0; S0 r1 ret q0 senderHosted 0@[]",
+        "S0 r1 ret q1 senderHosted 0@[]",
+        "keeps true; descriptors [SenderHosted(0)]; new []; 3 Some(Host { reference: 1, object: 7 })",
+    ),
+    (
+        "HOST r1 7; R0 c1 boot q0; S0 r1 ret q0 senderHosted 0@[]",
+        "S0 r1 ret q1 senderPromise 0@[]",
+        "keeps false; descriptors [SenderPromise(0)]; new []; 3 Some(Host { reference: 1, object: 7 })",
+    ),
+    (
+        "HOST r1 7; HOST r2 8",
+        "R0 c2 r3 r4 call q1 answer 0 [] senderPromise 3 senderPromise 3",
+        "keeps true; descriptors [SenderPromise(3), SenderPromise(3)]; new [3, 4]; \
+        2 Some(Host { reference: 1, object: 7 })",
+    ),
+    (
+        "HOST r1 7; HOST r2 8",
+        "R0 c2 r3 r4 call q1 answer 0 [] senderPromise 3 senderHosted 3",
+        "keeps false; descriptors [SenderPromise(3), SenderHosted(3)]; new [3, 4]; \
+        2 Some(Host { reference: 1, object: 7 })",
+    ),
+    (
+        "HOST r9 7; S0 c1 boot q0; R0 r1 r2 ret q0 senderHosted 5@[] senderPromise 0",
+        "R0 r3 r4 ret q1 senderPromise 0@[] senderHosted 5",
+        "keeps true; descriptors [SenderPromise(0), SenderHosted(5)]; new [3, 4]; \
+        3 Some(Host { reference: 9, object: 7 })",
+    ),
+    (
+        "HOST r9 7; S0 c1 boot q0; R0 r1 r2 ret q0 senderHosted 5@[] senderPromise 0; \
+        R0 resolve promise 0 exception",
+        "R0 r3 r4 ret q1 senderPromise 0@[] senderHosted 5",
+        "keeps false; descriptors [SenderPromise(0), SenderHosted(5)]; new [3, 4]; \
+        4 Some(Host { reference: 9, object: 7 })",
+    ),
+    (
+        "HOST r9 7; S0 c1 boot q0; R0 r1 r2 ret q0 senderHosted 5@[] senderPromise 0; \
+        R0 resolve promise 0 exception; S0 release id 0 count 1",
+        "R0 r3 r4 ret q1 senderHosted 0@[] senderHosted 5",
+        "keeps true; descriptors [SenderHosted(0), SenderHosted(5)]; new [3, 4]; \
+        5 Some(Host { reference: 9, object: 7 })",
+    ),
+];
+
 /// The message of a frame.
 fn message(alloc: Global, frame: &Bytes) -> Result<RpcMessage, Refused> {
     Ok(read_bytes(alloc, frame.clone()?, Limits::default())?)
@@ -209,6 +261,41 @@ fn states(rt: HostRuntime) {
     for (records, told) in ROWS {
         let is_so = is_told(rt.alloc(), records, told).unwrap_or(false)
             || is_told(rt.alloc(), records, told).unwrap_or(false);
+        assert!(rt; is_so, "{told}");
+    }
+}
+
+/// What is said of the first record of this log where it comes next, and the records that are given back.
+fn put_next(alloc: Global, out: &mut String, state: VatState, next: &str) -> Result<(), Refused> {
+    let log = log(alloc, "2", next)?;
+    let record = log.get(0).ok_or(Refused)?;
+    let event = event_of(alloc, record.body())?;
+    let keeps = state.keeps_kinds(&event)?;
+    let descriptors = event.descriptors();
+    let new = event.new_references();
+    write!(
+        out,
+        "keeps {keeps}; descriptors {descriptors:?}; new {new:?}; "
+    )?;
+    let events = state.into_events();
+    let (count, first) = (events.len(), events.first());
+    write!(out, "{count} {first:?}")?;
+    Ok(())
+}
+
+/// Whether what is said of a record that comes next is told so.
+fn is_next_told(alloc: Global, records: &str, next: &str, told: &str) -> Result<bool, Refused> {
+    let state = state_of(alloc, records)?;
+    let mut out = String::new(alloc);
+    put_next(alloc, &mut out, state, next)?;
+    Ok(out.as_str() == told)
+}
+
+#[test]
+fn records_that_come_next(rt: HostRuntime) {
+    for (records, next, told) in NEXT {
+        let is_so = is_next_told(rt.alloc(), records, next, told).unwrap_or(false)
+            || is_next_told(rt.alloc(), records, next, told).unwrap_or(false);
         assert!(rt; is_so, "{told}");
     }
 }

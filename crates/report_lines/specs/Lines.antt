@@ -15,6 +15,7 @@ use Rattle.report_lines.specs.MessageText.{message_text}
 -- the code of a rule
 abbrev pub code_of : Rule → List ℕ
 code_of rule.Ref = codes "REF"
+code_of rule.Vow = codes "VOW"
 code_of rule.Here = codes "HERE"
 code_of rule.QNew = codes "QNEW"
 code_of rule.QUse = codes "QUSE"
@@ -24,6 +25,7 @@ code_of rule.Answer = codes "ANSWER"
 code_of rule.Desc = codes "DESC"
 code_of rule.Count = codes "COUNT"
 code_of rule.Result = codes "RESULT"
+code_of rule.Resolve = codes "RESOLVE"
 code_of rule.RecvRef = codes "RECVREF"
 
 -- the word for why a record isn't judged

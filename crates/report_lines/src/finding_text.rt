@@ -14,6 +14,7 @@ fn code_of(rule: Rule) -> &'static str
 {
     match rule {
         Rule::Ref => "REF",
+        Rule::Vow => "VOW",
         Rule::Here => "HERE",
         Rule::QNew => "QNEW",
         Rule::QUse => "QUSE",
@@ -23,6 +24,7 @@ fn code_of(rule: Rule) -> &'static str
         Rule::Desc => "DESC",
         Rule::Count => "COUNT",
         Rule::Result => "RESULT",
+        Rule::Resolve => "RESOLVE",
         Rule::RecvRef => "RECVREF",
     }
 }

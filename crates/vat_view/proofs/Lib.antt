@@ -20,6 +20,7 @@ pub mod Tallying
 pub mod Turning
 pub mod Using
 pub mod Walking
+pub mod Connecting
 pub mod Landed
 pub mod Settled
 pub mod Ending

@@ -1,12 +1,12 @@
 -- The table of connections after a record, and what it says.
-use Rattle.std.proofs.Common.{◌≡◌, refl, sym, ◌∙◌, ap, ap₂, subst, ℕ, List, [], ◌∷◌, ◌++◌, Bool, true, false, Option, Some, None, if◌then◌else◌}
+use Rattle.std.proofs.Common.{◌≡◌, refl, sym, ◌∙◌, ap, ap₂, subst, ℕ, List, [], ◌∷◌, ◌++◌, Bool, true, false, Option, Some, if◌then◌else◌}
 use Rattle.std.specs.Prelude.{◌||◌, is_some, reverse}
 use Rattle.std.specs.Option.{option_or}
 use Rattle.std.proofs.lemmas.List.{reverse-append}
 use Rattle.vat_view.specs.declared.connections.Connections.{Connections}
 use Rattle.vat_view.specs.Types.{Bootstrap, Call, Event, Wire}
 use Rattle.vat_view.specs.Past.{Past, Point, point, is}
-use Rattle.vat_view.specs.Connections.{aborted_by, aborts, is_aborted, asks, asked_on}
+use Rattle.vat_view.specs.Connections.{aborted_by, aborts, asks}
 use Rattle.vat_view.specs.ConnectionTables.{asking, on_for, asked_at, aborted_at, AreConnected}
 
 -- ---- one record

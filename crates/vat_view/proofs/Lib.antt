@@ -24,6 +24,7 @@ pub mod Connecting
 pub mod Landed
 pub mod Settled
 pub mod Ending
+pub mod Seeking
 pub mod Unbound
 pub mod Calling
 pub mod Called

@@ -39,6 +39,7 @@ mod resolves;
 mod rules;
 mod seen;
 mod settling;
+mod sought;
 mod standing;
 mod state;
 mod tally;

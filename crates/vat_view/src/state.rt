@@ -11,7 +11,7 @@ ghost use Rattle.vat_view.specs.Uses.{UsesQuestions, UsesNumbers};
 ghost use Rattle.vat_view.specs.Views.{view_of_reference, view_of_target, views_of_descriptors};
 ghost use Rattle.vat_view.specs.Walks.{next, stays, Leads, LeadsByTurns, IsEnd};
 ghost use Rattle.vat_view.specs.Bindings.{Refers, NotesEach, is_bound, is_bound_call};
-ghost use Rattle.vat_view.specs.Connections.{is_aborted};
+ghost use Rattle.vat_view.specs.Connections.{is_aborted, LeadsOver, LeadsElsewhere};
 ghost use Rattle.vat_view.specs.Calls.{asked, goal_of, is_at_vat, is_served, is_settled, is_known};
 
 use crate::applying::learn_all;
@@ -26,6 +26,7 @@ use crate::number::Number;
 use crate::questions::Questions;
 use crate::resolves::Resolves;
 use crate::settling::settled;
+use crate::sought::{Sought, leads_to};
 use crate::turns::Turns;
 use crate::view::View;
 use crate::{arrivals, asking, kinds, records, standing, telling, walk};
@@ -427,5 +428,39 @@ impl VatState {
         ensures { result ≡ is_aborted connection self.now }
     {
         self.connections.is_aborted(connection)
+    }
+
+    /// Whether a view leads, by 0 or more turns, to one that is reached over this connection: an import that came in
+    /// over it, or a field of a call that this vat asked on it. It takes no memory.
+    pub fn leads_over(&self, from: &View, connection: u32) -> bool
+        ensures { Decides result (LeadsOver self.now from.now connection) }
+    {
+        let events = self.events.as_slice();
+        let sought = Sought::Over(connection);
+        leads_to(
+            events,
+            &self.turns,
+            &self.bound,
+            &self.connections,
+            from,
+            sought,
+        )
+    }
+
+    /// Whether a view leads, by 0 or more turns, to an own object or promise, or to one that is reached over another
+    /// connection than this. It takes no memory.
+    pub fn leads_elsewhere(&self, from: &View, connection: u32) -> bool
+        ensures { Decides result (LeadsElsewhere self.now from.now connection) }
+    {
+        let events = self.events.as_slice();
+        let sought = Sought::Elsewhere(connection);
+        leads_to(
+            events,
+            &self.turns,
+            &self.bound,
+            &self.connections,
+            from,
+            sought,
+        )
     }
 }

@@ -20,9 +20,11 @@ pub mod Tallying
 pub mod Turning
 pub mod Using
 pub mod Walking
+pub mod Connecting
 pub mod Landed
 pub mod Settled
 pub mod Ending
+pub mod Seeking
 pub mod Unbound
 pub mod Calling
 pub mod Called

@@ -6,6 +6,7 @@ pub mod Views
 pub mod Walks
 pub mod Calls
 pub mod Loopbacks
+pub mod Connections
 pub mod Uses
 pub mod Bindings
 pub mod Sound
@@ -17,4 +18,5 @@ pub mod CallTables
 pub mod KindTables
 pub mod Kept
 pub mod TurnTables
+pub mod ConnectionTables
 pub mod Seen

@@ -5,7 +5,8 @@
 //! opened, returned and finished, and which Returns are late (`specs/Questions.antt`); how often export and import
 //! numbers are held, and their lives (`specs/Lives.antt`); what references, numbers, descriptors and targets stand
 //! for (`specs/Views.antt`); where views turn, and where that leads (`specs/Walks.antt`); calls at the vat, and what
-//! is known of their results (`specs/Calls.antt`); loopbacks (`specs/Loopbacks.antt`); and what a record uses
+//! is known of their results (`specs/Calls.antt`); loopbacks (`specs/Loopbacks.antt`); over which connections views are
+//! reached, and which were aborted (`specs/Connections.antt`); and what a record uses
 //! (`specs/Uses.antt`) and binds (`specs/Bindings.antt`). What holds of all logs by these definitions is promised by
 //! the functions of `src/laws.rt`, which do nothing.
 #![tactic(auto)]
@@ -16,6 +17,7 @@ mod asked;
 mod asking;
 mod bound;
 mod calls;
+mod connections;
 mod event;
 mod id;
 mod ids;
@@ -37,6 +39,7 @@ mod resolves;
 mod rules;
 mod seen;
 mod settling;
+mod sought;
 mod standing;
 mod state;
 mod tally;

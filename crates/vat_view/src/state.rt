@@ -11,12 +11,14 @@ ghost use Rattle.vat_view.specs.Uses.{UsesQuestions, UsesNumbers};
 ghost use Rattle.vat_view.specs.Views.{view_of_reference, view_of_target, views_of_descriptors};
 ghost use Rattle.vat_view.specs.Walks.{next, stays, Leads, LeadsByTurns, IsEnd};
 ghost use Rattle.vat_view.specs.Bindings.{Refers, NotesEach, is_bound, is_bound_call};
+ghost use Rattle.vat_view.specs.Connections.{is_aborted, LeadsOver, LeadsElsewhere};
 ghost use Rattle.vat_view.specs.Calls.{asked, goal_of, is_at_vat, is_served, is_settled, is_known};
 
 use crate::applying::learn_all;
 use crate::asked::Asked;
 use crate::bound::Bound;
 use crate::calls::Calls;
+use crate::connections::Connections;
 use crate::event::Event;
 use crate::id::Id;
 use crate::lives::Lives;
@@ -24,6 +26,7 @@ use crate::number::Number;
 use crate::questions::Questions;
 use crate::resolves::Resolves;
 use crate::settling::settled;
+use crate::sought::{Sought, leads_to};
 use crate::turns::Turns;
 use crate::view::View;
 use crate::{arrivals, asking, kinds, records, standing, telling, walk};
@@ -42,6 +45,7 @@ pub struct VatState {
     calls: Calls,
     resolves: Resolves,
     turns: Turns,
+    connections: Connections,
 }
 
 impl Model for VatState {
@@ -50,6 +54,7 @@ impl Model for VatState {
     ghost use Rattle.vat_view.specs.KindTables.{AreResolved};
     ghost use Rattle.vat_view.specs.Kept.{AreKept};
     ghost use Rattle.vat_view.specs.TurnTables.{AreSettled};
+    ghost use Rattle.vat_view.specs.ConnectionTables.{AreConnected};
 
     ghost Value = { List Event };
 
@@ -57,7 +62,8 @@ impl Model for VatState {
 
     ghost invariant = { λ state. AreKept (reverse state.events.items) state.questions state.lives state.bound state.calls
         × AreResolved (reverse state.events.items) state.resolves
-        × AreSettled (reverse state.events.items) state.turns };
+        × AreSettled (reverse state.events.items) state.turns
+        × AreConnected (reverse state.events.items) state.connections };
 }
 
 impl VatState {
@@ -73,6 +79,7 @@ impl VatState {
             calls: Calls::new(alloc),
             resolves: Resolves::new(alloc),
             turns: Turns::new(alloc),
+            connections: Connections::new(alloc),
         }
     }
 
@@ -182,6 +189,7 @@ impl VatState {
         self.turns.make_room(pending)?;
         let promise = records::resolved(&event);
         self.resolves.room_for(promise)?;
+        self.connections.grow_for(&event)?;
         learn_all(
             alloc,
             number,
@@ -193,6 +201,7 @@ impl VatState {
         )?;
         self.turns.note(pending, number);
         self.resolves.note_resolve(promise, number);
+        self.connections.note_event(&event);
         self.events.push(event)?;
         Ok(())
     }
@@ -410,5 +419,49 @@ impl VatState {
         ensures { result ≡ is_known call self.now }
     {
         self.calls.is_known(call)
+    }
+}
+
+/// What can be asked of connections.
+impl VatState {
+    /// Whether a connection was aborted, from either end (rpc.capnp, `Message.abort`).
+    pub fn is_aborted(&self, connection: u32) -> bool
+        ensures { result ≡ is_aborted connection self.now }
+    {
+        self.connections.is_aborted(connection)
+    }
+
+    /// Whether a view leads, by 0 or more turns, to one that is reached over this connection: an import that came in
+    /// over it, or a field of a call that this vat asked on it. It takes no memory.
+    pub fn leads_over(&self, from: &View, connection: u32) -> bool
+        ensures { Decides result (LeadsOver self.now from.now connection) }
+    {
+        let events = self.events.as_slice();
+        let sought = Sought::Over(connection);
+        leads_to(
+            events,
+            &self.turns,
+            &self.bound,
+            &self.connections,
+            from,
+            sought,
+        )
+    }
+
+    /// Whether a view leads, by 0 or more turns, to an own object or promise, or to one that is reached over another
+    /// connection than this. It takes no memory.
+    pub fn leads_elsewhere(&self, from: &View, connection: u32) -> bool
+        ensures { Decides result (LeadsElsewhere self.now from.now connection) }
+    {
+        let events = self.events.as_slice();
+        let sought = Sought::Elsewhere(connection);
+        leads_to(
+            events,
+            &self.turns,
+            &self.bound,
+            &self.connections,
+            from,
+            sought,
+        )
     }
 }

@@ -80,7 +80,12 @@ pub(crate) fn stays(events: &[Event], turns: &Turns, view: &View) -> bool
 }
 
 /// The view to which a view turns, if it does.
-fn turned<'a>(events: &[Event], turns: &Turns, bound: &'a Bound, view: &View) -> Option<&'a View>
+pub(crate) fn turned<'a>(
+    events: &[Event],
+    turns: &Turns,
+    bound: &'a Bound,
+    view: &View,
+) -> Option<&'a View>
     ensures { option_copied result ≡ turn_by events.now turns.now (bound_at bound.now) view.now }
 {
     let event = settler(events, turns, view)?;

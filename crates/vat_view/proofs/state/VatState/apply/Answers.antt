@@ -1,4 +1,4 @@
-use Rattle.std.proofs.Common.{◌≡◌, ◌∙◌, sym, subst, length, arith}
+use Rattle.std.proofs.Common.{◌≡◌, ◌∙◌, refl, sym, subst, length, arith}
 use Rattle.std.specs.Prelude.{reverse}
 use Rattle.std.proofs.lemmas.Grind.{common_steps}
 use Rattle.vat_view.specs.Sound.{IsSound}
@@ -8,6 +8,7 @@ use Rattle.vat_view.specs.Kept.{AreKept}
 use Rattle.vat_view.proofs.Keeping.{fits, state_refused, state_applied}
 use Rattle.vat_view.proofs.Settled.{turns_refused, turns_applied}
 use Rattle.vat_view.proofs.Promising.{resolves_after}
+use Rattle.vat_view.proofs.Connecting.{connected_refused, connected_applied}
 use Rattle.vat_view.proofs.state.VatState.apply.Goals as goal
 
 pub invariant_of-self-in_err-make_room : goal.invariant_of-self-in_err-make_room
@@ -15,6 +16,7 @@ invariant_of-self-in_err-make_room c = (
   subst (λ l. AreKept (reverse l) c.self.inside.questions c.self.inside.lives c.self.inside.bound c.self.inside.calls) (sym c.in_ok-reserve.ensures.items) c.self.invariant.0,
   subst (λ l. AreResolved (reverse l) c.self.inside.resolves) (sym c.in_ok-reserve.ensures.items) c.self.invariant.1,
   turns_refused c.self.inside.events.items c.reserve.new.self.items c.self.inside.turns c.make_room.new.self c.in_ok-reserve.ensures.items c.make_room.ensures.same c.self.invariant.2,
+  connected_refused c.self.inside.events.items c.reserve.new.self.items c.self.inside.connections c.self.inside.connections c.in_ok-reserve.ensures.items (λ k. refl) (λ k. refl) c.self.invariant.3,
 )
 
 pub invariant_of-self-in_err-room_for : goal.invariant_of-self-in_err-room_for
@@ -22,6 +24,15 @@ invariant_of-self-in_err-room_for c = (
   subst (λ l. AreKept (reverse l) c.self.inside.questions c.self.inside.lives c.self.inside.bound c.self.inside.calls) (sym c.in_ok-reserve.ensures.items) c.self.invariant.0,
   (λ i. c.room_for.ensures.same i ∙ (subst (λ l. AreResolved (reverse l) c.self.inside.resolves) (sym c.in_ok-reserve.ensures.items) c.self.invariant.1) i),
   turns_refused c.self.inside.events.items c.reserve.new.self.items c.self.inside.turns c.make_room.new.self c.in_ok-reserve.ensures.items c.make_room.ensures.same c.self.invariant.2,
+  connected_refused c.self.inside.events.items c.reserve.new.self.items c.self.inside.connections c.self.inside.connections c.in_ok-reserve.ensures.items (λ k. refl) (λ k. refl) c.self.invariant.3,
+)
+
+pub invariant_of-self-in_err-grow_for : goal.invariant_of-self-in_err-grow_for
+invariant_of-self-in_err-grow_for c = (
+  subst (λ l. AreKept (reverse l) c.self.inside.questions c.self.inside.lives c.self.inside.bound c.self.inside.calls) (sym c.in_ok-reserve.ensures.items) c.self.invariant.0,
+  (λ i. c.room_for.ensures.same i ∙ (subst (λ l. AreResolved (reverse l) c.self.inside.resolves) (sym c.in_ok-reserve.ensures.items) c.self.invariant.1) i),
+  turns_refused c.self.inside.events.items c.reserve.new.self.items c.self.inside.turns c.make_room.new.self c.in_ok-reserve.ensures.items c.make_room.ensures.same c.self.invariant.2,
+  connected_refused c.self.inside.events.items c.reserve.new.self.items c.self.inside.connections c.grow_for.new.self c.in_ok-reserve.ensures.items c.grow_for.ensures.asked c.grow_for.ensures.aborted c.self.invariant.3,
 )
 
 pub invariant_of-self-in_err-learn_all : goal.invariant_of-self-in_err-learn_all
@@ -39,6 +50,7 @@ invariant_of-self-in_err-learn_all c =
           c.self.view_is c.in_ok-reserve.ensures.items place c.self.invariant.0 sound c.in_err-learn_all.ensures.err,
       (λ i. c.room_for.ensures.same i ∙ (subst (λ l. AreResolved (reverse l) c.self.inside.resolves) (sym c.in_ok-reserve.ensures.items) c.self.invariant.1) i),
       turns_refused c.self.inside.events.items c.reserve.new.self.items c.self.inside.turns c.make_room.new.self c.in_ok-reserve.ensures.items c.make_room.ensures.same c.self.invariant.2,
+      connected_refused c.self.inside.events.items c.reserve.new.self.items c.self.inside.connections c.grow_for.new.self c.in_ok-reserve.ensures.items c.grow_for.ensures.asked c.grow_for.ensures.aborted c.self.invariant.3,
     )
 
 pub invariant_of-self-2 : goal.invariant_of-self-2
@@ -63,4 +75,6 @@ invariant_of-self-2 c =
       turns_applied c.self.inside.events.items c.reserve.new.self.items c.push.new.self.items c.args.event c.len-number.result c.settled-pending.result c.self.inside.questions c.self.inside.lives
           c.self.inside.bound c.self.inside.turns c.make_room.new.self c.note.new.self c.in_ok-reserve.ensures.items place c.in_ok-push.ensures.items
           (subst (λ p. IsFit p c.args.event) (sym c.self.view_is) fit) c.self.invariant.0.tabled c.self.invariant.2 c.settled-pending.ensures c.make_room.ensures.same c.note.ensures,
+      connected_applied c.self.inside.events.items c.reserve.new.self.items c.push.new.self.items c.args.event c.self.inside.connections c.grow_for.new.self c.note_event.new.self
+          c.in_ok-reserve.ensures.items c.in_ok-push.ensures.items c.grow_for.ensures.asked c.grow_for.ensures.aborted c.note_event.ensures.asked c.note_event.ensures.aborted c.self.invariant.3,
     )

@@ -1,0 +1,23 @@
+use Rattle.std.proofs.Common.{◌≡◌}
+use Rattle.std.specs.Prelude.{◌||◌, IsTrue}
+use Rattle.vat_view.specs.declared.sought.Sought.TheVariants.{Elsewhere}
+use Rattle.vat_view.specs.Types.{View}
+use Rattle.vat_view.specs.Connections.{reached_over, is_own, is_another}
+use Rattle.vat_view.specs.Walks.{Next, next}
+use Rattle.vat_view.specs.Tables.{bound_at}
+use Rattle.vat_view.specs.TurnTables.{goes_by}
+use Rattle.vat_view.specs.ConnectionTables.{sought_by}
+use Rattle.vat_view.proofs.Ending.{goes_so}
+use Rattle.vat_view.proofs.Seeking.{one_known, elsewhere_decides}
+use Rattle.vat_view.proofs.state.VatState.leads_elsewhere.Goals as goal
+
+pub returns : goal.returns
+returns c =
+    let going : View → Next = λ v. goes_by c.as_slice-events.result.now c.self.inside.turns (bound_at c.self.inside.bound) v in
+    let same : (v : View) → going v ≡ next c.args.self.now v =
+    goes_so c.self.inside.events.items c.as_slice-events.result.now c.args.self.now c.self.inside.questions c.self.inside.lives c.self.inside.bound c.self.inside.turns
+    c.self.view_is c.as_slice-events.ensures.value c.self.invariant.0.tabled c.self.invariant.2 in
+    one_known going c.args.self.now same (λ v. sought_by c.as_slice-events.result.now c.self.inside.connections (Elsewhere c.args.connection) v)
+    (λ v. IsTrue (is_own v || is_another c.args.connection (reached_over c.args.self.now v)))
+    (elsewhere_decides c.self.inside.events.items c.as_slice-events.result.now c.args.self.now c.self.inside.connections c.self.view_is c.as_slice-events.ensures.value c.self.invariant.3 c.args.connection)
+    c.args.from.now c.leads_to.result c.leads_to.ensures

@@ -1,0 +1,65 @@
+-- The connections over which views are reached, and those that were aborted (rpc.capnp, the comments of Disembargo and
+-- of Message.abort).
+use Rattle.std.specs.Prelude.{◌≡◌, ℕ, ◌==◌, Bool, true, false, not, ◌||◌, Option, Some, None, if◌then◌else◌, option_and_then, IsTrue}
+use Rattle.vat_view.specs.Types.{Bootstrap, Call, Abort, Event, Wire, View, Object, Promise, FieldOf, Import}
+use Rattle.vat_view.specs.Past.{Past, is, last_answer, record_at}
+use Rattle.vat_view.specs.Calls.{has_passed}
+use Rattle.vat_view.specs.Walks.{Leads}
+
+-- (rpc.capnp, Message.abort: sent when a connection is being aborted; the sender will completely close it shortly
+-- thereafter)
+-- the connection that a record aborts, sent or received
+abbrev pub aborted_by : Event → Option ℕ
+aborted_by (Wire sent k call references Abort) = Some k
+aborted_by _ = None
+
+-- a record aborts this connection
+abbrev pub aborts : ℕ → Event → Bool
+aborts connection e = is connection (aborted_by e)
+
+-- a connection was aborted, from either end
+abbrev pub is_aborted : ℕ → Past → Bool
+is_aborted connection past = has_passed (λ before e. aborts connection e) past
+
+-- (rpc.capnp, Disembargo: the message bounces along the path that calls to the promise took, and comes back to the vat
+-- that sent it)
+-- the connection on which a record asks a question of this vat's for this call: a sent Bootstrap or Call
+abbrev pub asks : ℕ → Event → Option ℕ
+asks call (Wire true k c rs (Bootstrap q)) = if c == call then Some k else None
+asks call (Wire true k c rs (Call q target interface method params)) = if c == call then Some k else None
+asks call _ = None
+
+-- the connection on which this vat asked its question for a call
+abbrev pub asked_on : ℕ → Past → Option ℕ
+asked_on call past = last_answer (λ before e. asks call e) past
+
+-- the connection on which a record's frame passed
+abbrev pub connection_of : Event → Option ℕ
+connection_of (Wire sent k call references m) = Some k
+connection_of _ = None
+
+-- the connection over which a view is reached: an import over the one that brought it, a field over the one on which
+-- its call was asked; an own object or promise over none
+abbrev pub reached_over : Past → View → Option ℕ
+reached_over past (Import number place) = option_and_then connection_of (record_at number past)
+reached_over past (FieldOf call path) = asked_on call past
+reached_over past _ = None
+
+-- a view is an own object or promise
+abbrev pub is_own : View → Bool
+is_own (Object object) = true
+is_own (Promise p) = true
+is_own _ = false
+
+-- there is a connection, and it is another than k
+abbrev pub is_another : ℕ → Option ℕ → Bool
+is_another k (Some connection) = not (connection == k)
+is_another k None = false
+
+-- a view leads, by 0 or more turns, to one that is reached over this connection
+abbrev pub LeadsOver : Past → View → ℕ → Type 0
+LeadsOver past from k = (v : View) × Leads past from v × (reached_over past v ≡ Some k)
+
+-- a view leads, by 0 or more turns, to an own object or promise, or to one that is reached over another connection
+abbrev pub LeadsElsewhere : Past → View → ℕ → Type 0
+LeadsElsewhere past from k = (v : View) × Leads past from v × IsTrue (is_own v || is_another k (reached_over past v))

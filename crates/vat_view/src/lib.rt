@@ -23,6 +23,7 @@ mod kinds;
 mod landing;
 mod laws;
 mod lives;
+mod loopbacks;
 mod news;
 mod number;
 mod origin;
@@ -43,6 +44,7 @@ mod tally;
 mod telling;
 mod turns;
 mod view;
+mod waits;
 mod walk;
 
 pub use asked::Asked;

@@ -32,3 +32,4 @@ pub mod Distinct
 pub mod Promising
 pub mod Unresolved
 pub mod Alike
+pub mod Looping

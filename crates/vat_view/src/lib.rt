@@ -25,6 +25,7 @@ mod kinds;
 mod landing;
 mod laws;
 mod lives;
+mod loopbacks;
 mod news;
 mod number;
 mod origin;
@@ -46,6 +47,7 @@ mod tally;
 mod telling;
 mod turns;
 mod view;
+mod waits;
 mod walk;
 
 pub use asked::Asked;

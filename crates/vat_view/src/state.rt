@@ -1,6 +1,6 @@
 //! The state of a vat's numbers after some records of its log.
 
-ghost use Rattle.std.specs.Prelude.{◌≡◌, ◌↔◌, [], ◌∷◌, Decides, IfOk, OnOk, OnErr, IsTrue, MatchOption, option_map, reverse};
+ghost use Rattle.std.specs.Prelude.{◌≡◌, ◌↔◌, [], ◌∷◌, Decides, IfOk, OnOk, OnErr, IsTrue, MatchOption, option_map, is_some, reverse};
 ghost use Rattle.vat_view.specs.declared.view.View.{View};
 ghost use Rattle.std.specs.Option.{option_copied};
 ghost use Rattle.vat_view.specs.Past.{record_at};
@@ -13,6 +13,7 @@ ghost use Rattle.vat_view.specs.Walks.{next, stays, Leads, LeadsByTurns, IsEnd};
 ghost use Rattle.vat_view.specs.Bindings.{Refers, NotesEach, is_bound, is_bound_call};
 ghost use Rattle.vat_view.specs.Connections.{is_aborted, LeadsOver, LeadsElsewhere};
 ghost use Rattle.vat_view.specs.Calls.{asked, goal_of, is_at_vat, is_served, is_settled, is_known};
+ghost use Rattle.vat_view.specs.Loopbacks.{loopback_of, waiting};
 
 use crate::applying::learn_all;
 use crate::asked::Asked;
@@ -29,6 +30,7 @@ use crate::settling::settled;
 use crate::sought::{Sought, leads_to};
 use crate::turns::Turns;
 use crate::view::View;
+use crate::waits::Waits;
 use crate::{arrivals, asking, kinds, records, standing, telling, walk};
 use cap_frame::Path;
 use std::alloc::{AllocError, Global};
@@ -46,6 +48,7 @@ pub struct VatState {
     resolves: Resolves,
     turns: Turns,
     connections: Connections,
+    waits: Waits,
 }
 
 impl Model for VatState {
@@ -55,6 +58,7 @@ impl Model for VatState {
     ghost use Rattle.vat_view.specs.Kept.{AreKept};
     ghost use Rattle.vat_view.specs.TurnTables.{AreSettled};
     ghost use Rattle.vat_view.specs.ConnectionTables.{AreConnected};
+    ghost use Rattle.vat_view.specs.LoopTables.{AreWaiting};
 
     ghost Value = { List Event };
 
@@ -63,7 +67,8 @@ impl Model for VatState {
     ghost invariant = { λ state. AreKept (reverse state.events.items) state.questions state.lives state.bound state.calls
         × AreResolved (reverse state.events.items) state.resolves
         × AreSettled (reverse state.events.items) state.turns
-        × AreConnected (reverse state.events.items) state.connections };
+        × AreConnected (reverse state.events.items) state.connections
+        × AreWaiting (reverse state.events.items) state.waits };
 }
 
 impl VatState {
@@ -80,6 +85,7 @@ impl VatState {
             resolves: Resolves::new(alloc),
             turns: Turns::new(alloc),
             connections: Connections::new(alloc),
+            waits: Waits::new(alloc),
         }
     }
 
@@ -190,6 +196,9 @@ impl VatState {
         let promise = records::resolved(&event);
         self.resolves.room_for(promise)?;
         self.connections.grow_for(&event)?;
+        let change = self
+            .waits
+            .prepare(&self.bound, &self.lives, &self.questions, number, &event)?;
         learn_all(
             alloc,
             number,
@@ -202,6 +211,7 @@ impl VatState {
         self.turns.note(pending, number);
         self.resolves.note_resolve(promise, number);
         self.connections.note_event(&event);
+        self.waits.change(change);
         self.events.push(event)?;
         Ok(())
     }
@@ -463,5 +473,24 @@ impl VatState {
             from,
             sought,
         )
+    }
+}
+
+/// What can be asked of loopbacks (rpc.capnp, the comments of Disembargo).
+impl VatState {
+    /// Whether a senderLoopback went under a number and its echo hasn't passed since: of a number of ours it is
+    /// outstanding, of the peer's it is pending.
+    pub fn awaits_echo(&self, number: Id) -> bool
+        ensures { result ≡ is_some (loopback_of number self.now) }
+    {
+        self.waits.loopbacks.has(number)
+    }
+
+    /// What the target of the senderLoopback that waits for its echo under a number stood for then, if one waits and
+    /// its target stood for something.
+    pub fn waiting(&self, number: Id) -> Option<&View>
+        ensures { option_copied result ≡ waiting number self.now }
+    {
+        self.waits.loopbacks.waiting(number)
     }
 }

@@ -4,11 +4,13 @@ use Rattle.std.proofs.lemmas.Grind.{common_steps}
 use Rattle.vat_view.specs.Sound.{IsSound}
 use Rattle.vat_view.specs.Tables.{IsFit}
 use Rattle.vat_view.specs.KindTables.{AreResolved}
+use Rattle.vat_view.specs.LoopTables.{AreWaiting}
 use Rattle.vat_view.specs.Kept.{AreKept}
 use Rattle.vat_view.proofs.Keeping.{fits, state_refused, state_applied}
 use Rattle.vat_view.proofs.Settled.{turns_refused, turns_applied}
 use Rattle.vat_view.proofs.Promising.{resolves_after}
 use Rattle.vat_view.proofs.Connecting.{connected_refused, connected_applied}
+use Rattle.vat_view.proofs.Looping.{waits_same, waits_after}
 use Rattle.vat_view.proofs.state.VatState.apply.Goals as goal
 
 pub invariant_of-self-in_err-make_room : goal.invariant_of-self-in_err-make_room
@@ -17,6 +19,7 @@ invariant_of-self-in_err-make_room c = (
   subst (λ l. AreResolved (reverse l) c.self.inside.resolves) (sym c.in_ok-reserve.ensures.items) c.self.invariant.1,
   turns_refused c.self.inside.events.items c.reserve.new.self.items c.self.inside.turns c.make_room.new.self c.in_ok-reserve.ensures.items c.make_room.ensures.same c.self.invariant.2,
   connected_refused c.self.inside.events.items c.reserve.new.self.items c.self.inside.connections c.self.inside.connections c.in_ok-reserve.ensures.items (λ k. refl) (λ k. refl) c.self.invariant.3,
+  subst (λ l. AreWaiting (reverse l) c.self.inside.waits) (sym c.in_ok-reserve.ensures.items) c.self.invariant.4,
 )
 
 pub invariant_of-self-in_err-room_for : goal.invariant_of-self-in_err-room_for
@@ -25,6 +28,7 @@ invariant_of-self-in_err-room_for c = (
   (λ i. c.room_for.ensures.same i ∙ (subst (λ l. AreResolved (reverse l) c.self.inside.resolves) (sym c.in_ok-reserve.ensures.items) c.self.invariant.1) i),
   turns_refused c.self.inside.events.items c.reserve.new.self.items c.self.inside.turns c.make_room.new.self c.in_ok-reserve.ensures.items c.make_room.ensures.same c.self.invariant.2,
   connected_refused c.self.inside.events.items c.reserve.new.self.items c.self.inside.connections c.self.inside.connections c.in_ok-reserve.ensures.items (λ k. refl) (λ k. refl) c.self.invariant.3,
+  subst (λ l. AreWaiting (reverse l) c.self.inside.waits) (sym c.in_ok-reserve.ensures.items) c.self.invariant.4,
 )
 
 pub invariant_of-self-in_err-grow_for : goal.invariant_of-self-in_err-grow_for
@@ -33,6 +37,17 @@ invariant_of-self-in_err-grow_for c = (
   (λ i. c.room_for.ensures.same i ∙ (subst (λ l. AreResolved (reverse l) c.self.inside.resolves) (sym c.in_ok-reserve.ensures.items) c.self.invariant.1) i),
   turns_refused c.self.inside.events.items c.reserve.new.self.items c.self.inside.turns c.make_room.new.self c.in_ok-reserve.ensures.items c.make_room.ensures.same c.self.invariant.2,
   connected_refused c.self.inside.events.items c.reserve.new.self.items c.self.inside.connections c.grow_for.new.self c.in_ok-reserve.ensures.items c.grow_for.ensures.asked c.grow_for.ensures.aborted c.self.invariant.3,
+  subst (λ l. AreWaiting (reverse l) c.self.inside.waits) (sym c.in_ok-reserve.ensures.items) c.self.invariant.4,
+)
+
+pub invariant_of-self-in_err-change : goal.invariant_of-self-in_err-change
+invariant_of-self-in_err-change c = (
+  subst (λ l. AreKept (reverse l) c.self.inside.questions c.self.inside.lives c.self.inside.bound c.self.inside.calls) (sym c.in_ok-reserve.ensures.items) c.self.invariant.0,
+  (λ i. c.room_for.ensures.same i ∙ (subst (λ l. AreResolved (reverse l) c.self.inside.resolves) (sym c.in_ok-reserve.ensures.items) c.self.invariant.1) i),
+  turns_refused c.self.inside.events.items c.reserve.new.self.items c.self.inside.turns c.make_room.new.self c.in_ok-reserve.ensures.items c.make_room.ensures.same c.self.invariant.2,
+  connected_refused c.self.inside.events.items c.reserve.new.self.items c.self.inside.connections c.grow_for.new.self c.in_ok-reserve.ensures.items c.grow_for.ensures.asked c.grow_for.ensures.aborted c.self.invariant.3,
+  waits_same (reverse c.reserve.new.self.items) c.self.inside.waits c.prepare.new.self c.prepare.ensures.same
+      (subst (λ l. AreWaiting (reverse l) c.self.inside.waits) (sym c.in_ok-reserve.ensures.items) c.self.invariant.4),
 )
 
 pub invariant_of-self-in_err-learn_all : goal.invariant_of-self-in_err-learn_all
@@ -51,6 +66,8 @@ invariant_of-self-in_err-learn_all c =
       (λ i. c.room_for.ensures.same i ∙ (subst (λ l. AreResolved (reverse l) c.self.inside.resolves) (sym c.in_ok-reserve.ensures.items) c.self.invariant.1) i),
       turns_refused c.self.inside.events.items c.reserve.new.self.items c.self.inside.turns c.make_room.new.self c.in_ok-reserve.ensures.items c.make_room.ensures.same c.self.invariant.2,
       connected_refused c.self.inside.events.items c.reserve.new.self.items c.self.inside.connections c.grow_for.new.self c.in_ok-reserve.ensures.items c.grow_for.ensures.asked c.grow_for.ensures.aborted c.self.invariant.3,
+      waits_same (reverse c.reserve.new.self.items) c.self.inside.waits c.prepare.new.self c.prepare.ensures.same
+          (subst (λ l. AreWaiting (reverse l) c.self.inside.waits) (sym c.in_ok-reserve.ensures.items) c.self.invariant.4),
     )
 
 pub invariant_of-self-2 : goal.invariant_of-self-2
@@ -77,4 +94,10 @@ invariant_of-self-2 c =
           (subst (λ p. IsFit p c.args.event) (sym c.self.view_is) fit) c.self.invariant.0.tabled c.self.invariant.2 c.settled-pending.ensures c.make_room.ensures.same c.note.ensures,
       connected_applied c.self.inside.events.items c.reserve.new.self.items c.push.new.self.items c.args.event c.self.inside.connections c.grow_for.new.self c.note_event.new.self
           c.in_ok-reserve.ensures.items c.in_ok-push.ensures.items c.grow_for.ensures.asked c.grow_for.ensures.aborted c.note_event.ensures.asked c.note_event.ensures.aborted c.self.invariant.3,
+      state_applied c.self.inside.events.items c.reserve.new.self.items c.args.self.now c.args.event c.len-number.result
+          (λ p. AreKept p c.self.inside.questions c.self.inside.lives c.self.inside.bound c.self.inside.calls × AreWaiting p c.self.inside.waits) (λ p. AreWaiting p c.change.new.self)
+          c.self.view_is c.in_ok-reserve.ensures.items place (c.self.invariant.0, c.self.invariant.4) sound c.push.new.self.items c.in_ok-push.ensures.items
+          (λ before at kept good. waits_after before c.self.inside.questions c.self.inside.lives c.self.inside.bound c.self.inside.calls kept.0 c.args.event c.len-number.result at
+          c.in_ok-change.change c.in_ok-change.ensures.change c.prepare.new.self c.change.new.self
+          (waits_same before c.self.inside.waits c.prepare.new.self c.prepare.ensures.same kept.1) c.change.ensures),
     )

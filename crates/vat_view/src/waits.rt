@@ -1,0 +1,71 @@
+//! The tables of what waits.
+
+ghost use Rattle.std.specs.Prelude.{◌≡◌, [], IfOk, IsTrue};
+ghost use Rattle.vat_view.specs.Tables.{bound_at, question_at};
+ghost use Rattle.vat_view.specs.LoopTables.{room_at, change_by, SaysSame, IsChangedBy, AreWaiting};
+
+use crate::bound::Bound;
+use crate::event::Event;
+use crate::id::Id;
+use crate::lives::Lives;
+use crate::loopbacks::{Loopbacks, Unechoed, echoed, looped};
+use crate::questions::Questions;
+use std::alloc::{AllocError, Global};
+
+/// What waits: loopbacks for their echo.
+#[derive(Debug, Drop)]
+pub(crate) struct Waits {
+    pub(crate) loopbacks: Loopbacks,
+}
+
+/// What a record changes of what waits.
+#[derive(Debug, Drop)]
+pub(crate) struct Change {
+    /// The loopback for which it asks.
+    looped: Option<(Id, Unechoed)>,
+    /// The number that it echoes.
+    echoed: Option<Id>,
+}
+
+impl Waits {
+    /// Before any record.
+    pub(crate) fn new(alloc: Global) -> Waits
+        ensures { AreWaiting [] result }
+    {
+        Waits {
+            loopbacks: Loopbacks::new(alloc),
+        }
+    }
+
+    /// Makes room for what a record changes, which has this number in the log, by the tables before it. What the
+    /// tables say stays as it is, where memory is refused too.
+    pub(crate) fn prepare(
+        &mut self,
+        bound: &Bound,
+        lives: &Lives,
+        questions: &Questions,
+        number: usize,
+        event: &Event,
+    ) -> Result<Change, AllocError>
+        ensures same { SaysSame self.old self.new }
+        ensures change { IfOk result (λ change. change ≡ change_by (bound_at bound.now) lives.now (question_at questions.now) number event.now) }
+        ensures room { IfOk result (λ change. IsTrue (room_at self.new.loopbacks change.looped)) }
+    {
+        let looped = looped(bound, lives, questions, number, event)?;
+        self.loopbacks.room_for(&looped)?;
+        Ok(Change {
+            looped,
+            echoed: echoed(event),
+        })
+    }
+
+    /// Changes what a record changes, for which there is room.
+    pub(crate) fn change(&mut self, change: Change)
+        requires { IsTrue (room_at self.old.loopbacks change.looped) }
+        ensures { IsChangedBy change self.old self.new }
+    {
+        let Change { looped, echoed } = change;
+        self.loopbacks.begin(looped);
+        self.loopbacks.end(echoed);
+    }
+}

@@ -19,6 +19,7 @@ mod calls;
 mod event;
 mod id;
 mod ids;
+mod inbox;
 mod kinds;
 mod landing;
 mod laws;

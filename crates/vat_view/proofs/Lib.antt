@@ -33,3 +33,5 @@ pub mod Promising
 pub mod Unresolved
 pub mod Alike
 pub mod Looping
+pub mod Holding
+pub mod Receiving

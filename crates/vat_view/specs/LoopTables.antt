@@ -1,18 +1,27 @@
--- For the code's contracts, and no part of the meaning: the table of loopbacks.
-use Rattle.std.specs.Prelude.{◌≡◌, ℕ, Bool, true, Option, Some, None, if◌then◌else◌, option_map, option_and_then, is_some}
+-- For the code's contracts, and no part of the meaning: the tables of what waits.
+use Rattle.std.specs.Prelude.{◌≡◌, ◌==◌, ◌&&◌, ◌<◌, ℕ, nat_lt, Bool, true, false, Option, Some, None, if◌then◌else◌, length, option_map, option_and_then, is_some}
 use Rattle.std.specs.BTreeMap.{get}
+use Rattle.std.specs.Ordering.{nat_cmp}
+use Rattle.std.specs.Str.{bytes_eq as same_path}
 use Rattle.vat_view.specs.declared.question.Question.{Question}
 use Rattle.vat_view.specs.declared.lives.Lives.{Lives}
+use Rattle.vat_view.specs.declared.calls.Calls.{Calls}
+use Rattle.vat_view.specs.declared.inbox.Receipt.{Receipt}
+use Rattle.vat_view.specs.declared.inbox.Inbox.{Inbox}
 use Rattle.vat_view.specs.declared.loopbacks.Unechoed.{Unechoed}
 use Rattle.vat_view.specs.declared.loopbacks.Loopbacks.{Loopbacks}
 use Rattle.vat_view.specs.declared.waits.Waits.{Waits}
 use Rattle.vat_view.specs.declared.waits.Change.{Change}
-use Rattle.vat_view.specs.Types.{Event, View, Id}
-use Rattle.vat_view.specs.Past.{Past, Point, same_id, names, number_of}
+use Rattle.vat_view.specs.Types.{Call, Return, Exception, Canceled, Event, Deliver, Fault, Wire, View, Object, Promise, FieldOf, Import, Id}
+use Rattle.vat_view.specs.Past.{Past, Point, id, is, same_id, names, number_of, last_answer}
 use Rattle.vat_view.specs.Views.{view_of_target}
+use Rattle.vat_view.specs.Calls.{is_at_vat}
 use Rattle.vat_view.specs.Loopbacks.{looped, echoed, loopback_of}
 use Rattle.vat_view.specs.Tables.{id_cmp}
-use Rattle.vat_view.specs.Asking.{targeted_by}
+use Rattle.vat_view.specs.Asking.{opening_call_in, targeted_by}
+use Rattle.vat_view.specs.CallTables.{progress_at, goal_in}
+
+-- ---- loopbacks
 
 -- the senderLoopback that the table has for a number
 abbrev pub loopback_at : Loopbacks → Id → Option Unechoed
@@ -44,18 +53,101 @@ abbrev pub put_by : Id → Option (Id × Unechoed) → Option Unechoed → Optio
 put_by i (Some x) old = if same_id i x.0 then Some x.1 else old
 put_by i None old = old
 
+-- ---- received calls that are at the vat
+
+-- where a record receives this call, if it does
+abbrev pub receipt : ℕ → Past → Event → Option Receipt
+receipt call before (Wire false k c rs (Call q target interface method params)) = if c == call then Some (record { connection = k; number = length before }) else None
+receipt call before _ = None
+
+-- where a call was received, if it was
+abbrev pub receipt_of : ℕ → Past → Option Receipt
+receipt_of call past = last_answer (receipt call) past
+
+-- the same of one that is at the vat
+abbrev pub receipt_here : ℕ → Past → Option Receipt
+receipt_here call past = if is_at_vat call past then receipt_of call past else None
+
+-- what the table has of a call
+abbrev pub receipt_at : Inbox → ℕ → Option Receipt
+receipt_at table call = option_and_then (λ receipt. receipt) (get nat_cmp table.entries call)
+
+-- the table has what looking back finds
+abbrev pub AreReceived : Past → Inbox → Type 0
+AreReceived past table = (call : ℕ) → receipt_at table call ≡ receipt_here call past
+
+-- the call that a record of this number receives
+abbrev pub received_by : ℕ → Event → Option (ℕ × Receipt)
+received_by number (Wire false k c rs (Call q target interface method params)) = Some (c, record { connection = k; number = number })
+received_by number _ = None
+
+-- the call that a record takes from the vat, by the calls of questions
+abbrev pub taken_by : (Id → Option ℕ) → Event → Option ℕ
+taken_by opened (Deliver c object) = Some c
+taken_by opened (Fault c) = Some c
+taken_by opened (Wire true k c rs (Call q target interface method params)) = Some c
+taken_by opened (Wire true k c rs (Return q release Exception)) = opened (id k false q)
+taken_by opened (Wire true k c rs (Return q release Canceled)) = opened (id k false q)
+taken_by opened _ = None
+
+-- the table has room for a call, if there is one
+abbrev pub space_at : Inbox → Option (ℕ × Receipt) → Bool
+space_at table (Some x) = is_some (get nat_cmp table.entries x.0)
+space_at table None = true
+
+-- what the table has of a call once this one is received, if there is one
+abbrev pub put_call : ℕ → Option (ℕ × Receipt) → Option Receipt → Option Receipt
+put_call call (Some x) old = if x.0 == call then Some x.1 else old
+put_call call None old = old
+
+-- ---- what holds an echo up
+
+-- two views are one
+abbrev pub same_view : View → View → Bool
+same_view (Object a) (Object b) = a == b
+same_view (Promise a) (Promise b) = a == b
+same_view (FieldOf a p) (FieldOf b q) = (a == b) && same_path p q
+same_view (Import a p) (Import b q) = (a == b) && (p == q)
+same_view _ _ = false
+
+-- the same of what may be none
+abbrev pub same_target : Option View → Option View → Bool
+same_target (Some a) (Some b) = same_view a b
+same_target None None = true
+same_target _ _ = false
+
+-- whether a call with this receipt, if it has one, holds up the echo of a loopback of this connection
+abbrev pub held_by : Calls → ℕ → Unechoed → ℕ → Option Receipt → Bool
+held_by calls k looped call (Some r) = ((r.connection == k) && nat_lt r.number looped.number) && same_target (goal_in (progress_at calls call)) looped.target
+held_by calls k looped call None = false
+
+-- a call of the table does
+abbrev pub Holding : Inbox → Calls → ℕ → Unechoed → Type 0
+Holding table calls k looped =
+    (call : ℕ) × (r : Receipt) × (receipt_at table call ≡ Some r) × (r.connection ≡ k) × (r.number < looped.number) × (goal_in (progress_at calls call) ≡ looped.target)
+
+-- ---- both tables
+
 -- what a record of this number changes, by the tables before it
 abbrev pub change_by : (ℕ → Option View) → Lives → (Id → Option Question) → ℕ → Event → Change
-change_by named lives known number e = record { looped = looped_by named lives known number e; echoed = echoed e }
+change_by named lives known number e = record {
+  looped = looped_by named lives known number e;
+  echoed = echoed e;
+  received = received_by number e;
+  taken = taken_by (λ q. opening_call_in (known q)) e;
+}
 
--- two tables say the same
+-- they say the same
 pub record SaysSame (old : Waits) (new : Waits) : Type 0 where
   pub looped : (i : Id) → loopback_at new.loopbacks i ≡ loopback_at old.loopbacks i
+  pub received : (call : ℕ) → receipt_at new.inbox call ≡ receipt_at old.inbox call
 
--- a table was changed so
+-- they were changed so
 pub record IsChangedBy (change : Change) (old : Waits) (new : Waits) : Type 0 where
   pub looped : (i : Id) → loopback_at new.loopbacks i ≡ (if names i change.echoed then None else put_by i change.looped (loopback_at old.loopbacks i))
+  pub received : (call : ℕ) → receipt_at new.inbox call ≡ (if is call change.taken then None else put_call call change.received (receipt_at old.inbox call))
 
--- the tables of what waits at a point of a log
+-- they have what looking back finds
 pub record AreWaiting (past : Past) (waits : Waits) : Type 0 where
   pub looped : AreLooped past waits.loopbacks
+  pub received : AreReceived past waits.inbox

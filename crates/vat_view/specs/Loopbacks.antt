@@ -1,8 +1,9 @@
--- Loopbacks that wait for their echo (rpc.capnp, the comments of Disembargo).
-use Rattle.std.specs.Prelude.{not, Option, Some, None, option_and_then}
-use Rattle.vat_view.specs.Types.{Sender, Receiver, Disembargo, Event, Wire, View, Id}
+-- Loopbacks that wait for their echo, and what holds the echo up (rpc.capnp, the comments of Disembargo).
+use Rattle.std.specs.Prelude.{◌≡◌, ℕ, ◌==◌, ◌&&◌, Bool, false, not, Option, Some, None, option_and_then, IsTrue}
+use Rattle.vat_view.specs.Types.{Sender, Receiver, Call, Disembargo, Event, Wire, View, Id}
 use Rattle.vat_view.specs.Past.{Past, Point, id, names, last_since}
 use Rattle.vat_view.specs.Views.{view_of_target}
+use Rattle.vat_view.specs.Calls.{goal_of, is_at_vat, has_passed}
 
 -- the number under which a record asks for an echo: one of the sender's
 abbrev pub looped : Event → Option Id
@@ -22,3 +23,18 @@ loopback_of i past = last_since (λ before e. names i (echoed e)) (λ before e. 
 -- what the target of the senderLoopback that waits under a number stood for then
 abbrev pub waiting : Id → Past → Option View
 waiting i past = option_and_then (λ p. view_of_target p.before p.event) (loopback_of i past)
+
+-- a record receives this call on this connection
+abbrev pub receives : ℕ → ℕ → Past → Event → Bool
+receives connection call before (Wire false k c references (Call q target interface method params)) = (k == connection) && (c == call)
+receives connection call before _ = false
+
+-- the echo of a senderLoopback is held up: a call that was received on its connection before it, and whose goal is what
+-- its target stood for then, is still at the vat
+abbrev pub HeldUp : Past → ℕ → Point → Type 0
+HeldUp past connection p =
+    (call : ℕ) × IsTrue (has_passed (receives connection call) p.before) × (goal_of call past ≡ view_of_target p.before p.event) × IsTrue (is_at_vat call past)
+
+-- the senderLoopback that waits under a number is held up
+abbrev pub IsHeldUp : Id → Past → Type 0
+IsHeldUp i past = (p : Point) × (loopback_of i past ≡ Some p) × HeldUp past i.connection p

@@ -3,10 +3,12 @@
 ghost use Rattle.std.specs.Prelude.{◌≡◌, ◌==◌, ℕ, None, Some, OnOk, OnErr, if◌then◌else◌, is_some, option_map, IfOk};
 ghost use Rattle.std.specs.Option.{option_copied};
 ghost use Rattle.vat_view.specs.CallTables.{progress_at, asked_in, goal_in, at_vat_in, served_in, settled_in, known_in, stepped};
+ghost use Rattle.vat_view.specs.LoopTables.{same_target};
 
 use crate::asked::Asked;
 use crate::progress::{Progress, Step};
 use crate::view::View;
+use crate::walk::same;
 use std::alloc::{AllocError, Global};
 use std::collections::BTreeMap;
 
@@ -56,8 +58,8 @@ impl Calls {
     }
 
     /// The goal of this call, if it came to the vat with one.
-    pub(crate) fn goal_of(&self, call: u64) -> Result<Option<View>, AllocError>
-        ensures { IfOk result (λ goal. goal ≡ goal_in (progress_at self.now call)) }
+    fn goal(&self, call: u64) -> Option<&View>
+        ensures { option_copied result ≡ goal_in (progress_at self.now call) }
     {
         match self.of(call) {
             Some(
@@ -70,8 +72,29 @@ impl Calls {
                     ),
                     ..
                 },
-            ) => Ok(Some(goal.copy()?)),
-            _ => Ok(None),
+            ) => Some(goal),
+            _ => None,
+        }
+    }
+
+    /// A copy of the goal of this call.
+    pub(crate) fn goal_of(&self, call: u64) -> Result<Option<View>, AllocError>
+        ensures { IfOk result (λ goal. goal ≡ goal_in (progress_at self.now call)) }
+    {
+        match self.goal(call) {
+            Some(goal) => Ok(Some(goal.copy()?)),
+            None => Ok(None),
+        }
+    }
+
+    /// Whether the goal of this call is this one, where either may be none.
+    pub(crate) fn goes_to(&self, call: u64, goal: &Option<View>) -> bool
+        ensures { result ≡ same_target (goal_in (progress_at self.now call)) goal.now }
+    {
+        match (self.goal(call), goal) {
+            (Some(a), Some(b)) => same(a, b),
+            (None, None) => true,
+            _ => false,
         }
     }
 

@@ -21,6 +21,7 @@ mod connections;
 mod event;
 mod id;
 mod ids;
+mod inbox;
 mod kinds;
 mod landing;
 mod laws;

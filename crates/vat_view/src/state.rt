@@ -13,7 +13,7 @@ ghost use Rattle.vat_view.specs.Walks.{next, stays, Leads, LeadsByTurns, IsEnd};
 ghost use Rattle.vat_view.specs.Bindings.{Refers, NotesEach, is_bound, is_bound_call};
 ghost use Rattle.vat_view.specs.Connections.{is_aborted, LeadsOver, LeadsElsewhere};
 ghost use Rattle.vat_view.specs.Calls.{asked, goal_of, is_at_vat, is_served, is_settled, is_known};
-ghost use Rattle.vat_view.specs.Loopbacks.{loopback_of, waiting};
+ghost use Rattle.vat_view.specs.Loopbacks.{loopback_of, waiting, IsHeldUp};
 
 use crate::applying::learn_all;
 use crate::asked::Asked;
@@ -492,5 +492,20 @@ impl VatState {
         ensures { option_copied result ≡ waiting number self.now }
     {
         self.waits.loopbacks.waiting(number)
+    }
+
+    /// Whether the echo is held up of the senderLoopback that waits under a number: whether a call that was received on
+    /// its connection before it, and whose goal is what its target stood for then, is still at the vat. It looks at the
+    /// received calls that are at the vat, and takes no memory.
+    pub fn is_held_up(&self, number: Id) -> bool
+        ensures { Decides result (IsHeldUp number self.now) }
+    {
+        match self.waits.loopbacks.of(number) {
+            Some(looped) => {
+                let inbox = &self.waits.inbox;
+                inbox.holds_up(&self.calls, number.connection, looped)
+            }
+            None => false,
+        }
     }
 }

@@ -2,20 +2,22 @@
 
 ghost use Rattle.std.specs.Prelude.{◌≡◌, [], IfOk, IsTrue};
 ghost use Rattle.vat_view.specs.Tables.{bound_at, question_at};
-ghost use Rattle.vat_view.specs.LoopTables.{room_at, change_by, SaysSame, IsChangedBy, AreWaiting};
+ghost use Rattle.vat_view.specs.LoopTables.{room_at, space_at, change_by, SaysSame, IsChangedBy, AreWaiting};
 
 use crate::bound::Bound;
 use crate::event::Event;
 use crate::id::Id;
+use crate::inbox::{Inbox, Receipt, received, taken};
 use crate::lives::Lives;
 use crate::loopbacks::{Loopbacks, Unechoed, echoed, looped};
 use crate::questions::Questions;
 use std::alloc::{AllocError, Global};
 
-/// What waits: loopbacks for their echo.
+/// What waits: loopbacks for their echo, and received calls at the vat.
 #[derive(Debug, Drop)]
 pub(crate) struct Waits {
     pub(crate) loopbacks: Loopbacks,
+    pub(crate) inbox: Inbox,
 }
 
 /// What a record changes of what waits.
@@ -25,6 +27,10 @@ pub(crate) struct Change {
     looped: Option<(Id, Unechoed)>,
     /// The number that it echoes.
     echoed: Option<Id>,
+    /// The call that it receives.
+    received: Option<(u64, Receipt)>,
+    /// The call that it takes from the vat.
+    taken: Option<u64>,
 }
 
 impl Waits {
@@ -34,6 +40,7 @@ impl Waits {
     {
         Waits {
             loopbacks: Loopbacks::new(alloc),
+            inbox: Inbox::new(alloc),
         }
     }
 
@@ -50,22 +57,35 @@ impl Waits {
         ensures same { SaysSame self.old self.new }
         ensures change { IfOk result (λ change. change ≡ change_by (bound_at bound.now) lives.now (question_at questions.now) number event.now) }
         ensures room { IfOk result (λ change. IsTrue (room_at self.new.loopbacks change.looped)) }
+        ensures space { IfOk result (λ change. IsTrue (space_at self.new.inbox change.received)) }
     {
         let looped = looped(bound, lives, questions, number, event)?;
         self.loopbacks.room_for(&looped)?;
+        let received = received(number, event);
+        self.inbox.room_for(received)?;
         Ok(Change {
             looped,
             echoed: echoed(event),
+            received,
+            taken: taken(questions, event),
         })
     }
 
     /// Changes what a record changes, for which there is room.
     pub(crate) fn change(&mut self, change: Change)
-        requires { IsTrue (room_at self.old.loopbacks change.looped) }
+        requires room { IsTrue (room_at self.old.loopbacks change.looped) }
+        requires space { IsTrue (space_at self.old.inbox change.received) }
         ensures { IsChangedBy change self.old self.new }
     {
-        let Change { looped, echoed } = change;
+        let Change {
+            looped,
+            echoed,
+            received,
+            taken,
+        } = change;
         self.loopbacks.begin(looped);
         self.loopbacks.end(echoed);
+        self.inbox.begin(received);
+        self.inbox.end(taken);
     }
 }

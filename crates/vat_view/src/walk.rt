@@ -22,7 +22,7 @@ fn same_path(a: &Path, b: &Path) -> bool
 }
 
 /// Whether two views are one.
-fn same(a: &View, b: &View) -> bool
+pub(crate) fn same(a: &View, b: &View) -> bool
     ensures { IsTrue result ↔ (a.now ≡ b.now) }
 {
     match (a, b) {

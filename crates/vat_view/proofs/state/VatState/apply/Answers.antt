@@ -97,7 +97,7 @@ invariant_of-self-2 c =
       state_applied c.self.inside.events.items c.reserve.new.self.items c.args.self.now c.args.event c.len-number.result
           (λ p. AreKept p c.self.inside.questions c.self.inside.lives c.self.inside.bound c.self.inside.calls × AreWaiting p c.self.inside.waits) (λ p. AreWaiting p c.change.new.self)
           c.self.view_is c.in_ok-reserve.ensures.items place (c.self.invariant.0, c.self.invariant.4) sound c.push.new.self.items c.in_ok-push.ensures.items
-          (λ before at kept good. waits_after before c.self.inside.questions c.self.inside.lives c.self.inside.bound c.self.inside.calls kept.0 c.args.event c.len-number.result at
+          (λ before at kept good. waits_after before c.self.inside.questions c.self.inside.lives c.self.inside.bound c.self.inside.calls kept.0 c.args.event good.refers c.len-number.result at
           c.in_ok-change.change c.in_ok-change.ensures.change c.prepare.new.self c.change.new.self
           (waits_same before c.self.inside.waits c.prepare.new.self c.prepare.ensures.same kept.1) c.change.ensures),
     )

@@ -41,6 +41,7 @@ const ROWS: [(&str, &str); 3] = [
     ),
 ];
 
+<<<<<<< HEAD
 /// Records, one that comes next, and what is said of it: whether it keeps the kinds of numbers, its descriptors, and
 /// the references that it newly binds; and the records that are given back, how many and the first.
 const NEXT: [(&str, &str, &str); 8] = [
@@ -90,6 +91,35 @@ const NEXT: [(&str, &str, &str); 8] = [
         "R0 r3 r4 ret q1 senderHosted 0@[] senderHosted 5",
         "keeps true; descriptors [SenderHosted(0), SenderHosted(5)]; new [3, 4]; \
         5 Some(Host { reference: 9, object: 7 })",
+=======
+/// Records; whether call 1's whole result then leads over connections 0 and 1, and elsewhere than over each; and which
+/// of these two were aborted.
+const OVER: [(&str, &str); 5] = [
+    // It goes on nowhere, and no question asks for it.
+    (
+        "",
+        "over false false; elsewhere false false; aborted false false",
+    ),
+    // It is the vat's own object.
+    (
+        "HOST r1 7; R0 c1 boot q0; ANSWER c1 r1@[]; R0 abort",
+        "over false false; elsewhere true true; aborted true false",
+    ),
+    // The vat asked for it on connection 0, and was given what came in there.
+    (
+        "S0 c1 boot q0; R0 r1 ret q0 senderHosted 0@[]; S1 abort",
+        "over true false; elsewhere false true; aborted false true",
+    ),
+    // It was asked of the vat on connection 1, and is what came in on connection 0.
+    (
+        "R1 c1 boot q0; S0 c2 boot q0; R0 r1 ret q0 senderHosted 0@[]; ANSWER c1 r1@[]",
+        "over true false; elsewhere false true; aborted false false",
+    ),
+    // It goes in a circle, by the result of call 2, for which the vat asked on connection 0.
+    (
+        "R0 c1 boot q0; S0 c2 boot q0; FIELD r1 c2 []; ANSWER c1 r1@[]; R0 r2 ret q0 receiverAnswer 0 []@[]",
+        "over true false; elsewhere false true; aborted false false",
+>>>>>>> 35ae13db3c96fbc9491566abde471acb5510d95d
     ),
 ];
 
@@ -122,6 +152,15 @@ fn event_of(alloc: Global, body: &Body) -> Result<Event, Refused> {
         Body::Host { reference, object } => Ok(Event::Host {
             reference: *reference,
             object: *object,
+        }),
+        Body::Field {
+            reference,
+            call,
+            path,
+        } => Ok(Event::Field {
+            reference: *reference,
+            call: *call,
+            path: path.copy()?,
         }),
         Body::Deliver { call, object } => Ok(Event::Deliver {
             call: *call,
@@ -265,6 +304,7 @@ fn states(rt: HostRuntime) {
     }
 }
 
+<<<<<<< HEAD
 /// What is said of the first record of this log where it comes next, and the records that are given back.
 fn put_next(alloc: Global, out: &mut String, state: VatState, next: &str) -> Result<(), Refused> {
     let log = log(alloc, "2", next)?;
@@ -288,14 +328,37 @@ fn is_next_told(alloc: Global, records: &str, next: &str, told: &str) -> Result<
     let state = state_of(alloc, records)?;
     let mut out = String::new(alloc);
     put_next(alloc, &mut out, state, next)?;
+=======
+/// Whether what is known of connections after these records is told so.
+fn is_over(alloc: Global, records: &str, told: &str) -> Result<bool, Refused> {
+    let state = state_of(alloc, records)?;
+    let from = View::Field(1, Path::new(Vec::new(alloc)));
+    let over = (state.leads_over(&from, 0), state.leads_over(&from, 1));
+    let elsewhere = (
+        state.leads_elsewhere(&from, 0),
+        state.leads_elsewhere(&from, 1),
+    );
+    let aborted = (state.is_aborted(0), state.is_aborted(1));
+    let mut out = String::new(alloc);
+    write!(out, "over {} {}; ", over.0, over.1)?;
+    write!(out, "elsewhere {} {}; ", elsewhere.0, elsewhere.1)?;
+    write!(out, "aborted {} {}", aborted.0, aborted.1)?;
+>>>>>>> 35ae13db3c96fbc9491566abde471acb5510d95d
     Ok(out.as_str() == told)
 }
 
 #[test]
+<<<<<<< HEAD
 fn records_that_come_next(rt: HostRuntime) {
     for (records, next, told) in NEXT {
         let is_so = is_next_told(rt.alloc(), records, next, told).unwrap_or(false)
             || is_next_told(rt.alloc(), records, next, told).unwrap_or(false);
+=======
+fn connections(rt: HostRuntime) {
+    for (records, told) in OVER {
+        let is_so = is_over(rt.alloc(), records, told).unwrap_or(false)
+            || is_over(rt.alloc(), records, told).unwrap_or(false);
+>>>>>>> 35ae13db3c96fbc9491566abde471acb5510d95d
         assert!(rt; is_so, "{told}");
     }
 }

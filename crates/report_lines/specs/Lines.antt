@@ -14,6 +14,7 @@ use Rattle.report_lines.specs.MessageText.{message_text}
 
 -- the code of a rule
 abbrev pub code_of : Rule → List ℕ
+code_of rule.Closed = codes "CLOSED"
 code_of rule.Ref = codes "REF"
 code_of rule.Vow = codes "VOW"
 code_of rule.Here = codes "HERE"
@@ -27,6 +28,7 @@ code_of rule.Count = codes "COUNT"
 code_of rule.Result = codes "RESULT"
 code_of rule.Resolve = codes "RESOLVE"
 code_of rule.RecvRef = codes "RECVREF"
+code_of rule.Emb = codes "EMB"
 
 -- the word for why a record isn't judged
 abbrev pub word_of : Why → List ℕ
@@ -35,7 +37,6 @@ word_of why.Unimplemented = codes "Unimplemented"
 word_of why.LaterField = codes "LaterField"
 word_of why.TailCall = codes "TailCall"
 word_of why.Unread = codes "Unread"
-word_of why.NotYet = codes "NotYet"
 
 -- what was found of a vat, with the number of records in its log
 abbrev pub outcome_text : ℕ → ℕ → Outcome → List ℕ

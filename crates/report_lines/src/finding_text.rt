@@ -13,6 +13,7 @@ fn code_of(rule: Rule) -> &'static str
     ensures { result.now ≡ code_of rule }
 {
     match rule {
+        Rule::Closed => "CLOSED",
         Rule::Ref => "REF",
         Rule::Vow => "VOW",
         Rule::Here => "HERE",
@@ -26,6 +27,7 @@ fn code_of(rule: Rule) -> &'static str
         Rule::Result => "RESULT",
         Rule::Resolve => "RESOLVE",
         Rule::RecvRef => "RECVREF",
+        Rule::Emb => "EMB",
     }
 }
 
@@ -39,7 +41,6 @@ fn word_of(why: Why) -> &'static str
         Why::LaterField => "LaterField",
         Why::TailCall => "TailCall",
         Why::Unread => "Unread",
-        Why::NotYet => "NotYet",
     }
 }
 

@@ -11,22 +11,24 @@ use Rattle.vat_rules.specs.OfCaps.{Describes, BindsEach}
 use Rattle.vat_rules.specs.Judged.{IsGood}
 
 -- a record that meets each rule is good
-pub all_met : (before : Past) (e : Event) → Meets rule.Ref before e → Meets rule.Vow before e → Meets rule.Here before e → Meets rule.QNew before e → Meets rule.QUse before e →
+pub all_met : (before : Past) (e : Event) → Meets rule.Closed before e → Meets rule.Ref before e → Meets rule.Vow before e → Meets rule.Here before e → Meets rule.QNew before e → Meets rule.QUse before e →
     Meets rule.XUse before e → Meets rule.Goal before e → Meets rule.Answer before e → Meets rule.Desc before e → Meets rule.Count before e → Meets rule.Result before e →
-    Meets rule.Resolve before e → Meets rule.RecvRef before e → (each : Rule) → Meets each before e
-all_met before e a v b c d f g h i j k r l rule.Ref = a
-all_met before e a v b c d f g h i j k r l rule.Vow = v
-all_met before e a v b c d f g h i j k r l rule.Here = b
-all_met before e a v b c d f g h i j k r l rule.QNew = c
-all_met before e a v b c d f g h i j k r l rule.QUse = d
-all_met before e a v b c d f g h i j k r l rule.XUse = f
-all_met before e a v b c d f g h i j k r l rule.Goal = g
-all_met before e a v b c d f g h i j k r l rule.Answer = h
-all_met before e a v b c d f g h i j k r l rule.Desc = i
-all_met before e a v b c d f g h i j k r l rule.Count = j
-all_met before e a v b c d f g h i j k r l rule.Result = k
-all_met before e a v b c d f g h i j k r l rule.Resolve = r
-all_met before e a v b c d f g h i j k r l rule.RecvRef = l
+    Meets rule.Resolve before e → Meets rule.RecvRef before e → Meets rule.Emb before e → (each : Rule) → Meets each before e
+all_met before e o a v b c d f g h i j k r l m rule.Closed = o
+all_met before e o a v b c d f g h i j k r l m rule.Ref = a
+all_met before e o a v b c d f g h i j k r l m rule.Vow = v
+all_met before e o a v b c d f g h i j k r l m rule.Here = b
+all_met before e o a v b c d f g h i j k r l m rule.QNew = c
+all_met before e o a v b c d f g h i j k r l m rule.QUse = d
+all_met before e o a v b c d f g h i j k r l m rule.XUse = f
+all_met before e o a v b c d f g h i j k r l m rule.Goal = g
+all_met before e o a v b c d f g h i j k r l m rule.Answer = h
+all_met before e o a v b c d f g h i j k r l m rule.Desc = i
+all_met before e o a v b c d f g h i j k r l m rule.Count = j
+all_met before e o a v b c d f g h i j k r l m rule.Result = k
+all_met before e o a v b c d f g h i j k r l m rule.Resolve = r
+all_met before e o a v b c d f g h i j k r l m rule.RecvRef = l
+all_met before e o a v b c d f g h i j k r l m rule.Emb = m
 
 -- a record that is as DESC and RECVREF say notes each of its capabilities
 notes_from : (before : Past) (e : Event) → Describes before e → BindsEach before e → NotesEach before e

@@ -1,13 +1,11 @@
 -- The records of a log as they are judged, with their messages read.
-use Rattle.std.specs.Prelude.{ℕ, List, take, reverse, true, false, Option, Some, None, Result, Ok, Err, if◌then◌else◌}
+use Rattle.std.specs.Prelude.{ℕ, List, take, reverse, true, false, Option, Some, None, Result, Ok, Err}
 use Rattle.std.specs.List.{filter_map}
 use Rattle.vat_log.specs.declared.body.Body.{Body}
 use Rattle.vat_log.specs.declared.body.Body.TheVariants as body
 use Rattle.vat_rules.specs.Types.{RpcMessage, Event, Host, Vow, Fulfil, Break, Make, Field, Deliver, Answer, Fault, Wire}
 use Rattle.vat_view.specs.Past.{Past}
 use Rattle.vat_rules.specs.declared.outcome.Why.{Why}
-use Rattle.vat_rules.specs.declared.outcome.Why.TheVariants.{NotYet}
-use Rattle.vat_rules.specs.Audited.{is_audited}
 
 -- how frames are read: a frame's message, or why it is outside
 abbrev pub Reader : Type 0
@@ -18,28 +16,19 @@ abbrev pub with_message : (RpcMessage → Event) → Result RpcMessage Why → R
 with_message event (Ok m) = Ok (event m)
 with_message event (Err why) = Err why
 
--- a stored record with its message read
-abbrev pub read_record : Reader → Body → Result Event Why
-read_record read (body.Host r object) = Ok (Host r object)
-read_record read (body.Vow r) = Ok (Vow r)
-read_record read (body.Fulfil r to) = Ok (Fulfil r to)
-read_record read (body.Break r) = Ok (Break r)
-read_record read (body.Make call r interface method) = Ok (Make call r interface method)
-read_record read (body.Field r call path) = Ok (Field r call path)
-read_record read (body.Deliver call object) = Ok (Deliver call object)
-read_record read (body.Answer call results) = Ok (Answer call results)
-read_record read (body.Fault call) = Ok (Fault call)
-read_record read (body.Send connection call references frame) = with_message (Wire true connection call references) (read frame)
-read_record read (body.Receive connection call references frame) = with_message (Wire false connection call references) (read frame)
-
--- a record that is read and audited
-abbrev pub if_audited : Result Event Why → Result Event Why
-if_audited (Ok e) = if is_audited e then Ok e else Err NotYet
-if_audited (Err why) = Err why
-
--- a stored record as it is judged
+-- a stored record as it is judged: with its message read
 abbrev pub event_of : Reader → Body → Result Event Why
-event_of read b = if_audited (read_record read b)
+event_of read (body.Host r object) = Ok (Host r object)
+event_of read (body.Vow r) = Ok (Vow r)
+event_of read (body.Fulfil r to) = Ok (Fulfil r to)
+event_of read (body.Break r) = Ok (Break r)
+event_of read (body.Make call r interface method) = Ok (Make call r interface method)
+event_of read (body.Field r call path) = Ok (Field r call path)
+event_of read (body.Deliver call object) = Ok (Deliver call object)
+event_of read (body.Answer call results) = Ok (Answer call results)
+event_of read (body.Fault call) = Ok (Fault call)
+event_of read (body.Send connection call references frame) = with_message (Wire true connection call references) (read frame)
+event_of read (body.Receive connection call references frame) = with_message (Wire false connection call references) (read frame)
 
 -- the event, where the record is read
 abbrev pub event_or_none : Result Event Why → Option Event

@@ -4,9 +4,9 @@ pub mod OfCalls
 pub mod OfCaps
 pub mod OfResults
 pub mod OfPromises
+pub mod OfConnections
 pub mod Rules
 pub mod Told
-pub mod Audited
 pub mod Events
 pub mod Judged
 pub mod Telling

@@ -1,9 +1,9 @@
 -- The rules on a connection as a whole: when it has ended, and when an embargo may be asked for and lifted.
-use Rattle.std.specs.Prelude.{◌≡◌, ℕ, Bool, true, false, not, is_some, IsTrue, IsSomeAnd, ⊤}
+use Rattle.std.specs.Prelude.{true, false, not, is_some, IsTrue, IsSomeAnd, ⊤}
 use Rattle.vat_rules.specs.Types.{Sender, Receiver, Disembargo, Event, Wire}
 use Rattle.vat_view.specs.Past.{Past, id}
 use Rattle.vat_view.specs.Views.{view_of_target}
-use Rattle.vat_view.specs.Loopbacks.{loopback_of, HeldUp}
+use Rattle.vat_view.specs.Loopbacks.{loopback_of, waiting, IsHeldUp}
 use Rattle.vat_view.specs.Connections.{is_aborted, LeadsOver, LeadsElsewhere}
 use Rattle.vat_rules.specs.Ways.{LeadsTo}
 
@@ -21,13 +21,13 @@ IsOpen before _ = ⊤
 -- RECV receiverLoopback: the number is outstanding
 abbrev pub KeepsEmbargo : Past → Event → Type 0
 KeepsEmbargo before (Wire true k c rs (Disembargo n Sender target)) =
-    IsTrue (not (awaits_echo (id k true n) before))
+    IsTrue (not (is_some (loopback_of (id k true n) before)))
     × IsSomeAnd (view_of_target before (Wire true k c rs (Disembargo n Sender target))) (λ v. LeadsElsewhere before v k)
 KeepsEmbargo before (Wire false k c rs (Disembargo n Sender target)) =
-    IsTrue (not (awaits_echo (id k false n) before))
+    IsTrue (not (is_some (loopback_of (id k false n) before)))
     × IsSomeAnd (view_of_target before (Wire false k c rs (Disembargo n Sender target))) (λ v. LeadsOver before v k)
 KeepsEmbargo before (Wire true k c rs (Disembargo n Receiver target)) =
     LeadsTo before (waiting (id k false n) before) (view_of_target before (Wire true k c rs (Disembargo n Receiver target)))
-    × ¬ HeldUp (id k false n) before
-KeepsEmbargo before (Wire false k c rs (Disembargo n Receiver target)) = IsTrue (awaits_echo (id k true n) before)
+    × ¬ IsHeldUp (id k false n) before
+KeepsEmbargo before (Wire false k c rs (Disembargo n Receiver target)) = IsTrue (is_some (loopback_of (id k true n) before))
 KeepsEmbargo before _ = ⊤

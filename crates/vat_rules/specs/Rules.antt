@@ -11,9 +11,11 @@ use Rattle.vat_rules.specs.OfCalls.{IsHere, GoesToGoal, MayAnswer}
 use Rattle.vat_rules.specs.OfCaps.{Describes, BindsEach}
 use Rattle.vat_rules.specs.OfResults.{ReturnsKnown}
 use Rattle.vat_rules.specs.OfPromises.{KeepsVow, ResolvesPromise}
+use Rattle.vat_rules.specs.OfConnections.{IsOpen, KeepsEmbargo}
 
 -- what each rule says
 abbrev pub Meets : Rule → Past → Event → Type 0
+Meets rule.Closed = IsOpen
 Meets rule.Ref = Refers
 Meets rule.Vow = KeepsVow
 Meets rule.Here = IsHere
@@ -27,8 +29,9 @@ Meets rule.Count = GivesBackHeld
 Meets rule.Result = ReturnsKnown
 Meets rule.Resolve = ResolvesPromise
 Meets rule.RecvRef = BindsEach
+Meets rule.Emb = KeepsEmbargo
 
 -- the order in which they are tried
 abbrev pub rules : List Rule
-rules = rule.Ref ∷ rule.Vow ∷ rule.Here ∷ rule.QNew ∷ rule.QUse ∷ rule.XUse ∷ rule.Goal ∷ rule.Answer ∷ rule.Desc ∷ rule.Count
-    ∷ rule.Result ∷ rule.Resolve ∷ rule.RecvRef ∷ []
+rules = rule.Closed ∷ rule.Ref ∷ rule.Vow ∷ rule.Here ∷ rule.QNew ∷ rule.QUse ∷ rule.XUse ∷ rule.Goal ∷ rule.Answer ∷ rule.Desc ∷ rule.Count
+    ∷ rule.Result ∷ rule.Resolve ∷ rule.RecvRef ∷ rule.Emb ∷ []

@@ -7,6 +7,7 @@ ghost use Rattle.vat_rules.specs.Glue.{standing_of};
 
 use crate::of_calls::{goes_to_goal, is_here, may_answer};
 use crate::of_caps::{binds_each, describes};
+use crate::of_connections::{is_open, keeps_embargo};
 use crate::of_promises::{keeps_vow, resolves_promise};
 use crate::of_results::returns_known;
 use crate::rule::Rule;
@@ -25,6 +26,9 @@ pub(crate) fn broken(
     requires { standing.now ≡ standing_of state.now event.now }
     ensures { IfOk result (λ r. MatchOption r (IsGood state.now event.now) (λ rule. BreaksFirst rules state.now event.now rule)) }
 {
+    if !is_open(state, event) {
+        return Ok(Some(Rule::Closed));
+    }
     if !state.refers(event)? {
         return Ok(Some(Rule::Ref));
     }
@@ -63,6 +67,9 @@ pub(crate) fn broken(
     }
     if !binds_each(state, event) {
         return Ok(Some(Rule::RecvRef));
+    }
+    if !keeps_embargo(state, event, standing.target.as_ref()) {
+        return Ok(Some(Rule::Emb));
     }
     Ok(None)
 }

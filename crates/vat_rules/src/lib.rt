@@ -2,17 +2,18 @@
 //!
 //! It stands on `rpc_view`, which reads the frames, on `vat_log`, and on `vat_view`, which says what the numbers of a
 //! log stand for and answers it by tables. The rules are sentences of `specs/OfCalls.antt`, `specs/OfCaps.antt`,
-//! `specs/OfResults.antt` and `specs/OfPromises.antt`, and of `vat_view` where a state of numbers asks for them itself; `specs/Rules.antt` lists
+//! `specs/OfResults.antt`, `specs/OfPromises.antt` and `specs/OfConnections.antt`, and of `vat_view` where a state of
+//! numbers asks for them itself; `specs/Rules.antt` lists
 //! them in their order. The outcome of a log is said in `specs/First.antt` and `specs/Audit.antt`, and [`audit_vat`]
 //! answers just that.
 #![tactic(auto)]
 
 mod audit;
-mod audited;
 mod finding;
 mod judge;
 mod of_calls;
 mod of_caps;
+mod of_connections;
 mod of_promises;
 mod of_results;
 mod outcome;

@@ -1,17 +1,16 @@
 //! The rules on a connection as a whole: when it has ended, and when an embargo may be asked for and lifted.
 
-ghost use Rattle.std.specs.Prelude.{◌≡◌, true, false, not, Decides, IfOk, IsTrue, IsSomeAnd};
+ghost use Rattle.std.specs.Prelude.{◌≡◌, true, false, not, is_some, Decides, IsTrue, IsSomeAnd};
 ghost use Rattle.std.specs.Option.{option_copied};
 ghost use Rattle.vat_view.specs.Past.{id};
 ghost use Rattle.vat_view.specs.Views.{view_of_target};
-ghost use Rattle.vat_view.specs.Loopbacks.{awaits_echo, waiting, HeldUp};
+ghost use Rattle.vat_view.specs.Loopbacks.{loopback_of, waiting, IsHeldUp};
 ghost use Rattle.vat_view.specs.Connections.{LeadsOver, LeadsElsewhere};
 ghost use Rattle.vat_rules.specs.Ways.{LeadsTo};
 ghost use Rattle.vat_rules.specs.OfConnections.{IsOpen, KeepsEmbargo};
 
 use crate::ways::leads_to;
 use rpc_view::{Loopback, RpcMessage};
-use std::alloc::AllocError;
 use vat_view::{Event, Id, VatState, View};
 
 /// Whether a record sends nothing on a connection that was aborted.
@@ -53,7 +52,7 @@ fn theirs(connection: u32, number: u32) -> Id
 /// Whether a sent senderLoopback has a number that isn't outstanding, and a target that leads elsewhere than over its
 /// connection.
 fn asks_echo(state: &VatState, connection: u32, number: u32, target: Option<&View>) -> bool
-    ensures { Decides result (IsTrue (not (awaits_echo (id connection true number) state.now))
+    ensures { Decides result (IsTrue (not (is_some (loopback_of (id connection true number) state.now)))
         × IsSomeAnd (option_copied target.entry) (λ v. LeadsElsewhere state.now v connection)) }
 {
     if state.awaits_echo(ours(connection, number)) {
@@ -67,7 +66,7 @@ fn asks_echo(state: &VatState, connection: u32, number: u32, target: Option<&Vie
 
 /// Whether a received senderLoopback has a number that isn't pending, and a target that leads back over its connection.
 fn is_asked_echo(state: &VatState, connection: u32, number: u32, target: Option<&View>) -> bool
-    ensures { Decides result (IsTrue (not (awaits_echo (id connection false number) state.now))
+    ensures { Decides result (IsTrue (not (is_some (loopback_of (id connection false number) state.now)))
         × IsSomeAnd (option_copied target.entry) (λ v. LeadsOver state.now v connection)) }
 {
     if state.awaits_echo(theirs(connection, number)) {
@@ -80,48 +79,36 @@ fn is_asked_echo(state: &VatState, connection: u32, number: u32, target: Option<
 }
 
 /// Whether a sent receiverLoopback has a number whose target led on to this one, and no call holds it up.
-fn may_echo(
-    state: &VatState,
-    connection: u32,
-    number: u32,
-    target: Option<&View>,
-) -> Result<bool, AllocError>
-    ensures { IfOk result (λ b. Decides b (LeadsTo state.now (waiting (id connection false number) state.now) (option_copied target.entry)
-        × ¬ HeldUp (id connection false number) state.now)) }
+fn may_echo(state: &VatState, connection: u32, number: u32, target: Option<&View>) -> bool
+    ensures { Decides result (LeadsTo state.now (waiting (id connection false number) state.now) (option_copied target.entry)
+        × ¬ IsHeldUp (id connection false number) state.now) }
 {
     let loopback = theirs(connection, number);
-    if !leads_to(state, state.waiting(loopback), target) {
-        return Ok(false);
-    }
-    Ok(!state.is_held_up(loopback)?)
+    leads_to(state, state.waiting(loopback), target) && !state.is_held_up(loopback)
 }
 
 /// Whether a Disembargo asks for an echo, or echoes, as it may.
-pub(crate) fn keeps_embargo(
-    state: &VatState,
-    event: &Event,
-    target: Option<&View>,
-) -> Result<bool, AllocError>
+pub(crate) fn keeps_embargo(state: &VatState, event: &Event, target: Option<&View>) -> bool
     requires { option_copied target ≡ view_of_target state.now event.now }
-    ensures { IfOk result (λ b. Decides b (KeepsEmbargo state.now event.now)) }
+    ensures { Decides result (KeepsEmbargo state.now event.now) }
 {
     let Event::Wire {
         sent,
         connection,
         message: RpcMessage::Disembargo {
-            number, loopback, ..
+            number,
+            loopback,
+            ..
         },
         ..
     } = event
     else {
-        return Ok(true);
+        return true;
     };
     match (loopback, *sent) {
-        (Loopback::Sender, true) => Ok(asks_echo(state, *connection, *number, target)),
-        (Loopback::Sender, false) => Ok(is_asked_echo(state, *connection, *number, target)),
+        (Loopback::Sender, true) => asks_echo(state, *connection, *number, target),
+        (Loopback::Sender, false) => is_asked_echo(state, *connection, *number, target),
         (Loopback::Receiver, true) => may_echo(state, *connection, *number, target),
-        (Loopback::Receiver, false) => {
-            Ok(state.awaits_echo(ours(*connection, *number)))
-        }
+        (Loopback::Receiver, false) => state.awaits_echo(ours(*connection, *number)),
     }
 }

@@ -17,8 +17,6 @@ pub enum Why {
     /// Its frame isn't read as a message: its bytes aren't a frame, it has a tag that isn't known, or a pointer that
     /// can't be followed within the limits.
     Unread,
-    /// It is read, and isn't audited yet.
-    NotYet,
 }
 
 /// What the audit of one log finds (docs/RULES.md).

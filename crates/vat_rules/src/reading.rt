@@ -1,10 +1,9 @@
 //! From stored records to those that are judged.
 
 ghost use Rattle.std.specs.Prelude.{◌≡◌, IfOk};
-ghost use Rattle.vat_rules.specs.Events.{with_message, read_record, event_of};
+ghost use Rattle.vat_rules.specs.Events.{with_message, event_of};
 ghost use Rattle.vat_rules.specs.Audit.{why_outside, reads_within};
 
-use crate::audited::is_audited;
 use crate::outcome::Why;
 use bytes::Bytes;
 use rpc_view::{Limits, Outside, RpcMessage, ViewError, read_bytes};
@@ -67,9 +66,13 @@ fn wire(
     }
 }
 
-/// A stored record with its message read, or why it is outside.
-fn read_record(alloc: Global, body: &Body, limits: Limits) -> Result<Result<Event, Why>, AllocError>
-    ensures { IfOk result (λ r. r ≡ read_record (reads_within limits) body.now) }
+/// A stored record as it is judged, with its message read, or why it is outside.
+pub(crate) fn event_of(
+    alloc: Global,
+    body: &Body,
+    limits: Limits,
+) -> Result<Result<Event, Why>, AllocError>
+    ensures { IfOk result (λ r. r ≡ event_of (reads_within limits) body.now) }
 {
     let event = match body {
         Body::Host { reference, object } => Event::Host {
@@ -129,19 +132,4 @@ fn read_record(alloc: Global, body: &Body, limits: Limits) -> Result<Result<Even
         } => return wire(alloc, false, *connection, *call, references, frame, limits),
     };
     Ok(Ok(event))
-}
-
-/// A stored record as it is judged, or why it is outside.
-pub(crate) fn event_of(
-    alloc: Global,
-    body: &Body,
-    limits: Limits,
-) -> Result<Result<Event, Why>, AllocError>
-    ensures { IfOk result (λ r. r ≡ event_of (reads_within limits) body.now) }
-{
-    match read_record(alloc, body, limits)? {
-        Ok(event) if is_audited(&event) => Ok(Ok(event)),
-        Ok(_) => Ok(Err(Why::NotYet)),
-        Err(why) => Ok(Err(why)),
-    }
 }

@@ -4,6 +4,8 @@
 /// rpc.capnp, stands in the files that `specs/Rules.antt` names; docs/RULES.md has an example for each.
 #[derive(Clone, Copy, Debug, PartialEq, Eq)]
 pub enum Rule {
+    /// Nothing is sent on a connection that was aborted.
+    Closed,
     /// Numbers newly bound are unused and distinct, the others are bound, and a call is noted just beside a Bootstrap or
     /// Call.
     Ref,
@@ -32,4 +34,6 @@ pub enum Rule {
     Resolve,
     /// A received message notes one reference for each descriptor that isn't none.
     RecvRef,
+    /// An echo is asked for where a call may come back, and sent once nothing holds it up.
+    Emb,
 }

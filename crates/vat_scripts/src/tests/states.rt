@@ -41,7 +41,6 @@ const ROWS: [(&str, &str); 3] = [
     ),
 ];
 
-<<<<<<< HEAD
 /// Records, one that comes next, and what is said of it: whether it keeps the kinds of numbers, its descriptors, and
 /// the references that it newly binds; and the records that are given back, how many and the first.
 const NEXT: [(&str, &str, &str); 8] = [
@@ -91,7 +90,9 @@ const NEXT: [(&str, &str, &str); 8] = [
         "R0 r3 r4 ret q1 senderHosted 0@[] senderHosted 5",
         "keeps true; descriptors [SenderHosted(0), SenderHosted(5)]; new [3, 4]; \
         5 Some(Host { reference: 9, object: 7 })",
-=======
+    ),
+];
+
 /// Records; whether call 1's whole result then leads over connections 0 and 1, and elsewhere than over each; and which
 /// of these two were aborted.
 const OVER: [(&str, &str); 5] = [
@@ -119,7 +120,6 @@ const OVER: [(&str, &str); 5] = [
     (
         "R0 c1 boot q0; S0 c2 boot q0; FIELD r1 c2 []; ANSWER c1 r1@[]; R0 r2 ret q0 receiverAnswer 0 []@[]",
         "over true false; elsewhere false true; aborted false false",
->>>>>>> 35ae13db3c96fbc9491566abde471acb5510d95d
     ),
 ];
 
@@ -208,7 +208,7 @@ fn apply(state: &mut VatState, event: Event) -> Result<(), Refused> {
 }
 
 /// The state after the records of this log.
-fn state_of(alloc: Global, records: &str) -> Result<VatState, Refused> {
+pub fn state_of(alloc: Global, records: &str) -> Result<VatState, Refused> {
     let log = log(alloc, "2", records)?;
     let mut state = VatState::new(alloc);
     for at in 0..log.len() {
@@ -304,7 +304,6 @@ fn states(rt: HostRuntime) {
     }
 }
 
-<<<<<<< HEAD
 /// What is said of the first record of this log where it comes next, and the records that are given back.
 fn put_next(alloc: Global, out: &mut String, state: VatState, next: &str) -> Result<(), Refused> {
     let log = log(alloc, "2", next)?;
@@ -328,7 +327,18 @@ fn is_next_told(alloc: Global, records: &str, next: &str, told: &str) -> Result<
     let state = state_of(alloc, records)?;
     let mut out = String::new(alloc);
     put_next(alloc, &mut out, state, next)?;
-=======
+    Ok(out.as_str() == told)
+}
+
+#[test]
+fn records_that_come_next(rt: HostRuntime) {
+    for (records, next, told) in NEXT {
+        let is_so = is_next_told(rt.alloc(), records, next, told).unwrap_or(false)
+            || is_next_told(rt.alloc(), records, next, told).unwrap_or(false);
+        assert!(rt; is_so, "{told}");
+    }
+}
+
 /// Whether what is known of connections after these records is told so.
 fn is_over(alloc: Global, records: &str, told: &str) -> Result<bool, Refused> {
     let state = state_of(alloc, records)?;
@@ -343,22 +353,14 @@ fn is_over(alloc: Global, records: &str, told: &str) -> Result<bool, Refused> {
     write!(out, "over {} {}; ", over.0, over.1)?;
     write!(out, "elsewhere {} {}; ", elsewhere.0, elsewhere.1)?;
     write!(out, "aborted {} {}", aborted.0, aborted.1)?;
->>>>>>> 35ae13db3c96fbc9491566abde471acb5510d95d
     Ok(out.as_str() == told)
 }
 
 #[test]
-<<<<<<< HEAD
-fn records_that_come_next(rt: HostRuntime) {
-    for (records, next, told) in NEXT {
-        let is_so = is_next_told(rt.alloc(), records, next, told).unwrap_or(false)
-            || is_next_told(rt.alloc(), records, next, told).unwrap_or(false);
-=======
 fn connections(rt: HostRuntime) {
     for (records, told) in OVER {
         let is_so = is_over(rt.alloc(), records, told).unwrap_or(false)
             || is_over(rt.alloc(), records, told).unwrap_or(false);
->>>>>>> 35ae13db3c96fbc9491566abde471acb5510d95d
         assert!(rt; is_so, "{told}");
     }
 }

@@ -117,7 +117,7 @@ fn apply(state: &mut VatState, event: Event) -> Result<(), Refused> {
 }
 
 /// The state after the records of this log.
-fn state_of(alloc: Global, records: &str) -> Result<VatState, Refused> {
+pub fn state_of(alloc: Global, records: &str) -> Result<VatState, Refused> {
     let log = log(alloc, "2", records)?;
     let mut state = VatState::new(alloc);
     for at in 0..log.len() {

@@ -6,6 +6,7 @@ mod frames;
 mod given;
 mod links;
 mod logs;
+mod loopbacks;
 mod messages;
 mod orders;
 mod pointers;

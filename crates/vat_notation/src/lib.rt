@@ -17,4 +17,5 @@ mod words;
 pub use fault::Fault;
 pub use message::bytes_of;
 pub use script::{Files, Script};
-pub use vat::{Vat, add_records, log_of, words_of};
+pub use vat::{Vat, add_records, log_of};
+pub use words::words_of;

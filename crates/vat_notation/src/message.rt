@@ -10,7 +10,7 @@
 
 use crate::fault::Fault;
 use crate::segment::Segment;
-use crate::words::{alone, behind, ended, named, next, path, small};
+use crate::words::{Words, beside};
 use std::alloc::Global;
 
 /// The interface of each call.
@@ -18,6 +18,19 @@ pub const INTERFACE: u64 = 0x1234;
 
 /// The method of a call that says no other.
 pub const METHOD: u16 = 2;
+
+/// The kinds of entries of a capability table: their words and tags.
+const TAGS: [(&str, u64); 6] = [
+    ("none", 0),
+    ("senderHosted", 1),
+    ("senderPromise", 2),
+    ("receiverHosted", 3),
+    ("receiverAnswer", 4),
+    ("thirdPartyHosted", 5),
+];
+
+/// The contexts of a Disembargo: their words and tags.
+const CONTEXTS: [(&str, u64); 2] = [("senderLoopback", 0), ("receiverLoopback", 1)];
 
 /// An entry of a capability table, its number or, of a `receiverAnswer`, its question and path; and where the content has it.
 #[derive(Drop)]
@@ -28,123 +41,71 @@ struct Entry {
     place: Option<Vec<u16>>,
 }
 
-/// A word and the path behind its `@`.
-fn placed<'a>(alloc: Global, word: &'a str) -> Result<(&'a str, Option<Vec<u16>>), Fault> {
-    match word.split_once("@") {
-        None => Ok((word, None)),
-        Some((word, place)) => Ok((word, Some(path(alloc, place)?))),
-    }
-}
-
-/// The tag of an entry that has a number.
-fn tag_of(kind: &str) -> Option<u64> {
-    match kind {
-        "senderHosted" => Some(1),
-        "senderPromise" => Some(2),
-        "receiverHosted" => Some(3),
-        "thirdPartyHosted" => Some(5),
-        _ => None,
-    }
-}
-
-/// An entry without a transform.
-fn plain(tag: u64, number: u32, place: Option<Vec<u16>>) -> Entry {
+/// The next entry.
+fn take_entry(alloc: Global, words: &mut Words<'_>) -> Entry {
+    let tag = words.tag(&TAGS);
+    let number = if tag == 0 { 0 } else { words.small() };
+    let transform = if tag == 4 {
+        Some(words.path(alloc))
+    } else {
+        None
+    };
     Entry {
         tag,
         number,
-        transform: None,
-        place,
+        transform,
+        place: words.place(alloc),
     }
 }
 
-/// The first entry that the words spell, and of how many words it is.
-fn take_entry(alloc: Global, words: &[&str]) -> Result<(Entry, usize), Fault> {
-    match words {
-        ["receiverAnswer", question, way, ..] => {
-            let (way, place) = placed(alloc, way)?;
-            let mut entry = plain(4, small(question)?, place);
-            entry.transform = Some(path(alloc, way)?);
-            Ok((entry, 3))
-        }
-        [kind, ..] if kind.starts_with("none") => {
-            let (_, place) = placed(alloc, kind)?;
-            Ok((plain(0, 0, place), 1))
-        }
-        [kind, id, ..] => {
-            let tag = tag_of(kind).ok_or(Fault::Unread)?;
-            let (id, place) = placed(alloc, id)?;
-            Ok((plain(tag, small(id)?, place), 2))
-        }
-        _ => Err(Fault::Unread),
-    }
-}
-
-/// The entries that the words spell.
-fn entries(alloc: Global, words: &[&str]) -> Result<Vec<Entry>, Fault> {
+/// The entries that are left.
+fn entries(alloc: Global, words: &mut Words<'_>) -> Vec<Entry> {
     let mut found = Vec::new(alloc);
-    let mut at = 0usize;
-    for _ in words {
-        let rest = words.get(at..).unwrap_or(&[]);
-        if !rest.is_empty() {
-            let (one, count) = take_entry(alloc, rest)?;
-            found.push(one)?;
-            at = at.saturating_add(count);
+    for _ in 0..words.len() {
+        if words.len() > 0 {
+            let entry = take_entry(alloc, words);
+            if found.push(entry).is_err() {
+                words.note(Fault::OutOfMemory);
+            }
         }
     }
-    Ok(found)
+    found
 }
 
 /// Writes a PromisedAnswer behind the pointer `at`.
-fn put_promised(
-    segment: &mut Segment,
-    at: usize,
-    question: u32,
-    fields: &[u16],
-) -> Result<(), Fault> {
-    let answer = segment.add_struct(at, 1, 1)?;
+fn put_promised(segment: &mut Segment, at: usize, question: u32, fields: &[u16]) {
+    let answer = segment.add_struct(at, 1, 1);
     segment.put(answer, 0, question as u64);
     if fields.is_empty() {
-        return Ok(());
+        return;
     }
-    let first = segment.add_list(answer.wrapping_add(1), fields.len(), 0)?;
-    for (i, field) in fields.iter().enumerate() {
-        segment.put(first.wrapping_add(i), 0, 1);
-        segment.put(first.wrapping_add(i), 16, *field as u64);
+    let mut next = segment.add_list(answer.wrapping_add(1), fields.len(), 0);
+    for field in fields {
+        segment.put(next, 0, 1);
+        segment.put(next, 16, *field as u64);
+        next = next.wrapping_add(1);
     }
-    Ok(())
 }
 
-/// Writes a MessageTarget behind the pointer `at`, and gives the words behind it.
-fn put_target<'a, 'w>(
-    alloc: Global,
-    segment: &mut Segment,
-    at: usize,
-    words: &'w [&'a str],
-) -> Result<&'w [&'a str], Fault> {
-    let target = segment.add_struct(at, 1, 1)?;
-    match words {
-        ["import", id, rest @ ..] => {
-            segment.put(target, 0, small(id)? as u64);
-            Ok(rest)
-        }
-        ["answer", question, way, rest @ ..] => {
-            segment.put(target, 32, 1);
-            let fields = path(alloc, way)?;
-            put_promised(segment, target.wrapping_add(1), small(question)?, &fields)?;
-            Ok(rest)
-        }
-        _ => Err(Fault::Unread),
+/// Writes a MessageTarget behind the pointer `at`.
+fn put_target(alloc: Global, segment: &mut Segment, at: usize, words: &mut Words<'_>) {
+    let target = segment.add_struct(at, 1, 1);
+    if words.takes("import") {
+        segment.put(target, 0, words.small() as u64);
+        return;
     }
+    words.expect("answer");
+    segment.put(target, 32, 1);
+    let question = words.small();
+    let fields = words.path(alloc);
+    put_promised(segment, target.wrapping_add(1), question, &fields);
 }
 
 /// Writes an entry's struct from the word `at` on.
-fn put_entry(segment: &mut Segment, at: usize, entry: &Entry) -> Result<(), Fault> {
+fn put_entry(segment: &mut Segment, at: usize, entry: &Entry) {
     segment.put(at, 0, entry.tag);
     match &entry.transform {
-        None => {
-            segment.put(at, 32, entry.number as u64);
-            Ok(())
-        }
+        None => segment.put(at, 32, entry.number as u64),
         Some(fields) => put_promised(segment, at.wrapping_add(1), entry.number, fields),
     }
 }
@@ -163,190 +124,145 @@ fn width(entries: &[Entry]) -> u16 {
 }
 
 /// Writes the capability of an index at its place in the content.
-fn put_place(
-    segment: &mut Segment,
-    at: usize,
-    place: &[u16],
-    index: u64,
-    width: u16,
-) -> Result<(), Fault> {
+fn put_place(segment: &mut Segment, at: usize, place: &[u16], index: u64, width: u16) {
     let mut pointer = at;
     for field in place {
-        let inner = segment.inner_struct(pointer, width)?;
+        let inner = segment.inner_struct(pointer, width);
         pointer = inner.wrapping_add(*field as usize);
     }
     segment.add_capability(pointer, index);
-    Ok(())
 }
 
-/// Writes a Payload behind the pointer `at`, none where there are no entries.
-fn put_payload(
-    alloc: Global,
-    segment: &mut Segment,
-    at: usize,
-    words: &[&str],
-) -> Result<(), Fault> {
-    let found = entries(alloc, words)?;
-    if found.is_empty() {
-        return Ok(());
-    }
-    let payload = segment.add_struct(at, 0, 2)?;
-    let width = width(&found);
+/// Writes the content of a Payload behind the pointer `at`.
+fn put_content(segment: &mut Segment, at: usize, entries: &[Entry]) {
+    let width = width(entries);
     let mut index = 0u64;
-    for one in &found {
-        if let Some(place) = &one.place {
-            put_place(segment, payload, place, index, width)?;
+    for entry in entries {
+        if let Some(place) = &entry.place {
+            put_place(segment, at, place, index, width);
         }
         index = index.saturating_add(1);
     }
-    let mut next = segment.add_list(payload.wrapping_add(1), found.len(), 1)?;
-    for one in &found {
-        put_entry(segment, next, one)?;
+}
+
+/// Writes the capability table of a Payload behind the pointer `at`.
+fn put_table(segment: &mut Segment, at: usize, entries: &[Entry]) {
+    let mut next = segment.add_list(at, entries.len(), 1);
+    for entry in entries {
+        put_entry(segment, next, entry);
         next = next.wrapping_add(2);
     }
-    Ok(())
 }
 
-/// A segment with a Message of this tag, and its body's struct.
-fn body(segment: &mut Segment, tag: u64, data: u8, pointers: u16) -> Result<usize, Fault> {
-    let message = segment.add_struct(0, 1, 1)?;
+/// Writes a Payload behind the pointer `at`, none where there are no entries.
+fn put_payload(alloc: Global, segment: &mut Segment, at: usize, words: &mut Words<'_>) {
+    let found = entries(alloc, words);
+    if found.is_empty() {
+        return;
+    }
+    let payload = segment.add_struct(at, 0, 2);
+    put_content(segment, payload, &found);
+    put_table(segment, payload.wrapping_add(1), &found);
+}
+
+/// A Message of this tag, and its body's struct.
+fn body(segment: &mut Segment, tag: u64, data: u8, pointers: u16) -> usize {
+    let message = segment.add_struct(0, 1, 1);
     segment.put(message, 0, tag);
-    Ok(segment.add_struct(message.wrapping_add(1), data, pointers)?)
+    segment.add_struct(message.wrapping_add(1), data, pointers)
 }
 
-/// The method that a call says, or the one of a call that says none, and the words behind it.
-fn method_of<'a, 'w>(words: &'w [&'a str]) -> Result<(u32, &'w [&'a str]), Fault> {
-    match words {
-        [name, method, rest @ ..] if *name == "method" => Ok((small(method)?, rest)),
-        _ => Ok((METHOD as u32, words)),
+/// The method that a call says, or the one of a call that says none.
+fn method_of(words: &mut Words<'_>) -> u32 {
+    if words.takes("method") {
+        words.small()
+    } else {
+        METHOD as u32
     }
 }
 
 /// Writes a Call.
-fn put_call(alloc: Global, segment: &mut Segment, words: &[&str]) -> Result<(), Fault> {
-    let (question, rest) = next(words)?;
-    let call = body(segment, 2, 3, 3)?;
-    segment.put(call, 0, named('q', question)?);
+fn put_call(alloc: Global, segment: &mut Segment, words: &mut Words<'_>) {
+    let call = body(segment, 2, 3, 3);
+    segment.put(call, 0, words.lettered('q'));
     segment.put(call.wrapping_add(1), 0, INTERFACE);
-    let rest = put_target(alloc, segment, call.wrapping_add(3), rest)?;
-    let (method, rest) = method_of(rest)?;
-    segment.put(call, 32, method as u64);
-    put_payload(alloc, segment, call.wrapping_add(4), rest)
+    put_target(alloc, segment, call.wrapping_add(3), words);
+    segment.put(call, 32, method_of(words) as u64);
+    put_payload(alloc, segment, call.wrapping_add(4), words);
 }
 
-/// Whether a word comes first, and the words without it.
-fn without<'a, 'w>(word: &str, words: &'w [&'a str]) -> (bool, &'w [&'a str]) {
-    match words {
-        [first, rest @ ..] if *first == word => (true, rest),
-        _ => (false, words),
+/// Writes how a Return ends.
+fn put_ending(alloc: Global, segment: &mut Segment, returned: usize, words: &mut Words<'_>) {
+    if words.takes("exception") {
+        segment.put(returned, 48, 1);
+    } else if words.takes("canceled") {
+        segment.put(returned, 48, 2);
+    } else {
+        put_payload(alloc, segment, returned.wrapping_add(2), words);
     }
-}
-
-/// Writes how a Return ends, by its words.
-fn put_ending(
-    alloc: Global,
-    segment: &mut Segment,
-    returned: usize,
-    words: &[&str],
-) -> Result<(), Fault> {
-    match words {
-        [word] if *word == "exception" => segment.put(returned, 48, 1),
-        [word] if *word == "canceled" => segment.put(returned, 48, 2),
-        _ => return put_payload(alloc, segment, returned.wrapping_add(2), words),
-    }
-    Ok(())
 }
 
 /// Writes a Return.
-fn put_return(alloc: Global, segment: &mut Segment, words: &[&str]) -> Result<(), Fault> {
-    let (question, rest) = next(words)?;
-    let returned = body(segment, 3, 2, 1)?;
-    segment.put(returned, 0, named('q', question)?);
-    let (keeps, rest) = without("keep", rest);
-    segment.put(returned, 32, keeps as u64);
-    put_ending(alloc, segment, returned, rest)
-}
-
-/// Writes a Resolve.
-fn put_resolve(alloc: Global, segment: &mut Segment, words: &[&str]) -> Result<(), Fault> {
-    let (promise, rest) = next(behind("promise", words)?)?;
-    let resolve = body(segment, 5, 1, 1)?;
-    segment.put(resolve, 0, small(promise)? as u64);
-    put_resolution(alloc, segment, resolve, rest)
+fn put_return(alloc: Global, segment: &mut Segment, words: &mut Words<'_>) {
+    let returned = body(segment, 3, 2, 1);
+    segment.put(returned, 0, words.lettered('q'));
+    segment.put(returned, 32, words.takes("keep") as u64);
+    put_ending(alloc, segment, returned, words);
 }
 
 /// Writes what a Resolve says of its promise.
-fn put_resolution(
-    alloc: Global,
-    segment: &mut Segment,
-    resolve: usize,
-    words: &[&str],
-) -> Result<(), Fault> {
-    match words {
-        [word] if *word == "exception" => {
-            segment.put(resolve, 32, 1);
-            Ok(())
-        }
-        _ => {
-            let (found, _) = take_entry(alloc, words)?;
-            let descriptor = segment.add_struct(resolve.wrapping_add(1), 1, 1)?;
-            put_entry(segment, descriptor, &found)
-        }
+fn put_resolution(alloc: Global, segment: &mut Segment, resolve: usize, words: &mut Words<'_>) {
+    if words.takes("exception") {
+        segment.put(resolve, 32, 1);
+        return;
     }
+    let entry = take_entry(alloc, words);
+    let descriptor = segment.add_struct(resolve.wrapping_add(1), 1, 1);
+    put_entry(segment, descriptor, &entry);
 }
 
-/// The context of a Disembargo.
-fn context_of(word: &str) -> Result<u64, Fault> {
-    match word {
-        "senderLoopback" => Ok(0),
-        "receiverLoopback" => Ok(1),
-        _ => Err(Fault::Unread),
-    }
+/// Writes a Resolve.
+fn put_resolve(alloc: Global, segment: &mut Segment, words: &mut Words<'_>) {
+    let resolve = body(segment, 5, 1, 1);
+    words.expect("promise");
+    segment.put(resolve, 0, words.small() as u64);
+    put_resolution(alloc, segment, resolve, words);
 }
 
 /// Writes a Disembargo.
-fn put_disembargo(alloc: Global, segment: &mut Segment, words: &[&str]) -> Result<(), Fault> {
-    let (id, rest) = next(words)?;
-    let (context, target) = next(rest)?;
-    let disembargo = body(segment, 13, 1, 1)?;
-    segment.put(disembargo, 0, small(id)? as u64);
-    segment.put(disembargo, 32, context_of(context)?);
-    put_target(alloc, segment, disembargo.wrapping_add(1), target)?;
-    Ok(())
+fn put_disembargo(alloc: Global, segment: &mut Segment, words: &mut Words<'_>) {
+    let disembargo = body(segment, 13, 1, 1);
+    segment.put(disembargo, 0, words.small() as u64);
+    segment.put(disembargo, 32, words.tag(&CONTEXTS));
+    put_target(alloc, segment, disembargo.wrapping_add(1), words);
 }
 
 /// Writes a Bootstrap.
-fn put_bootstrap(segment: &mut Segment, words: &[&str]) -> Result<(), Fault> {
-    let bootstrap = body(segment, 8, 1, 1)?;
-    segment.put(bootstrap, 0, named('q', alone(words)?)?);
-    Ok(())
+fn put_bootstrap(segment: &mut Segment, words: &mut Words<'_>) {
+    let bootstrap = body(segment, 8, 1, 1);
+    segment.put(bootstrap, 0, words.lettered('q'));
 }
 
 /// Writes a Finish.
-fn put_finish(segment: &mut Segment, words: &[&str]) -> Result<(), Fault> {
-    let (question, rest) = next(words)?;
-    let finish = body(segment, 4, 1, 0)?;
-    segment.put(finish, 0, named('q', question)?);
-    segment.put(finish, 32, rest.len() as u64);
-    Ok(())
+fn put_finish(segment: &mut Segment, words: &mut Words<'_>) {
+    let finish = body(segment, 4, 1, 0);
+    segment.put(finish, 0, words.lettered('q'));
+    segment.put(finish, 32, words.takes("keep") as u64);
 }
 
 /// Writes a Release.
-fn put_release(segment: &mut Segment, words: &[&str]) -> Result<(), Fault> {
-    let (id, rest) = next(behind("id", words)?)?;
-    let count = alone(behind("count", rest)?)?;
-    let release = body(segment, 6, 1, 0)?;
-    segment.put(release, 0, small(id)? as u64);
-    segment.put(release, 32, small(count)? as u64);
-    Ok(())
+fn put_release(segment: &mut Segment, words: &mut Words<'_>) {
+    let release = body(segment, 6, 1, 0);
+    words.expect("id");
+    segment.put(release, 0, words.small() as u64);
+    words.expect("count");
+    segment.put(release, 32, words.small() as u64);
 }
 
 /// Writes an Abort, without a body.
-fn put_abort(segment: &mut Segment, words: &[&str]) -> Result<(), Fault> {
-    ended(words)?;
-    let message = segment.add_struct(0, 1, 1)?;
+fn put_abort(segment: &mut Segment) {
+    let message = segment.add_struct(0, 1, 1);
     segment.put(message, 0, 1);
-    Ok(())
 }
 
 /// The kinds of messages.
@@ -374,28 +290,19 @@ const KINDS: [(&str, Kind); 8] = [
     ("abort", Kind::Abort),
 ];
 
-/// The kind whose word this is.
-fn kind_of(word: &str) -> Result<Kind, Fault> {
-    for (name, kind) in KINDS {
-        if name == word {
-            return Ok(kind);
-        }
-    }
-    Err(Fault::Unread)
-}
-
 /// Writes the message that the words spell.
-fn put_message(alloc: Global, segment: &mut Segment, words: &[&str]) -> Result<(), Fault> {
-    let (first, rest) = next(words)?;
-    match kind_of(first)? {
-        Kind::Bootstrap => put_bootstrap(segment, rest),
-        Kind::Call => put_call(alloc, segment, rest),
-        Kind::Return => put_return(alloc, segment, rest),
-        Kind::Finish => put_finish(segment, rest),
-        Kind::Resolve => put_resolve(alloc, segment, rest),
-        Kind::Release => put_release(segment, rest),
-        Kind::Disembargo => put_disembargo(alloc, segment, rest),
-        Kind::Abort => put_abort(segment, rest),
+fn put_message(alloc: Global, segment: &mut Segment, words: &mut Words<'_>) {
+    let first = words.word();
+    match beside(&KINDS, first) {
+        Some(Kind::Bootstrap) => put_bootstrap(segment, words),
+        Some(Kind::Call) => put_call(alloc, segment, words),
+        Some(Kind::Return) => put_return(alloc, segment, words),
+        Some(Kind::Finish) => put_finish(segment, words),
+        Some(Kind::Resolve) => put_resolve(alloc, segment, words),
+        Some(Kind::Release) => put_release(segment, words),
+        Some(Kind::Disembargo) => put_disembargo(alloc, segment, words),
+        Some(Kind::Abort) => put_abort(segment),
+        None => words.note(Fault::Unread),
     }
 }
 
@@ -403,7 +310,7 @@ fn put_message(alloc: Global, segment: &mut Segment, words: &[&str]) -> Result<(
 pub fn bytes_of(alloc: Global, words: &[&str]) -> Result<Vec<u8>, Fault> {
     let mut bytes = Vec::new(alloc);
     for word in words {
-        let part = hex::decode(alloc, *word).map_err(|_| Fault::Unread)?;
+        let part = hex::decode(alloc, *word).ok().ok_or(Fault::Unread)?;
         bytes.extend_from_slice(&part)?;
     }
     Ok(bytes)
@@ -411,10 +318,12 @@ pub fn bytes_of(alloc: Global, words: &[&str]) -> Result<Vec<u8>, Fault> {
 
 /// The frame of the message that the words spell.
 pub fn frame_of(alloc: Global, words: &[&str]) -> Result<Vec<u8>, Fault> {
-    if let ["hex", digits @ ..] = words {
-        return bytes_of(alloc, digits);
+    let mut words = Words::new(words);
+    if words.takes("hex") {
+        return bytes_of(alloc, words.take_rest());
     }
-    let mut segment = Segment::new(alloc)?;
-    put_message(alloc, &mut segment, words)?;
-    Ok(segment.frame(alloc)?)
+    let mut segment = Segment::new(alloc);
+    put_message(alloc, &mut segment, &mut words);
+    words.end()?;
+    segment.frame(alloc)
 }

@@ -6,8 +6,8 @@
 
 use crate::fault::Fault;
 use crate::message::{INTERFACE, METHOD, frame_of};
-use crate::words::{lettered, named, number, path, small};
-use std::alloc::{AllocError, Global};
+use crate::words::{Words, beside, lettered};
+use std::alloc::Global;
 
 /// What stands behind the numbers of a record.
 #[derive(Clone, Copy)]
@@ -18,168 +18,185 @@ enum Rest {
     Results,
 }
 
-/// The records that aren't messages: the word, the byte for the kind, the letters of the numbers behind it, where `#` is a
-/// number without a letter, and what stands behind these.
-const KINDS: [(&str, u8, &[char], Rest); 9] = [
-    ("HOST", 1, &['r', '#'], Rest::Nothing),
-    ("VOW", 2, &['r'], Rest::Nothing),
-    ("FULFIL", 3, &['r', 'r'], Rest::Nothing),
-    ("BREAK", 4, &['r'], Rest::Nothing),
-    ("MAKE", 5, &['c', 'r'], Rest::Method),
-    ("FIELD", 6, &['r', 'c'], Rest::Path),
-    ("DELIVER", 7, &['c', '#'], Rest::Nothing),
-    ("ANSWER", 8, &['c'], Rest::Results),
-    ("FAULT", 9, &['c'], Rest::Nothing),
+/// A record that isn't a message: the byte for its kind, the letters of its numbers, where `#` is a number without a letter,
+/// and what stands behind these.
+type Form = (u8, &'static [char], Rest);
+
+/// The forms and their words.
+const FORMS: [(&str, Form); 9] = [
+    ("HOST", (1, &['r', '#'], Rest::Nothing)),
+    ("VOW", (2, &['r'], Rest::Nothing)),
+    ("FULFIL", (3, &['r', 'r'], Rest::Nothing)),
+    ("BREAK", (4, &['r'], Rest::Nothing)),
+    ("MAKE", (5, &['c', 'r'], Rest::Method)),
+    ("FIELD", (6, &['r', 'c'], Rest::Path)),
+    ("DELIVER", (7, &['c', '#'], Rest::Nothing)),
+    ("ANSWER", (8, &['c'], Rest::Results)),
+    ("FAULT", (9, &['c'], Rest::Nothing)),
 ];
 
-/// A number behind its letter, or without one.
-fn number_of(letter: char, word: &str) -> Result<u64, Fault> {
-    match letter {
-        '#' => number(word),
-        _ => named(letter, word),
-    }
-}
-
-/// The bytes of a log.
+/// The bytes of a log. The first fault is noted, and told at the end.
 #[derive(Drop)]
 pub struct Log {
-    pub bytes: Vec<u8>,
+    bytes: Vec<u8>,
+    fault: Option<Fault>,
 }
 
 impl Log {
     /// A log of this vat, without records.
-    pub fn new(alloc: Global, vat: u32) -> Result<Log, AllocError> {
-        let mut bytes = Vec::from_slice(alloc, "VATLOG01".as_bytes())?;
-        bytes.extend_from_slice(&vat.to_le_bytes())?;
-        Ok(Log { bytes })
+    pub fn new(alloc: Global, vat: u32) -> Log {
+        let mut log = Log {
+            bytes: Vec::new(alloc),
+            fault: None,
+        };
+        log.put("VATLOG01".as_bytes());
+        log.put(&vat.to_le_bytes());
+        log
     }
 
-    fn kind(&mut self, kind: u8) -> Result<(), AllocError> {
-        Ok(self.bytes.push(kind)?)
+    fn put(&mut self, bytes: &[u8]) {
+        if self.bytes.extend_from_slice(bytes).is_err() {
+            self.fault = Some(Fault::OutOfMemory);
+        }
     }
 
-    fn put_u16(&mut self, value: u16) -> Result<(), AllocError> {
-        self.bytes.extend_from_slice(&value.to_le_bytes())
+    fn put_u64(&mut self, value: u64) {
+        self.put(&value.to_le_bytes());
     }
 
-    fn put_u32(&mut self, value: u32) -> Result<(), AllocError> {
-        self.bytes.extend_from_slice(&value.to_le_bytes())
+    fn put_u32(&mut self, value: u32) {
+        self.put(&value.to_le_bytes());
     }
 
-    fn put_u64(&mut self, value: u64) -> Result<(), AllocError> {
-        self.bytes.extend_from_slice(&value.to_le_bytes())
+    fn put_u16(&mut self, value: u16) {
+        self.put(&value.to_le_bytes());
     }
 
     /// How many stand behind, in 16 bits.
-    fn put_count(&mut self, count: usize) -> Result<(), Fault> {
-        let count = u16::try_from(count).map_err(|_| Fault::Unread)?;
-        Ok(self.put_u16(count)?)
+    fn put_count(&mut self, count: usize) {
+        match u16::try_from(count) {
+            Ok(count) => self.put_u16(count),
+            Err(_) => self.fault = Some(Fault::Unread),
+        }
     }
 
-    fn put_path(&mut self, alloc: Global, word: &str) -> Result<(), Fault> {
-        let fields = path(alloc, word)?;
-        self.put_count(fields.len())?;
-        for field in &fields {
-            self.put_u16(*field)?;
+    fn put_path(&mut self, fields: &[u16]) {
+        self.put_count(fields.len());
+        for field in fields {
+            self.put_u16(*field);
         }
-        Ok(())
     }
 
     /// Numbers behind these letters.
-    fn put_numbers(&mut self, letters: &[char], words: &[&str]) -> Result<(), Fault> {
-        for i in 0..letters.len() {
-            let word = words.get(i).ok_or(Fault::Unread)?;
-            self.put_u64(number_of(letters[i], word)?)?;
+    fn put_numbers(&mut self, letters: &[char], words: &mut Words<'_>) {
+        for letter in letters {
+            let number = match *letter {
+                '#' => words.number(),
+                letter => words.lettered(letter),
+            };
+            self.put_u64(number);
         }
-        Ok(())
     }
 
-    fn put_method(&mut self, words: &[&str]) -> Result<(), Fault> {
-        self.put_u64(INTERFACE)?;
-        let method = match words {
-            [] => METHOD,
-            [name, method] if *name == "method" => {
-                method.parse::<u16>().map_err(|_| Fault::Unread)?
-            }
-            _ => return Err(Fault::Unread),
+    fn put_method(&mut self, words: &mut Words<'_>) {
+        self.put_u64(INTERFACE);
+        let method = if words.takes("method") {
+            words.short()
+        } else {
+            METHOD
         };
-        Ok(self.put_u16(method)?)
+        self.put_u16(method);
     }
 
-    fn put_results(&mut self, alloc: Global, results: &[&str]) -> Result<(), Fault> {
-        self.put_count(results.len())?;
-        for answered in results {
-            let (reference, place) = answered.split_once("@").ok_or(Fault::Unread)?;
-            self.put_u64(named('r', reference)?)?;
-            self.put_path(alloc, place)?;
+    /// One of the results of a call: a reference and its place.
+    fn put_result(&mut self, alloc: Global, words: &mut Words<'_>) {
+        self.put_u64(words.lettered('r'));
+        match words.place(alloc) {
+            Some(place) => self.put_path(&place),
+            None => words.note(Fault::Unread),
         }
-        Ok(())
+    }
+
+    fn put_results(&mut self, alloc: Global, words: &mut Words<'_>) {
+        let count = words.len();
+        self.put_count(count);
+        for _ in 0..count {
+            self.put_result(alloc, words);
+        }
     }
 
     /// What stands behind a record's numbers.
-    fn put_rest(&mut self, alloc: Global, rest: Rest, words: &[&str]) -> Result<(), Fault> {
-        match (rest, words) {
-            (Rest::Nothing, []) => Ok(()),
-            (Rest::Method, words) => self.put_method(words),
-            (Rest::Path, [way]) => self.put_path(alloc, way),
-            (Rest::Results, results) => self.put_results(alloc, results),
-            _ => Err(Fault::Unread),
+    fn put_rest(&mut self, alloc: Global, rest: Rest, words: &mut Words<'_>) {
+        match rest {
+            Rest::Nothing => {}
+            Rest::Method => self.put_method(words),
+            Rest::Path => self.put_path(&words.path(alloc)),
+            Rest::Results => self.put_results(alloc, words),
         }
     }
 
-    /// A call that is noted first, if there is one, and the words behind it.
-    fn noted_call<'a, 'w>(words: &'w [&'a str]) -> (u64, &'w [&'a str]) {
-        if let [first, rest @ ..] = words {
-            if let Some(call) = lettered('c', first) {
-                return (call, rest);
-            }
-        }
-        (0, words)
+    /// The call that is noted beside a message, or 0.
+    fn put_call(&mut self, words: &mut Words<'_>) {
+        let call = match words.count_lettered('c') {
+            0 => 0,
+            _ => words.lettered('c'),
+        };
+        self.put_u64(call);
     }
 
-    /// A message that passes on a connection, behind the record's kind.
-    fn put_passage(&mut self, alloc: Global, connection: u32, words: &[&str]) -> Result<(), Fault> {
-        let (call, rest) = Log::noted_call(words);
-        let count = rest
-            .iter()
-            .take_while(|word| lettered('r', word).is_some())
-            .count();
-        let (references, message) = rest.split_at_checked(count).ok_or(Fault::Unread)?;
-        self.put_u32(connection)?;
-        self.put_u64(call)?;
-        self.put_count(references.len())?;
-        for word in references {
-            self.put_u64(named('r', word)?)?;
+    /// The references that are noted beside a message.
+    fn put_references(&mut self, words: &mut Words<'_>) {
+        let count = words.count_lettered('r');
+        self.put_count(count);
+        for _ in 0..count {
+            self.put_u64(words.lettered('r'));
         }
-        let frame = frame_of(alloc, message)?;
-        let len = u32::try_from(frame.len()).map_err(|_| Fault::Unread)?;
-        self.put_u32(len)?;
-        self.bytes.extend_from_slice(&frame)?;
-        Ok(())
+    }
+
+    fn put_frame(&mut self, frame: &[u8]) {
+        match u32::try_from(frame.len()) {
+            Ok(len) => self.put_u32(len),
+            Err(_) => self.fault = Some(Fault::Unread),
+        }
+        self.put(frame);
+    }
+
+    /// A message that passes on a connection, behind the connection.
+    fn put_passage(&mut self, alloc: Global, words: &mut Words<'_>) {
+        self.put_call(words);
+        self.put_references(words);
+        match frame_of(alloc, words.take_rest()) {
+            Ok(frame) => self.put_frame(&frame),
+            Err(fault) => words.note(fault),
+        }
     }
 
     /// A message that was sent or received, by the letter of its first word, with the connection behind it.
-    fn put_message(&mut self, alloc: Global, first: &str, rest: &[&str]) -> Result<(), Fault> {
-        for (letter, kind) in [('S', 10), ('R', 11)] {
-            if let Some(connection) = first.strip_prefix(letter) {
-                self.kind(kind)?;
-                return self.put_passage(alloc, small(connection)?, rest);
-            }
-        }
-        Err(Fault::Unread)
+    fn put_message(&mut self, alloc: Global, first: &str, words: &mut Words<'_>) {
+        let sent = lettered('S', first);
+        self.put(&[if sent.is_some() { 10 } else { 11 }]);
+        self.put_u32(words.narrow(sent.or(lettered('R', first))));
+        self.put_passage(alloc, words);
     }
 
     /// Adds the record that the words spell.
-    pub fn put_record(&mut self, alloc: Global, words: &[&str]) -> Result<(), Fault> {
-        let (first, rest) = words.split_first().ok_or(Fault::Unread)?;
-        for (word, kind, letters, behind) in KINDS {
-            if *first == word {
-                self.kind(kind)?;
-                let (numbers, rest) = rest.split_at_checked(letters.len()).ok_or(Fault::Unread)?;
-                self.put_numbers(letters, numbers)?;
-                return self.put_rest(alloc, behind, rest);
+    pub fn put_record(&mut self, alloc: Global, words: &mut Words<'_>) {
+        let first = words.word();
+        match beside(&FORMS, first) {
+            None => self.put_message(alloc, first, words),
+            Some((kind, letters, rest)) => {
+                self.put(&[kind]);
+                self.put_numbers(letters, words);
+                self.put_rest(alloc, rest, words);
             }
         }
-        self.put_message(alloc, first, rest)
+    }
+
+    /// The bytes.
+    pub fn end(self) -> Result<Vec<u8>, Fault> {
+        match self.fault {
+            None => Ok(self.bytes),
+            Some(fault) => Err(fault),
+        }
     }
 }

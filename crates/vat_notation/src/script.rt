@@ -15,7 +15,8 @@
 
 use crate::fault::Fault;
 use crate::message::{bytes_of, frame_of};
-use crate::vat::{Vat, add_records, log_of, words_of};
+use crate::vat::{Vat, add_records, log_of};
+use crate::words::{beside, words_of};
 use bytes::Bytes;
 use std::alloc::{AllocError, Global};
 use std::fmt::Write;
@@ -48,6 +49,42 @@ fn put_link(alloc: Global, text: &mut String, link: &str) -> Result<(), Fault> {
     }
 }
 
+/// What a line says.
+#[derive(Clone, Copy)]
+enum Statement {
+    Vat,
+    GoOn,
+    Link,
+    With,
+    Run,
+}
+
+/// Their first words; a line that goes on begins with a blank.
+const STATEMENTS: [(&str, Statement); 5] = [
+    ("vat", Statement::Vat),
+    ("", Statement::GoOn),
+    ("link", Statement::Link),
+    ("with", Statement::With),
+    ("$", Statement::Run),
+];
+
+/// A file that a change gives.
+#[derive(Clone, Copy)]
+enum Given {
+    Case,
+    Frames,
+    Order,
+    File,
+}
+
+/// The first words of such changes.
+const GIVEN: [(&str, Given); 4] = [
+    ("case", Given::Case),
+    ("frames", Given::Frames),
+    ("order", Given::Order),
+    ("file", Given::File),
+];
+
 /// A conversation, as far as it is read, and what is asked of it.
 #[derive(Drop)]
 pub struct Script<'a> {
@@ -79,36 +116,44 @@ impl<'a> Script<'a> {
         self.changes.clear();
     }
 
-    /// Takes a line that isn't one that must come.
-    fn take_statement(&mut self, alloc: Global, line: &'a str) -> Result<(), Fault> {
-        if line.is_empty() || line.starts_with('#') {
-            return Ok(());
-        }
-        if line.starts_with(' ') {
-            let vat = self.vats.last_mut().ok_or(Fault::Unread)?;
-            return add_records(&mut vat.records, line);
-        }
-        if let Some(words) = line.strip_prefix("$ ") {
-            self.asked = Some(words);
-            return Ok(());
-        }
-        if let Some(change) = line.strip_prefix("with ") {
-            self.changes.push(change)?;
-            return Ok(());
-        }
-        if let Some(link) = line.strip_prefix("link ") {
-            self.links.push(link)?;
-            return Ok(());
-        }
-        let rest = line.strip_prefix("vat ").ok_or(Fault::Unread)?;
-        let (number, records) = rest.split_once(":").ok_or(Fault::Unread)?;
+    /// Takes what a vat recorded.
+    fn add_vat(&mut self, alloc: Global, text: &'a str) -> Result<(), Fault> {
+        let (number, records) = text.split_once(":").ok_or(Fault::Unread)?;
         let mut vat = Vat {
             number,
             records: Vec::new(alloc),
         };
         add_records(&mut vat.records, records)?;
-        self.vats.push(vat)?;
-        Ok(())
+        Ok(self.vats.push(vat)?)
+    }
+
+    /// Takes what the last vat recorded besides.
+    fn go_on(&mut self, line: &'a str) -> Result<(), Fault> {
+        let vat = self.vats.last_mut().ok_or(Fault::Unread)?;
+        add_records(&mut vat.records, line)
+    }
+
+    /// Takes a statement, by its first word.
+    fn take_words(&mut self, alloc: Global, line: &'a str) -> Result<(), Fault> {
+        let (first, rest) = line.split_once(" ").ok_or(Fault::Unread)?;
+        match beside(&STATEMENTS, first).ok_or(Fault::Unread)? {
+            Statement::Vat => self.add_vat(alloc, rest),
+            Statement::GoOn => self.go_on(rest),
+            Statement::Link => Ok(self.links.push(rest)?),
+            Statement::With => Ok(self.changes.push(rest)?),
+            Statement::Run => {
+                self.asked = Some(rest);
+                Ok(())
+            }
+        }
+    }
+
+    /// Takes a line that isn't one that must come.
+    fn take_statement(&mut self, alloc: Global, line: &'a str) -> Result<(), Fault> {
+        if line.is_empty() || line.starts_with('#') {
+            return Ok(());
+        }
+        self.take_words(alloc, line)
     }
 
     /// Takes the next line, and says whether it is the last of those that a run must print.
@@ -158,42 +203,43 @@ impl<'a> Script<'a> {
         Ok(text)
     }
 
-    /// The files that the changes give, and whether an order is among them.
-    fn put_given(&self, alloc: Global, files: &mut Files) -> Result<bool, Fault> {
-        let mut has_order = false;
+    /// The files that the changes give.
+    fn put_given(&self, alloc: Global, files: &mut Files) -> Result<(), Fault> {
         for text in &self.changes {
-            if let Some(case) = text.strip_prefix("case ") {
-                let bytes = Vec::from_slice(alloc, case.as_bytes())?;
-                put_file(alloc, files, "case", bytes)?;
-            } else if let Some(messages) = text.strip_prefix("frames ") {
-                let bytes = frames_of(alloc, messages)?;
-                put_file(alloc, files, "frames", bytes)?;
-            } else if let Some(file) = text.strip_prefix("file ") {
-                let words = words_of(alloc, file)?;
-                let [name, digits @ ..] = words.as_slice() else {
-                    return Err(Fault::Unread);
-                };
-                put_file(alloc, files, name, bytes_of(alloc, digits)?)?;
-            } else if let Some(vats) = text.strip_prefix("order ") {
-                let bytes = order_of(alloc, vats)?;
-                put_file(alloc, files, "order", bytes)?;
-                has_order = true;
+            let (kind, text) = text.split_once(" ").ok_or(Fault::Unread)?;
+            match beside(&GIVEN, kind) {
+                None => {}
+                Some(given) => {
+                    let (name, bytes) = given_file(alloc, given, text)?;
+                    put_file(alloc, files, name, bytes)?;
+                }
             }
         }
-        Ok(has_order)
+        Ok(())
+    }
+
+    /// Whether an order is among the files that the changes give.
+    fn has_order(&self) -> bool {
+        self.changes.iter().any(|text| text.starts_with("order "))
+    }
+
+    /// Puts the logs behind the other files.
+    fn put_log_files(&self, alloc: Global, files: &mut Files) -> Result<(), Fault> {
+        for vat in &self.vats {
+            let number = vat.number;
+            let name = format!(in alloc; "vat{number}")?;
+            let log = log_of(alloc, vat, &self.changes)?;
+            put_file(alloc, files, name.as_str(), log)?;
+        }
+        Ok(())
     }
 
     /// The files of the conversation, with its changes.
     pub fn files(&self, alloc: Global) -> Result<Files, Fault> {
         let mut files = Vec::new(alloc);
-        let has_order = self.put_given(alloc, &mut files)?;
-        for vat in &self.vats {
-            let number = vat.number;
-            let name = format!(in alloc; "vat{number}")?;
-            let log = log_of(alloc, vat, &self.changes)?;
-            put_file(alloc, &mut files, name.as_str(), log)?;
-        }
-        let case = self.case_text(alloc, has_order)?;
+        self.put_given(alloc, &mut files)?;
+        self.put_log_files(alloc, &mut files)?;
+        let case = self.case_text(alloc, self.has_order())?;
         put_file(alloc, &mut files, "case", case.into_bytes())?;
         Ok(files)
     }
@@ -218,4 +264,21 @@ fn order_of(alloc: Global, vats: &str) -> Result<Vec<u8>, Fault> {
         bytes.extend_from_slice(&vat.to_le_bytes())?;
     }
     Ok(bytes)
+}
+
+/// The name of a file, and the bytes that digits give.
+fn file_of(alloc: Global, text: &str) -> Result<(&str, Vec<u8>), Fault> {
+    let (name, digits) = text.split_once(" ").unwrap_or((text, ""));
+    let words = words_of(alloc, digits)?;
+    Ok((name, bytes_of(alloc, &words)?))
+}
+
+/// The name and the bytes of a file that a change gives.
+fn given_file(alloc: Global, given: Given, text: &str) -> Result<(&str, Vec<u8>), Fault> {
+    match given {
+        Given::Case => Ok(("case", Vec::from_slice(alloc, text.as_bytes())?)),
+        Given::Frames => Ok(("frames", frames_of(alloc, text)?)),
+        Given::Order => Ok(("order", order_of(alloc, text)?)),
+        Given::File => file_of(alloc, text),
+    }
 }

@@ -2,18 +2,8 @@
 
 use crate::fault::Fault;
 use crate::record::Log;
-use crate::words::{alone, behind, ended, next, number};
+use crate::words::{Words, words_of};
 use std::alloc::Global;
-
-/// The words of a text.
-pub fn words_of<'a>(alloc: Global, text: &'a str) -> Result<Vec<&'a str>, Fault> {
-    Ok(text.split_whitespace().collect(alloc)?)
-}
-
-/// A place in a list.
-fn place(word: &str) -> Result<usize, Fault> {
-    usize::try_from(number(word)?).map_err(|_| Fault::Unread)
-}
 
 /// One vat's number and its records, one text each.
 #[derive(Drop)]
@@ -33,86 +23,82 @@ pub fn add_records<'a>(records: &mut Vec<&'a str>, line: &'a str) -> Result<(), 
     Ok(())
 }
 
-/// Puts a record in at a place.
-fn put_in<'a>(records: &mut Vec<&'a str>, at: usize, record: &'a str) -> Result<(), Fault> {
-    if at > records.len() {
-        return Err(Fault::Unread);
-    }
-    records.insert(at, record)?;
-    Ok(())
+/// The records of a vat with the changes that name it, and how many bytes of its log are left.
+#[derive(Drop)]
+struct Recorded<'a> {
+    records: Vec<&'a str>,
+    len: usize,
 }
 
-/// Takes the record at a place out.
-fn take_out<'a>(records: &mut Vec<&'a str>, at: usize) -> Result<&'a str, Fault> {
-    if at >= records.len() {
-        return Err(Fault::Unread);
-    }
-    Ok(records.remove(at))
-}
-
-/// Puts the record of a place back in, as the words say.
-fn put_back<'a>(
-    records: &mut Vec<&'a str>,
-    at: usize,
-    record: &'a str,
-    words: &[&str],
-) -> Result<(), Fault> {
-    let (first, rest) = next(words)?;
-    match first {
-        "twice" => {
-            ended(rest)?;
-            put_in(records, at, record)?;
-            put_in(records, at, record)
-        }
-        "left" => ended(behind("out", rest)?),
-        "moved" => put_in(records, place(alone(behind("to", rest)?)?)?, record),
-        _ => Err(Fault::Unread),
-    }
-}
-
-/// Changes the record of a place.
-fn change_record<'a>(
-    records: &mut Vec<&'a str>,
-    words: &[&str],
-    becomes: Option<&'a str>,
-) -> Result<(), Fault> {
-    let (at, rest) = next(words)?;
-    let at = place(at)?;
-    let record = take_out(records, at)?;
-    match becomes {
-        None => put_back(records, at, record, rest),
-        Some(other) => {
-            ended(rest)?;
-            put_in(records, at, other)
+impl<'a> Recorded<'a> {
+    /// Puts a record in at a place.
+    fn put_in(&mut self, at: usize, record: &'a str, words: &mut Words<'_>) {
+        if at > self.records.len() {
+            words.note(Fault::Unread);
+        } else if self.records.insert(at, record).is_err() {
+            words.note(Fault::OutOfMemory);
         }
     }
-}
 
-/// Leaves out the records from a place on; a cut of bytes is made in the log.
-fn cut(records: &mut Vec<&str>, words: &[&str]) -> Result<(), Fault> {
-    let (count, rest) = next(behind("to", words)?)?;
-    match alone(rest)? {
-        "records" => records.truncate(place(count)?),
-        "bytes" => {}
-        _ => return Err(Fault::Unread),
-    }
-    Ok(())
-}
-
-/// Makes one change in the records; `becomes` is the record behind ` is `, if there is one.
-fn change<'a>(
-    records: &mut Vec<&'a str>,
-    words: &[&str],
-    becomes: Option<&'a str>,
-) -> Result<(), Fault> {
-    let (first, rest) = next(words)?;
-    match (first, becomes) {
-        ("record", becomes) => change_record(records, rest, becomes),
-        ("new", Some(record)) => {
-            put_in(records, place(alone(behind("record", rest)?)?)?, record)
+    /// Takes the record at a place out; the empty one where there is none.
+    fn take_out(&mut self, at: usize, words: &mut Words<'_>) -> &'a str {
+        if at < self.records.len() {
+            return self.records.remove(at);
         }
-        ("cut", None) => cut(records, rest),
-        _ => Err(Fault::Unread),
+        words.note(Fault::Unread);
+        ""
+    }
+
+    /// `record I is RECORD` and `new record I is RECORD`.
+    fn put_new(&mut self, record: &'a str, words: &mut Words<'_>) {
+        let is_new = words.takes("new");
+        words.expect("record");
+        let at = words.index();
+        if !is_new {
+            self.take_out(at, words);
+        }
+        self.put_in(at, record, words);
+    }
+
+    /// `record I twice`, `record I left out` and `record I moved to J`.
+    fn change_record(&mut self, words: &mut Words<'_>) {
+        words.expect("record");
+        let at = words.index();
+        let record = self.take_out(at, words);
+        if words.takes("twice") {
+            self.put_in(at, record, words);
+            self.put_in(at, record, words);
+        } else if words.takes("moved") {
+            words.expect("to");
+            let to = words.index();
+            self.put_in(to, record, words);
+        } else {
+            words.expect("left");
+            words.expect("out");
+        }
+    }
+
+    /// `cut to N records` and `cut to N bytes`, behind its first word.
+    fn cut(&mut self, words: &mut Words<'_>) {
+        words.expect("to");
+        let count = words.index();
+        if words.takes("records") {
+            self.records.truncate(count);
+        } else {
+            words.expect("bytes");
+            self.len = self.len.min(count);
+        }
+    }
+
+    /// Makes one change in the records; `becomes` is the record behind ` is `, if there is one.
+    fn change(&mut self, words: &mut Words<'_>, becomes: Option<&'a str>) {
+        if let Some(record) = becomes {
+            self.put_new(record, words);
+        } else if words.takes("cut") {
+            self.cut(words);
+        } else {
+            self.change_record(words);
+        }
     }
 }
 
@@ -124,54 +110,52 @@ fn parts(text: &str) -> (&str, Option<&str>) {
     }
 }
 
+/// Makes a change of this vat, and none of another.
+fn make_change<'a>(
+    alloc: Global,
+    recorded: &mut Recorded<'a>,
+    number: &str,
+    text: &'a str,
+) -> Result<(), Fault> {
+    let (left, becomes) = parts(text);
+    let words = words_of(alloc, left)?;
+    let mut words = Words::new(&words);
+    if words.takes("vat") && words.takes(number) {
+        recorded.change(&mut words, becomes);
+        return words.end();
+    }
+    Ok(())
+}
+
 /// The records of a vat with the changes that name it.
-fn changed<'a>(alloc: Global, vat: &Vat<'a>, changes: &[&'a str]) -> Result<Vec<&'a str>, Fault> {
-    let mut records = Vec::new(alloc);
-    for record in &vat.records {
-        records.push(*record)?;
-    }
+fn changed<'a>(alloc: Global, vat: &Vat<'a>, changes: &[&'a str]) -> Result<Recorded<'a>, Fault> {
+    let mut recorded = Recorded {
+        records: Vec::from_slice(alloc, &vat.records)?,
+        len: usize::MAX,
+    };
     for text in changes {
-        let (left, becomes) = parts(text);
-        let words = words_of(alloc, left)?;
-        if let ["vat", number, rest @ ..] = words.as_slice() {
-            if *number == vat.number {
-                change(&mut records, rest, becomes)?;
-            }
-        }
+        make_change(alloc, &mut recorded, vat.number, text)?;
     }
-    Ok(records)
+    Ok(recorded)
 }
 
-/// To how many bytes a change cuts the log of this vat, if it does.
-fn bytes_kept<'a>(number: &str, words: &[&'a str]) -> Option<&'a str> {
-    match words {
-        ["vat", vat, "cut", "to", count, "bytes"] if *vat == number => Some(*count),
-        _ => None,
-    }
-}
-
-/// At how many bytes the changes cut the log of a vat, if they do.
-fn cut_at(alloc: Global, number: &str, changes: &[&str]) -> Result<Option<usize>, Fault> {
-    for text in changes {
-        let words = words_of(alloc, text)?;
-        if let Some(count) = bytes_kept(number, &words) {
-            return Ok(Some(place(count)?));
-        }
-    }
-    Ok(None)
+/// Adds the record that a text spells.
+fn put_record(alloc: Global, log: &mut Log, record: &str) -> Result<(), Fault> {
+    let words = words_of(alloc, record)?;
+    let mut words = Words::new(&words);
+    log.put_record(alloc, &mut words);
+    words.end()
 }
 
 /// The log of a vat, with the changes that name it.
 pub fn log_of(alloc: Global, vat: &Vat<'_>, changes: &[&str]) -> Result<Vec<u8>, Fault> {
-    let number = vat.number.parse::<u32>().map_err(|_| Fault::Unread)?;
-    let mut log = Log::new(alloc, number)?;
-    for record in &changed(alloc, vat, changes)? {
-        let words = words_of(alloc, record)?;
-        log.put_record(alloc, &words)?;
+    let number = vat.number.parse::<u32>().ok().ok_or(Fault::Unread)?;
+    let mut log = Log::new(alloc, number);
+    let recorded = changed(alloc, vat, changes)?;
+    for record in &recorded.records {
+        put_record(alloc, &mut log, record)?;
     }
-    let mut bytes = log.bytes;
-    if let Some(count) = cut_at(alloc, vat.number, changes)? {
-        bytes.truncate(count);
-    }
+    let mut bytes = log.end()?;
+    bytes.truncate(recorded.len);
     Ok(bytes)
 }

@@ -3,79 +3,109 @@
 use super::given::{Refused, log};
 use case_book::{Case, CaseError, Link, TieFault};
 use std::alloc::Global;
-use std::process::Abort;
 use std::sync::Arc;
 use vat_log::VatLog;
+
+/// A link of vats 7 and 1, and one of vats 3 and 7.
+const FAR: Link = Link {
+    conn: 5,
+    a: 7,
+    b: 1,
+};
+
+const NEAR: Link = Link {
+    conn: 2,
+    a: 3,
+    b: 7,
+};
+
+/// The case of the logs of vats 7, 1 and 3.
+fn three_logs(alloc: Global) -> Result<Case, Refused> {
+    let mut logs = Vec::new(alloc);
+    for (number, records) in [
+        ("7", "S5 abort; R2 abort"),
+        ("1", "R2 abort"),
+        ("3", "S2 abort"),
+    ] {
+        logs.push(log(alloc, number, records)?)?;
+    }
+    Ok(Case::new(logs, vec![in alloc; FAR, NEAR]?)?)
+}
+
+/// Whether logs are those of vats 1, 3 and 7.
+fn are_ordered(logs: &[Arc<VatLog>]) -> bool {
+    match logs {
+        [first, second, third] => (first.vat(), second.vat(), third.vat()) == (1, 3, 7),
+        _ => false,
+    }
+}
+
+/// Whether the logs and links of the case are lent by rising number, and what doesn't tie up is told.
+fn is_lent(alloc: Global) -> Result<bool, Refused> {
+    let case = three_logs(alloc)?;
+    let is_tied = case.tie_fault() == Some(TieFault::MissingLog(2));
+    Ok(is_tied && are_ordered(case.logs()) && case.links() == [NEAR, FAR].as_slice())
+}
+
+#[test]
+fn logs_and_links_are_lent_by_rising_number(rt: HostRuntime) {
+    let is_so = match is_lent(rt.alloc()) {
+        Ok(is_so) => is_so,
+        Err(_) => is_lent(rt.alloc()).unwrap_or(false),
+    };
+    assert!(rt; is_so);
+}
 
 /// A link with vats 1 and 2.
 fn link(conn: u32) -> Link {
     Link { conn, a: 1, b: 2 }
 }
 
-fn lent_once(rt: &(impl Abort + AllocGlobal)) -> Result<(), Refused> {
-    let alloc = rt.alloc();
-    let seven = log(alloc, "7", "S5 abort; R2 abort")?;
-    let one = log(alloc, "1", "R2 abort")?;
-    let three = log(alloc, "3", "S2 abort")?;
-    let far = Link {
-        conn: 5,
-        a: 7,
-        b: 1,
-    };
-    let near = Link {
-        conn: 2,
-        a: 3,
-        b: 7,
-    };
-    let logs = vec![in alloc; seven, one, three]?;
-    let case = Case::new(logs, vec![in alloc; far, near]?)?;
-    let [first, second, third] = case.logs() else {
-        return Err(Refused::from("three logs"));
-    };
-    assert_eq!(rt; (first.vat(), second.vat(), third.vat()), (1, 3, 7));
-    assert_eq!(rt; case.links(), [near, far].as_slice());
-    assert_eq!(rt; case.tie_fault(), Some(TieFault::MissingLog(2)));
-    Ok(())
-}
-
-#[test]
-fn logs_and_links_are_lent_by_rising_number(rt: HostRuntime) {
-    assert!(rt; lent_once(&rt).is_ok() || lent_once(&rt).is_ok());
-}
-
-/// The case of so many logs and links, with vat numbers and connections from 0 on. Want of memory is a failure.
-fn case_of(alloc: Global, vats: u32, links: u32) -> Result<Option<CaseError>, Refused> {
+/// The logs of so many vats, with numbers from 0 on.
+fn logs(alloc: Global, vats: u32) -> Result<Vec<Arc<VatLog>>, Refused> {
     let mut logs = Vec::new(alloc);
     for vat in 0..vats {
         let number = format!(in alloc; "{vat}")?;
         logs.push(log(alloc, number.as_str(), "")?)?;
     }
+    Ok(logs)
+}
+
+/// The case of so many logs and links, with vat numbers and connections from 0 on. Want of memory is a failure.
+fn case_of(alloc: Global, vats: u32, links: u32) -> Result<Option<CaseError>, Refused> {
     let mut ends = Vec::new(alloc);
     for conn in 0..links {
         ends.push(link(conn))?;
     }
-    match Case::new(logs, ends).err() {
-        Some(CaseError::OutOfMemory) => Err(Refused::from("out of memory")),
+    match Case::new(logs(alloc, vats)?, ends).err() {
+        Some(CaseError::OutOfMemory) => Err(Refused),
         refusal => Ok(refusal),
     }
 }
 
-fn most_once(rt: &(impl Abort + AllocGlobal)) -> Result<(), Refused> {
-    let alloc = rt.alloc();
-    assert_eq!(rt; case_of(alloc, 65, 257)?, Some(CaseError::TooManyVats));
-    assert_eq!(rt; case_of(alloc, 64, 257)?, Some(CaseError::TooManyLinks));
-    assert_eq!(rt; case_of(alloc, 64, 256)?, None);
-    Ok(())
-}
+/// How many logs and links there are, and why they are refused.
+const MOST: [(u32, u32, Option<CaseError>); 3] = [
+    (65, 257, Some(CaseError::TooManyVats)),
+    (64, 257, Some(CaseError::TooManyLinks)),
+    (64, 256, None),
+];
 
 #[test]
 fn as_many_as_may_be(rt: HostRuntime) {
-    assert!(rt; most_once(&rt).is_ok() || most_once(&rt).is_ok());
+    for (vats, links, refusal) in MOST {
+        let is_so = match case_of(rt.alloc(), vats, links) {
+            Ok(came) => came == refusal,
+            Err(_) => match case_of(rt.alloc(), vats, links) {
+                Ok(came) => came == refusal,
+                Err(_) => false,
+            },
+        };
+        assert!(rt; is_so, "{vats} {links}");
+    }
 }
 
-/// What doesn't tie up where vat 1 uses a connection, and the links are those of 256 odd connections. Vat 3, if it is there,
-/// uses it too.
-fn fault_of(alloc: Global, used: u32, third: bool) -> Result<Option<TieFault>, Refused> {
+/// The logs where vat 1 uses a connection. Vat 3, if it is there, uses it too.
+fn users(alloc: Global, used: u32, third: bool) -> Result<Vec<Arc<VatLog>>, Refused> {
     let send = format!(in alloc; "S{used} abort")?;
     let mut logs: Vec<Arc<VatLog>> = Vec::new(alloc);
     logs.push(log(alloc, "1", send.as_str())?)?;
@@ -83,28 +113,50 @@ fn fault_of(alloc: Global, used: u32, third: bool) -> Result<Option<TieFault>, R
     if third {
         logs.push(log(alloc, "3", send.as_str())?)?;
     }
+    Ok(logs)
+}
+
+/// What doesn't tie up between these logs, where the links are those of 256 odd connections.
+fn fault_of(alloc: Global, used: u32, third: bool) -> Result<Option<TieFault>, Refused> {
     let mut ends = Vec::new(alloc);
     for number in 0..256 {
         ends.push(link(2 * number + 1))?;
     }
-    Ok(Case::new(logs, ends)?.tie_fault())
+    Ok(Case::new(users(alloc, used, third)?, ends)?.tie_fault())
 }
 
-fn many_links_once(rt: &(impl Abort + AllocGlobal)) -> Result<(), Refused> {
-    let alloc = rt.alloc();
-    for connection in [1, 3, 255, 257, 259, 509, 511] {
-        assert_eq!(rt; fault_of(alloc, connection, false)?, None);
-        let fault = Some(TieFault::MissingLog(connection));
-        assert_eq!(rt; fault_of(alloc, connection, true)?, fault);
+/// Whether a log is missing for the connection, or for none, also where memory was refused once.
+fn is_missing(alloc: Global, used: u32, third: bool, missing: bool) -> bool {
+    let fault = if missing {
+        Some(TieFault::MissingLog(used))
+    } else {
+        None
+    };
+    match fault_of(alloc, used, third) {
+        Ok(came) => came == fault,
+        Err(_) => match fault_of(alloc, used, third) {
+            Ok(came) => came == fault,
+            Err(_) => false,
+        },
     }
-    for connection in [0, 2, 256, 510, 512] {
-        let fault = Some(TieFault::MissingLog(connection));
-        assert_eq!(rt; fault_of(alloc, connection, false)?, fault);
-    }
-    Ok(())
 }
 
 #[test]
 fn each_of_many_links_is_found(rt: HostRuntime) {
-    assert!(rt; many_links_once(&rt).is_ok() || many_links_once(&rt).is_ok());
+    for connection in [1, 3, 255, 257, 259, 509, 511] {
+        assert!(rt;
+            is_missing(rt.alloc(), connection, false, false),
+            "{connection}"
+        );
+        assert!(rt;
+            is_missing(rt.alloc(), connection, true, true),
+            "{connection}"
+        );
+    }
+    for connection in [0, 2, 256, 510, 512] {
+        assert!(rt;
+            is_missing(rt.alloc(), connection, false, true),
+            "{connection}"
+        );
+    }
 }

@@ -1,13 +1,12 @@
 //! Orders that fit, orders that don't, and orders as bytes.
 
-use super::given::{Refused, log};
+use super::given::{Refused, bytes_of_digits, log};
 use bytes::Bytes;
 use case_book::Case;
 use merge_order::{
     Order, OrderError, OrderFinding, check_order, make_order, read_order, write_order,
 };
 use std::alloc::Global;
-use std::process::Abort;
 
 /// The case of vats 1 and 2, which recorded this, without links.
 fn case(alloc: Global, first: &str, second: &str) -> Result<Case, Refused> {
@@ -16,83 +15,127 @@ fn case(alloc: Global, first: &str, second: &str) -> Result<Case, Refused> {
     Ok(Case::new(vec![in alloc; second, first]?, Vec::new(alloc))?)
 }
 
-fn checked_once(rt: &(impl Abort + AllocGlobal)) -> Result<(), Refused> {
-    let alloc = rt.alloc();
-    let fails = OrderFinding::Fails;
-    let reused = case(
-        alloc,
-        "S0 c1 boot q7; S0 fin q7; R0 ret q7 canceled; S0 c2 boot q7",
-        "R0 c1 boot q7; R0 fin q7; S0 ret q7 canceled; R0 c2 boot q7",
-    )?;
-    let orders: [(&[u32], OrderFinding); 5] = [
-        (&[1, 2, 1, 1, 2, 2, 1, 2], fails(3)),
-        (&[1, 2, 1, 2, 2, 1, 1, 2], OrderFinding::Fits),
-        (&[1, 2, 1, 2, 2, 1, 1], fails(7)),
-        (&[1, 2, 1, 2, 2, 1, 1, 2, 2], fails(8)),
-        (&[1, 3], fails(1)),
-    ];
-    for (vats, finding) in orders {
-        let order = Order::new(Vec::from_slice(alloc, vats)?);
-        assert_eq!(rt; check_order(alloc, reused.logs(), &order)?, finding);
-    }
-    let made = make_order(alloc, reused.logs())?.ok_or("an order fits")?;
-    assert_eq!(rt; made.as_slice(), [1, 1, 2, 2, 2, 1, 1, 2].as_slice());
-    let empty = Order::new(Vec::new(alloc));
-    let silent = case(alloc, "", "")?;
-    assert_eq!(rt;
-        check_order(alloc, silent.logs(), &empty)?,
-        OrderFinding::Fits
-    );
-    let both = case(
-        alloc,
-        "R0 c1 boot q0; S0 c2 boot q0",
-        "R0 c1 boot q0; S0 c2 boot q0",
-    )?;
-    assert!(rt; make_order(alloc, both.logs())?.is_none());
-    Ok(())
+/// A question whose number is used again, as vats 1 and 2 recorded it.
+const REUSED: (&str, &str) = (
+    "S0 c1 boot q7; S0 fin q7; R0 ret q7 canceled; S0 c2 boot q7",
+    "R0 c1 boot q7; R0 fin q7; S0 ret q7 canceled; R0 c2 boot q7",
+);
+
+/// What vats 1 and 2 recorded, an order, and what is found of it.
+const CHECKED: [((&str, &str), &[u32], OrderFinding); 6] = [
+    (REUSED, &[1, 2, 1, 1, 2, 2, 1, 2], OrderFinding::Fails(3)),
+    (REUSED, &[1, 2, 1, 2, 2, 1, 1, 2], OrderFinding::Fits),
+    (REUSED, &[1, 2, 1, 2, 2, 1, 1], OrderFinding::Fails(7)),
+    (REUSED, &[1, 2, 1, 2, 2, 1, 1, 2, 2], OrderFinding::Fails(8)),
+    (REUSED, &[1, 3], OrderFinding::Fails(1)),
+    (("", ""), &[], OrderFinding::Fits),
+];
+
+/// Whether this is found of an order of the logs of vats 1 and 2.
+fn is_found(
+    alloc: Global,
+    recorded: (&str, &str),
+    vats: &[u32],
+    finding: OrderFinding,
+) -> Result<bool, Refused> {
+    let case = case(alloc, recorded.0, recorded.1)?;
+    let order = Order::new(Vec::from_slice(alloc, vats)?);
+    Ok(check_order(alloc, case.logs(), &order)? == finding)
 }
 
 #[test]
 fn an_order_fails_at_its_first_step_that_may_not_come(rt: HostRuntime) {
-    assert!(rt; checked_once(&rt).is_ok() || checked_once(&rt).is_ok());
-}
-
-/// Why bytes are no order. Want of memory is a failure, and no answer.
-fn fault_of(alloc: Global, bytes: &'static [u8]) -> Result<Option<OrderError>, Refused> {
-    match read_order(alloc, Bytes::from_static(bytes)).err() {
-        Some(OrderError::OutOfMemory) => Err(Refused::from("out of memory")),
-        fault => Ok(fault),
+    for (recorded, vats, finding) in CHECKED {
+        let is_so = match is_found(rt.alloc(), recorded, vats, finding) {
+            Ok(is_so) => is_so,
+            Err(_) => is_found(rt.alloc(), recorded, vats, finding).unwrap_or(false),
+        };
+        assert!(rt; is_so, "{vats:?}");
     }
 }
 
-fn spelled_once(rt: &(impl Abort + AllocGlobal)) -> Result<(), Refused> {
-    let alloc = rt.alloc();
-    assert_eq!(rt; fault_of(alloc, b"VATORD0")?, Some(OrderError::BadMagic));
-    assert_eq!(rt;
-        fault_of(alloc, b"VATLOG01\x01\0\0\0")?,
-        Some(OrderError::BadMagic)
-    );
-    assert_eq!(rt;
-        fault_of(alloc, b"VATORD01\x01\0\0")?,
-        Some(OrderError::Short(8))
-    );
-    assert_eq!(rt;
-        fault_of(alloc, b"VATORD01\x01\0\0\0\x02")?,
-        Some(OrderError::Short(12))
-    );
-    let orders: [(&'static [u8], &[u32]); 2] = [
-        (b"VATORD01", &[]),
-        (b"VATORD01\x01\0\0\0\x02\x01\0\0", &[1, 258]),
-    ];
-    for (bytes, vats) in orders {
-        let order = read_order(alloc, Bytes::from_static(bytes))?;
-        assert_eq!(rt; order.as_slice(), vats);
-        assert_eq!(rt; write_order(alloc, &order)?.as_slice(), bytes);
+/// What vats 1 and 2 recorded, and the order that is made of it; the empty one where none fits.
+const MADE: [((&str, &str), &[u32]); 2] = [
+    (REUSED, &[1, 1, 2, 2, 2, 1, 1, 2]),
+    (
+        (
+            "R0 c1 boot q0; S0 c2 boot q0",
+            "R0 c1 boot q0; S0 c2 boot q0",
+        ),
+        &[],
+    ),
+];
+
+/// Whether just this order is made of the logs of vats 1 and 2, which aren't both empty.
+fn is_made(alloc: Global, recorded: (&str, &str), vats: &[u32]) -> Result<bool, Refused> {
+    let case = case(alloc, recorded.0, recorded.1)?;
+    Ok(match make_order(alloc, case.logs())? {
+        Some(order) => !vats.is_empty() && order.as_slice() == vats,
+        None => vats.is_empty(),
+    })
+}
+
+#[test]
+fn an_order_is_made_where_one_fits(rt: HostRuntime) {
+    for (recorded, vats) in MADE {
+        let is_so = match is_made(rt.alloc(), recorded, vats) {
+            Ok(is_so) => is_so,
+            Err(_) => is_made(rt.alloc(), recorded, vats).unwrap_or(false),
+        };
+        assert!(rt; is_so, "{vats:?}");
     }
-    Ok(())
+}
+
+/// Bytes that are no order, and why.
+const REFUSED: [(&str, OrderError); 4] = [
+    ("5641544f524430", OrderError::BadMagic),
+    ("5641544c4f473031 01000000", OrderError::BadMagic),
+    ("5641544f52443031 010000", OrderError::Short(8)),
+    ("5641544f52443031 01000000 02", OrderError::Short(12)),
+];
+
+/// Whether bytes are refused for this. Want of memory is a failure, and no answer.
+fn is_refused(alloc: Global, digits: &str, fault: OrderError) -> Result<bool, Refused> {
+    let bytes = bytes_of_digits(alloc, digits)?;
+    match read_order(alloc, Bytes::from_vec(bytes)?) {
+        Err(OrderError::OutOfMemory) => Err(Refused),
+        Err(came) => Ok(came == fault),
+        Ok(_) => Ok(false),
+    }
+}
+
+#[test]
+fn bytes_are_refused(rt: HostRuntime) {
+    for (digits, fault) in REFUSED {
+        let is_so = match is_refused(rt.alloc(), digits, fault) {
+            Ok(is_so) => is_so,
+            Err(_) => is_refused(rt.alloc(), digits, fault).unwrap_or(false),
+        };
+        assert!(rt; is_so, "{digits}");
+    }
+}
+
+/// The bytes of orders, and their steps.
+const SPELLED: [(&str, &[u32]); 2] = [
+    ("5641544f52443031", &[]),
+    ("5641544f52443031 01000000 02010000", &[1, 258]),
+];
+
+/// Whether an order is read so, and written again with the same bytes.
+fn is_spelled(alloc: Global, digits: &str, vats: &[u32]) -> Result<bool, Refused> {
+    let bytes = Bytes::from_vec(bytes_of_digits(alloc, digits)?)?;
+    let order = read_order(alloc, bytes.clone()?)?;
+    let written = write_order(alloc, &order)?;
+    Ok(order.as_slice() == vats && written.as_slice() == bytes.as_slice())
 }
 
 #[test]
 fn orders_are_read_and_written(rt: HostRuntime) {
-    assert!(rt; spelled_once(&rt).is_ok() || spelled_once(&rt).is_ok());
+    for (digits, vats) in SPELLED {
+        let is_so = match is_spelled(rt.alloc(), digits, vats) {
+            Ok(is_so) => is_so,
+            Err(_) => is_spelled(rt.alloc(), digits, vats).unwrap_or(false),
+        };
+        assert!(rt; is_so, "{digits}");
+    }
 }

@@ -30,9 +30,9 @@ VATLOG01, and prints one line:
 
   good vat V records N delivered D   every record keeps the rules
   no vat V record I rule CODE        record I is the first that breaks a rule
-  outside vat V record I WHY         record I is the first that isn't audited:
+  outside vat V record I WHY         record I is the first that isn't judged:
                                      Level, Unimplemented, LaterField, TailCall,
-                                     Unread, NotYet
+                                     Unread
   bad log NAME [OFFSET]              the bytes aren't a log: BadMagic, Short,
                                      BadKind, ZeroNumber, TooLong
   cannot read                        the file can't be read, or has over

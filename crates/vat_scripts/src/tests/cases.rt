@@ -92,11 +92,11 @@ const MOST: [(u32, u32, Option<CaseError>); 3] = [
 
 #[test]
 fn as_many_as_may_be(rt: HostRuntime) {
-    for (vats, links, refusal) in MOST {
-        let is_so = match case_of(rt.alloc(), vats, links) {
-            Ok(came) => came == refusal,
-            Err(_) => match case_of(rt.alloc(), vats, links) {
-                Ok(came) => came == refusal,
+    for (vats, links, refusal) in &MOST {
+        let is_so = match case_of(rt.alloc(), *vats, *links) {
+            Ok(came) => came == *refusal,
+            Err(_) => match case_of(rt.alloc(), *vats, *links) {
+                Ok(came) => came == *refusal,
                 Err(_) => false,
             },
         };

@@ -40,8 +40,8 @@ const WORDS: [(u32, u64, Option<u64>); 5] = [
 fn has_words(alloc: Global) -> Result<bool, Refused> {
     let release = frame(alloc, RELEASE)?;
     let mut has_all = release.segments() == 2;
-    for (segment, number, word) in WORDS {
-        has_all = has_all && release.word(segment, number) == word;
+    for (segment, number, word) in &WORDS {
+        has_all = has_all && release.word(*segment, *number) == *word;
     }
     Ok(has_all)
 }

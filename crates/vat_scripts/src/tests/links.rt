@@ -76,20 +76,23 @@ fn is_found(alloc: Global, one: End, other: End, outcome: LinkOutcome) -> bool {
 
 #[test]
 fn each_frame_of_a_good_link_came(rt: HostRuntime) {
-    for (one, other, delivered, in_flight) in GOOD {
+    for (one, other, delivered, in_flight) in &GOOD {
         let outcome = LinkOutcome::Good {
-            delivered,
-            in_flight,
+            delivered: *delivered,
+            in_flight: *in_flight,
         };
-        assert!(rt; is_found(rt.alloc(), one, other, outcome), "{other:?}");
+        assert!(rt; is_found(rt.alloc(), *one, *other, outcome), "{other:?}");
     }
 }
 
 #[test]
 fn each_frame_is_compared_byte_for_byte(rt: HostRuntime) {
-    for (one, other, end, message) in BROKEN {
-        let outcome = LinkOutcome::Broken { end, message };
-        assert!(rt; is_found(rt.alloc(), one, other, outcome), "{other:?}");
+    for (one, other, end, message) in &BROKEN {
+        let outcome = LinkOutcome::Broken {
+            end: *end,
+            message: *message,
+        };
+        assert!(rt; is_found(rt.alloc(), *one, *other, outcome), "{other:?}");
     }
 }
 

@@ -202,7 +202,7 @@ fn is_row(alloc: Global, records: &str, digits: &str, text: &str) -> Result<bool
 
 #[test]
 fn each_kind_of_record(rt: HostRuntime) {
-    for (records, digits, text) in RECORDS {
+    for (records, digits, text) in &RECORDS {
         let is_so = match is_row(rt.alloc(), records, digits, text) {
             Ok(is_so) => is_so,
             Err(_) => is_row(rt.alloc(), records, digits, text).unwrap_or(false),
@@ -213,7 +213,7 @@ fn each_kind_of_record(rt: HostRuntime) {
 
 #[test]
 fn logs_of_a_pipelined_call(rt: HostRuntime) {
-    for (vat, records, digits) in SAMPLES {
+    for (vat, records, digits) in &SAMPLES {
         let is_so = match is_spelled(rt.alloc(), vat, records, digits) {
             Ok(is_so) => is_so,
             Err(_) => is_spelled(rt.alloc(), vat, records, digits).unwrap_or(false),

@@ -62,8 +62,11 @@ fn is_shown_at_last(alloc: Global, words: &str, limits: Limits, text: &str) -> b
 
 #[test]
 fn limits(rt: HostRuntime) {
-    for (frame, words, depth, text) in ROWS {
-        let limits = Limits { words, depth };
+    for (frame, words, depth, text) in &ROWS {
+        let limits = Limits {
+            words: *words,
+            depth: *depth,
+        };
         assert!(rt; is_shown_at_last(rt.alloc(), frame, limits, text), "{text}");
     }
 }

@@ -45,10 +45,10 @@ fn is_found(
 
 #[test]
 fn an_order_fails_at_its_first_step_that_may_not_come(rt: HostRuntime) {
-    for (recorded, vats, finding) in CHECKED {
-        let is_so = match is_found(rt.alloc(), recorded, vats, finding) {
+    for (recorded, vats, finding) in &CHECKED {
+        let is_so = match is_found(rt.alloc(), *recorded, vats, *finding) {
             Ok(is_so) => is_so,
-            Err(_) => is_found(rt.alloc(), recorded, vats, finding).unwrap_or(false),
+            Err(_) => is_found(rt.alloc(), *recorded, vats, *finding).unwrap_or(false),
         };
         assert!(rt; is_so, "{vats:?}");
     }
@@ -77,10 +77,10 @@ fn is_made(alloc: Global, recorded: (&str, &str), vats: &[u32]) -> Result<bool, 
 
 #[test]
 fn an_order_is_made_where_one_fits(rt: HostRuntime) {
-    for (recorded, vats) in MADE {
-        let is_so = match is_made(rt.alloc(), recorded, vats) {
+    for (recorded, vats) in &MADE {
+        let is_so = match is_made(rt.alloc(), *recorded, vats) {
             Ok(is_so) => is_so,
-            Err(_) => is_made(rt.alloc(), recorded, vats).unwrap_or(false),
+            Err(_) => is_made(rt.alloc(), *recorded, vats).unwrap_or(false),
         };
         assert!(rt; is_so, "{vats:?}");
     }
@@ -106,10 +106,10 @@ fn is_refused(alloc: Global, digits: &str, fault: OrderError) -> Result<bool, Re
 
 #[test]
 fn bytes_are_refused(rt: HostRuntime) {
-    for (digits, fault) in REFUSED {
-        let is_so = match is_refused(rt.alloc(), digits, fault) {
+    for (digits, fault) in &REFUSED {
+        let is_so = match is_refused(rt.alloc(), digits, *fault) {
             Ok(is_so) => is_so,
-            Err(_) => is_refused(rt.alloc(), digits, fault).unwrap_or(false),
+            Err(_) => is_refused(rt.alloc(), digits, *fault).unwrap_or(false),
         };
         assert!(rt; is_so, "{digits}");
     }
@@ -131,7 +131,7 @@ fn is_spelled(alloc: Global, digits: &str, vats: &[u32]) -> Result<bool, Refused
 
 #[test]
 fn orders_are_read_and_written(rt: HostRuntime) {
-    for (digits, vats) in SPELLED {
+    for (digits, vats) in &SPELLED {
         let is_so = match is_spelled(rt.alloc(), digits, vats) {
             Ok(is_so) => is_so,
             Err(_) => is_spelled(rt.alloc(), digits, vats).unwrap_or(false),

@@ -426,8 +426,11 @@ fn is_told(alloc: Global, words: &str, limits: Limits, steps: &[Step], text: &st
 
 #[test]
 fn walks(rt: HostRuntime) {
-    for (frame, words, depth, steps, text) in ROWS {
-        let limits = Limits { words, depth };
+    for (frame, words, depth, steps, text) in &ROWS {
+        let limits = Limits {
+            words: *words,
+            depth: *depth,
+        };
         assert!(rt; is_told(rt.alloc(), frame, limits, steps, text), "{text}");
     }
 }

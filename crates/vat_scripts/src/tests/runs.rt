@@ -149,10 +149,10 @@ fn is_meant(
 
 #[test]
 fn words_are_commands(rt: HostRuntime) {
-    for (words, meant) in WORDS {
-        let is_so = match is_meant(rt.alloc(), words, meant) {
+    for (words, meant) in &WORDS {
+        let is_so = match is_meant(rt.alloc(), words, *meant) {
             Ok(is_so) => is_so,
-            Err(_) => is_meant(rt.alloc(), words, meant).unwrap_or(false),
+            Err(_) => is_meant(rt.alloc(), words, *meant).unwrap_or(false),
         };
         assert!(rt; is_so, "{words:?}");
     }
@@ -193,7 +193,7 @@ fn is_help(alloc: Global, command: &str, line: &str) -> Result<bool, Refused> {
 
 #[test]
 fn helps(rt: HostRuntime) {
-    for (command, line) in HELP {
+    for (command, line) in &HELP {
         let is_so = match is_help(rt.alloc(), command, line) {
             Ok(is_so) => is_so,
             Err(_) => is_help(rt.alloc(), command, line).unwrap_or(false),

@@ -1,5 +1,5 @@
 -- A record that meets each rule.
-use Rattle.std.proofs.Common.{◌≡◌, refl}
+use Rattle.std.proofs.Common.{refl}
 use Rattle.vat_rules.specs.Types.{Event, Host, Vow, Fulfil, Break, Make, Field, Deliver, Answer, Fault, Wire}
 use Rattle.vat_view.specs.Past.{Past}
 use Rattle.vat_rules.specs.declared.rule.Rule.{Rule}

@@ -1,5 +1,5 @@
 -- What a log tells whose records are all good.
-use Rattle.std.specs.Prelude.{ℕ, List, [], ◌∷◌, ◌++◌, map, reverse, length, count_by, Bool, true, false, Option, option_and_then}
+use Rattle.std.specs.Prelude.{List, [], ◌∷◌, ◌++◌, map, reverse, length, count_by, Bool, true, false, Option, option_and_then}
 use Rattle.std.specs.Option.{option_or}
 use Rattle.vat_log.specs.declared.body.Body.{Body}
 use Rattle.vat_rules.specs.Types.{Event, Deliver, View}

@@ -32,7 +32,10 @@ fn good_once(rt: &(impl Abort + AllocGlobal)) -> Result<(), Refused> {
         // HOST binds the reference that ANSWER and the first Return name
         let named = matches!(seen.references.as_slice(), [Some(View::Object(7))]);
         assert_eq!(rt; named, matches!(at, 0 | 3 | 5));
-        assert_eq!(rt; matches!(&entry.event, Event::Deliver { call: 2, object: 7 }), at == 4);
+        assert_eq!(rt;
+            matches!(&entry.event, Event::Deliver { call: 2, object: 7 }),
+            at == 4
+        );
     }
     Ok(())
 }

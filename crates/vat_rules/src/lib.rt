@@ -11,6 +11,7 @@
 mod audit;
 mod finding;
 mod judge;
+mod laws;
 mod of_calls;
 mod of_caps;
 mod of_connections;
@@ -26,6 +27,7 @@ mod ways;
 
 pub use audit::audit_vat;
 pub use finding::VatFinding;
+pub use laws::good_records_turn_once;
 pub use outcome::{Outcome, Why};
 pub use rule::Rule;
 pub use story::{Entry, Seen, Story, Views};

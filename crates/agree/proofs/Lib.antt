@@ -3,3 +3,10 @@ pub mod Asking
 pub mod Cuts
 pub mod Openings
 pub mod Once
+pub mod Telling
+pub mod Closing
+pub mod Dying
+pub mod Held
+pub mod Mates
+pub mod Covered
+pub mod Lasting

@@ -17,7 +17,8 @@ small : (b : Bool) (rest : Option ℕ) (k n : ℕ) → (rest ≡ Some n → n < 
 small true rest k n h e = let same : k ≡ n = cc in omega arith
 small false rest k n h e = let lt : n < k = h e in omega arith
 
-last_small : (u : RpcMessage → Bool) (ms : List RpcMessage) (n : ℕ) → last_number u ms ≡ Some n → n < length ms
+-- the number of the last that passes is below how many there are
+pub last_small : (u : RpcMessage → Bool) (ms : List RpcMessage) (n : ℕ) → last_number u ms ≡ Some n → n < length ms
 last_small u [] n e = absurd (let no : ⊥ = cc in no)
 last_small u (m ∷ ms) n e = small (u m) (last_number u ms) (length ms) n (last_small u ms n) e
 

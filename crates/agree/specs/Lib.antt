@@ -3,3 +3,6 @@ pub mod Points
 pub mod Streams
 pub mod Rows
 pub mod Agreeing
+pub mod Told
+pub mod Alive
+pub mod Lasting

@@ -6,9 +6,14 @@
 //! The messages that passed one way on a connection are a stream, and two points of two logs are a consistent cut where
 //! what either received by then the other had sent by then (`specs/Streams.antt`). Where several logs' records are taken
 //! in one order that fits, each point of the order gives such a cut (`specs/Rows.antt`). What two ends agree on is said
-//! in `specs/Agreeing.antt`. Each law is promised by a function of `src/laws.rt`, which does nothing.
+//! in `specs/Agreeing.antt`. A message is told with the opening of its question that it belongs to (`specs/Told.antt`),
+//! and what introduced a number is alive until something closes it (`specs/Alive.antt`); `specs/Lasting.antt` speaks of
+//! lives from one point to another. Each law is promised by a function of `src/laws.rt`, which does nothing.
 #![tactic(auto)]
 
 mod laws;
 
-pub use laws::{ends_agree_on_openings, openings_end_once, shared_logs_are_linked};
+pub use laws::{
+    ends_agree_on_openings, held_is_alive, importers_are_covered, lives_are_covered,
+    openings_end_once, shared_logs_are_linked,
+};

@@ -36,6 +36,10 @@ sender k one other m to e cut there h =
     subst (λ l. GoesOn (stream k true other) l) (stream_of k false to e (Some m) h) (through _ _ _ cut (kept (passing k false) one (e ∷ to) there)) in
     lifted (passing k true) other m (stream k false to) all
 
+-- the two records of it
+pub mate : (k : ℕ) (one other : Past) (m : RpcMessage) (to : Past) (e : Event) → (z : Sender k other m to) → GoesOn one (e ∷ to) → passing k false e ≡ Some m → IsPassed k m other one z.1 to z.0 e
+mate k one other m to e z there h = record { sent_there = z.2; received_there = there; sends = z.3; receives = h; same_number = ap length z.4 }
+
 -- some point of the importer since then makes a cut
 abbrev CutSince : ℕ → Past → Past → Past → Type 0
 CutSince k since whole point = (p : Past) × GoesOn whole p × GoesOn p since × IsCut k point p
@@ -49,7 +53,7 @@ at_received : (k : ℕ) (one other : Past) → IsCut k one other → IsCausal k 
     passing k false e ≡ Some m → CutSince k since other point → CutSince k since other (e ∷ point)
 at_received k one other cut causal since point e m there h c =
     let z = sender k one other m point e cut.to_one there h in
-    let passed : IsPassed k m other one z.1 point z.0 e = record { sent_there = z.2; received_there = there; sends = z.3; receives = h; same_number = ap length z.4 } in
+    let passed : IsPassed k m other one z.1 point z.0 e = mate k one other m point e z there h in
     let before : IsCut k z.1 point = causal m z.1 point z.0 e passed in
     let after : IsMet k (z.0 ∷ z.1) (e ∷ point) = met_after k m other one z.1 point z.0 e passed record { cut = before; all = z.4 } in
     elim (either other (z.0 ∷ z.1) c.0 z.2 c.1) [

@@ -10,3 +10,5 @@ pub mod Held
 pub mod Mates
 pub mod Covered
 pub mod Lasting
+pub mod Standing
+pub mod Good

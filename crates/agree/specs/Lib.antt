@@ -6,3 +6,4 @@ pub mod Agreeing
 pub mod Told
 pub mod Alive
 pub mod Lasting
+pub mod Standing

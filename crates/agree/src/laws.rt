@@ -6,6 +6,8 @@ ghost use Rattle.vat_view.specs.Past.{Past, Each, id};
 ghost use Rattle.vat_view.specs.Questions.{returns, finishes};
 ghost use Rattle.vat_view.specs.Lives.{came, went, held, GivesBackHeld};
 ghost use Rattle.vat_view.specs.Uses.{OpensFree, UsesQuestions};
+ghost use Rattle.vat_view.specs.Sound.{IsSound};
+ghost use Rattle.vat_rules.specs.Judged.{IsGood};
 ghost use Rattle.agree.specs.Points.{GoesOn};
 ghost use Rattle.agree.specs.Streams.{stream, IsCut, IsPassed, opening_number};
 ghost use Rattle.agree.specs.Rows.{Row, log_of, AllBefore, IsShared};
@@ -13,6 +15,7 @@ ghost use Rattle.agree.specs.Agreeing.{AreLinked, AgreeOnOpenings, AgreeOnLate};
 ghost use Rattle.agree.specs.Told.{AreTold};
 ghost use Rattle.agree.specs.Alive.{alive, let_go};
 ghost use Rattle.agree.specs.Lasting.{LivesFrom};
+ghost use Rattle.agree.specs.Standing.{AgreeOnLives, Agree};
 
 /// Where two vats share a connection in an order that fits, their logs are linked (`linked`); at each point of the order
 /// the two logs are at a consistent cut (`cut`); and what a vat received by a point of its log, the other had sent
@@ -74,4 +77,17 @@ pub fn lives_are_covered()
         → AreLinked k exporter importer → AgreeOnOpenings k exporter importer → AgreeOnOpenings k importer exporter
         → IsPassed k m exporter importer from to sent received → LivesFrom (id k false n) (received ∷ to) importer
         → LivesFrom (id k true n) (sent ∷ from) exporter }
+{}
+
+/// A number in life at its importer is in life at its exporter, and stands there for what the descriptor that began the
+/// importer's life stood for when it was sent: at each consistent cut of two linked logs, where the exporter's records
+/// are as they should be after those before them, and the importer uses questions as it should.
+pub fn numbers_stand_alike()
+    ensures { (k : ℕ) (one other : Past) → Each IsSound one → Each UsesQuestions other → AreLinked k one other → AgreeOnOpenings k one other
+        → AgreeOnOpenings k other one → AgreeOnLives k one other }
+{}
+
+/// The ends of two good logs that are linked agree on all of this, both ways.
+pub fn good_ends_agree()
+    ensures { (k : ℕ) (one other : Past) → Each IsGood one → Each IsGood other → AreLinked k one other → Agree k one other }
 {}

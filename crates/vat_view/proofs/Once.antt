@@ -26,7 +26,7 @@ once_at true t n f le = omega arith
 once_at false true n f le = let z = f refl in omega (arith, z)
 once_at false false n f le = omega (arith, le)
 
-used_so : (q : Id) (f : Id → Bool) (o : Option Id) → IfSome o (λ i. IsTrue (f i)) → names q o ≡ true → f q ≡ true
+pub used_so : (q : Id) (f : Id → Bool) (o : Option Id) → IfSome o (λ i. IsTrue (f i)) → names q o ≡ true → f q ≡ true
 used_so q f (Some i) h e = subst (λ x. f x ≡ true) (sym (same_id_is q i e)) h
 used_so q f None h e = absurd (false≢true e)
 

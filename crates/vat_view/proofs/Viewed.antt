@@ -292,7 +292,7 @@ import_viewed : (before : Past) (e : Event) (k n : ℕ) → is_in_life (id k fal
 import_viewed before e k n now = let b = birth_of (id k false n) (e ∷ before) now in
     (Import (number_of b.0.from) b.0.place, ap (λ o. option_and_then (view_given (view_of_reference before) false) o) b.1)
 
-export_viewed : (past : Past) (k n : ℕ) → Each IsSound past → ((r : ℕ) → is_bound past r ≡ true → Has (view_of_reference past r)) → is_in_life (id k true n) past ≡ true →
+pub export_viewed : (past : Past) (k n : ℕ) → Each IsSound past → ((r : ℕ) → is_bound past r ≡ true → Has (view_of_reference past r)) → is_in_life (id k true n) past ≡ true →
     Has (number_view (view_of_reference past) (id k true n) past)
 export_viewed past k n all viewed now =
     let b = birth_of (id k true n) past now in

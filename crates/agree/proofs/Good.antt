@@ -1,0 +1,58 @@
+-- What good logs give.
+use Rattle.std.proofs.Common.{refl, ℕ, true, false}
+use Rattle.agree.specs.Types.{Event, Host, Wire}
+use Rattle.vat_view.specs.Past.{Past, Each}
+use Rattle.vat_view.specs.Uses.{OpensFree, UsesQuestions}
+use Rattle.vat_view.specs.Bindings.{NotesEach}
+use Rattle.vat_view.specs.Sound.{IsSound}
+use Rattle.vat_rules.specs.declared.rule.Rule.TheVariants as rule
+use Rattle.vat_rules.specs.Judged.{IsGood}
+use Rattle.agree.specs.Agreeing.{AreLinked}
+use Rattle.agree.specs.Standing.{AgreeOneWay, Agree}
+use Rattle.agree.proofs.Points.{each_so}
+use Rattle.agree.proofs.Openings.{openings_linked, late_linked}
+use Rattle.agree.proofs.Standing.{lives_agree}
+
+notes_each : (before : Past) (e : Event) → IsGood before e → NotesEach before e
+notes_each before (Wire true k c rs m) good = (good rule.Desc).noted_each refl
+notes_each before (Wire false k c rs m) good = good rule.RecvRef refl
+notes_each before (Host r x) good = refl
+notes_each before _ good = refl
+
+good_sound : (before : Past) (e : Event) → IsGood before e → IsSound before e
+good_sound before e good = record {
+  refers = good rule.Ref;
+  uses_questions = good rule.QUse;
+  uses_numbers = good rule.XUse;
+  gives_back_held = good rule.Count;
+  notes_each = notes_each before e good;
+}
+
+-- good records are as vat_view's laws ask of them
+pub all_sound : (past : Past) → Each IsGood past → Each IsSound past
+all_sound past good = each_so IsGood IsSound good_sound past good
+
+pub all_use : (past : Past) → Each IsGood past → Each UsesQuestions past
+all_use past good = each_so IsGood UsesQuestions (λ b e g. g rule.QUse) past good
+
+all_free : (past : Past) → Each IsGood past → Each OpensFree past
+all_free past good = each_so IsGood OpensFree (λ b e g. g rule.QNew) past good
+
+-- the other way round
+pub linked_back : (k : ℕ) (one other : Past) → AreLinked k one other → AreLinked k other one
+linked_back k one other linked = record { cut = record { to_one = linked.cut.to_other; to_other = linked.cut.to_one }; there = linked.back; back = linked.there }
+
+one_way : (k : ℕ) (one other : Past) → Each IsGood one → Each IsGood other → AreLinked k one other → AgreeOneWay k one other
+one_way k one other good good_other linked =
+    let there = openings_linked k one other linked (all_use one good) (all_free other good_other) in
+    let back = openings_linked k other one (linked_back k one other linked) (all_use other good_other) (all_free one good) in
+    record {
+      openings = there;
+      late = late_linked k one other linked (all_use one good) (all_free other good_other);
+      lives = lives_agree k one other (all_sound one good) (all_use other good_other) linked there back;
+    }
+
+-- the ends of two good logs that are linked agree
+pub good_agree : (k : ℕ) (one other : Past) → Each IsGood one → Each IsGood other → AreLinked k one other → Agree k one other
+good_agree k one other good good_other linked =
+    record { there = one_way k one other good good_other linked; back = one_way k other one good_other good (linked_back k one other linked) }

@@ -1,0 +1,14 @@
+pub mod Points
+pub mod Asking
+pub mod Cuts
+pub mod Openings
+pub mod Once
+pub mod Telling
+pub mod Closing
+pub mod Dying
+pub mod Held
+pub mod Mates
+pub mod Covered
+pub mod Lasting
+pub mod Standing
+pub mod Good

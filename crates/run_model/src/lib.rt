@@ -1,8 +1,8 @@
 //! The machine of level 1: what calls, answers and capabilities do in one run of all vats, as if there were no wire.
 //!
 //! It stands on `cap_frame` for its paths, and on nothing of the logs. A run is a list of steps, each of one vat
-//! ([`Step`]). It has no number of a connection, no count, no table, no embargo and no byte: a call and a capability have
-//! one name for all vats ([`Name`], [`Cap`]). What a run means is said of a step and the steps before it, the newest first
+//! ([`Step`]). It has no question, export or import number, no count, no table, no embargo and no byte: a call and a
+//! capability have one name for all vats ([`Name`], [`Cap`]). What a run means is said of a step and the steps before it, the newest first
 //! (`specs/Steps.antt`): where capabilities lead (`specs/Leads.antt`), which of them a vat has (`specs/Has.antt`), where a
 //! call is (`specs/Places.antt`), when a step is legal (`specs/Legal.antt`), what links carry (`specs/Links.antt`), what is
 //! promised of a run (`specs/Right.antt`, `specs/Early.antt`), and which capabilities of others a vat came to have
@@ -15,6 +15,7 @@ mod caps;
 mod laws;
 mod message;
 mod name;
+mod plain;
 mod results;
 mod run;
 mod step;
@@ -29,6 +30,7 @@ pub use laws::{
 };
 pub use message::Message;
 pub use name::Name;
+pub use plain::Plain;
 pub use results::Results;
 pub use run::Run;
 pub use step::Step;

@@ -5,6 +5,7 @@ ghost use Rattle.std.specs.Prelude.{◌≡◌, IfOk};
 use crate::cap::Cap;
 use crate::caps::Caps;
 use crate::name::Name;
+use crate::plain::Plain;
 use crate::results::Results;
 use std::alloc::AllocError;
 
@@ -26,7 +27,7 @@ pub enum Message {
         /// The capabilities in its parameters.
         caps: Caps,
     },
-    /// A Return with results that came before a Finish that gives its results back.
+    /// A Return with results that wasn't late when it was sent.
     Return {
         /// The call that it answers.
         call: Name,
@@ -43,8 +44,8 @@ pub enum Message {
     Resolve(Cap, Cap),
     /// A Resolve with an exception, or with no capability: the promise is broken.
     Broken(Cap),
-    /// Any other message of level 1: Finish, Release, Disembargo or Abort.
-    Plain,
+    /// Any other message of level 1.
+    Plain(Plain),
 }
 
 impl Message {
@@ -80,7 +81,7 @@ impl Message {
             Message::Failed(call) => Ok(Message::Failed(*call)),
             Message::Resolve(promise, cap) => Ok(Message::Resolve(promise.copy()?, cap.copy()?)),
             Message::Broken(promise) => Ok(Message::Broken(promise.copy()?)),
-            Message::Plain => Ok(Message::Plain),
+            Message::Plain(plain) => Ok(Message::Plain(*plain)),
         }
     }
 }

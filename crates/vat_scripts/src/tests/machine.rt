@@ -2,7 +2,7 @@
 
 use super::given::Refused;
 use cap_frame::Path;
-use run_model::{Cap, Caps, Message, Name, Results, Run, Step};
+use run_model::{Cap, Caps, Message, Name, Plain, Results, Run, Step};
 use std::alloc::Global;
 use std::fmt::Write;
 use std::process::Abort;
@@ -79,7 +79,7 @@ fn a_run_tells_its_steps(rt: HostRuntime) {
 fn a_return_lends_its_caps(rt: HostRuntime) {
     let message = match returned(rt.alloc()) {
         Ok(message) => message,
-        Err(_) => returned(rt.alloc()).unwrap_or(Message::Plain),
+        Err(_) => returned(rt.alloc()).unwrap_or(Message::Plain(Plain::Abort)),
     };
     assert_eq!(rt; counts(&message), (2, 1));
 }

@@ -1,0 +1,240 @@
+-- What is asked of a log's records is asked of the messages in its streams.
+use Rattle.std.proofs.Common.{◌≡◌, refl, sym, ◌∙◌, ap, ap₂, subst, ℕ, ◌+◌, ◌≤◌, ◌==◌, List, [], ◌∷◌, ◌++◌, length, Bool, true, false, not, ◌&&◌, ◌||◌, Option, Some, None, if◌then◌else◌, arith}
+use Rattle.std.specs.Prelude.{is_some, option_map, IfSome}
+use Rattle.std.specs.List.{cons_option}
+use Rattle.std.specs.Bool.{beq}
+use Rattle.std.proofs.lemmas.Bool.{false≢true}
+use Rattle.std.proofs.lemmas.Bool.Decides.{nat_tests}
+use Rattle.agree.specs.Types.{RpcMessage, Bootstrap, Call, Return, Finish, Event, Host, Wire, Id}
+use Rattle.vat_view.specs.Past.{Past, Point, point, names, last_since, Each}
+use Rattle.vat_view.specs.Questions.{opened, returned, released, opens, returns, releases, opening, is_opened, is_released, is_free, is_unreturned}
+use Rattle.vat_view.specs.Uses.{OpensFree, UsesQuestions}
+use Rattle.vat_view.proofs.Naming.{same_id_is}
+use Rattle.agree.specs.Streams.{passing, stream, opening_number}
+
+-- a message opens the question of this number of its sender's
+abbrev pub asks : ℕ → RpcMessage → Bool
+asks n (Bootstrap q) = n == q
+asks n (Call q target interface method params) = n == q
+asks n _ = false
+
+-- returns one of its receiver's
+abbrev pub answers : ℕ → RpcMessage → Bool
+answers n (Return q release outcome) = n == q
+answers n _ = false
+
+-- gives back the results of one of its sender's
+abbrev pub frees : ℕ → RpcMessage → Bool
+frees n (Finish q true) = n == q
+frees n _ = false
+
+-- what a test says of a message, if there is one
+abbrev pub passes : (RpcMessage → Bool) → Option RpcMessage → Bool
+passes test (Some m) = test m
+passes test None = false
+
+-- how many pass a test
+abbrev pub count : (RpcMessage → Bool) → List RpcMessage → ℕ
+count test [] = 0
+count test (m ∷ before) = (if test m then 1 else 0) + count test before
+
+-- whether one came since the last of another kind
+abbrev pub came_since : (RpcMessage → Bool) → (RpcMessage → Bool) → List RpcMessage → Bool
+came_since start test [] = false
+came_since start test (m ∷ before) = if start m then false else if test m then true else came_since start test before
+
+-- the number of the last message that passes a test
+abbrev pub last_number : (RpcMessage → Bool) → List RpcMessage → Option ℕ
+last_number test [] = None
+last_number test (m ∷ before) = if test m then Some (length before) else last_number test before
+
+-- one for a truth
+abbrev pub one_if : Bool → ℕ
+one_if b = if b then 1 else 0
+
+-- ---- records and messages
+
+as_asked : (g : Bool) (test : RpcMessage → Bool) (m : RpcMessage) → (g && test m) ≡ passes test (if g then Some m else None)
+as_asked true test m = refl
+as_asked false test m = refl
+
+not_asked : (g : Bool) (test : RpcMessage → Bool) (m : RpcMessage) → test m ≡ false → false ≡ passes test (if g then Some m else None)
+not_asked true test m e = sym e
+not_asked false test m e = refl
+
+pub opens_is : (q : Id) (e : Event) → names q (opened e) ≡ passes (asks q.number) (passing q.connection q.ours e)
+opens_is q (Wire t j c rs (Bootstrap n)) = as_asked ((q.connection == j) && beq q.ours t) (asks q.number) (Bootstrap n)
+opens_is q (Wire t j c rs (Call n target i m b)) = as_asked ((q.connection == j) && beq q.ours t) (asks q.number) (Call n target i m b)
+opens_is q (Wire t j c rs m) = not_asked ((q.connection == j) && beq q.ours t) (asks q.number) m refl
+opens_is q (Host r o) = refl
+opens_is q _ = refl
+
+pub releases_is : (q : Id) (e : Event) → names q (released e) ≡ passes (frees q.number) (passing q.connection q.ours e)
+releases_is q (Wire t j c rs (Finish n true)) = as_asked ((q.connection == j) && beq q.ours t) (frees q.number) (Finish n true)
+releases_is q (Wire t j c rs (Finish n false)) = not_asked ((q.connection == j) && beq q.ours t) (frees q.number) (Finish n false) refl
+releases_is q (Wire t j c rs m) = not_asked ((q.connection == j) && beq q.ours t) (frees q.number) m refl
+releases_is q (Host r o) = refl
+releases_is q _ = refl
+
+turn : (a o t b : Bool) → (a && beq o (not t) && b) ≡ (a && beq (not o) t && b)
+turn a o t b = grind (arith, nat_tests)
+
+pub returns_is : (q : Id) (e : Event) → names q (returned e) ≡ passes (answers q.number) (passing q.connection (not q.ours) e)
+returns_is q (Wire t j c rs (Return n release outcome)) = turn (q.connection == j) q.ours t (q.number == n) ∙ as_asked ((q.connection == j) && beq (not q.ours) t) (answers q.number) (Return n release outcome)
+returns_is q (Wire t j c rs (Bootstrap n)) = not_asked ((q.connection == j) && beq (not q.ours) t) (answers q.number) (Bootstrap n) refl
+returns_is q (Wire t j c rs m) = not_asked ((q.connection == j) && beq (not q.ours) t) (answers q.number) m refl
+returns_is q (Host r o) = refl
+returns_is q _ = refl
+
+-- ---- a stream, one record on
+
+pub count_more : (t : RpcMessage → Bool) (o : Option RpcMessage) (str : List RpcMessage) → count t (cons_option o str) ≡ one_if (passes t o) + count t str
+count_more t None str = omega arith
+count_more t (Some m) str = refl
+
+pub count-append : (test : RpcMessage → Bool) (xs ys : List RpcMessage) → count test (xs ++ ys) ≡ count test xs + count test ys
+count-append test [] ys = omega arith
+count-append test (x ∷ xs) ys = omega (arith, count-append test xs ys)
+
+since_at : (start test : RpcMessage → Bool) (o : Option RpcMessage) (str : List RpcMessage) →
+    came_since start test (cons_option o str) ≡ (if passes start o then false else if passes test o then true else came_since start test str)
+since_at start test None str = refl
+since_at start test (Some m) str = refl
+
+some_if : (s t : Bool) (p : Point) (o : Option Point) → is_some (if s then None else if t then Some p else o) ≡ (if s then false else if t then true else is_some o)
+some_if true t p o = refl
+some_if false true p o = refl
+some_if false false p o = refl
+
+-- a question's results were given back where its Finish came since in the stream
+pub released_stream : (q : Id) (past : Past) → is_released q past ≡ came_since (asks q.number) (frees q.number) (stream q.connection q.ours past)
+released_stream q [] = refl
+released_stream q (e ∷ before) =
+    let o = passing q.connection q.ours e in
+    some_if (opens q before e) (releases q before e) (point before e) (last_since (opens q) (releases q) before)
+    ∙ ap₂ (λ x y. if x then false else if y then true else is_released q before) (opens_is q e) (releases_is q e)
+    ∙ ap (λ z. if passes (asks q.number) o then false else if passes (frees q.number) o then true else z) (released_stream q before)
+    ∙ sym (since_at (asks q.number) (frees q.number) o (stream q.connection q.ours before))
+
+-- ---- the number of an opening
+
+number_at : (test : RpcMessage → Bool) (o : Option RpcMessage) (str : List RpcMessage) →
+    last_number test (cons_option o str) ≡ (if passes test o then Some (length str) else last_number test str)
+number_at test None str = refl
+number_at test (Some m) str = refl
+
+map_if : (f : Point → ℕ) (b : Bool) (p : Point) (o : Option Point) → option_map f (if b then Some p else o) ≡ (if b then Some (f p) else option_map f o)
+map_if f true p o = refl
+map_if f false p o = refl
+
+-- one record on
+pub number_more : (q : Id) (e : Event) (past : Past) → opening_number q (e ∷ past) ≡ (if names q (opened e) then Some (length (stream q.connection q.ours past)) else opening_number q past)
+number_more q e past = map_if (λ p. length (stream q.connection q.ours p.before)) (names q (opened e)) (point past e) (opening q past)
+
+-- it stands in the stream alone
+pub number_stream : (q : Id) (past : Past) → opening_number q past ≡ last_number (asks q.number) (stream q.connection q.ours past)
+number_stream q [] = refl
+number_stream q (e ∷ past) =
+    number_more q e past
+    ∙ ap₂ (λ b o. if b then Some (length (stream q.connection q.ours past)) else o) (opens_is q e) (number_stream q past)
+    ∙ sym (number_at (asks q.number) (passing q.connection q.ours e) (stream q.connection q.ours past))
+
+-- ---- where none of a kind came later
+
+none_so : (a : Bool) (n : ℕ) → one_if a + n ≡ 0 → (a ≡ false) × (n ≡ 0)
+none_so a n e = grind (arith, nat_tests)
+
+-- the last one is the same
+pub last_number_same : (u : RpcMessage → Bool) (later str : List RpcMessage) → count u later ≡ 0 → last_number u (later ++ str) ≡ last_number u str
+last_number_same u [] str e = refl
+last_number_same u (m ∷ later) str e =
+    let parts = none_so (u m) (count u later) e in
+    ap (λ c. if c then Some (length (later ++ str)) else last_number u (later ++ str)) parts.0 ∙ last_number_same u later str parts.1
+
+came_still : (u t c : Bool) → u ≡ false → c ≡ true → (if u then false else if t then true else c) ≡ true
+came_still u t c e f = grind (arith, nat_tests)
+
+-- and what came since, still came since
+pub since_more : (u t : RpcMessage → Bool) (later str : List RpcMessage) → count u later ≡ 0 → came_since u t str ≡ true → came_since u t (later ++ str) ≡ true
+since_more u t [] str e h = h
+since_more u t (m ∷ later) str e h =
+    let parts = none_so (u m) (count u later) e in came_still (u m) (t m) (came_since u t (later ++ str)) parts.0 (since_more u t later str parts.1 h)
+
+-- ---- what a question waits for
+
+-- a question was opened, and no such record, as its Return or its Finish, has come since
+abbrev pub is_due : Id → (Past → Event → Bool) → Past → Bool
+is_due q t past = is_opened q past && not (is_some (last_since (opens q) t past))
+
+waits_by : (o r : Bool) (p x : Point) (a b : Option Point) →
+    (is_some (if o then Some p else a) && not (is_some (if o then None else if r then Some x else b))) ≡ (if o then true else if r then false else (is_some a && not (is_some b)))
+waits_by true r p x a b = refl
+waits_by false true p x None b = refl
+waits_by false true p x (Some y) b = refl
+waits_by false false p x a b = refl
+
+-- an opening makes it due, and it comes
+pub waits : (q : Id) (t : Past → Event → Bool) (e : Event) (before : Past) → is_due q t (e ∷ before) ≡ (if opens q before e then true else (if t before e then false else is_due q t before))
+waits q t e before = waits_by (opens q before e) (t before e) (point before e) (point before e) (opening q before) (last_since (opens q) t before)
+
+-- what opens a question neither returns nor finishes it
+pub opens_no_return : (q : Id) (e : Event) → names q (opened e) ≡ true → names q (returned e) ≡ false
+opens_no_return q (Wire s j c rs (Return n release outcome)) h = absurd (false≢true h)
+opens_no_return q (Wire s j c rs _) h = refl
+opens_no_return q (Host r o) h = refl
+opens_no_return q _ h = refl
+
+used_so : (q : Id) (f : Id → Bool) (o : Option Id) → IfSome o (λ i. f i ≡ true) → names q o ≡ true → f q ≡ true
+used_so q f (Some i) h e = subst (λ x. f x ≡ true) (sym (same_id_is q i e)) h
+used_so q f None h e = absurd (false≢true e)
+
+-- a Return comes while it is due
+pub returns_waiting : (q : Id) (before : Past) (e : Event) → UsesQuestions before e → returns q before e ≡ true → is_due q (returns q) before ≡ true
+returns_waiting q before e uses h = used_so q (λ i. is_unreturned i before) (returned e) uses.returned_once h
+
+free_parts : (o r f : Bool) → (not o || (r && f)) ≡ true → (o && not r) ≡ false
+free_parts o r f e = grind (arith, nat_tests)
+
+idle_so : (q : Id) (before : Past) (o : Option Id) → IfSome o (λ i. is_free i before ≡ true) → names q o ≡ true → is_due q (returns q) before ≡ false
+idle_so q before o free h = free_parts _ _ _ (used_so q (λ i. is_free i before) o free h)
+
+-- an opening comes while no Return is due
+pub opens_idle : (q : Id) (before : Past) (e : Event) → OpensFree before e → opens q before e ≡ true → is_due q (returns q) before ≡ false
+opens_idle q before e free h = idle_so q before (opened e) free h
+
+fewer_step : (o r f : Bool) (n m : ℕ) → (r ≡ true → f ≡ true) → (o ≡ true → r ≡ false) → n + one_if f ≤ m →
+    (one_if r + n) + one_if (if o then true else (if r then false else f)) ≤ one_if o + m
+fewer_step o r f n m h g le = grind (arith, nat_tests)
+
+more_step : (o r f : Bool) (n m : ℕ) → (o ≡ true → f ≡ false) → (o ≡ true → r ≡ false) → m ≤ n + one_if f →
+    one_if o + m ≤ (one_if r + n) + one_if (if o then true else (if r then false else f))
+more_step o r f n m h g le = grind (arith, nat_tests)
+
+module _ (q : Id) where
+  abbrev pub asked : Past → ℕ
+  asked past = count (asks q.number) (stream q.connection q.ours past)
+
+  abbrev pub answered : Past → ℕ
+  answered past = count (answers q.number) (stream q.connection (not q.ours) past)
+
+  asked_more : (e : Event) (before : Past) → asked (e ∷ before) ≡ one_if (opens q before e) + asked before
+  asked_more e before = count_more (asks q.number) (passing q.connection q.ours e) (stream q.connection q.ours before) ∙ ap (λ b. one_if b + asked before) (sym (opens_is q e))
+
+  answered_more : (e : Event) (before : Past) → answered (e ∷ before) ≡ one_if (returns q before e) + answered before
+  answered_more e before = count_more (answers q.number) (passing q.connection (not q.ours) e) (stream q.connection (not q.ours) before) ∙ ap (λ b. one_if b + answered before) (sym (returns_is q e))
+
+  -- each Return has an opening
+  pub fewer_returns : (past : Past) → Each UsesQuestions past → answered past + one_if (is_due q (returns q) past) ≤ asked past
+  fewer_returns [] good = omega arith
+  fewer_returns (e ∷ before) good =
+      let step = fewer_step (opens q before e) (returns q before e) (is_due q (returns q) before) (answered before) (asked before) (returns_waiting q before e good.0) (opens_no_return q e) (fewer_returns before good.1) in
+      let now = ap (λ b. one_if b) (waits q (returns q) e before) in
+      omega (arith, step, now, asked_more e before, answered_more e before)
+
+  -- each opening but the last has a Return
+  pub more_returns : (past : Past) → Each OpensFree past → asked past ≤ answered past + one_if (is_due q (returns q) past)
+  more_returns [] good = omega arith
+  more_returns (e ∷ before) good =
+      let step = more_step (opens q before e) (returns q before e) (is_due q (returns q) before) (answered before) (asked before) (opens_idle q before e good.0) (opens_no_return q e) (more_returns before good.1) in
+      let now = ap (λ b. one_if b) (waits q (returns q) e before) in
+      omega (arith, step, now, asked_more e before, answered_more e before)

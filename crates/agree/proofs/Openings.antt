@@ -1,0 +1,100 @@
+-- The two ends of a connection speak of the same openings.
+use Rattle.std.proofs.Common.{◌≡◌, refl, sym, ◌∙◌, ap, ℕ, ◌+◌, ◌≤◌, ◌==◌, List, Bool, true, false, not, ◌&&◌, Some, None, if◌then◌else◌, arith, eqb-true}
+use Rattle.std.specs.Bool.{beq}
+use Rattle.std.proofs.lemmas.Bool.{false≢true, eq-eqb}
+use Rattle.std.proofs.lemmas.Bool.Decides.{nat_tests}
+use Rattle.agree.specs.Types.{RpcMessage, Bootstrap, Return, Outcome, Event, Host, Wire}
+use Rattle.vat_view.specs.Past.{Past, id, Each}
+use Rattle.vat_view.specs.Questions.{returns, is_released, is_late}
+use Rattle.vat_view.specs.Uses.{OpensFree, UsesQuestions}
+use Rattle.agree.specs.Points.{GoesOn}
+use Rattle.agree.specs.Streams.{passing, stream, IsPassed, opening_number}
+use Rattle.agree.specs.Agreeing.{AreLinked, AgreeOnOpenings, AgreeOnLate}
+use Rattle.agree.proofs.Points.{before_it, each_before, each_at}
+use Rattle.agree.proofs.Asking.{asks, answers, frees, passes, count, count-append, came_since, last_number, one_if, returns_is, released_stream, number_stream, last_number_same, since_more, is_due, returns_waiting, fewer_returns, more_returns}
+use Rattle.agree.proofs.Cuts.{IsMet, same_before}
+
+-- a question opened the way in which a message goes has one last opening before it at both ends
+pub own_agree : (k n : ℕ) (m : RpcMessage) (one other from to : Past) (sent received : Event) → GoesOn (stream k true one) (stream k false other) →
+    IsPassed k m one other from to sent received → opening_number (id k true n) from ≡ opening_number (id k false n) to
+own_agree k n m one other from to sent received link p =
+    number_stream (id k true n) from ∙ ap (λ l. last_number (asks n) l) (same_before k m one other from to sent received link p) ∙ sym (number_stream (id k false n) to)
+
+one_way : (a b : Bool) (m n : RpcMessage) → (if a && b then Some n else None) ≡ Some m → (a ≡ true) × (b ≡ true) × (n ≡ m)
+one_way true true m n h = let same : n ≡ m = cc in (refl, refl, same)
+one_way true false m n h = absurd (let no : ⊥ = cc in no)
+one_way false b m n h = absurd (let no : ⊥ = cc in no)
+
+same_way : (s o : Bool) → beq s o ≡ true → o ≡ s
+same_way s o e = grind (arith, nat_tests)
+
+-- a record through which a message passed
+pub passing_is : (k : ℕ) (s : Bool) (m : RpcMessage) (e : Event) → passing k s e ≡ Some m → (call : ℕ) × (references : List ℕ) × (e ≡ Wire s k call references m)
+passing_is k s m (Wire t j c rs n) h =
+    let parts = one_way (k == j) (beq s t) m n h in
+    let one : k ≡ j = eqb-true k j parts.0 in
+    let two : t ≡ s = same_way s t parts.1 in
+    let three : n ≡ m = parts.2 in (c, rs, cc)
+passing_is k s m (Host r o) h = absurd (let no : ⊥ = cc in no)
+passing_is k s m _ h = absurd (let no : ⊥ = cc in no)
+
+late_is : (k : ℕ) (s : Bool) (q : ℕ) (release : Bool) (outcome : Outcome) (before : Past) (e : Event) → passing k s e ≡ Some (Return q release outcome) →
+    is_late before e ≡ is_released (id k (not s) q) before
+late_is k s q release outcome before e h = ap (λ x. is_late before x) (passing_is k s (Return q release outcome) e h).2
+
+small : (b : Bool) → one_if b ≤ 1
+small b = grind (arith, nat_tests)
+
+module _ (k q : ℕ) (release : Bool) (outcome : Outcome) (one other from to : Past) (sent received : Event) (uses : Each UsesQuestions one) (free : Each OpensFree other)
+    (p : IsPassed k (Return q release outcome) one other from to sent received) (met : IsMet k from to) where
+  -- where a Return left and came, no opening of its question is on its way to the one who returns
+  none_opened : count (asks q) met.cut.to_one.0 ≡ 0
+  none_opened =
+      let back : returns (id k false q) from sent ≡ true = returns_is (id k false q) sent ∙ ap (λ o. passes (answers q) o) p.sends ∙ eq-eqb q q refl in
+      let waits = ap (λ b. one_if b) (returns_waiting (id k false q) from sent (each_at UsesQuestions one uses from sent p.sent_there) back) in
+      let fewer = fewer_returns (id k false q) from (each_before UsesQuestions one from (before_it one sent from p.sent_there) uses) in
+      let more = more_returns (id k true q) to (each_before OpensFree other to (before_it other received to p.received_there) free) in
+      let parts : count (asks q) (stream k true to) ≡ count (asks q) met.cut.to_one.0 + count (asks q) (stream k false from) =
+      ap (λ l. count (asks q) l) met.cut.to_one.1 ∙ count-append (asks q) met.cut.to_one.0 (stream k false from) in
+      omega (arith, waits, fewer, more, small (is_due (id k true q) (returns (id k true q)) to), ap (λ l. count (answers q) l) met.all, parts)
+
+  -- a Return belongs to one opening at both ends
+  pub returns_agree : opening_number (id k false q) from ≡ opening_number (id k true q) to
+  returns_agree =
+      number_stream (id k false q) from ∙ sym (last_number_same (asks q) met.cut.to_one.0 (stream k false from) none_opened)
+      ∙ ap (λ l. last_number (asks q) l) (sym met.cut.to_one.1) ∙ sym (number_stream (id k true q) to)
+
+  -- a Return late at its sender is late at its receiver
+  pub late_agree : is_late from sent ≡ true → is_late to received ≡ true
+  late_agree late =
+      late_is k false q release outcome to received p.receives ∙ released_stream (id k true q) to
+      ∙ ap (λ l. came_since (asks q) (frees q) l) met.cut.to_one.1
+      ∙ since_more (asks q) (frees q) met.cut.to_one.0 (stream k false from) none_opened
+      (sym (released_stream (id k false q) from) ∙ sym (late_is k true q release outcome from sent p.sends) ∙ late)
+
+-- ---- of logs that are linked
+
+module _ (k : ℕ) (one other : Past) (linked : AreLinked k one other) where
+  met : (m : RpcMessage) (from to : Past) (sent received : Event) → IsPassed k m one other from to sent received → IsMet k from to
+  met m from to sent received p =
+      record { cut = linked.there m from to sent received p; all = same_before k m one other from to sent received linked.cut.to_other p }
+
+  pub own_linked : (n : ℕ) (m : RpcMessage) (from to : Past) (sent received : Event) → IsPassed k m one other from to sent received →
+      opening_number (id k true n) from ≡ opening_number (id k false n) to
+  own_linked n m from to sent received p = own_agree k n m one other from to sent received linked.cut.to_other p
+
+  module _ (uses : Each UsesQuestions one) (free : Each OpensFree other) where
+    pub openings_linked : AgreeOnOpenings k one other
+    openings_linked q release outcome from to sent received p =
+        returns_agree k q release outcome one other from to sent received uses free p (met (Return q release outcome) from to sent received p)
+
+    never : (m : RpcMessage) (from to : Past) (sent received : Event) → IsPassed k m one other from to sent received → ((c : ℕ) (rs : List ℕ) → is_late from (Wire true k c rs m) ≡ false) →
+        is_late from sent ≡ true → is_late to received ≡ true
+    never m from to sent received p not_late late =
+        let s = passing_is k true m sent p.sends in absurd (false≢true (sym (not_late s.0 s.1) ∙ sym (ap (λ x. is_late from x) s.2) ∙ late))
+
+    pub late_linked : AgreeOnLate k one other
+    late_linked (Return q release outcome) from to sent received p late =
+        late_agree k q release outcome one other from to sent received uses free p (met (Return q release outcome) from to sent received p) late
+    late_linked (Bootstrap q) from to sent received p late = never (Bootstrap q) from to sent received p (λ c rs. refl) late
+    late_linked m from to sent received p late = never m from to sent received p (λ c rs. refl) late

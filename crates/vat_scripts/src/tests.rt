@@ -7,6 +7,7 @@ mod given;
 mod links;
 mod logs;
 mod loopbacks;
+mod machine;
 mod messages;
 mod orders;
 mod pointers;

@@ -1,0 +1,2 @@
+mod PipelinedCall
+mod UnderWay

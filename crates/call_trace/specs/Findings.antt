@@ -1,0 +1,39 @@
+-- What is asked of findings and an order, so that they name a run; as who made them knows it.
+use Rattle.std.specs.Prelude.{ℕ, List, Bool, true, false, map, IsTrue, Contains, ◌≡◌, ◌≢◌, ◌||◌}
+use Rattle.std.specs.List.{list_any, list_all}
+use Rattle.vat_rules.specs.declared.outcome.Outcome.{Outcome}
+use Rattle.link_check.specs.Prefix.{IsPrefix, received, sent}
+use Rattle.merge_order.specs.Fits.{IsRising, IsFitting, sends, receives}
+use Rattle.vat_log.specs.Log.{Log}
+use Rattle.vat_rules.specs.Audit.{Found}
+use Rattle.vat_rules.specs.declared.outcome.Outcome.TheVariants.{Good}
+
+-- a finding says that every record is good
+abbrev pub is_good : Outcome → Bool
+is_good (Good story) = true
+is_good _ = false
+
+-- a log uses a connection
+abbrev pub uses : ℕ → Log → Bool
+uses k log = list_any (λ body. sends k body || receives k body) log.records
+
+-- two of these logs, of two vats, use a connection
+pub record Share (logs : List Log) (k : ℕ) (one other : Log) : Type 0 where
+  pub one_there : Contains logs one
+  pub other_there : Contains logs other
+  pub apart : one.vat ≢ other.vat
+  pub one_uses : IsTrue (uses k one)
+  pub other_uses : IsTrue (uses k other)
+
+-- the logs of findings
+abbrev pub logs_of : List Found → List Log
+logs_of findings = map (λ finding. finding.log) findings
+
+-- the findings are good and come by rising vat numbers; the order fits; each connection is used by two of the logs at
+-- most, and the frames that either of them received are a prefix of those that the other sent
+pub record MayBeNamed (findings : List Found) (order : List ℕ) : Type 0 where
+  pub good : IsTrue (list_all (λ finding. is_good finding.outcome) findings)
+  pub rising : IsRising (logs_of findings)
+  pub fits : IsFitting (logs_of findings) order
+  pub two_ends : (k : ℕ) (one other third : Log) → Share (logs_of findings) k one other → Share (logs_of findings) k one third → other.vat ≡ third.vat
+  pub linked : (k : ℕ) (one other : Log) → Share (logs_of findings) k one other → IsPrefix (received k one) (sent k other)

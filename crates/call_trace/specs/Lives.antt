@@ -1,0 +1,27 @@
+-- Lives: at its own end each number is used in its life (rpc.capnp, the comments of ExportId, QuestionId, Resolve and
+-- Disembargo). A received Resolve alone may name a promise that was released.
+use Rattle.std.specs.Prelude.{true, ⊤, IsTrue, IsSome, IsSomeAnd, IfSome}
+use Rattle.call_trace.specs.Types.{Resolve, Event, Wire}
+use Rattle.vat_view.specs.Lives.{birth, began_promised}
+use Rattle.vat_view.specs.Loopbacks.{echoed, loopback_of}
+use Rattle.vat_view.specs.Past.{Past, id}
+use Rattle.vat_view.specs.Uses.{UsesNumbers, UsesQuestions, OpensFree}
+
+-- a Resolve that is sent names a promise in life
+abbrev pub ResolvesLiving : Past → Event → Type 0
+ResolvesLiving before (Wire true k c references (Resolve n resolution)) = IsSomeAnd (birth (id k true n) before) (λ b. IsTrue (began_promised b))
+ResolvesLiving before _ = ⊤
+
+-- a loopback that is echoed waits for its echo
+abbrev pub EchoesWaiting : Past → Event → Type 0
+EchoesWaiting before e = IfSome (echoed e) (λ i. IsSome (loopback_of i before))
+
+-- a record uses numbers in their lives: targets, receiverHosted and Release numbers in life; targets and receiverAnswer
+-- questions without a Finish; Finish and Return an opening that had none of that kind; and what opens a question a free
+-- number
+pub record UsesLives (before : Past) (e : Event) : Type 0 where
+  pub numbers : UsesNumbers before e
+  pub questions : UsesQuestions before e
+  pub openings : OpensFree before e
+  pub resolves : ResolvesLiving before e
+  pub echoes : EchoesWaiting before e

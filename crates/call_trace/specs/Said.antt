@@ -1,0 +1,74 @@
+-- What a message says, as one end reads it by its own log and names it. Where the log doesn't say what a number stands
+-- for, the message says nothing.
+use Rattle.std.specs.Prelude.{ℕ, List, [], Bool, true, false, not, Option, Some, None, if◌then◌else◌, filter_map, map, slice_get, option_and_then, option_map, unwrap_or, ◌∷◌}
+use Rattle.call_trace.specs.Naming.{Naming}
+use Rattle.call_trace.specs.Types.{Descriptor, NoCap, Results, Bootstrap, Call, Return, Finish, Resolve, Release, Disembargo, Abort, Event, Wire, Name, Cap, Message}
+use Rattle.run_model.specs.Legal.{is_cap}
+use Rattle.vat_view.specs.Lives.{descriptors}
+use Rattle.vat_view.specs.Past.{Past, id}
+use Rattle.vat_view.specs.Questions.{is_late, call_of}
+use Rattle.vat_view.specs.Views.{view_of_reference, view_of_number, view_of_target, described}
+use Rattle.run_model.specs.declared.cap.Cap.TheVariants as cap
+use Rattle.run_model.specs.declared.message.Message.TheVariants as message
+use Rattle.run_model.specs.declared.plain.Plain.TheVariants as plain
+
+-- all of these, where each is there
+abbrev pub together : {A : Type 0} → List (Option A) → Option (List A)
+together [] = Some []
+together (None ∷ _) = None
+together (Some x ∷ xs) = option_map (λ ys. x ∷ ys) (together xs)
+
+-- the cap for which a descriptor of a record stands; Nothing where it is none
+abbrev pub descriptor_named : Naming → Past → Event → Descriptor → Option Cap
+descriptor_named names es e NoCap = Some cap.Nothing
+descriptor_named names es e d = option_and_then names.cap (described (view_of_reference es) es e d)
+
+-- the caps of a record's message, by place
+abbrev pub caps_named : Naming → Past → Event → Option (List Cap)
+caps_named names es e = together (map (descriptor_named names es e) (descriptors e))
+
+-- the caps that stand at paths: none stands where the index is past the table, or the cap there is Nothing
+abbrev pub given : List Cap → List (List ℕ × ℕ) → List (List ℕ × Cap)
+given caps fields = filter_map (λ field. option_and_then (λ c. if is_cap c then Some (field.0, c) else None) (slice_get caps field.1)) fields
+
+-- a Call whose caps, name and target are there
+abbrev pub say_call : ℕ → ℕ → Option (List Cap) → Option Name → Option Cap → Option Message
+say_call interface method (Some caps) (Some c) (Some target) = Some (message.Call c target interface method caps)
+say_call interface method _ _ _ = None
+
+-- a Return with these results and caps, late or not
+abbrev pub say_return : Bool → List (List ℕ × ℕ) → Name → Option (List Cap) → Option Message
+say_return true fields c caps = Some (message.Late c)
+say_return false fields c caps = option_map (λ caps. message.Return c (given caps fields) caps) caps
+
+-- a Resolve of a promise to the cap of its table; Broken where that is Nothing or the table empty
+abbrev pub say_resolve : Cap → List Cap → Message
+say_resolve promise (cap.Nothing ∷ _) = message.Broken promise
+say_resolve promise (c ∷ _) = message.Resolve promise c
+say_resolve promise [] = message.Broken promise
+
+-- the promise that a Resolve names; Nothing where its number is out of life
+abbrev pub promise_named : Naming → Past → ℕ → Bool → ℕ → Cap
+promise_named names es k sent n = unwrap_or (option_and_then names.cap (view_of_number (id k sent n) es)) cap.Nothing
+
+-- the call of the question that a Return answers
+abbrev pub answered : Naming → Past → ℕ → Bool → ℕ → Option Name
+answered names es k sent q = option_and_then names.call (call_of (id k (not sent) q) es)
+
+-- the message of a record, as this end reads it
+abbrev pub said : Naming → Past → Event → Option Message
+said names es (Wire sent k c references (Bootstrap q)) = option_map message.Boot (names.call c)
+said names es (Wire sent k c references (Call q target interface method params)) =
+    let e = Wire sent k c references (Call q target interface method params) in
+    say_call interface method (caps_named names es e) (names.call c) (option_and_then names.cap (view_of_target es e))
+said names es (Wire sent k c references (Return q release (Results payload))) =
+    let e = Wire sent k c references (Return q release (Results payload)) in
+    option_and_then (λ name. say_return (is_late es e) payload.fields name (caps_named names es e)) (answered names es k sent q)
+said names es (Wire sent k c references (Return q release _)) = option_map message.Failed (answered names es k sent q)
+said names es (Wire sent k c references (Resolve n resolution)) =
+    option_map (say_resolve (promise_named names es k sent n)) (caps_named names es (Wire sent k c references (Resolve n resolution)))
+said names es (Wire sent k c references (Finish q release)) = Some (message.Plain plain.Finish)
+said names es (Wire sent k c references (Release n count)) = Some (message.Plain plain.Release)
+said names es (Wire sent k c references (Disembargo n loopback target)) = Some (message.Plain plain.Disembargo)
+said names es (Wire sent k c references Abort) = Some (message.Plain plain.Abort)
+said names es _ = None

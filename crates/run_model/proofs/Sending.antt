@@ -1,0 +1,82 @@
+-- What is received was sent before.
+use Rattle.std.proofs.Common.{◌≡◌, ◌≢◌, refl, sym, ◌∙◌, ap, subst, ℕ, zero, suc, ◌==◌, List, [], ◌∷◌, ◌++◌, Bool, true, false, not, ◌&&◌, Option, Some, None, reverse, slice_get, filter_map, if◌then◌else◌, append_assoc, true≢false, eqb-true}
+use Rattle.std.proofs.lemmas.List.{reverse-append, reverse-reverse}
+use Rattle.std.proofs.lemmas.Bool.{and_parts, eq-eqb}
+use Rattle.std.specs.List.{AllByRecursion, cons_option}
+use Rattle.run_model.specs.Types.{Name, Cap, FieldOf, Message, Return, Resolve, Step, Host, Send, Receive}
+use Rattle.run_model.proofs.Growing.{leads_by_turns_grow}
+use Rattle.run_model.specs.Leads.{LeadsByTurns}
+use Rattle.run_model.specs.Legal.{IsLegal}
+use Rattle.run_model.specs.Links.{IsLinked, IsLinked, receives, sent_to}
+use Rattle.run_model.specs.Steps.{Each, Past, count}
+
+-- an element of the list gives this
+abbrev pub Gives : {A B : Type 0} → (A → Option B) → List A → B → Type 0
+Gives {A} f xs y = (front : List A) × (x : A) × (back : List A) × (xs ≡ front ++ x ∷ back) × (f x ≡ Some y)
+
+after_none : {A B : Type 0} (f : A → Option B) (x : A) (xs : List A) (y : B) → Gives f xs y → Gives f (x ∷ xs) y
+after_none f x xs y r = (x ∷ r.0, r.1, r.2, ap (λ l. x ∷ l) r.3, r.4)
+
+gives_first : {A B : Type 0} (f : A → Option B) (x : A) (xs : List A) (y : B) (o : Option B) → f x ≡ o → ((n : ℕ) → slice_get (filter_map f xs) n ≡ Some y → Gives f xs y) →
+    (n : ℕ) → slice_get (cons_option o (filter_map f xs)) n ≡ Some y → Gives f (x ∷ xs) y
+gives_first f x xs y None g rest n e = after_none f x xs y (rest n e)
+gives_first f x xs y (Some z) g rest zero e = ([], x, xs, refl, g ∙ e)
+gives_first f x xs y (Some z) g rest (suc n) e = after_none f x xs y (rest n e)
+
+none_some : {A : Type 0} {x : A} → None ≡ Some x → ⊥
+none_some e = cc
+
+gives : {A B : Type 0} (f : A → Option B) (xs : List A) (y : B) (n : ℕ) → slice_get (filter_map f xs) n ≡ Some y → Gives f xs y
+gives f [] y n e = absurd (none_some e)
+gives f (x ∷ xs) y n e = gives_first f x xs y (f x) refl (gives f xs y) n e
+
+-- the step that sent a message
+sender : (v k w j : ℕ) (m : Message) (n : Message) (b : Bool) → ((j == k) && not (w == v)) ≡ b → (if b then Some n else None) ≡ Some m → (w ≢ v) × (Send w j n ≡ Send w k m)
+sender v k w j m n true test e =
+    let parts = and_parts _ _ test in
+    let j_same : j ≡ k = eqb-true j k parts.0 in
+    let n_same : n ≡ m = cc in
+    ((λ same. true≢false (sym parts.1 ∙ ap not (eq-eqb w v same))), cc)
+sender v k w j m n false test e = absurd (none_some e)
+
+pub sent_by : (v k : ℕ) (s : Step) (m : Message) → sent_to v k s ≡ Some m → (w : ℕ) × (w ≢ v) × (s ≡ Send w k m)
+sent_by v k (Send w j n) m e = let r = sender v k w j m n _ refl e in (w, r.0, r.1)
+sent_by v k (Host w o) m e = absurd (none_some e)
+sent_by v k _ m e = absurd (none_some e)
+
+pub back_again : (before front back : Past) (s : Step) → reverse before ≡ front ++ s ∷ back → before ≡ reverse back ++ s ∷ reverse front
+back_again before front back s e = sym (reverse-reverse before) ∙ ap (λ l. reverse l) e ∙ reverse-append front (s ∷ back)
+    ∙ ap (λ l. l ++ reverse front) (reverse-append (s ∷ []) back) ∙ append_assoc (reverse back) (s ∷ []) (reverse front)
+
+pub was_sent : (before : Past) (v k : ℕ) (m : Message) (bound : List Cap) → IsLinked before (Receive v k m bound) →
+    (w : ℕ) × (later earlier : Past) × (w ≢ v) × (before ≡ later ++ Send w k m ∷ earlier)
+was_sent before v k m bound linked =
+    let g = gives (sent_to v k) (reverse before) m (count (receives v k) before) linked.1 in
+    let s = sent_by v k g.1 m g.4 in
+    (s.0, reverse g.2, reverse g.0, s.1, back_again before g.0 g.2 g.1 g.3 ∙ ap (λ t. reverse g.2 ++ t ∷ reverse g.0) s.2)
+
+-- the step that stands at a point is legal after those before it
+legal_at : (later earlier : Past) (s : Step) → Each IsLegal (later ++ s ∷ earlier) → IsLegal earlier s
+legal_at [] earlier s h = h.0
+legal_at (x ∷ later) earlier s h = legal_at later earlier s h.1
+
+all_grow : (later earlier : Past) (c : Name) (results : List (List ℕ × Cap)) → AllByRecursion (λ r. LeadsByTurns earlier (FieldOf c r.0) r.1) results →
+    AllByRecursion (λ r. LeadsByTurns (later ++ earlier) (FieldOf c r.0) r.1) results
+all_grow later earlier c [] h = h
+all_grow later earlier c (r ∷ rs) h = (leads_by_turns_grow later earlier (FieldOf c r.0) r.1 h.0, all_grow later earlier c rs h.1)
+
+pub received_leads : (before : Past) → Each IsLegal before → (v k : ℕ) (c : Name) (results : List (List ℕ × Cap)) (caps bound : List Cap) →
+    IsLinked before (Receive v k (Return c results caps) bound) → AllByRecursion (λ r. LeadsByTurns before (FieldOf c r.0) r.1) results
+received_leads before legal v k c results caps bound linked =
+    let s = was_sent before v k (Return c results caps) bound linked in
+    let there = legal_at s.1 s.2 (Send s.0 k (Return c results caps)) (subst (λ l. Each IsLegal l) s.4 legal) in
+    subst (λ l. AllByRecursion (λ r. LeadsByTurns l (FieldOf c r.0) r.1) results) (sym s.4)
+    (all_grow s.1 (Send s.0 k (Return c results caps) ∷ s.2) c results (all_grow (Send s.0 k (Return c results caps) ∷ []) s.2 c results there.1.1))
+
+pub resolved_leads : (before : Past) → Each IsLegal before → (v k : ℕ) (promise cap : Cap) (bound : List Cap) → IsLinked before (Receive v k (Resolve promise cap) bound) →
+    LeadsByTurns before promise cap
+resolved_leads before legal v k promise cap bound linked =
+    let s = was_sent before v k (Resolve promise cap) bound linked in
+    let there = legal_at s.1 s.2 (Send s.0 k (Resolve promise cap)) (subst (λ l. Each IsLegal l) s.4 legal) in
+    subst (λ l. LeadsByTurns l promise cap) (sym s.4)
+    (leads_by_turns_grow s.1 (Send s.0 k (Resolve promise cap) ∷ s.2) promise cap (leads_by_turns_grow (Send s.0 k (Resolve promise cap) ∷ []) s.2 promise cap there.1))

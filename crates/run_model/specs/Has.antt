@@ -1,0 +1,33 @@
+-- Which caps a vat has: what it made itself, and what a message brought it (rpc.capnp, the comments of CapDescriptor and
+-- PromisedAnswer; Miller, Robust Composition: only connectivity begets connectivity).
+use Rattle.std.specs.Prelude.{ℕ, List, Option, Some, None, IsSomeAnd, ◌≡◌, ◌⊎◌}
+use Rattle.run_model.specs.Steps.{Past, call, OneOf}
+use Rattle.run_model.specs.Types.{Name, Cap, Object, Promise, FieldOf, Message, Boot, Call, Step, Host, Vow, Make, Send, Receive}
+
+-- the call that a Bootstrap or a Call is
+abbrev pub called : Message → Option Name
+called (Boot c) = Some c
+called (Call c target interface method caps) = Some c
+called _ = None
+
+-- a cap is a field of this call, at any path
+abbrev pub IsField : Cap → Name → Type 0
+IsField a c = (path : List ℕ) × (a ≡ FieldOf c path)
+
+-- a step brings a cap to a vat with a message: the vat binds it, or the message is a call and the cap is a field of it
+abbrev pub Brings : ℕ → Cap → Step → Type 0
+Brings v a (Receive w connection m bound) = (w ≡ v) × (OneOf (λ b. b ≡ a) bound ⊎ IsSomeAnd (called m) (IsField a))
+Brings v a _ = ⊥
+
+-- a vat gets a cap by a step: its own object or promise; a field of a call that it made or booted; what a message brought
+abbrev pub Gets : ℕ → Cap → Step → Type 0
+Gets v a (Host w object) = (w ≡ v) × (a ≡ Object v object)
+Gets v a (Vow w promise) = (w ≡ v) × (a ≡ Promise v promise)
+Gets v a (Make w number cap reference interface method) = (w ≡ v) × IsField a (call v number)
+Gets v a (Send w connection (Boot c)) = (w ≡ v) × IsField a c
+Gets v a (Receive w connection m bound) = Brings v a (Receive w connection m bound)
+Gets v a _ = ⊥
+
+-- a vat has a cap by one of the steps before
+abbrev pub Has : Past → ℕ → Cap → Type 0
+Has before v a = OneOf (Gets v a) before

@@ -1,0 +1,24 @@
+-- Where capabilities lead in a run (rpc.capnp, the comments of PromisedAnswer, Payload and Resolve).
+use Rattle.std.specs.Prelude.{◌≡◌}
+use Rattle.run_model.specs.Steps.{Past, OneOf}
+use Rattle.run_model.specs.Types.{Cap, Promise, FieldOf, Step, Fulfil, Answer}
+
+-- a step turns a cap to another: FULFIL a promise to what it turned out to be, ANSWER the field of its call to the cap at
+-- that path
+abbrev pub MakesTurn : Cap → Cap → Step → Type 0
+MakesTurn a b (Fulfil v p to) = (a ≡ Promise v p) × (b ≡ to)
+MakesTurn a b (Answer v c results) = OneOf (λ result. (a ≡ FieldOf c result.0) × (b ≡ result.1)) results
+MakesTurn a b _ = ⊥
+
+-- a cap turns to another by one of the steps before
+abbrev pub Turns : Past → Cap → Cap → Type 0
+Turns before a b = OneOf (MakesTurn a b) before
+
+-- a cap leads to another: by no turn, or by a turn to a cap that leads there
+pub data Leads (before : Past) : Cap → Cap → Type 0 where
+  here : {a : Cap} → Leads before a a
+  turn : {a b c : Cap} → Turns before a b → Leads before b c → Leads before a c
+
+-- a cap leads to another by 1 or more turns: it turns to a cap that leads there
+abbrev pub LeadsByTurns : Past → Cap → Cap → Type 0
+LeadsByTurns before a c = (b : Cap) × Turns before a b × Leads before b c

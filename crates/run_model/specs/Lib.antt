@@ -1,0 +1,10 @@
+pub mod Types
+pub mod Steps
+pub mod Leads
+pub mod Has
+pub mod Places
+pub mod Legal
+pub mod Links
+pub mod Right
+pub mod Early
+pub mod Edges

@@ -1,0 +1,102 @@
+//! Laws of runs, which hold of every run and not of one call. Each speaks of the steps before a point, the newest first.
+
+ghost use Rattle.std.specs.Prelude.{◌≡◌, ◌≢◌, ◌↔◌, ◌≤◌, ◌++◌, ◌∷◌, [], ◌⊎◌, ℕ, List, Some, None, IsSome, IsSomeAnd};
+ghost use Rattle.std.specs.List.{AllByRecursion};
+ghost use Rattle.run_model.specs.Types.{Name, Cap, Object, FieldOf, Message, Call, Return, Resolve, Step, Send, Receive};
+ghost use Rattle.run_model.specs.Steps.{Past, OneOf, Each, last_answer, count};
+ghost use Rattle.run_model.specs.Leads.{Turns, Leads, LeadsByTurns};
+ghost use Rattle.run_model.specs.Has.{Brings, Has};
+ghost use Rattle.run_model.specs.Places.{Asked, at_vat};
+ghost use Rattle.run_model.specs.Legal.{IsLegal, begins, ends, settles, delivers};
+ghost use Rattle.run_model.specs.Links.{IsLinked};
+ghost use Rattle.run_model.specs.Right.{made, ReachesObject, IsOrdered};
+ghost use Rattle.run_model.specs.Early.{early};
+ghost use Rattle.run_model.specs.Edges.{IsForeign};
+
+/// Turns only grow: where a cap turned, it did for ever after, and what it leads to it leads to for ever after, by 1 or
+/// more turns too.
+pub fn turns_only_grow()
+    ensures turned { (later before : Past) (a b : Cap) → Turns before a b → Turns (later ++ before) a b }
+    ensures leads { (later before : Past) (a b : Cap) → Leads before a b → Leads (later ++ before) a b }
+    ensures by_turns { (later before : Past) (a b : Cap) → LeadsByTurns before a b → LeadsByTurns (later ++ before) a b }
+{}
+
+/// A cap leads where what it leads to does; by 1 or more turns, if either part is.
+pub fn leads_are_transitive()
+    ensures leads { (before : Past) (a b c : Cap) → Leads before a b → Leads before b c → Leads before a c }
+    ensures turned_first { (before : Past) (a b c : Cap) → LeadsByTurns before a b → Leads before b c → LeadsByTurns before a c }
+    ensures turned_then { (before : Past) (a b c : Cap) → Leads before a b → LeadsByTurns before b c → LeadsByTurns before a c }
+{}
+
+/// An object turns to nothing.
+pub fn objects_stay()
+    ensures { (before : Past) (vat object : ℕ) (b : Cap) → Turns before (Object vat object) b → ⊥ }
+{}
+
+/// Where each step is legal, a call is made or booted once, a promise is kept or broken once, and a call is answered or
+/// faulted once.
+pub fn what_comes_once()
+    ensures begun { (before : Past) → Each IsLegal before → (c : Name) → count (begins c) before ≤ 1 }
+    ensures ended { (before : Past) → Each IsLegal before → (vat promise : ℕ) → count (ends vat promise) before ≤ 1 }
+    ensures settled { (before : Past) → Each IsLegal before → (c : Name) → count (settles c) before ≤ 1 }
+{}
+
+/// Where each step is legal, a cap turns to one cap at most, and leads to one object at most.
+pub fn turns_go_one_way()
+    ensures turned { (before : Past) → Each IsLegal before → (a b c : Cap) → Turns before a b → Turns before a c → b ≡ c }
+    ensures object { (before : Past) → Each IsLegal before → (a : Cap) (v o w p : ℕ) → Leads before a (Object v o) → Leads before a (Object w p)
+        → (v ≡ w) × (o ≡ p) }
+{}
+
+/// What a vat has, it has for ever.
+pub fn what_is_had_stays_had()
+    ensures { (later before : Past) (vat : ℕ) (a : Cap) → Has before vat a → Has (later ++ before) vat a }
+{}
+
+/// Where each step is legal, what a vat has of another came to it with a message.
+pub fn what_is_foreign_was_brought()
+    ensures { (before : Past) → Each IsLegal before → (vat : ℕ) (a : Cap) → IsForeign vat a → Has before vat a → OneOf (Brings vat a) before }
+{}
+
+/// What is received was sent before, by another vat on the same connection.
+pub fn what_is_received_was_sent()
+    ensures { (before : Past) (v connection : ℕ) (m : Message) (bound : List Cap) → IsLinked before (Receive v connection m bound)
+        → (w : ℕ) × (later earlier : Past) × (w ≢ v) × (before ≡ later ++ Send w connection m ∷ earlier) }
+{}
+
+/// Where each step is legal, what is received is so: the field of a call leads by 1 or more turns to what a Return gives at
+/// its path, and a promise to what a Resolve says.
+pub fn what_is_received_is_led_to()
+    ensures results { (before : Past) → Each IsLegal before → (v connection : ℕ) (c : Name) (results : List (List ℕ × Cap)) (caps bound : List Cap)
+        → IsLinked before (Receive v connection (Return c results caps) bound)
+        → AllByRecursion (λ result. LeadsByTurns before (FieldOf c result.0) result.1) results }
+    ensures resolved { (before : Past) → Each IsLegal before → (v connection : ℕ) (promise cap : Cap) (bound : List Cap)
+        → IsLinked before (Receive v connection (Resolve promise cap) bound) → LeadsByTurns before promise cap }
+{}
+
+/// Where each step is legal and keeps to its link, a call is at one vat at most, it is at none when it comes out of a link,
+/// and it is delivered once at most.
+pub fn a_call_has_one_place()
+    ensures at_one { (before : Past) → Each IsLegal before → Each IsLinked before → (c : Name) (v w : ℕ)
+        → IsSome (at_vat before c v) → IsSome (at_vat before c w) → v ≡ w }
+    ensures under_way { (before : Past) → Each IsLegal before → Each IsLinked before → (c : Name) (v connection w : ℕ) (target : Cap) (interface method : ℕ) (caps bound : List Cap)
+        → IsLinked before (Receive v connection (Call c target interface method caps) bound) → at_vat before c w ≡ None }
+    ensures delivered { (before : Past) → Each IsLegal before → Each IsLinked before → (c : Name) → count (delivers c) before ≤ 1 }
+{}
+
+/// Where each step is legal and keeps to its link, a call that is at a vat was made, the cap that it was made through leads
+/// to its goal there, and interface and method are its Make's.
+pub fn calls_come_from_their_makers()
+    ensures { (before : Past) → Each IsLegal before → Each IsLinked before → (c : Name) (vat : ℕ) (here : Asked) → at_vat before c vat ≡ Some here
+        → IsSomeAnd (last_answer (made c) before) (λ asked. Leads before asked.goal here.goal × (here.interface ≡ asked.interface) × (here.method ≡ asked.method)) }
+{}
+
+/// Where each step is legal and keeps to its link, each call that is delivered reaches the object that it was to go to.
+pub fn calls_reach_their_objects()
+    ensures { (before : Past) → Each IsLegal before → Each IsLinked before → Each ReachesObject before }
+{}
+
+/// A run is ordered exactly where no step of it is early.
+pub fn runs_are_ordered_unless_early()
+    ensures { (run : List Step) → (early run ≡ []) ↔ IsOrdered run }
+{}

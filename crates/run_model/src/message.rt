@@ -1,0 +1,87 @@
+//! Messages.
+
+ghost use Rattle.std.specs.Prelude.{◌≡◌, IfOk};
+
+use crate::cap::Cap;
+use crate::caps::Caps;
+use crate::name::Name;
+use crate::plain::Plain;
+use crate::results::Results;
+use std::alloc::AllocError;
+
+/// What a message says of calls and capabilities, without the numbers of its connection (rpc.capnp, `Message`).
+#[derive(Debug, Drop)]
+pub enum Message {
+    /// A Bootstrap. It is a call of the vat that sends it, which is never at a vat.
+    Boot(Name),
+    /// A Call, sent on towards the target.
+    Call {
+        /// Which call it is.
+        call: Name,
+        /// Where it goes.
+        target: Cap,
+        /// The interface that is called, by its 64-bit id.
+        interface: u64,
+        /// The method of the interface that is called, counted from 0.
+        method: u16,
+        /// The capabilities in its parameters.
+        caps: Caps,
+    },
+    /// A Return with results that wasn't late when it was sent.
+    Return {
+        /// The call that it answers.
+        call: Name,
+        /// The capabilities that stand at paths of its results.
+        results: Results,
+        /// The capabilities in its results.
+        caps: Caps,
+    },
+    /// A Return with results that was late when it was sent: a Finish that gives its results back had come before it.
+    Late(Name),
+    /// A Return without results: an exception, or canceled.
+    Failed(Name),
+    /// A Resolve: the first capability, a promise, turned out to be the second, or leads there.
+    Resolve(Cap, Cap),
+    /// A Resolve with an exception, or with no capability: the promise is broken.
+    Broken(Cap),
+    /// Any other message of level 1.
+    Plain(Plain),
+}
+
+impl Message {
+    /// A second message that is the same. The only error is want of memory.
+    pub fn copy(&self) -> Result<Message, AllocError>
+        ensures { IfOk result (λ copied. copied ≡ self.now) }
+    {
+        match self {
+            Message::Boot(call) => Ok(Message::Boot(*call)),
+            Message::Call {
+                call,
+                target,
+                interface,
+                method,
+                caps,
+            } => Ok(Message::Call {
+                call: *call,
+                target: target.copy()?,
+                interface: *interface,
+                method: *method,
+                caps: caps.copy()?,
+            }),
+            Message::Return {
+                call,
+                results,
+                caps,
+            } => Ok(Message::Return {
+                call: *call,
+                results: results.copy()?,
+                caps: caps.copy()?,
+            }),
+            Message::Late(call) => Ok(Message::Late(*call)),
+            Message::Failed(call) => Ok(Message::Failed(*call)),
+            Message::Resolve(promise, cap) => Ok(Message::Resolve(promise.copy()?, cap.copy()?)),
+            Message::Broken(promise) => Ok(Message::Broken(promise.copy()?)),
+            Message::Plain(plain) => Ok(Message::Plain(*plain)),
+        }
+    }
+}

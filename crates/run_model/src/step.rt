@@ -1,0 +1,109 @@
+//! Steps.
+
+use crate::cap::Cap;
+use crate::caps::Caps;
+use crate::message::Message;
+use crate::name::Name;
+use crate::results::Results;
+
+/// What one vat does, which is one record of its log. Every step names its vat by the vat number.
+#[derive(Debug, Drop)]
+pub enum Step {
+    /// The vat hosts an object of its own.
+    Host {
+        /// Whose step it is.
+        vat: u32,
+        /// The vat's own number of the object.
+        object: u64,
+    },
+    /// The vat promises a capability.
+    Vow {
+        /// Whose step it is.
+        vat: u32,
+        /// The promise, by the reference under which it is vowed.
+        promise: u64,
+    },
+    /// The vat keeps its promise, which turns to this capability.
+    Fulfil {
+        /// Whose step it is.
+        vat: u32,
+        /// The promise, by the reference under which it was vowed.
+        promise: u64,
+        /// What it turned out to be.
+        to: Cap,
+    },
+    /// The vat's promise is broken.
+    Break {
+        /// Whose step it is.
+        vat: u32,
+        /// The promise, by the reference under which it was vowed.
+        promise: u64,
+    },
+    /// The vat makes a call.
+    Make {
+        /// Whose step it is.
+        vat: u32,
+        /// The vat's own number of the call.
+        number: u64,
+        /// Where the call is to go.
+        cap: Cap,
+        /// The reference through which the call is made. Calls through one reference are to keep their order.
+        reference: u64,
+        /// The interface that is called, by its 64-bit id.
+        interface: u64,
+        /// The method of the interface that is called, counted from 0.
+        method: u16,
+    },
+    /// The vat names the result of a call, which may be still to come.
+    Name {
+        /// Whose step it is.
+        vat: u32,
+        /// The field.
+        cap: Cap,
+    },
+    /// The vat gives a call to its own object.
+    Deliver {
+        /// Whose step it is.
+        vat: u32,
+        /// The call.
+        call: Name,
+        /// The vat's own number of the object.
+        object: u64,
+    },
+    /// A call has these results.
+    Answer {
+        /// Whose step it is.
+        vat: u32,
+        /// The call.
+        call: Name,
+        /// The capabilities in its results.
+        results: Results,
+    },
+    /// A call ends without results.
+    Fault {
+        /// Whose step it is.
+        vat: u32,
+        /// The call.
+        call: Name,
+    },
+    /// The vat sends a message.
+    Send {
+        /// Whose step it is.
+        vat: u32,
+        /// The connection, by its number in the logs of both ends.
+        connection: u32,
+        /// What is sent.
+        message: Message,
+    },
+    /// The vat receives a message.
+    Receive {
+        /// Whose step it is.
+        vat: u32,
+        /// The connection, by its number in the logs of both ends.
+        connection: u32,
+        /// What is received.
+        message: Message,
+        /// The capabilities that the vat has by it from then on, in the order of their places.
+        bound: Caps,
+    },
+}

@@ -1,0 +1,85 @@
+//! Steps of a run: they tell what was put into them, and what is copied is the same.
+
+use super::given::Refused;
+use cap_frame::Path;
+use run_model::{Cap, Caps, Message, Name, Plain, Results, Run, Step};
+use std::alloc::Global;
+use std::fmt::Write;
+use std::process::Abort;
+
+/// The fourth call of vat 1.
+const CALL: Name = Name {
+    maker: 1,
+    number: 4,
+};
+
+/// Its Return: object 7 of vat 2 stands in the results at path 3, and another place of the table is empty.
+fn returned(alloc: Global) -> Result<Message, Refused> {
+    let path = Path::new(vec![in alloc; 3]?);
+    let object = Cap::Object(2, 7);
+    let results = vec![in alloc; (path, object.copy()?)]?;
+    let caps = vec![in alloc; object, Cap::Nothing]?;
+    Ok(Message::Return {
+        call: CALL,
+        results: Results::new(results),
+        caps: Caps::new(caps),
+    })
+}
+
+/// The run in which vat 2 sends this message on connection 0, vat 1 receives it, and binds object 7 of vat 2.
+fn passed(alloc: Global, message: Message) -> Result<Run, Refused> {
+    let send = Step::Send {
+        vat: 2,
+        connection: 0,
+        message: message.copy()?,
+    };
+    let receive = Step::Receive {
+        vat: 1,
+        connection: 0,
+        message,
+        bound: Caps::new(vec![in alloc; Cap::Object(2, 7)]?),
+    };
+    Ok(Run::new(vec![in alloc; send, receive]?))
+}
+
+/// The run of that Return.
+const PASSED: &str =
+    "[Send { vat: 2, connection: 0, message: Return { call: Name { maker: 1, number: 4 }, \
+    results: Results { results: [(Path { fields: [3] }, Object(2, 7))] }, caps: Caps { caps: [Object(2, 7), Nothing] } } }, \
+    Receive { vat: 1, connection: 0, message: Return { call: Name { maker: 1, number: 4 }, \
+    results: Results { results: [(Path { fields: [3] }, Object(2, 7))] }, caps: Caps { caps: [Object(2, 7), Nothing] } }, \
+    bound: Caps { caps: [Object(2, 7)] } }]";
+
+/// Whether the run of that Return is told so.
+fn is_told(alloc: Global) -> Result<bool, Refused> {
+    let run = passed(alloc, returned(alloc)?)?;
+    let mut out = String::new(alloc);
+    write!(out, "{:?}", run.steps())?;
+    Ok(out.as_str() == PASSED)
+}
+
+/// How many capabilities the table of a Return has, and how many stand at paths of its results.
+fn counts(message: &Message) -> (usize, usize) {
+    match message {
+        Message::Return { results, caps, .. } => (caps.as_slice().len(), results.as_slice().len()),
+        _ => (0, 0),
+    }
+}
+
+#[test]
+fn a_run_tells_its_steps(rt: HostRuntime) {
+    let is_so = match is_told(rt.alloc()) {
+        Ok(is_so) => is_so,
+        Err(_) => is_told(rt.alloc()).unwrap_or(false),
+    };
+    assert!(rt; is_so);
+}
+
+#[test]
+fn a_return_lends_its_caps(rt: HostRuntime) {
+    let message = match returned(rt.alloc()) {
+        Ok(message) => message,
+        Err(_) => returned(rt.alloc()).unwrap_or(Message::Plain(Plain::Abort)),
+    };
+    assert_eq!(rt; counts(&message), (2, 1));
+}

@@ -2,3 +2,4 @@ pub mod Placing
 pub mod Judging
 pub mod Firsts
 pub mod Unique
+pub mod Entries

@@ -28,4 +28,4 @@ pub use audit::audit_vat;
 pub use finding::VatFinding;
 pub use outcome::{Outcome, Why};
 pub use rule::Rule;
-pub use story::{Entry, Seen, Story, Views};
+pub use story::{Seen, Story};

@@ -78,7 +78,7 @@ impl Results {
     pub fn copy(&self) -> Result<Results, AllocError>
         ensures { IfOk result (λ copied. copied ≡ self.now) }
     {
-        let mut items = Vec::new(*self.items.allocator());
+        let mut items = Vec::with_capacity(*self.items.allocator(), self.items.len())?;
         for (reference, path) in &self.items {
             items.push((*reference, path.copy()?))?;
         }

@@ -79,7 +79,7 @@ fn many_references(
     ensures gives { GivesInMemory (λ x. (x.0.items, x.1)) result (many_at (nonzero_at bytes.now) count at) }
     ensures within { IfOk result (λ x. x.1 ≤ length bytes.now) }
 {
-    let mut references = Vec::new(alloc);
+    let mut references = Vec::with_capacity(alloc, count as usize)?;
     let mut place = at;
     for _ in 0..count {
         let (reference, after) = nonzero_of(bytes, place)?;
@@ -114,7 +114,7 @@ fn many_path_fields(
     ensures gives { GivesInMemory (λ x. (x.0.items, x.1)) result (many_at (number_at w16 bytes.now) count at) }
     ensures within { IfOk result (λ x. x.1 ≤ length bytes.now) }
 {
-    let mut fields = Vec::new(alloc);
+    let mut fields = Vec::with_capacity(alloc, count as usize)?;
     let mut place = at;
     for _ in 0..count {
         let (field, after) = u16_at(bytes, place)?;
@@ -156,7 +156,7 @@ fn many_results(
     ensures gives { GivesInMemory (λ x. (x.0.items, x.1)) result (many_at (answered_at bytes.now) count at) }
     ensures within { IfOk result (λ x. x.1 ≤ length bytes.now) }
 {
-    let mut results = Vec::new(alloc);
+    let mut results = Vec::with_capacity(alloc, count as usize)?;
     let mut place = at;
     for _ in 0..count {
         let (answered, after) = answered_of(alloc, bytes, place)?;

@@ -10,11 +10,9 @@ use Rattle.vat_log.specs.declared.body.Body.{Body}
 use Rattle.vat_rules.specs.Types.{Event}
 use Rattle.vat_rules.specs.declared.outcome.Outcome.TheVariants.{Good, Broken}
 use Rattle.vat_rules.specs.declared.rule.Rule.{Rule}
-use Rattle.vat_rules.specs.declared.story.Seen.{Seen}
-use Rattle.vat_rules.specs.declared.story.Entry.{Entry}
 use Rattle.vat_view.specs.Past.{Past}
 use Rattle.vat_rules.specs.Rules.{rules}
-use Rattle.vat_rules.specs.Told.{Told}
+use Rattle.vat_rules.specs.Told.{Sight, Entry, Told}
 use Rattle.vat_rules.specs.Events.{Reader, event_of, event_or_none, events_before, past_at}
 use Rattle.vat_rules.specs.Telling.{seen_of, entry_of, entries_back, is_delivery}
 use Rattle.vat_rules.specs.Glue.{entries_with}
@@ -50,7 +48,7 @@ pub past_at-more : (read : Reader) (log : List Body) (at : ℕ) (b : Body) (e : 
 past_at-more read log at b e here is = ap reverse (events_before-more read log at b e here is) ∙ reverse-append (events_before read log at) (e ∷ [])
 
 -- what is seen of each record, the newest first
-abbrev pub seen_back : Past → List Seen
+abbrev pub seen_back : Past → List Sight
 seen_back [] = []
 seen_back (e ∷ before) = seen_of before e ∷ seen_back before
 
@@ -58,8 +56,12 @@ length-seen : (past : Past) → length (seen_back past) ≡ length past
 length-seen [] = refl
 length-seen (e ∷ before) = ap suc (length-seen before)
 
+-- as much is seen as there are records
+pub as_many : (past : Past) (seen : List Sight) → seen ≡ reverse (seen_back past) → length past ≡ length seen
+as_many past seen is = sym (length-seen past) ∙ sym (length-reverse (seen_back past)) ∙ ap length (sym is)
+
 -- what is seen, with what was seen of that record put behind what was seen before
-pub seen_more : (past more : Past) (e : Event) (seen longer : List Seen) → more ≡ e ∷ past → longer ≡ seen ++ seen_of past e ∷ [] →
+pub seen_more : (past more : Past) (e : Event) (seen longer : List Sight) → more ≡ e ∷ past → longer ≡ seen ++ seen_of past e ∷ [] →
     seen ≡ reverse (seen_back past) → longer ≡ reverse (seen_back more)
 seen_more past more e seen longer same put so_far =
     put ∙ ap (λ xs. xs ++ seen_of past e ∷ []) so_far ∙ sym (reverse-append (seen_of past e ∷ []) (seen_back past)) ∙ ap (λ p. reverse (seen_back p)) (sym same)
@@ -74,7 +76,7 @@ zip_behind (a ∷ xs) (b ∷ ys) x y len = ap (λ ps. (a, b) ∷ ps) (zip_behind
 pub same_entries : (past : Past) → entries_with (reverse past) (reverse (seen_back past)) ≡ reverse (entries_back past)
 same_entries [] = refl
 same_entries (e ∷ before) =
-    let entry : (Event × Seen) → Entry = λ p. record { event = p.0; seen = p.1 } in
+    let entry : (Event × Sight) → Entry = λ p. record { event = p.0; seen = p.1 } in
     let len : length (reverse before) ≡ length (reverse (seen_back before)) = length-reverse before ∙ sym (length-seen before) ∙ sym (length-reverse (seen_back before)) in
     ap (λ es. entries_with es (reverse (seen_back (e ∷ before)))) (reverse-append (e ∷ []) before)
     ∙ ap (λ ss. entries_with (reverse before ++ e ∷ []) ss) (reverse-append (seen_of before e ∷ []) (seen_back before))
@@ -100,7 +102,7 @@ good-more read log at b e past here is before is_good good =
     below_more _ at good (e, read_at (λ b. event_of read b ≡ Ok e) log at b here is, subst (λ p. IsGood p e) before is_good)
 
 -- a story is what its events tell
-same_story : (past : Past) (events : List Event) (seen : List Seen) → past ≡ reverse events → seen ≡ reverse (seen_back past) →
+same_story : (past : Past) (events : List Event) (seen : List Sight) → past ≡ reverse events → seen ≡ reverse (seen_back past) →
     told (entries_with (reverse past) seen) (count_by is_delivery (reverse past)) ≡ told (reverse (entries_back (reverse events))) (count_by is_delivery events)
 same_story past events seen is seen_is =
     ap (λ ss. told (entries_with (reverse past) ss) (count_by is_delivery (reverse past))) seen_is
@@ -109,7 +111,7 @@ same_story past events seen is seen_is =
     ∙ ap (λ es. told (reverse (entries_back (reverse events))) (count_by is_delivery es)) (reverse-reverse events)
 
 -- all records are good
-pub is_first-Good : (read : Reader) (log : List Body) (at : ℕ) (past : Past) (seen : List Seen) (story : Told) → length log ≡ at →
+pub is_first-Good : (read : Reader) (log : List Body) (at : ℕ) (past : Past) (seen : List Sight) (story : Told) → length log ≡ at →
     past ≡ past_at read log at → seen ≡ reverse (seen_back past) → story ≡ told (entries_with (reverse past) seen) (count_by is_delivery (reverse past)) →
     ((j : ℕ) → j < at → IsGoodAt read log j) → IsFirst read log (Good story)
 is_first-Good read log at past seen story len before seen_is is good =

@@ -3,3 +3,4 @@ pub mod Judging
 pub mod Firsts
 pub mod Unique
 pub mod Once
+pub mod Entries

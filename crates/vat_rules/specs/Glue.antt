@@ -1,13 +1,14 @@
 -- For the code's contracts, and no part of the meaning: what is asked of a record before it is applied, at once.
-use Rattle.std.specs.Prelude.{ℕ, List, map, Option, None, slice_get, unwrap_or}
+use Rattle.std.specs.Prelude.{ℕ, List, [], ◌∷◌, map, Option, Some, None, slice_get, unwrap_or}
 use Rattle.std.specs.List.{zip}
 use Rattle.vat_rules.specs.Types.{Event, View}
 use Rattle.vat_view.specs.Past.{Past}
 use Rattle.vat_view.specs.Views.{view_of_target, views_of_descriptors}
 use Rattle.vat_rules.specs.Telling.{seen_question, seen_promise}
 use Rattle.vat_rules.specs.declared.standing.Standing.{Standing}
-use Rattle.vat_rules.specs.declared.story.Seen.{Seen}
-use Rattle.vat_rules.specs.declared.story.Entry.{Entry}
+use Rattle.vat_rules.specs.declared.story.Kept.{Kept}
+use Rattle.vat_rules.specs.declared.story.Kept.TheVariants as kept
+use Rattle.vat_rules.specs.Told.{Sight, Entry}
 
 -- what the numbers of a record stand for, apart from its references
 abbrev pub standing_of : Past → Event → Standing
@@ -23,5 +24,27 @@ abbrev pub view_at : ℕ → List (Option View) → Option View
 view_at place views = unwrap_or (slice_get views place) None
 
 -- records, each with what is seen of it
-abbrev pub entries_with : List Event → List Seen → List Entry
+abbrev pub entries_with : List Event → List Sight → List Entry
 entries_with events seen = map (λ p. record { event = p.0; seen = p.1 }) (zip events seen)
+
+-- what the references of a record and its other numbers stand for
+abbrev pub sight_with : List (Option View) → Standing → Sight
+sight_with references standing = record {
+  references = references;
+  question = standing.question;
+  promise = standing.promise;
+  target = standing.target;
+  caps = standing.caps;
+}
+
+-- no number
+abbrev pub no_sight : Sight
+no_sight = record { references = []; question = None; promise = None; target = None; caps = [] }
+
+-- what is kept of what a record's numbers stand for, as it is seen
+abbrev pub sight_of : Kept → Sight
+sight_of kept.Nothing = no_sight
+sight_of (kept.Reference v) = record { references = v ∷ []; question = None; promise = None; target = None; caps = [] }
+sight_of (kept.Question v) = record { references = []; question = Some v; promise = None; target = None; caps = [] }
+sight_of (kept.Target v) = record { references = []; question = None; promise = None; target = Some v; caps = [] }
+sight_of (kept.Several parts) = sight_with parts.value.references parts.value.standing

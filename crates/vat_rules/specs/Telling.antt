@@ -8,9 +8,7 @@ use Rattle.vat_view.specs.Questions.{returned, finished}
 use Rattle.vat_view.specs.Lives.{resolved}
 use Rattle.vat_view.specs.Views.{field_view, view_of_reference, view_of_number, view_of_target, views_of_descriptors}
 use Rattle.vat_view.specs.Bindings.{new_references, named_references}
-use Rattle.vat_rules.specs.declared.story.Seen.{Seen}
-use Rattle.vat_rules.specs.declared.story.Entry.{Entry}
-use Rattle.vat_rules.specs.Told.{Told}
+use Rattle.vat_rules.specs.Told.{Sight, Entry, Told}
 use Rattle.vat_rules.specs.Events.{Reader, events_before}
 
 -- what the references that a record binds or names stand for, the record counted
@@ -26,7 +24,7 @@ abbrev pub seen_promise : Past → Event → Option View
 seen_promise before e = option_and_then (λ i. view_of_number i before) (resolved e)
 
 -- what the numbers of a record stand for
-abbrev pub seen_of : Past → Event → Seen
+abbrev pub seen_of : Past → Event → Sight
 seen_of before e = record {
   references = seen_references before e;
   question = seen_question before e;

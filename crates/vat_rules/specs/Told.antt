@@ -1,6 +1,19 @@
 -- What a good log tells.
-use Rattle.std.specs.Prelude.{ℕ, List}
-use Rattle.vat_rules.specs.declared.story.Entry.{Entry}
+use Rattle.std.specs.Prelude.{ℕ, List, Option}
+use Rattle.vat_rules.specs.Types.{Event, View}
+
+-- what the numbers of a record stand for: none where it has no such number, or one that stands for nothing
+pub record Sight : Type 0 where
+  pub references : List (Option View)
+  pub question : Option View
+  pub promise : Option View
+  pub target : Option View
+  pub caps : List (Option View)
+
+-- a record with what its numbers stand for
+pub record Entry : Type 0 where
+  pub event : Event
+  pub seen : Sight
 
 -- its records, each with what its numbers stand for, and how many calls were delivered
 pub record Told : Type 0 where

@@ -1,6 +1,6 @@
 //! The audit of one log.
 
-ghost use Rattle.std.specs.Prelude.{◌≡◌, ◌∷◌, [], ◌++◌, IfOk, OnOk, MatchOption, count_by, reverse};
+ghost use Rattle.std.specs.Prelude.{◌≡◌, ◌∷◌, [], ◌++◌, IfOk, OnOk, MatchOption, count_by, length, reverse};
 ghost use Rattle.std.specs.Arc.{arc_value};
 ghost use Rattle.vat_rules.specs.Rules.{rules};
 ghost use Rattle.vat_rules.specs.Judged.{IsGood, BreaksFirst};
@@ -15,7 +15,7 @@ use crate::reading::event_of;
 use crate::rule::Rule;
 use crate::seeing::{references_of, standing_of, views_of};
 use crate::standing::Standing;
-use crate::story::{Entry, Seen, Story};
+use crate::story::{Seen, Story};
 use rpc_view::Limits;
 use std::alloc::{AllocError, Global};
 use std::sync::Arc;
@@ -58,13 +58,8 @@ fn take_in(
 {
     let references = references_of(alloc, &event)?;
     state.apply(event)?;
-    seen.push(Seen {
-        references: views_of(alloc, state, &references)?,
-        question: standing.question,
-        promise: standing.promise,
-        target: standing.target,
-        caps: standing.caps,
-    })?;
+    let references = views_of(alloc, state, &references)?;
+    seen.push(Seen::new(alloc, references, standing)?)?;
     Ok(())
 }
 
@@ -90,28 +85,14 @@ fn judge_next(
     }
 }
 
-/// The records, each with what was seen of it.
-fn entries_with(
-    alloc: Global,
-    events: Vec<Event>,
-    seen: Vec<Seen>,
-) -> Result<Vec<Entry>, AllocError>
-    ensures { IfOk result (λ entries. entries.items ≡ entries_with events.items seen.items) }
-{
-    events
-        .into_iter()
-        .zip(seen)
-        .map(|(event, seen)| Entry { event, seen })
-        .collect(alloc)
-}
-
 /// What records tell that were applied, with what was seen of each.
-fn told(alloc: Global, state: VatState, seen: Vec<Seen>) -> Result<Story, AllocError>
-    ensures { IfOk result (λ story. story ≡ record { entries = entries_with (reverse state) seen.items; delivered = count_by is_delivery (reverse state) }) }
+fn told(state: VatState, seen: Vec<Seen>) -> Story
+    requires { length state ≡ length seen.items }
+    ensures { result ≡ record { entries = entries_with (reverse state) seen.items; delivered = count_by is_delivery (reverse state) } }
 {
     let events = state.into_events();
     let delivered = deliveries(&events);
-    Ok(Story::new(entries_with(alloc, events, seen)?, delivered))
+    Story::new(events, seen, delivered)
 }
 
 /// What the rules say of a log whose frames are read within the limits.
@@ -119,7 +100,7 @@ fn first(alloc: Global, log: &VatLog, limits: Limits) -> Result<Outcome, AllocEr
     ensures { IfOk result (λ outcome. IsTrueOf log.now limits outcome) }
 {
     let mut state = VatState::new(alloc);
-    let mut seen = Vec::new(alloc);
+    let mut seen = Vec::with_capacity(alloc, log.len())?;
     for at in 0..log.len() {
         let Some(stored) = log.get(at) else {
             unreachable!()
@@ -138,7 +119,7 @@ fn first(alloc: Global, log: &VatLog, limits: Limits) -> Result<Outcome, AllocEr
             None => {}
         }
     }
-    Ok(Outcome::Good(told(alloc, state, seen)?))
+    Ok(Outcome::Good(told(state, seen)))
 }
 
 /// The audit of a log, each of whose frames is read within the limits: the first record that is outside of what is

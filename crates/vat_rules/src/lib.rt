@@ -30,4 +30,4 @@ pub use finding::VatFinding;
 pub use laws::good_records_turn_once;
 pub use outcome::{Outcome, Why};
 pub use rule::Rule;
-pub use story::{Entry, Seen, Story, Views};
+pub use story::{Seen, Story};

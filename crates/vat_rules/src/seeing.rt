@@ -103,7 +103,7 @@ pub(crate) fn views_of(
 ) -> Result<Views, AllocError>
     ensures { IfOk result (λ views. views ≡ map (view_of_reference state.now) references.now) }
 {
-    let mut views = Vec::new(alloc);
+    let mut views = Vec::with_capacity(alloc, references.len())?;
     for reference in references {
         views.push(state.view_of_reference(*reference)?)?;
     }

@@ -1,5 +1,7 @@
 //! What the numbers of a record stand for before it is applied.
 
+ghost use Rattle.std.specs.Prelude.{◌≡◌, ◌&&◌, is_none};
+
 use crate::story::Views;
 use vat_view::View;
 
@@ -14,4 +16,13 @@ pub(crate) struct Standing {
     pub(crate) target: Option<View>,
     /// What its descriptors stand for, by place.
     pub(crate) caps: Views,
+}
+
+impl Standing {
+    /// Whether it has no question, promise and target that stands for something.
+    pub(crate) fn is_empty(&self) -> bool
+        ensures { result ≡ (is_none self.now.question && is_none self.now.promise && is_none self.now.target) }
+    {
+        self.question.is_none() && self.promise.is_none() && self.target.is_none()
+    }
 }

@@ -1,13 +1,18 @@
 //! What a good log tells.
 
-ghost use Rattle.std.specs.Prelude.{◌≡◌};
+ghost use Rattle.std.specs.Prelude.{◌≡◌, ◌↔◌, ◌∷◌, [], IsTrue, IfOk, IfErr, length, map};
+ghost use Rattle.std.specs.Option.{option_copied};
+ghost use Rattle.vat_rules.specs.Glue.{entries_with, sight_with};
 
+use crate::standing::Standing;
+use std::alloc::{AllocError, Global};
 use std::marker::Model;
+use std::slice;
 use vat_view::{Event, View};
 
 /// What several numbers stand for; `None` where one stands for nothing.
 #[derive(Debug, Drop)]
-pub struct Views {
+pub(crate) struct Views {
     items: Vec<Option<View>>,
 }
 
@@ -28,66 +33,250 @@ impl Views {
     }
 
     /// What they stand for, in their order.
-    pub fn as_slice(&self) -> &[Option<View>]
+    pub(crate) fn as_slice(&self) -> &[Option<View>]
         ensures { result.now ≡ self.now }
     {
         &self.items
     }
+
+    /// Whether there are none.
+    pub(crate) fn is_empty(&self) -> bool
+        ensures { IsTrue result ↔ (self.now ≡ []) }
+    {
+        self.items.is_empty()
+    }
+
+    /// What one number stands for that is alone, or else all of them again.
+    fn alone(self) -> Result<Option<View>, Views>
+        ensures one { IfOk result (λ view. self ≡ view ∷ []) }
+        ensures other { IfErr result (λ views. views ≡ self) }
+    {
+        let Views { mut items } = self;
+        if items.len() != 1 {
+            return Err(Views { items });
+        }
+        match items.pop() {
+            Some(view) => Ok(view),
+            None => Err(Views { items }),
+        }
+    }
+}
+
+/// What several of a record's numbers stand for.
+#[derive(Debug, Drop)]
+struct Parts {
+    references: Views,
+    standing: Standing,
+}
+
+/// What the numbers of a record stand for, kept in little room: most records have one number at most.
+#[derive(Debug, Drop)]
+enum Kept {
+    /// It has none.
+    Nothing,
+    /// One reference alone.
+    Reference(Option<View>),
+    /// A question alone.
+    Question(View),
+    /// A target alone.
+    Target(View),
+    /// Others, or more than one.
+    Several(Box<Parts>),
 }
 
 /// What the numbers of one record stand for, by it and the records before it (rpc.capnp, the comments of CapDescriptor,
 /// MessageTarget and PromisedAnswer). `None` where it has no such number, or one that stands for nothing.
 #[derive(Debug, Drop)]
 pub struct Seen {
-    /// What the references stand for that it binds or names, in its order, with the record counted.
-    pub references: Views,
-    /// What the question stands for that it returns or finishes: its call, as the field at the empty path.
-    pub question: Option<View>,
-    /// What the promise stands for that it resolves.
-    pub promise: Option<View>,
-    /// What the target of a Call or Disembargo stands for.
-    pub target: Option<View>,
-    /// What the descriptors of its capability table stand for, by place, counted from 0; `None` also for one that is
-    /// none.
-    pub caps: Views,
+    kept: Kept,
 }
 
-/// A record with its message, and what its numbers stand for.
-#[derive(Debug, Drop)]
-pub struct Entry {
-    /// The record.
-    pub event: Event,
-    /// What its numbers stand for.
-    pub seen: Seen,
+impl Model for Seen {
+    ghost use Rattle.vat_rules.specs.Told.{Sight};
+    ghost use Rattle.vat_rules.specs.Glue.{sight_of};
+
+    ghost Value = { Sight };
+
+    ghost view = { λ seen. sight_of seen.kept };
+}
+
+/// Any numbers of one record with what they stand for.
+fn several(alloc: Global, references: Views, standing: Standing) -> Result<Seen, AllocError>
+    ensures { IfOk result (λ seen. seen ≡ sight_with references standing) }
+{
+    let parts = Parts {
+        references,
+        standing,
+    };
+    Ok(Seen {
+        kept: Kept::Several(Box::new(alloc, parts)?),
+    })
+}
+
+/// The same, without references and capabilities.
+fn without_lists(
+    alloc: Global,
+    references: Views,
+    standing: Standing,
+) -> Result<Seen, AllocError>
+    requires references { references ≡ [] }
+    requires caps { standing.caps ≡ [] }
+    ensures { IfOk result (λ seen. seen ≡ sight_with references standing) }
+{
+    let Standing {
+        question,
+        promise,
+        target,
+        caps,
+    } = standing;
+    match (question, promise, target) {
+        (None, None, None) => Ok(Seen {
+            kept: Kept::Nothing,
+        }),
+        (Some(view), None, None) => Ok(Seen {
+            kept: Kept::Question(view),
+        }),
+        (None, None, Some(view)) => Ok(Seen {
+            kept: Kept::Target(view),
+        }),
+        (question, promise, target) => several(
+            alloc,
+            references,
+            Standing {
+                question,
+                promise,
+                target,
+                caps,
+            },
+        ),
+    }
+}
+
+impl Seen {
+    /// What the references of a record and its other numbers stand for.
+    pub(crate) fn new(
+        alloc: Global,
+        references: Views,
+        standing: Standing,
+    ) -> Result<Seen, AllocError>
+        ensures { IfOk result (λ seen. seen ≡ sight_with references standing) }
+    {
+        if !standing.caps.is_empty() {
+            return several(alloc, references, standing);
+        }
+        if references.is_empty() {
+            return without_lists(alloc, references, standing);
+        }
+        if !standing.is_empty() {
+            return several(alloc, references, standing);
+        }
+        match references.alone() {
+            Ok(view) => Ok(Seen {
+                kept: Kept::Reference(view),
+            }),
+            Err(references) => several(alloc, references, standing),
+        }
+    }
+
+    /// What the references stand for that the record binds or names, in its order, with the record counted.
+    pub fn references(&self) -> &[Option<View>]
+        ensures { result.now ≡ self.now.references }
+    {
+        match &self.kept {
+            Kept::Reference(view) => slice::from_ref(view),
+            Kept::Several(parts) => parts.references.as_slice(),
+            _ => &[],
+        }
+    }
+
+    /// What the question stands for that the record returns or finishes: its call, as the field at the empty path.
+    pub fn question(&self) -> Option<&View>
+        ensures { option_copied result ≡ self.now.question }
+    {
+        match &self.kept {
+            Kept::Question(view) => Some(view),
+            Kept::Several(parts) => parts.standing.question.as_ref(),
+            _ => None,
+        }
+    }
+
+    /// What the promise stands for that the record resolves.
+    pub fn promise(&self) -> Option<&View>
+        ensures { option_copied result ≡ self.now.promise }
+    {
+        match &self.kept {
+            Kept::Several(parts) => parts.standing.promise.as_ref(),
+            _ => None,
+        }
+    }
+
+    /// What the target of a Call or Disembargo stands for.
+    pub fn target(&self) -> Option<&View>
+        ensures { option_copied result ≡ self.now.target }
+    {
+        match &self.kept {
+            Kept::Target(view) => Some(view),
+            Kept::Several(parts) => parts.standing.target.as_ref(),
+            _ => None,
+        }
+    }
+
+    /// What the descriptors of the record's capability table stand for, by place, counted from 0; `None` also for one
+    /// that is none.
+    pub fn caps(&self) -> &[Option<View>]
+        ensures { result.now ≡ self.now.caps }
+    {
+        match &self.kept {
+            Kept::Several(parts) => parts.standing.caps.as_slice(),
+            _ => &[],
+        }
+    }
 }
 
 /// What a good log tells: each record with what its numbers stand for, and how many calls were delivered.
 #[derive(Debug, Drop)]
 pub struct Story {
-    entries: Vec<Entry>,
+    events: Vec<Event>,
+    seen: Vec<Seen>,
     delivered: u64,
 }
 
 impl Model for Story {
+    ghost use Rattle.std.specs.Prelude.{◌≡◌, length};
     ghost use Rattle.vat_rules.specs.Told.{Told};
+    ghost use Rattle.vat_rules.specs.Glue.{entries_with};
 
     ghost Value = { Told };
 
-    ghost view = { λ story. record { entries = story.entries.items; delivered = story.delivered } };
+    ghost view = { λ story. record { entries = entries_with story.events.items story.seen.items; delivered = story.delivered } };
+
+    ghost invariant = { λ story. length story.events.items ≡ length story.seen.items };
 }
 
 impl Story {
-    pub(crate) fn new(entries: Vec<Entry>, delivered: u64) -> Story
-        ensures { result ≡ record { entries = entries.items; delivered = delivered } }
+    pub(crate) fn new(events: Vec<Event>, seen: Vec<Seen>, delivered: u64) -> Story
+        requires { length events.items ≡ length seen.items }
+        ensures { result ≡ record { entries = entries_with events.items seen.items; delivered = delivered } }
     {
-        Story { entries, delivered }
+        Story {
+            events,
+            seen,
+            delivered,
+        }
     }
 
-    /// The records, in their order, each with what its numbers stand for.
-    pub fn entries(&self) -> &[Entry]
-        ensures { result.now ≡ self.now.entries }
+    /// The records with their messages, in their order.
+    pub fn events(&self) -> &[Event]
+        ensures { result.now ≡ map (λ entry. entry.event) self.now.entries }
     {
-        &self.entries
+        &self.events
+    }
+
+    /// What the numbers of each record stand for, in the order of the records.
+    pub fn seen(&self) -> &[Seen]
+        ensures { result.now ≡ map (λ entry. entry.seen) self.now.entries }
+    {
+        &self.seen
     }
 
     /// How many records deliver a call.

@@ -1,5 +1,5 @@
 -- Numbers of which none stands twice, and the rule REF from its parts.
-use Rattle.std.proofs.Common.{◌≡◌, ◌≢◌, ◌⊎◌, inl, inr, ℕ, ◌+◌, ◌==◌, List, [], ◌∷◌, ◌++◌, take, drop, Bool, true, false, not, ◌&&◌, ◌||◌, if◌then◌else◌, refl, sym, ◌∙◌, ap}
+use Rattle.std.proofs.Common.{◌≡◌, ◌≢◌, ◌⊎◌, inl, inr, ℕ, ◌+◌, ◌==◌, ◌≤◌, length, arith, List, [], ◌∷◌, ◌++◌, take, drop, Bool, true, false, not, ◌&&◌, ◌||◌, if◌then◌else◌, refl, sym, ◌∙◌, ap}
 use Rattle.std.specs.Prelude.{Decides}
 use Rattle.std.specs.List.{list_all}
 use Rattle.std.proofs.lemmas.Bool.{false≢true, eqb-true, eq-eqb}
@@ -118,3 +118,9 @@ refers_from before e distinct unused unused_call bound bound_call noted first se
 pub not_false : (b : Bool) → not b ≡ false → b ≡ true
 not_false true e = refl
 not_false false e = absurd (false≢true (sym e))
+
+-- one number at most is distinct
+pub short_distinct : (xs : List ℕ) → length xs ≤ 1 → is_distinct xs ≡ true
+short_distinct [] short = refl
+short_distinct (x ∷ []) short = refl
+short_distinct (x ∷ y ∷ xs) short = absurd (let no : ⊥ = omega (arith, short) in no)

@@ -120,8 +120,9 @@ pub(crate) fn views_of_descriptors(
 ) -> Result<Vec<Option<View>>, AllocError>
     ensures { IfOk result (λ list. list.items ≡ map (view_by (bound_at bound.now) lives.now begun.now (question_at questions.now) event.now) (descriptors event.now)) }
 {
-    let mut list = Vec::new(alloc);
-    for descriptor in descriptors(event) {
+    let described = descriptors(event);
+    let mut list = Vec::with_capacity(alloc, described.len())?;
+    for descriptor in described {
         let view = view_by(bound, lives, begun, questions, event, descriptor)?;
         list.push(view)?;
     }

@@ -15,6 +15,9 @@ use vat_log::Results;
 fn is_distinct(alloc: Global, references: &[u64]) -> Result<bool, AllocError>
     ensures { IfOk result (λ distinct. distinct ≡ is_distinct references.now) }
 {
+    if references.len() <= 1 {
+        return Ok(true);
+    }
     let mut seen = Seen::new(alloc);
     for reference in references {
         if !seen.meet(*reference)? {

@@ -19,21 +19,20 @@ fn good_once(rt: &(impl Abort + AllocGlobal)) -> Result<(), Refused> {
     let Outcome::Good(story) = found.outcome() else {
         return Err(Refused::from("every record is good"));
     };
-    assert_eq!(rt; (story.entries().len(), story.delivered()), (8, 1));
+    assert_eq!(rt; (story.events().len(), story.delivered()), (8, 1));
     // the call's target is the field of the bootstrap, what the first Return gives is the object, and the two Returns
     // answer calls 1 and 2
-    for (at, entry) in story.entries().iter().enumerate() {
-        let seen = &entry.seen;
-        assert_eq!(rt; matches!(&seen.question, Some(View::Field(1, _))), at == 5);
-        assert_eq!(rt; matches!(&seen.question, Some(View::Field(2, _))), at == 7);
-        assert_eq!(rt; matches!(&seen.target, Some(View::Field(1, _))), at == 2);
-        let given = matches!(seen.caps.as_slice(), [Some(View::Object(7))]);
+    for (at, (event, seen)) in story.events().iter().zip(story.seen()).enumerate() {
+        assert_eq!(rt; matches!(seen.question(), Some(View::Field(1, _))), at == 5);
+        assert_eq!(rt; matches!(seen.question(), Some(View::Field(2, _))), at == 7);
+        assert_eq!(rt; matches!(seen.target(), Some(View::Field(1, _))), at == 2);
+        let given = matches!(seen.caps(), [Some(View::Object(7))]);
         assert_eq!(rt; given, at == 5);
         // HOST binds the reference that ANSWER and the first Return name
-        let named = matches!(seen.references.as_slice(), [Some(View::Object(7))]);
+        let named = matches!(seen.references(), [Some(View::Object(7))]);
         assert_eq!(rt; named, matches!(at, 0 | 3 | 5));
         assert_eq!(rt;
-            matches!(&entry.event, Event::Deliver { call: 2, object: 7 }),
+            matches!(event, Event::Deliver { call: 2, object: 7 }),
             at == 4
         );
     }

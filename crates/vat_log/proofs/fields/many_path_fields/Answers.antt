@@ -6,7 +6,7 @@ use Rattle.vat_log.proofs.fields.many_path_fields.Goals as goal
 
 pub returns-in_err-field-clause-gives : goal.returns-in_err-field-clause-gives
 returns-in_err-field-clause-gives c =
-    let p = err_from_is_err_and c.from_residual.result c.from_residual.ensures.1 in
+    let p = err_from_is_err_and c.from_residual-in_err-field.result c.from_residual-in_err-field.ensures.1 in
     rw (p.1, p.2) (ends c.in_err-field.field-0.0 (number_at w16 c.args.bytes.now) c.loop.fields.items c.args.count c.loop.counter c.loop.place (many_at (number_at w16 c.args.bytes.now) c.args.count c.args.at) c.loop-test.true c.in_err-field.ensures.gives c.loop.invariant.so_far)
 
 pub loop-preserved : goal.loop-preserved

@@ -5,7 +5,7 @@ use Rattle.vat_log.proofs.fields.many_references.Goals as goal
 
 pub returns-in_err-reference-clause-gives : goal.returns-in_err-reference-clause-gives
 returns-in_err-reference-clause-gives c =
-    let p = err_from_is_err_and c.from_residual.result c.from_residual.ensures.1 in
+    let p = err_from_is_err_and c.from_residual-in_err-reference.result c.from_residual-in_err-reference.ensures.1 in
     rw (p.1, p.2) (ends c.in_err-reference.field-0.0 (nonzero_at c.args.bytes.now) c.loop.references.items c.args.count c.loop.counter c.loop.place (many_at (nonzero_at c.args.bytes.now) c.args.count c.args.at) c.loop-test.true c.in_err-reference.ensures.gives c.loop.invariant.so_far)
 
 pub loop-preserved : goal.loop-preserved

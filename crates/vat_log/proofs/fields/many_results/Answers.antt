@@ -5,7 +5,7 @@ use Rattle.vat_log.proofs.fields.many_results.Goals as goal
 
 pub returns-in_err-answered-clause-gives : goal.returns-in_err-answered-clause-gives
 returns-in_err-answered-clause-gives c =
-    let p = err_from_is_err_and c.from_residual.result c.from_residual.ensures.1 in
+    let p = err_from_is_err_and c.from_residual-in_err-answered.result c.from_residual-in_err-answered.ensures.1 in
     rw (p.1, p.2) (ends c.in_err-answered.field-0.0 (answered_at c.args.bytes.now) c.loop.results.items c.args.count c.loop.counter c.loop.place (many_at (answered_at c.args.bytes.now) c.args.count c.args.at) c.loop-test.true c.in_err-answered.ensures.gives c.loop.invariant.so_far)
 
 pub loop-preserved : goal.loop-preserved

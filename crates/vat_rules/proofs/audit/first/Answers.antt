@@ -2,7 +2,7 @@ use Rattle.std.proofs.Common.{◌≡◌, ◌∷◌, length, arith, sym, ◌∙�
 use Rattle.std.specs.Prelude.{Some, Ok, slice_get}
 use Rattle.vat_rules.specs.Events.{event_of}
 use Rattle.vat_rules.specs.Audit.{reads_within}
-use Rattle.vat_rules.proofs.Firsts.{past_at-more, seen_more, is_first-Broken, is_first-Good, good-more}
+use Rattle.vat_rules.proofs.Firsts.{past_at-more, as_many, seen_more, is_first-Broken, is_first-Good, good-more}
 use Rattle.vat_rules.proofs.audit.first.Goals as goal
 
 pub returns-in-Some-2 : goal.returns-in-Some-2
@@ -30,5 +30,8 @@ loop-at-preserved c =
 pub returns : goal.returns
 returns c =
     let len : length c.args.log.now.records ≡ c.loop-at.at = omega (arith, c.len-at-end.ensures.value, c.loop-at-test.false, c.loop-at.auto.at-end) in
-    is_first-Good (reads_within c.args.limits) c.args.log.now.records c.loop-at.at c.loop-at.state c.loop-at.seen.items c.in_ok-told.field-0 len
-    c.loop-at.invariant.read c.loop-at.invariant.seen c.in_ok-told.ensures c.loop-at.invariant.good
+    is_first-Good (reads_within c.args.limits) c.args.log.now.records c.loop-at.at c.loop-at.state c.loop-at.seen.items c.told.result len
+    c.loop-at.invariant.read c.loop-at.invariant.seen c.told.ensures c.loop-at.invariant.good
+
+pub told-requires : goal.told-requires
+told-requires c = as_many c.loop-at.state c.loop-at.seen.items c.loop-at.invariant.seen

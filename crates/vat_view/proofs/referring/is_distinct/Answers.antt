@@ -3,7 +3,7 @@ use Rattle.std.proofs.lemmas.List.{take_more}
 use Rattle.std.proofs.lemmas.Bool.{not-true}
 use Rattle.vat_view.specs.Bindings.{contains, is_distinct}
 use Rattle.vat_view.specs.Seen.{has_in}
-use Rattle.vat_view.proofs.Distinct.{met_more, distinct_more, distinct_none, not_false}
+use Rattle.vat_view.proofs.Distinct.{met_more, distinct_more, distinct_none, not_false, short_distinct}
 use Rattle.vat_view.proofs.referring.is_distinct.Goals as goal
 
 pub returns-then-not-branch : goal.returns-then-not-branch
@@ -25,3 +25,6 @@ loop-reference-preserved c =
       met = λ q. met_more q x (take k xs) (has_in c.loop-reference.seen q) (has_in c.meet.new.self q) (c.loop-reference.invariant.met q) (c.in_ok-meet.ensures.met q) ∙ ap (contains q) (sym more);
       distinct = ap is_distinct more ∙ distinct_more x (take k xs) c.loop-reference.invariant.distinct new;
     }
+
+pub returns-then-references-le1 : goal.returns-then-references-le1
+returns-then-references-le1 c = sym (short_distinct c.args.references.now c.if-references-le1.true)

@@ -1,10 +1,12 @@
 -- References that are bound in turn.
-use Rattle.std.proofs.Common.{◌≡◌, refl, ◌∙◌, ap, ℕ, ◌==◌, List, [], ◌∷◌, ◌++◌, map, Bool, true, false, ◌||◌, Option, Some, None, if◌then◌else◌}
+use Rattle.std.proofs.Common.{◌≡◌, inl, inr, refl, ◌∙◌, ap, ℕ, ◌==◌, List, [], ◌∷◌, ◌++◌, map, Bool, true, false, ◌||◌, Option, Some, None, if◌then◌else◌}
 use Rattle.std.specs.Prelude.{Result, Ok, Err, OnErr}
 use Rattle.std.proofs.lemmas.Bool.{or_parts}
 use Rattle.vat_view.specs.Types.{View}
 use Rattle.vat_view.specs.Bindings.{contains}
 use Rattle.vat_view.specs.Tables.{bound_by}
+use Rattle.vat_view.specs.TurnTables.{IsOwnOrOld}
+use Rattle.vat_view.specs.declared.bound.Bound.{Bound}
 
 pub bound_more : (q : ℕ) (xs : List (ℕ × View)) (x : ℕ × View) (v : Option View) → bound_by q (xs ++ x ∷ []) v ≡ (if x.0 == q then Some x.1 else bound_by q xs v)
 bound_more q [] x v = refl
@@ -29,3 +31,14 @@ unbound_more a b v w e = ap (λ x. if b then None else x) e ∙ taken a b v
 pub any_err : {T E P : Type 0} (r : Result T E) → P → OnErr r P
 any_err (Ok x) p = tt
 any_err (Err e) p = p
+
+-- ---- references ahead, where bindings change in turn
+
+pub none_ahead : (table : Bound) → IsOwnOrOld table table
+none_ahead table r q e = inl e
+
+pub then_ahead : (a b c : Bound) → IsOwnOrOld a b → IsOwnOrOld b c → IsOwnOrOld a c
+then_ahead a b c first second r q e = elim (second r q e) [
+  | inl old ↦ first r q old
+  | inr own ↦ inr own
+]

@@ -35,3 +35,5 @@ pub mod Alike
 pub mod Looping
 pub mod Holding
 pub mod Receiving
+pub mod Hopping
+pub mod Ahead

@@ -8,6 +8,7 @@ use Rattle.std.proofs.lemmas.Bool.{cases_Bool, false≢true, ltb-true, ltb-false
 use Rattle.vat_view.specs.declared.questions.Questions.{Questions}
 use Rattle.vat_view.specs.declared.lives.Lives.{Lives}
 use Rattle.vat_view.specs.declared.bound.Bound.{Bound}
+use Rattle.vat_view.specs.declared.bound.Binding.{Binding}
 use Rattle.vat_view.specs.declared.turns.Turns.{Turns}
 use Rattle.vat_view.specs.declared.pending.Pending.{Pending}
 use Rattle.vat_view.specs.declared.pending.Pending.TheVariants.{Promise as PromiseToKeep, Results as ResultsOf, Import as ImportToResolve}
@@ -100,7 +101,7 @@ turns_applied items other pushed e number s questions lives bound table room mor
 
 -- ---- where views go, by the table
 
-get_front : (xs ys : List Event) (k : ℕ) (x : Event) → slice_get xs k ≡ Some x → slice_get (xs ++ ys) k ≡ Some x
+pub get_front : (xs ys : List Event) (k : ℕ) (x : Event) → slice_get xs k ≡ Some x → slice_get (xs ++ ys) k ≡ Some x
 get_front [] ys zero x h = absurd (none_some x h)
 get_front [] ys (suc k) x h = absurd (none_some x h)
 get_front (y ∷ xs) ys zero x h = h
@@ -177,20 +178,24 @@ module _ (items : List Event) (table : Turns) (kept : AreSettled (reverse items)
 -- ---- each turn lands on the view of a bound reference
 
 -- the place of a reference in a table
-abbrev pub spot : ℕ → List (ℕ × View) → ℕ
+abbrev pub spot : ℕ → List (ℕ × Binding) → ℕ
 spot r [] = 0
 spot r (e ∷ es) = cond (is_eq (nat_cmp r e.0)) 0 (suc (spot r es))
 
 -- the view at a place
-abbrev pub view_there : List (ℕ × View) → ℕ → Option View
-view_there es k = option_map (λ e. e.1) (slice_get es k)
+abbrev pub view_there : List (ℕ × Binding) → ℕ → Option View
+view_there es k = option_map (λ e. e.1.view) (slice_get es k)
 
-choose : (b : Bool) (e : ℕ × View) (es : List (ℕ × View)) (o : Option View) (s : ℕ) (w : View) → (o ≡ Some w → (s < length es) × (view_there es s ≡ Some w)) →
-    cond b (Some e.1) o ≡ Some w → (cond b 0 (suc s) < length (e ∷ es)) × (view_there (e ∷ es) (cond b 0 (suc s)) ≡ Some w)
+-- the view of what is found
+abbrev view_in : Option Binding → Option View
+view_in o = option_map (λ binding. binding.view) o
+
+choose : (b : Bool) (e : ℕ × Binding) (es : List (ℕ × Binding)) (o : Option Binding) (s : ℕ) (w : View) → (view_in o ≡ Some w → (s < length es) × (view_there es s ≡ Some w)) →
+    view_in (cond b (Some e.1) o) ≡ Some w → (cond b 0 (suc s) < length (e ∷ es)) × (view_there (e ∷ es) (cond b 0 (suc s)) ≡ Some w)
 choose true e es o s w rest h = (omega arith, h)
 choose false e es o s w rest h = (omega (arith, (rest h).0), (rest h).1)
 
-spot_found : (r : ℕ) (es : List (ℕ × View)) (w : View) → lookup (λ k. is_eq (nat_cmp r k)) es ≡ Some w → (spot r es < length es) × (view_there es (spot r es) ≡ Some w)
+spot_found : (r : ℕ) (es : List (ℕ × Binding)) (w : View) → view_in (lookup (λ k. is_eq (nat_cmp r k)) es) ≡ Some w → (spot r es < length es) × (view_there es (spot r es) ≡ Some w)
 spot_found r [] w h = absurd (none_some w h)
 spot_found r (e ∷ es) w h = choose (is_eq (nat_cmp r e.0)) e es (lookup (λ k. is_eq (nat_cmp r k)) es) (spot r es) w (spot_found r es w) h
 

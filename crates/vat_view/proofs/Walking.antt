@@ -25,7 +25,7 @@ reached_plus : {A : Type 0} (f : A → Option A) (m n : ℕ) (a : Option A) → 
 reached_plus f zero n a = let e : zero + n ≡ n = omega arith in rw e refl
 reached_plus f (suc m) n a = let e : suc m + n ≡ suc (m + n) = omega arith in rw e (reached_plus f m n (option_and_then f a))
 
-reached_at : {A : Type 0} (f : A → Option A) (m n k : ℕ) (a : Option A) → m + n ≡ k → reached f k a ≡ reached f n (reached f m a)
+pub reached_at : {A : Type 0} (f : A → Option A) (m n k : ℕ) (a : Option A) → m + n ≡ k → reached f k a ≡ reached f n (reached f m a)
 reached_at f m n k a e = rw (← e) (reached_plus f m n a)
 
 -- whether one of the first n numbers is this
@@ -65,12 +65,12 @@ abbrev index_at : {A : Type 0} → (A → ℕ) → Option A → ℕ
 index_at index (Some v) = index v
 index_at index None = 0
 
-cases_option : {A : Type 0} (o : Option A) → (o ≡ None) ⊎ ((x : A) × (o ≡ Some x))
+pub cases_option : {A : Type 0} (o : Option A) → (o ≡ None) ⊎ ((x : A) × (o ≡ Some x))
 cases_option None = inl refl
 cases_option (Some x) = inr (x, refl)
 
 -- what is reached by more turns was turned to
-dead : {A : Type 0} (f : A → Option A) (n k : ℕ) (a : Option A) (v : A) → reached f n a ≡ Some v → k < n → reached f (suc k) a ≡ None → ⊥
+pub dead : {A : Type 0} (f : A → Option A) (n k : ℕ) (a : Option A) (v : A) → reached f n a ≡ Some v → k < n → reached f (suc k) a ≡ None → ⊥
 dead f n k a v e lt gone =
     none_some v (sym (reached_none f (n - suc k)) ∙ ap (λ o. reached f (n - suc k) o) (sym gone) ∙ sym (reached_at f (suc k) (n - suc k) n a (omega arith)) ∙ e)
 

@@ -166,9 +166,9 @@ abbrev pub noted_by : Event → List Id → Id → Option Question → Option Qu
 noted_by e introduced q known =
     changed_if (names q (released e)) with_release (changed_if (names q (finished e)) with_finish (changed_if (names q (returned e)) (with_return introduced) known))
 
--- what the table has of a reference
+-- the view that the table has of a reference
 abbrev pub bound_at : Bound → ℕ → Option View
-bound_at table r = get nat_cmp table.entries r
+bound_at table r = option_map (λ binding. binding.view) (get nat_cmp table.entries r)
 
 -- the view of a reference after these are bound in turn
 abbrev pub bound_by : ℕ → List (ℕ × View) → Option View → Option View

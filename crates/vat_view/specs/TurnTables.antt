@@ -1,12 +1,14 @@
 -- For the code's contracts, and no part of the meaning: the table of turns, what looking back finds for its keys, and
 -- walks by so many turns.
-use Rattle.std.specs.Prelude.{◌≡◌, ℕ, zero, suc, ◌==◌, ◌&&◌, List, ◌∷◌, [], Bool, true, false, Option, Some, None, option_map, option_and_then, find, slice_get, is_some}
+use Rattle.std.specs.Prelude.{◌≡◌, ◌⊎◌, ℕ, zero, suc, ◌==◌, ◌&&◌, List, ◌∷◌, [], Bool, true, false, Option, Some, None, option_map, option_and_then, find, slice_get, is_some}
 use Rattle.std.specs.declared.cmp.Ordering.{Ordering}
 use Rattle.std.specs.BTreeMap.{get, btree_map_len}
+use Rattle.std.specs.Ordering.{nat_cmp}
 use Rattle.std.specs.Str.{bytes_eq as same_path}
 use Rattle.vat_view.specs.declared.question.Question.{Question}
 use Rattle.vat_view.specs.declared.lives.Lives.{Lives}
 use Rattle.vat_view.specs.declared.bound.Bound.{Bound}
+use Rattle.vat_view.specs.declared.bound.Binding.{Binding}
 use Rattle.vat_view.specs.declared.origin.Origin.{Origin}
 use Rattle.vat_view.specs.declared.pending.Pending.{Pending}
 use Rattle.vat_view.specs.declared.pending.Pending.TheVariants.{Promise as PromiseToKeep, Results as ResultsOf, Import as ImportToResolve}
@@ -19,7 +21,7 @@ use Rattle.vat_view.specs.Lives.{Birth, birth}
 use Rattle.vat_view.specs.Views.{noted, view_of_reference}
 use Rattle.vat_view.specs.Walks.{Next, turns, stays, on_to, next}
 use Rattle.vat_view.specs.Bindings.{is_bound}
-use Rattle.vat_view.specs.Tables.{held_origin}
+use Rattle.vat_view.specs.Tables.{bound_at, held_origin}
 
 -- ---- what records settle
 
@@ -146,9 +148,26 @@ settler_by table events v = option_and_then (slice_get events) (option_and_then 
 abbrev pub goes_by : List Event → Turns → (ℕ → Option View) → View → Next
 goes_by events table named v = goes named (path_of v) (settler_by table events v)
 
+-- the reference to which the record that settled a view turns it, by the table
+abbrev pub landed_by : List Event → Turns → View → Option ℕ
+landed_by events table v = option_and_then (landing (path_of v)) (settler_by table events v)
+
 -- how many references are bound
 abbrev pub bound_len : Bound → ℕ
 bound_len table = btree_map_len table.entries
+
+-- the reference that is ahead of this one, by what is kept of it: itself, where the references ahead are dropped
+abbrev pub ahead_in : Bool → ℕ → Binding → ℕ
+ahead_in true r binding = r
+ahead_in false r binding = binding.ahead
+
+-- the reference that is ahead of a bound one
+abbrev pub ahead_at : Bound → ℕ → Option ℕ
+ahead_at table r = option_map (λ binding. ahead_in table.dropped r binding) (get nat_cmp table.entries r)
+
+-- what is ahead of a reference was so before, or is itself
+abbrev pub IsOwnOrOld : Bound → Bound → Type 0
+IsOwnOrOld before after = (r q : ℕ) → ahead_at after r ≡ Some q → (ahead_at before r ≡ Some q) ⊎ (q ≡ r)
 
 -- ---- walks
 
@@ -177,3 +196,19 @@ ReachesByTurns turn a c = (n : ℕ) × (reached turn n (turn a) ≡ Some c)
 -- the last that is reached, where it stays
 abbrev pub EndsBy : (View → Next) → View → View → Type 0
 EndsBy goes a end = Reaches (λ v. turned_to (goes v)) a end × (goes end ≡ stays)
+
+-- a reference is ahead of another: the other's view leads, by these turns, to its view
+abbrev pub IsAhead : (View → Option View) → Bound → ℕ → ℕ → Type 0
+IsAhead turn table r q = (a : View) × (b : View) × (bound_at table r ≡ Some a) × (bound_at table q ≡ Some b) × Reaches turn a b
+
+-- what the table has beside each bound reference is ahead of it
+abbrev pub AreAhead : (View → Option View) → Bound → Type 0
+AreAhead turn table = (r q : ℕ) → ahead_at table r ≡ Some q → IsAhead turn table r q
+
+-- the turns by the tables
+abbrev pub turns_of : List Event → Turns → Bound → View → Option View
+turns_of events table bound v = turn_by events table (bound_at bound) v
+
+-- the references ahead are ahead by the turns of these tables
+abbrev pub HaveAhead : List Event → Turns → Bound → Type 0
+HaveAhead events table bound = AreAhead (turns_of events table bound) bound

@@ -4,6 +4,7 @@ ghost use Rattle.std.specs.Prelude.{◌≡◌, ◌∷◌, length, OnOk, OnErr};
 ghost use Rattle.vat_view.specs.Past.{Past};
 ghost use Rattle.vat_view.specs.Sound.{IsSound};
 ghost use Rattle.vat_view.specs.Kept.{AreKept};
+ghost use Rattle.vat_view.specs.TurnTables.{IsOwnOrOld};
 
 use crate::bound::Bound;
 use crate::calls::Calls;
@@ -30,6 +31,7 @@ pub(crate) fn learn_all(
         → AreKept (event.now ∷ before) questions.new lives.new bound.new calls.new) }
     ensures err { OnErr result ((before : Past) → number ≡ length before → AreKept before questions.old lives.old bound.old calls.old → IsSound before event.now
         → AreKept before questions.new lives.new bound.new calls.new) }
+    ensures ahead { IsOwnOrOld bound.old bound.new }
 {
     match news(bound, lives, questions, event)? {
         News::Nothing => learn(alloc, number, questions, lives, bound, event),

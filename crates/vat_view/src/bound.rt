@@ -1,19 +1,30 @@
 //! The table of references.
 
-ghost use Rattle.std.specs.Prelude.{◌≡◌, ◌==◌, ℕ, None, Some, OnOk, OnErr, true, false, map, is_some, if◌then◌else◌};
+ghost use Rattle.std.specs.Prelude.{◌≡◌, ◌==◌, ◌⊎◌, ℕ, None, Some, OnOk, OnErr, true, false, map, is_some, if◌then◌else◌, IsTrue};
 ghost use Rattle.std.specs.Option.{option_copied};
 ghost use Rattle.vat_view.specs.Bindings.{contains};
 ghost use Rattle.vat_view.specs.Tables.{bound_at, bound_by};
-ghost use Rattle.vat_view.specs.TurnTables.{bound_len};
+ghost use Rattle.vat_view.specs.TurnTables.{bound_len, ahead_at, IsOwnOrOld};
 
 use crate::view::View;
 use std::alloc::{AllocError, Global};
 use std::collections::BTreeMap;
 
-/// The view of each reference that is bound.
+/// What is kept of a reference.
+#[derive(Debug, Drop)]
+pub(crate) struct Binding {
+    /// What it stands for.
+    pub(crate) view: View,
+    /// A reference that is ahead of it: to whose view its own view leads.
+    pub(crate) ahead: u64,
+}
+
+/// The view of each reference that is bound, and for each one that is ahead of it, so that a walk needn't make each
+/// turn anew. At first each is ahead of itself; and again once the references ahead are dropped.
 #[derive(Debug, Drop)]
 pub(crate) struct Bound {
-    entries: BTreeMap<u64, View>,
+    entries: BTreeMap<u64, Binding>,
+    dropped: bool,
 }
 
 impl Bound {
@@ -23,6 +34,7 @@ impl Bound {
     {
         Bound {
             entries: BTreeMap::new(alloc),
+            dropped: false,
         }
     }
 
@@ -30,7 +42,46 @@ impl Bound {
     pub(crate) fn of(&self, reference: u64) -> Option<&View>
         ensures { option_copied result ≡ bound_at self.now reference }
     {
-        self.entries.get(&reference)
+        match self.entries.get(&reference) {
+            Some(binding) => Some(&binding.view),
+            None => None,
+        }
+    }
+
+    /// The reference that is ahead of this one, if this one is bound.
+    pub(crate) fn ahead(&self, reference: u64) -> Option<u64>
+        ensures { result ≡ ahead_at self.now reference }
+    {
+        match self.entries.get(&reference) {
+            Some(_) if self.dropped => Some(reference),
+            Some(binding) => Some(binding.ahead),
+            None => None,
+        }
+    }
+
+    /// From now on this reference is ahead of that one, if that one is bound.
+    pub(crate) fn remember(&mut self, reference: u64, ahead: u64)
+        ensures views { (q : ℕ) → bound_at self.new q ≡ bound_at self.old q }
+        ensures len { bound_len self.new ≡ bound_len self.old }
+        ensures ahead { (q a : ℕ) → ahead_at self.new q ≡ Some a → (ahead_at self.old q ≡ Some a) ⊎ ((q ≡ reference) × (a ≡ ahead)) }
+    {
+        if self.dropped {
+            return;
+        }
+        if let Some(binding) = self.entries.get_mut(&reference) {
+            binding.ahead = ahead;
+        }
+    }
+
+    /// Where it is said so, each reference is ahead of itself alone from now on.
+    pub(crate) fn drop_ahead(&mut self, drops: bool)
+        ensures views { (q : ℕ) → bound_at self.new q ≡ bound_at self.old q }
+        ensures ahead { IsOwnOrOld self.old self.new }
+        ensures own { IsTrue drops → (q a : ℕ) → ahead_at self.new q ≡ Some a → a ≡ q }
+    {
+        if drops {
+            self.dropped = true;
+        }
     }
 
     /// Whether this reference has a view.
@@ -51,8 +102,13 @@ impl Bound {
     fn bind(&mut self, reference: u64, view: View) -> Result<(), AllocError>
         ensures ok { OnOk result ((q : ℕ) → bound_at self.new q ≡ (if reference == q then Some view else bound_at self.old q)) }
         ensures err { OnErr result ((q : ℕ) → bound_at self.new q ≡ bound_at self.old q) }
+        ensures ahead { IsOwnOrOld self.old self.new }
     {
-        self.entries.insert(reference, view)?;
+        let binding = Binding {
+            view,
+            ahead: reference,
+        };
+        self.entries.insert(reference, binding)?;
         Ok(())
     }
 
@@ -60,6 +116,7 @@ impl Bound {
     pub(crate) fn bind_each(&mut self, list: Vec<(u64, View)>) -> Result<(), AllocError>
         ensures ok { OnOk result ((q : ℕ) → bound_at self.new q ≡ bound_by q list.items (bound_at self.old q)) }
         ensures err { OnErr result ((q : ℕ) → contains q (map (λ x. x.0) list.items) ≡ false → bound_at self.new q ≡ bound_at self.old q) }
+        ensures ahead { IsOwnOrOld self.old self.new }
     {
         for (reference, view) in list {
             self.bind(reference, view)?;
@@ -69,14 +126,16 @@ impl Bound {
 
     /// This reference has no view.
     fn unbind(&mut self, reference: u64)
-        ensures { (q : ℕ) → bound_at self.new q ≡ (if reference == q then None else bound_at self.old q) }
+        ensures views { (q : ℕ) → bound_at self.new q ≡ (if reference == q then None else bound_at self.old q) }
+        ensures ahead { IsOwnOrOld self.old self.new }
     {
         let _ = self.entries.remove(&reference);
     }
 
     /// These references have no view.
     pub(crate) fn unbind_each(&mut self, references: &[u64])
-        ensures { (q : ℕ) → bound_at self.new q ≡ (if contains q references.now then None else bound_at self.old q) }
+        ensures views { (q : ℕ) → bound_at self.new q ≡ (if contains q references.now then None else bound_at self.old q) }
+        ensures ahead { IsOwnOrOld self.old self.new }
     {
         for reference in references {
             self.unbind(*reference);

@@ -58,7 +58,7 @@ impl Calls {
     }
 
     /// The goal of this call, if it came to the vat with one.
-    fn goal(&self, call: u64) -> Option<&View>
+    pub(crate) fn goal(&self, call: u64) -> Option<&View>
         ensures { option_copied result ≡ goal_in (progress_at self.now call) }
     {
         match self.of(call) {

@@ -41,6 +41,7 @@ mod resolves;
 mod rules;
 mod seen;
 mod settling;
+mod shortening;
 mod sought;
 mod standing;
 mod state;

@@ -4,7 +4,7 @@ ghost use Rattle.std.specs.Prelude.{◌≡◌, ◌↔◌, IsTrue};
 ghost use Rattle.vat_view.specs.Past.{is};
 ghost use Rattle.vat_view.specs.Tables.{bound_at};
 ghost use Rattle.vat_view.specs.Connections.{connection_of, is_own, is_another};
-ghost use Rattle.vat_view.specs.TurnTables.{turn_by};
+ghost use Rattle.vat_view.specs.TurnTables.{turn_by, HaveAhead};
 ghost use Rattle.vat_view.specs.ConnectionTables.{over_by, sought_by, ReachesOne};
 
 use crate::bound::Bound;
@@ -12,7 +12,7 @@ use crate::connections::Connections;
 use crate::event::Event;
 use crate::turns::Turns;
 use crate::view::View;
-use crate::walk::{event_at, turned};
+use crate::walk::{event_at, further, turned};
 
 /// Which views a walk seeks.
 #[derive(Clone, Copy, Debug)]
@@ -86,7 +86,7 @@ fn is_sought(events: &[Event], connections: &Connections, sought: Sought, view: 
 }
 
 /// Whether a view leads, by 0 or more turns, to one that is sought. A walk makes at most as many turns as references
-/// are bound, so that it meets each view of a circle.
+/// are bound, so that it meets each view of a circle; beside it a walk hops, which may pass a view by.
 pub(crate) fn leads_to(
     events: &[Event],
     turns: &Turns,
@@ -95,17 +95,22 @@ pub(crate) fn leads_to(
     from: &View,
     sought: Sought,
 ) -> bool
+    requires { HaveAhead events.now turns.now bound.now }
     ensures { IsTrue result ↔ ReachesOne (turn_by events.now turns.now (bound_at bound.now)) (sought_by events.now connections.now sought) from.now }
 {
     let mut view = from;
+    let mut far = from;
     for _made in 0..bound.len() {
-        if is_sought(events, connections, sought, view) {
+        if is_sought(events, connections, sought, far)
+            || is_sought(events, connections, sought, view)
+        {
             return true;
         }
         match turned(events, turns, bound, view) {
             Some(next) => view = next,
             None => return false,
         }
+        far = further(events, turns, bound, far);
     }
     is_sought(events, connections, sought, view)
 }

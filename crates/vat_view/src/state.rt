@@ -27,12 +27,14 @@ use crate::number::Number;
 use crate::questions::Questions;
 use crate::resolves::Resolves;
 use crate::settling::settled;
+use crate::shortening::{field_landed, number_landed, reference_landed, shorten};
 use crate::sought::{Sought, leads_to};
 use crate::turns::Turns;
 use crate::view::View;
 use crate::waits::Waits;
 use crate::{arrivals, asking, kinds, records, standing, telling, walk};
 use cap_frame::Path;
+use rpc_view::{Outcome, RpcMessage};
 use std::alloc::{AllocError, Global};
 use std::marker::Model;
 
@@ -56,7 +58,7 @@ impl Model for VatState {
     ghost use Rattle.vat_view.specs.declared.event.Event.{Event};
     ghost use Rattle.vat_view.specs.KindTables.{AreResolved};
     ghost use Rattle.vat_view.specs.Kept.{AreKept};
-    ghost use Rattle.vat_view.specs.TurnTables.{AreSettled};
+    ghost use Rattle.vat_view.specs.TurnTables.{AreSettled, HaveAhead};
     ghost use Rattle.vat_view.specs.ConnectionTables.{AreConnected};
     ghost use Rattle.vat_view.specs.LoopTables.{AreWaiting};
 
@@ -68,7 +70,8 @@ impl Model for VatState {
         × AreResolved (reverse state.events.items) state.resolves
         × AreSettled (reverse state.events.items) state.turns
         × AreConnected (reverse state.events.items) state.connections
-        × AreWaiting (reverse state.events.items) state.waits };
+        × AreWaiting (reverse state.events.items) state.waits
+        × HaveAhead state.events.items state.turns state.bound };
 }
 
 impl VatState {
@@ -188,6 +191,31 @@ impl VatState {
         ensures ok { OnOk result (self.new ≡ event ∷ self.old) }
         ensures err { OnErr result (self.new ≡ self.old) }
     {
+        self.shorten(&event);
+        self.append(event)
+    }
+
+    /// The records that were applied, in their order, the oldest first. It takes no memory.
+    pub fn into_events(self) -> Vec<Event>
+        ensures { result.items ≡ reverse self }
+    {
+        let VatState { events, .. } = self;
+        events
+    }
+}
+
+/// How a record is applied.
+impl VatState {
+    /// Puts a record behind those applied.
+    fn append(&mut self, event: Event) -> Result<(), AllocError>
+        requires refers { Refers self.old event }
+        requires uses { UsesQuestions self.old event }
+        requires numbers { UsesNumbers self.old event }
+        requires gives { GivesBackHeld self.old event }
+        requires notes { NotesEach self.old event }
+        ensures ok { OnOk result (self.new ≡ event ∷ self.old) }
+        ensures err { OnErr result (self.new ≡ self.old) }
+    {
         self.events.reserve(1)?;
         let alloc = *self.events.allocator();
         let number = self.events.len();
@@ -208,6 +236,7 @@ impl VatState {
             &mut self.calls,
             &event,
         )?;
+        self.bound.drop_ahead(self.turns.has(pending));
         self.turns.note(pending, number);
         self.resolves.note_resolve(promise, number);
         self.connections.note_event(&event);
@@ -216,12 +245,102 @@ impl VatState {
         Ok(())
     }
 
-    /// The records that were applied, in their order, the oldest first. It takes no memory.
-    pub fn into_events(self) -> Vec<Event>
-        ensures { result.items ≡ reverse self }
+    /// Makes the walk from this reference shorter.
+    fn shorten_from(&mut self, reference: u64)
+        ensures { self.new ≡ self.old }
     {
-        let VatState { events, .. } = self;
-        events
+        let events = self.events.as_slice();
+        shorten(events, &self.turns, &mut self.bound, reference);
+    }
+
+    /// Makes the walk from what this number stands for shorter.
+    fn shorten_number(&mut self, number: Id)
+        ensures { self.new ≡ self.old }
+    {
+        let events = self.events.as_slice();
+        if let Some(first) = number_landed(events, &self.turns, &self.bound, &self.lives, number) {
+            self.shorten_from(first);
+        }
+    }
+
+    /// Makes the walk from the goal of a call shorter.
+    fn shorten_goal(&mut self, call: u64)
+        ensures { self.new ≡ self.old }
+    {
+        let Some(goal) = self.calls.goal(call) else {
+            return;
+        };
+        if let Some(first) = walk::landed(self.events.as_slice(), &self.turns, goal) {
+            self.shorten_from(first);
+        }
+    }
+
+    /// Makes the walks from these references shorter.
+    fn shorten_references(&mut self, references: &[u64])
+        ensures { self.new ≡ self.old }
+    {
+        for reference in references {
+            let events = self.events.as_slice();
+            if let Some(first) = reference_landed(events, &self.turns, &self.bound, *reference) {
+                self.shorten_from(first);
+            }
+        }
+    }
+
+    /// Makes the walks from the results of a call at these paths shorter.
+    fn shorten_fields(&mut self, call: u64, fields: &[(Path, u32)])
+        ensures { self.new ≡ self.old }
+    {
+        for (path, _) in fields {
+            let events = self.events.as_slice();
+            if let Some(first) = field_landed(events, &self.turns, call, path.as_slice()) {
+                self.shorten_from(first);
+            }
+        }
+    }
+
+    /// Makes the walks shorter that the rules ask for on a sent message: from what its number or question stands for.
+    fn shorten_message(&mut self, connection: u32, call: u64, message: &RpcMessage)
+        ensures { self.new ≡ self.old }
+    {
+        match message {
+            RpcMessage::Call { .. } => self.shorten_goal(call),
+            RpcMessage::Resolve { promise, .. } => {
+                self.shorten_number(Number::Export(*promise).on(connection));
+            }
+            RpcMessage::Return {
+                answer,
+                outcome: Outcome::Results(payload),
+                ..
+            } => {
+                let question = Number::Answer(*answer).on(connection);
+                if let Some(call) = self.opening_call(question) {
+                    self.shorten_fields(call, payload.fields.as_slice());
+                }
+            }
+            _ => {}
+        }
+    }
+
+    /// Makes the walks shorter that the rules ask for on a record: from the goal of its call, from the references noted
+    /// beside a sent message, and from what this message speaks of. It takes no memory.
+    fn shorten(&mut self, event: &Event)
+        ensures { self.new ≡ self.old }
+    {
+        match event {
+            Event::Deliver { call, .. } => self.shorten_goal(*call),
+            Event::Wire {
+                sent: true,
+                connection,
+                call,
+                references,
+                message,
+            } => {
+                self.shorten_references(references.as_slice());
+                self.shorten_message(*connection, *call, message);
+            }
+            _ => {}
+        }
     }
 }
 

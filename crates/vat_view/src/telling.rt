@@ -6,6 +6,7 @@ ghost use Rattle.vat_view.specs.Past.{Past, same_id};
 ghost use Rattle.vat_view.specs.Questions.{noted_call};
 ghost use Rattle.vat_view.specs.Lives.{GivesBackHeld};
 ghost use Rattle.vat_view.specs.Uses.{UsesQuestions};
+ghost use Rattle.vat_view.specs.TurnTables.{IsOwnOrOld};
 ghost use Rattle.vat_view.specs.Tables.{question_at, late_by, closed_by, count_at, origin_at, raised_origin, lets_go, just_opened, noted_by, IsPut, IsSame, IsTabled, AreTabled, IsFit};
 
 use crate::arrivals::{begun, bindings, new_references};
@@ -211,6 +212,7 @@ pub(crate) fn learn(
         → AreTabled (event.now ∷ before) questions.new lives.new bound.new) }
     ensures err { OnErr result ((before : Past) → number ≡ length before → AreTabled before questions.old lives.old bound.old → IsFit before event.now
         → AreTabled before questions.new lives.new bound.new) }
+    ensures ahead { IsOwnOrOld bound.old bound.new }
 {
     let late = is_late(questions, event);
     let begun = begun(alloc, late, number, event)?;

@@ -1,6 +1,6 @@
 //! The table of turns.
 
-ghost use Rattle.std.specs.Prelude.{◌≡◌, None, Some, OnOk, IsTrue, if◌then◌else◌};
+ghost use Rattle.std.specs.Prelude.{◌≡◌, None, Some, OnOk, IsTrue, is_some, option_and_then, if◌then◌else◌};
 ghost use Rattle.vat_view.specs.declared.pending.Pending.{Pending};
 ghost use Rattle.vat_view.specs.TurnTables.{settler_at, has_room, is_this};
 
@@ -32,6 +32,16 @@ impl Turns {
         match self.entries.get(&pending) {
             Some(number) => *number,
             None => None,
+        }
+    }
+
+    /// Whether a record settled before what a record settles.
+    pub(crate) fn has(&self, settled: Option<Pending>) -> bool
+        ensures { result ≡ is_some (option_and_then (settler_at self.now) settled) }
+    {
+        match settled {
+            Some(pending) => self.of(pending).is_some(),
+            None => false,
         }
     }
 

@@ -4,7 +4,7 @@ ghost use Rattle.std.specs.Prelude.{◌≡◌, ◌↔◌, IsTrue, Some, MatchOpt
 ghost use Rattle.std.specs.Option.{option_copied};
 ghost use Rattle.vat_view.specs.Types.{View};
 ghost use Rattle.vat_view.specs.Tables.{bound_at};
-ghost use Rattle.vat_view.specs.TurnTables.{awaited, path_of, settler_by, goes_by, turn_by, Reaches, ReachesByTurns, EndsBy};
+ghost use Rattle.vat_view.specs.TurnTables.{awaited, path_of, settler_by, goes_by, turn_by, landed_by, turns_of, Reaches, ReachesByTurns, EndsBy, HaveAhead};
 
 use crate::bound::Bound;
 use crate::event::Event;
@@ -79,6 +79,14 @@ pub(crate) fn stays(events: &[Event], turns: &Turns, view: &View) -> bool
     settler(events, turns, view).is_none()
 }
 
+/// The reference where a view lands: to which the record that settled it, if one did, turns it.
+pub(crate) fn landed(events: &[Event], turns: &Turns, view: &View) -> Option<u64>
+    ensures { result ≡ landed_by events.now turns.now view.now }
+{
+    let event = settler(events, turns, view)?;
+    landing(path_of(view), event)
+}
+
 /// The view to which a view turns, if it does.
 pub(crate) fn turned<'a>(
     events: &[Event],
@@ -88,24 +96,60 @@ pub(crate) fn turned<'a>(
 ) -> Option<&'a View>
     ensures { option_copied result ≡ turn_by events.now turns.now (bound_at bound.now) view.now }
 {
-    let event = settler(events, turns, view)?;
-    let reference = landing(path_of(view), event)?;
+    let reference = landed(events, turns, view)?;
     bound.of(reference)
 }
 
-/// Whether a view leads to another by 0 or more turns. A walk makes at most as many turns as references are bound.
+/// A view to which a view leads by 1 or more turns, if it turns: it lands on a reference, and then the one ahead of
+/// that one is looked up.
+pub(crate) fn hopped<'a>(
+    events: &[Event],
+    turns: &Turns,
+    bound: &'a Bound,
+    view: &View,
+) -> Option<&'a View>
+    requires { HaveAhead events.now turns.now bound.now }
+    ensures { MatchOption result (turns_of events.now turns.now bound.now view.now ≡ None)
+        (λ next. ReachesByTurns (turns_of events.now turns.now bound.now) view.now next.now) }
+{
+    let reference = landed(events, turns, view)?;
+    let ahead = bound.ahead(reference)?;
+    bound.of(ahead)
+}
+
+/// A view to which a view leads: by a hop, where it turns.
+pub(crate) fn further<'a>(
+    events: &[Event],
+    turns: &Turns,
+    bound: &'a Bound,
+    view: &'a View,
+) -> &'a View
+    requires { HaveAhead events.now turns.now bound.now }
+    ensures { Reaches (turns_of events.now turns.now bound.now) view.now result.now }
+{
+    match hopped(events, turns, bound, view) {
+        Some(next) => next,
+        None => view,
+    }
+}
+
+/// Whether a view leads to another by 0 or more turns. Of two walks side by side one makes each turn, and at most as many
+/// as references are bound; the other hops, and may pass a view by.
 pub(crate) fn leads(events: &[Event], turns: &Turns, bound: &Bound, from: &View, to: &View) -> bool
+    requires { HaveAhead events.now turns.now bound.now }
     ensures { IsTrue result ↔ Reaches (turn_by events.now turns.now (bound_at bound.now)) from.now to.now }
 {
     let mut view = from;
+    let mut far = from;
     for _made in 0..bound.len() {
-        if same(view, to) {
+        if same(far, to) || same(view, to) {
             return true;
         }
         match turned(events, turns, bound, view) {
             Some(next) => view = next,
             None => return false,
         }
+        far = further(events, turns, bound, far);
     }
     same(view, to)
 }
@@ -118,6 +162,7 @@ pub(crate) fn leads_by_turns(
     from: &View,
     to: &View,
 ) -> bool
+    requires { HaveAhead events.now turns.now bound.now }
     ensures { IsTrue result ↔ ReachesByTurns (turn_by events.now turns.now (bound_at bound.now)) from.now to.now }
 {
     match turned(events, turns, bound, from) {
@@ -137,21 +182,30 @@ fn resting<'a>(events: &[Event], turns: &Turns, view: &'a View) -> Option<&'a Vi
     }
 }
 
-/// The end of a view's walk, if it has one: it has none where the walk stops or goes in a circle.
+/// The end of a view's walk, if it has one: it has none where the walk stops or goes in a circle. The walk hops, and ends
+/// where a view turns no more. It marks a view now and then, and goes in a circle where it meets the last one marked.
 pub(crate) fn end<'a>(
     events: &[Event],
     turns: &Turns,
     bound: &'a Bound,
     view: &'a View,
 ) -> Option<&'a View>
+    requires { HaveAhead events.now turns.now bound.now }
     ensures { MatchOption result ((v : View) → EndsBy (goes_by events.now turns.now (bound_at bound.now)) view.now v → ⊥)
         (λ v. EndsBy (goes_by events.now turns.now (bound_at bound.now)) view.now v.now) }
 {
     let mut at = view;
-    for _turn in 0..bound.len() {
-        match turned(events, turns, bound, at) {
+    let mut mark = view;
+    for hop in 0..bound.len() {
+        match hopped(events, turns, bound, at) {
             Some(next) => at = next,
             None => return resting(events, turns, at),
+        }
+        if same(at, mark) {
+            return None;
+        }
+        if hop.is_power_of_two() {
+            mark = at;
         }
     }
     match turned(events, turns, bound, at) {

@@ -8,7 +8,7 @@ returns-then-is_err-clause-err c = λ before place kept fit.
     unlearned before c.args.event.now c.args.questions.now c.args.lives.now c.in_ok-begun.begun c.args.bound.now kept fit
     (begun_now before c.args.event.now c.args.questions.now c.args.lives.now c.in_ok-begun.begun c.is_late-late.result c.args.number kept.tabled fit.uses c.is_late-late.ensures place c.in_ok-begun.ensures)
     c.in_ok-list.list.items c.in_ok-list.ensures
-    c.args.questions.now c.args.lives.now c.bind_each.new.self c.unbind_each.new.self c.new_references.result.now c.new_references.ensures kept.tabled c.unbind_each.ensures
+    c.args.questions.now c.args.lives.now c.bind_each.new.self c.unbind_each.new.self c.new_references.result.now c.new_references.ensures kept.tabled c.unbind_each.ensures.views
     (refused before c.args.event.now c.args.questions.now c.args.lives.now c.in_ok-begun.begun c.args.bound.now kept fit
     (begun_now before c.args.event.now c.args.questions.now c.args.lives.now c.in_ok-begun.begun c.is_late-late.result c.args.number kept.tabled fit.uses c.is_late-late.ensures place c.in_ok-begun.ensures)
     c.in_ok-list.list.items c.in_ok-list.ensures
@@ -20,7 +20,7 @@ returns-then-is_err-2-clause-err c = λ before place kept fit.
     (begun_now before c.args.event.now c.args.questions.now c.args.lives.now c.in_ok-begun.begun c.is_late-late.result c.args.number kept.tabled fit.uses c.is_late-late.ensures place c.in_ok-begun.ensures)
     c.in_ok-list.list.items c.in_ok-list.ensures
     c.tell.new.questions c.tell.new.lives c.bind_each.new.self c.unbind_each-then-is_err-2.new.self c.new_references-then-is_err-2.result.now c.new_references-then-is_err-2.ensures
-    (err_gives c.tell.result (sym c.is_err-2.ensures.value ∙ c.if-is_err-2.true) c.tell.ensures.err before kept.tabled) c.unbind_each-then-is_err-2.ensures
+    (err_gives c.tell.result (sym c.is_err-2.ensures.value ∙ c.if-is_err-2.true) c.tell.ensures.err before kept.tabled) c.unbind_each-then-is_err-2.ensures.views
     (bound_apart_from before c.args.event.now c.args.questions.now c.args.lives.now c.in_ok-begun.begun c.args.bound.now kept fit
     (begun_now before c.args.event.now c.args.questions.now c.args.lives.now c.in_ok-begun.begun c.is_late-late.result c.args.number kept.tabled fit.uses c.is_late-late.ensures place c.in_ok-begun.ensures)
     c.in_ok-list.list.items c.in_ok-list.ensures

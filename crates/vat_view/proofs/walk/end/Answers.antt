@@ -1,30 +1,42 @@
-use Rattle.std.proofs.Common.{sym, ◌∙◌, ap, add-one, Bor, arith}
-use Rattle.std.specs.Prelude.{Some, option_and_then}
+use Rattle.std.proofs.Common.{sym, ap, ◌+◌, Bor, arith}
 use Rattle.vat_view.specs.Types.{View}
-use Rattle.vat_view.specs.Tables.{bound_at}
-use Rattle.vat_view.specs.TurnTables.{turn_by}
-use Rattle.vat_view.proofs.Walking.{reached_more}
+use Rattle.vat_view.specs.TurnTables.{turned_to, turns_of}
+use Rattle.vat_view.proofs.Hopping.{walked_none, walked_on, walked_marked, meets_mark}
 use Rattle.vat_view.proofs.Ending.{ends_at, goes_for_ever}
+use Rattle.vat_view.proofs.walk.end.Goals.{then-is_power_of_two, else-is_power_of_two}
 use Rattle.vat_view.proofs.walk.end.Goals as goal
+
+pub loop-hop-init : goal.loop-hop-init
+loop-hop-init c = walked_none (turns_of c.args.events.now c.args.turns.now c.args.bound.now) c.args.view.now
 
 pub returns-in-None : goal.returns-in-None
 returns-in-None c =
-    let now : Bor View → View = λ r. r.now in
-    ends_at now c.args.events.now c.args.turns.now c.args.bound.now c.args.view.now c.loop-turn.at.now c.loop-turn._turn c.resting.result c.loop-turn.invariant c.in-None.ensures c.resting.ensures
+    let now : Bor View → View = λ r. r.now in let walked = c.loop-hop.invariant in
+    ends_at now c.args.events.now c.args.turns.now c.args.bound.now c.args.view.now c.loop-hop.at.now walked.0 c.resting.result walked.4 (sym c.in-None.ensures) c.resting.ensures
 
-pub loop-turn-preserved : goal.loop-turn-preserved
-loop-turn-preserved c =
-    let f = turn_by c.args.events.now c.args.turns.now (bound_at c.args.bound.now) in
-    rw (add-one c.loop-turn._turn) (reached_more f c.loop-turn._turn (Some c.args.view.now) ∙ ap (λ o. option_and_then f o) c.loop-turn.invariant ∙ sym c.in-Some.ensures)
+pub returns-then-same : goal.returns-then-same
+returns-then-same c = λ w ends.
+    meets_mark (turns_of c.args.events.now c.args.turns.now c.args.bound.now) c.loop-hop.hop c.args.view.now c.loop-hop.at.now c.loop-hop.mark.now c.in-Some.next.now c.loop-hop.invariant
+    c.in-Some.ensures (c.same.ensures.0 c.if-same.true) w ends.0 (ap (λ x. turned_to x) ends.1)
+
+pub loop-hop-preserved : goal.loop-hop-preserved
+loop-hop-preserved c =
+    let f = turns_of c.args.events.now c.args.turns.now c.args.bound.now in
+    let walked = walked_on f c.loop-hop.hop c.args.view.now c.loop-hop.at.now c.loop-hop.mark.now c.in-Some.next.now c.loop-hop.invariant c.in-Some.ensures in
+    elim c.if-is_power_of_two.branch [
+      | then-is_power_of_two w ↦
+          rw (w.mark-is) (walked_marked f (c.loop-hop.hop + 1) c.args.view.now c.in-Some.next.now c.loop-hop.mark.now walked)
+      | else-is_power_of_two w ↦ rw (w.mark-is) walked
+    ]
 
 pub returns-in-Some-turned : goal.returns-in-Some-turned
 returns-in-Some-turned c =
-    let now : Bor View → View = λ r. r.now in
-    goes_for_ever now c.args.events.now c.args.turns.now c.args.bound.now c.args.view.now c.loop-turn.at.now c.in-Some-turned.field-0.now c.loop-turn._turn
-    (omega (arith, c.loop-turn-test.false, c.len-turn-end.ensures)) c.loop-turn.invariant c.in-Some-turned.ensures
+    let now : Bor View → View = λ r. r.now in let walked = c.loop-hop.invariant in let low = walked.2 in
+    goes_for_ever now c.args.events.now c.args.turns.now c.args.bound.now c.args.view.now c.loop-hop.at.now c.in-Some-turned.field-0.now walked.0
+    (omega (arith, low, c.loop-hop-test.false, c.len-hop-end.ensures)) walked.4 c.in-Some-turned.ensures
 
 pub returns-in-None-turned : goal.returns-in-None-turned
 returns-in-None-turned c =
-    let now : Bor View → View = λ r. r.now in
-    ends_at now c.args.events.now c.args.turns.now c.args.bound.now c.args.view.now c.loop-turn.at.now c.loop-turn._turn c.resting-in-None-turned.result c.loop-turn.invariant
+    let now : Bor View → View = λ r. r.now in let walked = c.loop-hop.invariant in
+    ends_at now c.args.events.now c.args.turns.now c.args.bound.now c.args.view.now c.loop-hop.at.now walked.0 c.resting-in-None-turned.result walked.4
     c.in-None-turned.ensures c.resting-in-None-turned.ensures

@@ -1,8 +1,6 @@
-use Rattle.std.proofs.Common.{◌≡◌}
-use Rattle.std.specs.Prelude.{Some}
-use Rattle.vat_view.specs.Tables.{bound_at}
-use Rattle.vat_view.specs.TurnTables.{reached, turn_by}
+use Rattle.vat_view.specs.TurnTables.{turns_of}
+use Rattle.vat_view.proofs.Hopping.{Walked}
 use Rattle.vat_view.proofs.walk.end.Given as goal
 
-abbrev pub invariant-loop-turn : goal.invariant-loop-turn
-invariant-loop-turn l = reached (turn_by l.events l.turns (bound_at l.bound)) l._turn (Some l.fn.view) ≡ Some l.at
+abbrev pub invariant-loop-hop : goal.invariant-loop-hop
+invariant-loop-hop l = Walked (turns_of l.events l.turns l.bound) l.hop l.fn.view l.at l.mark

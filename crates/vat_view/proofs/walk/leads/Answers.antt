@@ -4,6 +4,7 @@ use Rattle.vat_view.specs.Tables.{bound_at}
 use Rattle.vat_view.specs.TurnTables.{turn_by}
 use Rattle.vat_view.proofs.Walking.{ended, met, reached_more, some_same}
 use Rattle.vat_view.proofs.Settled.{few, place_of, view_there}
+use Rattle.vat_view.proofs.Hopping.{on_from}
 use Rattle.vat_view.proofs.walk.leads.Goals as goal
 
 pub returns-in-None : goal.returns-in-None
@@ -11,16 +12,17 @@ returns-in-None c =
     let f = turn_by c.args.events.now c.args.turns.now (bound_at c.args.bound.now) in (
       (λ h. let no : ⊥ = cc in absurd no),
       λ l. absurd (ended f c.args.from.now c.loop-made.view.now c.args.to.now c.loop-made._made c.loop-made.invariant.here
-          (λ e. let same = c.same.ensures.1 e in let no : ⊥ = cc in no) c.loop-made.invariant.before (sym c.in-None.ensures) l.0 l.1),
+          (λ e. let same = c.same-else-same.ensures.1 e in let no : ⊥ = cc in no) c.loop-made.invariant.before (sym c.in-None.ensures) l.0 l.1),
     )
 
 pub loop-made-preserved : goal.loop-made-preserved
 loop-made-preserved c =
     let f = turn_by c.args.events.now c.args.turns.now (bound_at c.args.bound.now) in record {
+      ahead = on_from f c.args.from.now c.loop-made.far.now c.further-far.result.now c.loop-made.invariant.ahead c.further-far.ensures;
       here = rw (add-one c.loop-made._made)
           (reached_more f c.loop-made._made (Some c.args.from.now) ∙ ap (λ o. option_and_then f o) c.loop-made.invariant.here ∙ sym c.in-Some.ensures);
       before = below_more _ _ c.loop-made.invariant.before
-          (λ e. let same = c.same.ensures.1 (some_same c.loop-made.view.now c.args.to.now (sym c.loop-made.invariant.here ∙ e)) in let no : ⊥ = cc in no);
+          (λ e. let same = c.same-else-same.ensures.1 (some_same c.loop-made.view.now c.args.to.now (sym c.loop-made.invariant.here ∙ e)) in let no : ⊥ = cc in no);
     }
 
 pub returns : goal.returns

@@ -1,7 +1,11 @@
 use Rattle.std.proofs.Common.{◌≡◌, ℕ, take, None, if◌then◌else◌}
 use Rattle.vat_view.specs.Bindings.{contains}
 use Rattle.vat_view.specs.Tables.{bound_at}
+use Rattle.vat_view.specs.TurnTables.{IsOwnOrOld}
 use Rattle.vat_view.proofs.bound.Bound.unbind_each.Given as goal
 
 abbrev pub invariant-loop-reference : goal.invariant-loop-reference
-invariant-loop-reference l = (q : ℕ) → bound_at l.self q ≡ (if contains q (take l.reference-index l.references) then None else bound_at l.initial.self q)
+invariant-loop-reference l = record {
+  views : (q : ℕ) → bound_at l.self q ≡ (if contains q (take l.reference-index l.references) then None else bound_at l.initial.self q);
+  ahead : IsOwnOrOld l.initial.self l.self;
+}

@@ -11,7 +11,8 @@ use Rattle.vat_view.proofs.Settled.{turns_refused, turns_applied}
 use Rattle.vat_view.proofs.Promising.{resolves_after}
 use Rattle.vat_view.proofs.Connecting.{connected_refused, connected_applied}
 use Rattle.vat_view.proofs.Looping.{waits_same, waits_after}
-use Rattle.vat_view.proofs.state.VatState.apply.Goals as goal
+use Rattle.vat_view.proofs.Ahead.{kept_views, ahead_refused, ahead_unlearned, ahead_applied}
+use Rattle.vat_view.proofs.state.VatState.append.Goals as goal
 
 pub invariant_of-self-in_err-make_room : goal.invariant_of-self-in_err-make_room
 invariant_of-self-in_err-make_room c = (
@@ -20,6 +21,7 @@ invariant_of-self-in_err-make_room c = (
   turns_refused c.self.inside.events.items c.reserve.new.self.items c.self.inside.turns c.make_room.new.self c.in_ok-reserve.ensures.items c.make_room.ensures.same c.self.invariant.2,
   connected_refused c.self.inside.events.items c.reserve.new.self.items c.self.inside.connections c.self.inside.connections c.in_ok-reserve.ensures.items (λ k. refl) (λ k. refl) c.self.invariant.3,
   subst (λ l. AreWaiting (reverse l) c.self.inside.waits) (sym c.in_ok-reserve.ensures.items) c.self.invariant.4,
+  ahead_refused c.self.inside.events.items c.reserve.new.self.items c.self.inside.turns c.make_room.new.self c.in_ok-reserve.ensures.items c.make_room.ensures.same c.self.inside.bound c.self.invariant.5,
 )
 
 pub invariant_of-self-in_err-room_for : goal.invariant_of-self-in_err-room_for
@@ -29,6 +31,7 @@ invariant_of-self-in_err-room_for c = (
   turns_refused c.self.inside.events.items c.reserve.new.self.items c.self.inside.turns c.make_room.new.self c.in_ok-reserve.ensures.items c.make_room.ensures.same c.self.invariant.2,
   connected_refused c.self.inside.events.items c.reserve.new.self.items c.self.inside.connections c.self.inside.connections c.in_ok-reserve.ensures.items (λ k. refl) (λ k. refl) c.self.invariant.3,
   subst (λ l. AreWaiting (reverse l) c.self.inside.waits) (sym c.in_ok-reserve.ensures.items) c.self.invariant.4,
+  ahead_refused c.self.inside.events.items c.reserve.new.self.items c.self.inside.turns c.make_room.new.self c.in_ok-reserve.ensures.items c.make_room.ensures.same c.self.inside.bound c.self.invariant.5,
 )
 
 pub invariant_of-self-in_err-grow_for : goal.invariant_of-self-in_err-grow_for
@@ -38,6 +41,7 @@ invariant_of-self-in_err-grow_for c = (
   turns_refused c.self.inside.events.items c.reserve.new.self.items c.self.inside.turns c.make_room.new.self c.in_ok-reserve.ensures.items c.make_room.ensures.same c.self.invariant.2,
   connected_refused c.self.inside.events.items c.reserve.new.self.items c.self.inside.connections c.grow_for.new.self c.in_ok-reserve.ensures.items c.grow_for.ensures.asked c.grow_for.ensures.aborted c.self.invariant.3,
   subst (λ l. AreWaiting (reverse l) c.self.inside.waits) (sym c.in_ok-reserve.ensures.items) c.self.invariant.4,
+  ahead_refused c.self.inside.events.items c.reserve.new.self.items c.self.inside.turns c.make_room.new.self c.in_ok-reserve.ensures.items c.make_room.ensures.same c.self.inside.bound c.self.invariant.5,
 )
 
 pub invariant_of-self-in_err-change : goal.invariant_of-self-in_err-change
@@ -48,6 +52,7 @@ invariant_of-self-in_err-change c = (
   connected_refused c.self.inside.events.items c.reserve.new.self.items c.self.inside.connections c.grow_for.new.self c.in_ok-reserve.ensures.items c.grow_for.ensures.asked c.grow_for.ensures.aborted c.self.invariant.3,
   waits_same (reverse c.reserve.new.self.items) c.self.inside.waits c.prepare.new.self c.prepare.ensures.same
       (subst (λ l. AreWaiting (reverse l) c.self.inside.waits) (sym c.in_ok-reserve.ensures.items) c.self.invariant.4),
+  ahead_refused c.self.inside.events.items c.reserve.new.self.items c.self.inside.turns c.make_room.new.self c.in_ok-reserve.ensures.items c.make_room.ensures.same c.self.inside.bound c.self.invariant.5,
 )
 
 pub invariant_of-self-in_err-learn_all : goal.invariant_of-self-in_err-learn_all
@@ -59,15 +64,19 @@ invariant_of-self-in_err-learn_all c =
       uses_numbers = c.requires.numbers;
       gives_back_held = c.requires.gives;
       notes_each = c.requires.notes;
-    } in (
-      state_refused c.self.inside.events.items c.reserve.new.self.items c.args.self.now c.args.event c.len-number.result
-          (λ p. AreKept p c.self.inside.questions c.self.inside.lives c.self.inside.bound c.self.inside.calls) (λ p. AreKept p c.learn_all.new.questions c.learn_all.new.lives c.learn_all.new.bound c.learn_all.new.calls)
-          c.self.view_is c.in_ok-reserve.ensures.items place c.self.invariant.0 sound c.in_err-learn_all.ensures.err,
+    } in
+    let kept : AreKept (reverse c.reserve.new.self.items) c.learn_all.new.questions c.learn_all.new.lives c.learn_all.new.bound c.learn_all.new.calls =
+    state_refused c.self.inside.events.items c.reserve.new.self.items c.args.self.now c.args.event c.len-number.result
+    (λ p. AreKept p c.self.inside.questions c.self.inside.lives c.self.inside.bound c.self.inside.calls) (λ p. AreKept p c.learn_all.new.questions c.learn_all.new.lives c.learn_all.new.bound c.learn_all.new.calls)
+    c.self.view_is c.in_ok-reserve.ensures.items place c.self.invariant.0 sound c.in_err-learn_all.ensures.err in (
+      kept,
       (λ i. c.room_for.ensures.same i ∙ (subst (λ l. AreResolved (reverse l) c.self.inside.resolves) (sym c.in_ok-reserve.ensures.items) c.self.invariant.1) i),
       turns_refused c.self.inside.events.items c.reserve.new.self.items c.self.inside.turns c.make_room.new.self c.in_ok-reserve.ensures.items c.make_room.ensures.same c.self.invariant.2,
       connected_refused c.self.inside.events.items c.reserve.new.self.items c.self.inside.connections c.grow_for.new.self c.in_ok-reserve.ensures.items c.grow_for.ensures.asked c.grow_for.ensures.aborted c.self.invariant.3,
       waits_same (reverse c.reserve.new.self.items) c.self.inside.waits c.prepare.new.self c.prepare.ensures.same
           (subst (λ l. AreWaiting (reverse l) c.self.inside.waits) (sym c.in_ok-reserve.ensures.items) c.self.invariant.4),
+      ahead_unlearned c.self.inside.events.items c.reserve.new.self.items c.self.inside.turns c.make_room.new.self c.in_ok-reserve.ensures.items c.make_room.ensures.same c.self.inside.bound
+          c.learn_all.new.bound c.self.invariant.0.tabled.bounds kept.tabled.bounds c.learn_all.ensures.ahead c.self.invariant.5,
     )
 
 pub invariant_of-self-2 : goal.invariant_of-self-2
@@ -80,10 +89,12 @@ invariant_of-self-2 c =
       gives_back_held = c.requires.gives;
       notes_each = c.requires.notes;
     } in
-    let fit : IsFit c.args.self.now c.args.event = fits c.args.self.now c.args.event sound in (
-      state_applied c.self.inside.events.items c.reserve.new.self.items c.args.self.now c.args.event c.len-number.result
-          (λ p. AreKept p c.self.inside.questions c.self.inside.lives c.self.inside.bound c.self.inside.calls) (λ p. AreKept p c.learn_all.new.questions c.learn_all.new.lives c.learn_all.new.bound c.learn_all.new.calls)
-          c.self.view_is c.in_ok-reserve.ensures.items place c.self.invariant.0 sound c.push.new.self.items c.in_ok-push.ensures.items c.in_ok-learn_all.ensures.ok,
+    let fit : IsFit c.args.self.now c.args.event = fits c.args.self.now c.args.event sound in
+    let kept : AreKept (reverse c.push.new.self.items) c.learn_all.new.questions c.learn_all.new.lives c.learn_all.new.bound c.learn_all.new.calls =
+    state_applied c.self.inside.events.items c.reserve.new.self.items c.args.self.now c.args.event c.len-number.result
+    (λ p. AreKept p c.self.inside.questions c.self.inside.lives c.self.inside.bound c.self.inside.calls) (λ p. AreKept p c.learn_all.new.questions c.learn_all.new.lives c.learn_all.new.bound c.learn_all.new.calls)
+    c.self.view_is c.in_ok-reserve.ensures.items place c.self.invariant.0 sound c.push.new.self.items c.in_ok-push.ensures.items c.in_ok-learn_all.ensures.ok in (
+      kept_views (reverse c.push.new.self.items) c.learn_all.new.questions c.learn_all.new.lives c.learn_all.new.bound c.drop_ahead.new.self c.learn_all.new.calls c.drop_ahead.ensures.views kept,
       state_applied c.self.inside.events.items c.reserve.new.self.items c.args.self.now c.args.event c.len-number.result
           (λ p. AreResolved p c.self.inside.resolves) (λ p. AreResolved p c.note_resolve.new.self) c.self.view_is c.in_ok-reserve.ensures.items place c.self.invariant.1 sound
           c.push.new.self.items c.in_ok-push.ensures.items
@@ -100,4 +111,8 @@ invariant_of-self-2 c =
           (λ before at kept good. waits_after before c.self.inside.questions c.self.inside.lives c.self.inside.bound c.self.inside.calls kept.0 c.args.event good.refers c.len-number.result at
           c.in_ok-change.change c.in_ok-change.ensures.change c.prepare.new.self c.change.new.self
           (waits_same before c.self.inside.waits c.prepare.new.self c.prepare.ensures.same kept.1) c.change.ensures),
+      ahead_applied c.self.inside.events.items c.reserve.new.self.items c.push.new.self.items c.args.event c.len-number.result c.settled-pending.result c.self.inside.turns c.make_room.new.self
+          c.note.new.self c.in_ok-reserve.ensures.items c.in_ok-push.ensures.items c.make_room.ensures.same c.note.ensures c.self.inside.bound c.learn_all.new.bound c.drop_ahead.new.self c.has.result
+          c.has.ensures (subst (λ p. IsFit p c.args.event) (sym c.self.view_is) fit).refers c.self.invariant.0.tabled.bounds kept.tabled.bounds c.drop_ahead.ensures.views c.learn_all.ensures.ahead
+          c.drop_ahead.ensures.ahead c.drop_ahead.ensures.own c.self.invariant.5,
     )

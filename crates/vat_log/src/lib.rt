@@ -22,6 +22,6 @@ mod writing;
 pub use body::{Body, References, Results};
 pub use error::LogError;
 pub use laws::one_spelling;
-pub use log::{VatLog, parse_log, write_log};
+pub use log::{VatLog, parse_log, write_lent_log, write_log};
 pub use record::Record;
 pub use writer::LogWriter;

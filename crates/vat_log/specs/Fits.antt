@@ -4,7 +4,7 @@ use Rattle.std.specs.List.{All}
 use Rattle.vat_log.specs.declared.body.Body.{Body}
 use Rattle.vat_log.specs.declared.body.Body.TheVariants.{Host, Vow, Fulfil, Break, Make, Field, Deliver, Answer, Fault, Send, Receive}
 use Rattle.vat_log.specs.declared.error.LogError.{LogError}
-use Rattle.vat_log.specs.declared.error.LogError.TheVariants.{ZeroNumber, TooLong}
+use Rattle.vat_log.specs.declared.error.LogError.TheVariants.{ZeroNumber, TooLong, OutOfMemory}
 use Rattle.vat_log.specs.Log.{Log}
 
 -- how many references, results or path elements a list may have
@@ -86,3 +86,9 @@ pub record LogFits (limit : ℕ) (log : Log) : Type 0 where
 -- What is written: the log that is handed in, unless it has too many records.
 abbrev pub stored : Log → Result Log LogError
 stored log = if nat_lt record_limit (length log.records) then Err TooLong else Ok log
+
+-- Why a record isn't taken in: the log has as many as it may have, or memory was refused.
+abbrev pub NotPushed : Log → LogError → Type 0
+NotPushed log TooLong = length log.records ≡ record_limit
+NotPushed log OutOfMemory = length log.records < record_limit
+NotPushed log _ = ⊥

@@ -1,6 +1,6 @@
 //! Logs.
 
-ghost use Rattle.std.specs.Prelude.{◌≡◌, ◌<◌, ◌≤◌, ◌^◌, Ok, true, false, nat_eq, length, slice_get, All, IfErr, IfOk};
+ghost use Rattle.std.specs.Prelude.{◌≡◌, ◌<◌, ◌≤◌, ◌^◌, Ok, true, false, nat_eq, length, map, slice_get, All, IfErr, IfOk};
 ghost use Rattle.std.specs.List.{starts_with};
 ghost use Rattle.std.specs.Option.{option_copied};
 ghost use Rattle.vat_log.specs.Reading.{GivesInMemory, records_at, log_within, log_of};
@@ -13,7 +13,7 @@ use crate::fields::u32_at;
 use crate::kind::read_kind;
 use crate::limits::MAX_RECORDS;
 use crate::record::Record;
-use crate::writing::written;
+use crate::writing::{written, written_of_lent};
 use bytes::Bytes;
 use std::alloc::Global;
 use std::marker::Model;
@@ -166,5 +166,25 @@ pub fn write_log(alloc: Global, vat: u32, records: &[Record]) -> Result<VatLog, 
         return Err(LogError::TooLong);
     }
     let bytes = Bytes::from_vec(written(alloc, vat, records)?)?;
+    parse_log(alloc, bytes)
+}
+
+/// The same as [`write_log`], where the records lie apart from one another.
+///
+/// # Errors
+///
+/// `TooLong` where there are more than 1,048,576 records; or `OutOfMemory`, where a growth was refused.
+#[tactic(auto, unfolding(crate::specs::Fits::record_limit))]
+pub fn write_lent_log(alloc: Global, vat: u32, records: &[&Record]) -> Result<VatLog, LogError>
+    // Which log, or that there are too many records.
+    ensures exact { GivesInMemory (λ log. log) result
+        (stored (record { vat = vat; records = map (λ event. event.now) records.now })) }
+    // Too many records are refused as such before memory is asked for.
+    ensures too_many { record_limit < length records.now → IfErr result (λ e. e ≡ LogError.TooLong) }
+{
+    if records.len() > MAX_RECORDS {
+        return Err(LogError::TooLong);
+    }
+    let bytes = Bytes::from_vec(written_of_lent(alloc, vat, records)?)?;
     parse_log(alloc, bytes)
 }

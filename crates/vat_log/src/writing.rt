@@ -1,6 +1,6 @@
 //! Writing records.
 
-ghost use Rattle.std.specs.Prelude.{◌≡◌, ◌<◌, ◌≤◌, ◌^◌, ◌++◌, length, All, OnOk, IfOk};
+ghost use Rattle.std.specs.Prelude.{◌≡◌, ◌<◌, ◌≤◌, ◌^◌, ◌++◌, length, map, All, OnOk, IfOk};
 ghost use Rattle.std.specs.Int.{w16, w32, w64};
 ghost use Rattle.vat_log.specs.Fits.{count_limit, frame_limit, Fits, IsWide};
 ghost use Rattle.vat_log.specs.Spelling.{number_bytes, references_bytes, path_bytes, answered_bytes, listed, passage_bytes, kind_byte, kind_in, fields_bytes, record_bytes, log_bytes};
@@ -204,6 +204,26 @@ pub(crate) fn written(alloc: Global, vat: u32, records: &[Record]) -> Result<Vec
     put_u32(&mut out, vat)?;
     for event in records {
         put_body(&mut out, event.body())?;
+    }
+    Ok(out)
+}
+
+/// The one spelling of the log with this vat and the records that are lent.
+pub(crate) fn written_of_lent(
+    alloc: Global,
+    vat: u32,
+    records: &[&Record],
+) -> Result<Vec<u8>, AllocError>
+    ensures spelled { IfOk result (λ v. v.items
+        ≡ log_bytes (record { vat = vat; records = map (λ event. event.now) records.now })) }
+    ensures fit { IfOk result (λ v. All Fits (map (λ event. event.now) records.now)) }
+    ensures wide { IfOk result (λ v. All IsWide (map (λ event. event.now) records.now)) }
+{
+    let mut out = Vec::new(alloc);
+    out.extend_from_slice(b"VATLOG01")?;
+    put_u32(&mut out, vat)?;
+    for lent in records {
+        put_body(&mut out, lent.body())?;
     }
     Ok(out)
 }

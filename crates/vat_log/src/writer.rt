@@ -1,0 +1,82 @@
+//! Writing a log record by record.
+
+ghost use Rattle.std.specs.Prelude.{◌≡◌, ◌<◌, [], ◌∷◌, ◌++◌, length, OnOk, IfOk, IfErr};
+ghost use Rattle.vat_log.specs.Fits.{record_limit, NotPushed};
+
+use crate::error::LogError;
+use crate::limits::MAX_RECORDS;
+use crate::log::{VatLog, write_log};
+use crate::record::Record;
+use std::alloc::Global;
+use std::marker::Model;
+
+/// A log that one thread writes, record by record. To a contract it is the log with the records pushed so far.
+#[derive(Debug, Drop)]
+pub struct LogWriter {
+    vat: u32,
+    records: Vec<Record>,
+}
+
+impl Model for LogWriter {
+    ghost use Rattle.std.specs.Prelude.{◌≤◌, length};
+    ghost use Rattle.vat_log.specs.Fits.{record_limit};
+    ghost use Rattle.vat_log.specs.Log.{Log};
+
+    ghost Value = { Log };
+
+    ghost view = { λ writer. record { vat = writer.vat; records = writer.records.items } };
+
+    ghost invariant = { λ writer. length writer.records.items ≤ record_limit };
+}
+
+impl LogWriter {
+    /// A log of this vat, without records. It takes no memory.
+    pub fn new(alloc: Global, vat: u32) -> LogWriter
+        ensures { result ≡ record { vat = vat; records = [] } }
+    {
+        LogWriter {
+            vat,
+            records: Vec::new(alloc),
+        }
+    }
+
+    /// Puts a record behind the others. A record that is refused is handed back, and the writer is as it was.
+    ///
+    /// # Errors
+    ///
+    /// `TooLong` where the log has 1,048,576 records; or `OutOfMemory`, where a growth was refused.
+    #[tactic(auto, unfolding(crate::specs::Fits::record_limit))]
+    pub fn push(&mut self, event: Record) -> Result<(), (LogError, Record)>
+        ensures vat { self.new.vat ≡ self.old.vat }
+        // What is pushed.
+        ensures ok { OnOk result (self.new.records ≡ self.old.records ++ event ∷ []) }
+        // What is left of a refused push, and why it was refused.
+        ensures err { IfErr result (λ refused. (refused.1 ≡ event) × (self.new ≡ self.old) × NotPushed self.old refused.0) }
+        // A full log is told as such.
+        ensures full { length self.old.records ≡ record_limit → IfErr result (λ refused. refused.0 ≡ LogError.TooLong) }
+    {
+        if self.records.len() >= MAX_RECORDS {
+            return Err((LogError::TooLong, event));
+        }
+        match self.records.push(event) {
+            Ok(()) => Ok(()),
+            Err(refused) => Err((LogError::OutOfMemory, refused.value)),
+        }
+    }
+
+    /// The log with just the records pushed. Where memory is refused, the writer is handed back, and it can go on.
+    ///
+    /// # Errors
+    ///
+    /// `OutOfMemory` alone.
+    #[tactic(auto, unfolding(crate::specs::Fits::record_limit))]
+    pub fn finish(self) -> Result<VatLog, (LogError, LogWriter)>
+        ensures ok { IfOk result (λ log. log ≡ self) }
+        ensures err { IfErr result (λ refused. (refused.0 ≡ LogError.OutOfMemory) × (refused.1 ≡ self)) }
+    {
+        match write_log(*self.records.allocator(), self.vat, &self.records) {
+            Ok(log) => Ok(log),
+            Err(_) => Err((LogError::OutOfMemory, self)),
+        }
+    }
+}

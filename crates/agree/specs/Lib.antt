@@ -7,3 +7,4 @@ pub mod Told
 pub mod Alive
 pub mod Lasting
 pub mod Standing
+pub mod Balance

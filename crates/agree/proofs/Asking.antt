@@ -1,5 +1,5 @@
 -- What is asked of a log's records is asked of the messages in its streams.
-use Rattle.std.proofs.Common.{◌≡◌, refl, sym, ◌∙◌, ap, ap₂, subst, ℕ, ◌+◌, ◌≤◌, ◌==◌, List, [], ◌∷◌, ◌++◌, length, Bool, true, false, not, ◌&&◌, ◌||◌, Option, Some, None, if◌then◌else◌, arith}
+use Rattle.std.proofs.Common.{◌≡◌, refl, sym, ◌∙◌, ap, ap₂, ℕ, ◌+◌, ◌≤◌, ◌==◌, List, [], ◌∷◌, ◌++◌, length, Bool, true, false, not, ◌&&◌, ◌||◌, Option, Some, None, if◌then◌else◌, arith}
 use Rattle.std.specs.Prelude.{is_some, option_map, IfSome}
 use Rattle.std.specs.List.{cons_option}
 use Rattle.std.specs.Bool.{beq}
@@ -9,7 +9,7 @@ use Rattle.agree.specs.Types.{RpcMessage, Bootstrap, Call, Return, Finish, Event
 use Rattle.vat_view.specs.Past.{Past, id, Point, point, names, last_since, Each}
 use Rattle.vat_view.specs.Questions.{opened, returned, finished, released, opens, returns, finishes, releases, opening, is_finished, is_opened, is_released, is_free, is_unfinished, is_unreturned}
 use Rattle.vat_view.specs.Uses.{OpensFree, UsesQuestions}
-use Rattle.vat_view.proofs.Naming.{same_id_is}
+use Rattle.vat_view.proofs.Once.{used_so}
 use Rattle.agree.specs.Streams.{passing, stream, opening_number}
 
 -- a message opens the question of this number of its sender's
@@ -166,9 +166,11 @@ some_mapped : (f : Point → ℕ) (o : Option Point) → is_some o ≡ is_some (
 some_mapped f (Some p) = refl
 some_mapped f None = refl
 
+pub opened_stream : (q : Id) (past : Past) → is_opened q past ≡ is_some (last_number (asks q.number) (stream q.connection q.ours past))
+opened_stream q past = some_mapped (λ p. length (stream q.connection q.ours p.before)) (opening q past) ∙ ap (λ o. is_some o) (number_stream q past)
+
 pub unfinished_stream : (q : Id) (past : Past) → is_unfinished q past ≡ unfinished_in q.number (stream q.connection q.ours past)
-unfinished_stream q past = ap₂ (λ a b. a && not b)
-    (some_mapped (λ p. length (stream q.connection q.ours p.before)) (opening q past) ∙ ap (λ o. is_some o) (number_stream q past)) (finished_stream q past)
+unfinished_stream q past = ap₂ (λ a b. a && not b) (opened_stream q past) (finished_stream q past)
 
 -- ---- where none of a kind came later
 
@@ -215,10 +217,6 @@ opens_no_return q (Wire s j c rs _) h = refl
 opens_no_return q (Host r o) h = refl
 opens_no_return q _ h = refl
 
-used_so : (q : Id) (f : Id → Bool) (o : Option Id) → IfSome o (λ i. f i ≡ true) → names q o ≡ true → f q ≡ true
-used_so q f (Some i) h e = subst (λ x. f x ≡ true) (sym (same_id_is q i e)) h
-used_so q f None h e = absurd (false≢true e)
-
 -- an opening has at most one Return and at most one Finish, and these have one
 abbrev pub EndsOnce : Past → Event → Type 0
 EndsOnce before e = IfSome (returned e) (λ q. is_unreturned q before ≡ true) × IfSome (finished e) (λ q. is_unfinished q before ≡ true)
@@ -238,7 +236,7 @@ return_due q before e once h = used_so q (λ i. is_unreturned i before) (returne
 pub returns_waiting : (q : Id) (before : Past) (e : Event) → UsesQuestions before e → returns q before e ≡ true → is_due q (returns q) before ≡ true
 returns_waiting q before e uses h = used_so q (λ i. is_unreturned i before) (returned e) uses.returned_once h
 
-free_parts : (o r f : Bool) → (not o || (r && f)) ≡ true → (o && not r) ≡ false
+pub free_parts : (o r f : Bool) → (not o || (r && f)) ≡ true → (o && not r) ≡ false
 free_parts o r f e = grind (arith, nat_tests)
 
 idle_so : (q : Id) (before : Past) (o : Option Id) → IfSome o (λ i. is_free i before ≡ true) → names q o ≡ true → is_due q (returns q) before ≡ false

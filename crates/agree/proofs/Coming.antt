@@ -74,7 +74,7 @@ sent_before k past (m ∷ earlier) n e p s g = later_sent k past m n earlier e p
 
 -- ---- counting
 
-more_counted : (test : RpcMessage → Bool) (a b : List RpcMessage) → GoesOn a b → count test b ≤ count test a
+pub more_counted : (test : RpcMessage → Bool) (a b : List RpcMessage) → GoesOn a b → count test b ≤ count test a
 more_counted test a b g = let all = ap (λ l. count test l) g.1 in let parts = count-append test g.0 b in omega (arith, all, parts)
 
 at_least_one : (b : Bool) → 1 ≤ one_if b → b ≡ true
@@ -114,7 +114,7 @@ module _ (k : ℕ) (x y : Past) (to_x to_y : List RpcMessage) (linked : AreLinke
     idle q = idle_after to_y q
 
     -- a Return that comes in is due
-    return_comes : (earlier : List RpcMessage) (m : RpcMessage) (sent : Event) (from : Past) (q : ℕ) → GoesOn x (sent ∷ from) → passing k true sent ≡ Some m → stream k true from ≡ stream k false (after_coming k earlier y) →
+    pub return_comes : (earlier : List RpcMessage) (m : RpcMessage) (sent : Event) (from : Past) (q : ℕ) → GoesOn x (sent ∷ from) → passing k true sent ≡ Some m → stream k true from ≡ stream k false (after_coming k earlier y) →
         answers q m ≡ true → is_due (id k true q) (returns (id k true q)) (after_coming k earlier y) ≡ true
     return_comes earlier m sent from q there sends same h =
         let to : Past = after_coming k earlier y in
@@ -130,7 +130,7 @@ module _ (k : ℕ) (x y : Past) (to_x to_y : List RpcMessage) (linked : AreLinke
         at_least_one (is_due (id k true q) (returns (id k true q)) to) (omega (arith, waits, fewer, more, asked, kept_asked, answered))
 
     -- a Finish that comes in is due
-    finish_comes : (earlier : List RpcMessage) (q : ℕ) (release : Bool) (sent : Event) (from : Past) → GoesOn x (sent ∷ from) → passing k true sent ≡ Some (Finish q release) →
+    pub finish_comes : (earlier : List RpcMessage) (q : ℕ) (release : Bool) (sent : Event) (from : Past) → GoesOn x (sent ∷ from) → passing k true sent ≡ Some (Finish q release) →
         stream k true from ≡ stream k false (after_coming k earlier y) → is_unfinished (id k false q) (after_coming k earlier y) ≡ true
     finish_comes earlier q release sent from there sends same =
         let s = passing_is k true (Finish q release) sent sends in

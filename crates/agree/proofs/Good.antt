@@ -1,5 +1,5 @@
 -- What good logs give.
-use Rattle.std.proofs.Common.{List, refl, ℕ, true, false}
+use Rattle.std.proofs.Common.{◌∷◌, List, refl, ℕ, true, false}
 use Rattle.agree.specs.Types.{RpcMessage, Event, Host, Wire}
 use Rattle.vat_view.specs.Past.{Past, Each}
 use Rattle.vat_view.specs.Uses.{OpensFree, UsesQuestions}
@@ -9,7 +9,8 @@ use Rattle.vat_rules.specs.declared.rule.Rule.TheVariants as rule
 use Rattle.vat_rules.specs.Judged.{IsGood}
 use Rattle.vat_view.specs.Lives.{GivesBackHeld}
 use Rattle.agree.specs.Points.{GoesOn}
-use Rattle.agree.specs.Streams.{IsCut}
+use Rattle.agree.specs.Streams.{IsCut, IsPassed}
+use Rattle.agree.specs.Arrival.{ArrivesWell}
 use Rattle.agree.specs.Balance.{AreUnderWay, IsBalanced}
 use Rattle.agree.specs.Agreeing.{AreLinked}
 use Rattle.agree.specs.Standing.{AgreeOneWay, Agree}
@@ -18,6 +19,7 @@ use Rattle.agree.proofs.Cuts.{linked_back}
 use Rattle.agree.proofs.Openings.{openings_linked, late_linked}
 use Rattle.agree.proofs.Standing.{lives_agree, linked_before}
 use Rattle.agree.proofs.Balance.{balanced}
+use Rattle.agree.proofs.Arriving.{arrives}
 
 notes_each : (before : Past) (e : Event) → IsGood before e → NotesEach before e
 notes_each before (Wire true k c rs m) good = (good rule.Desc).noted_each refl
@@ -67,3 +69,10 @@ good_balanced k one other good good_other linked n x y there back e f cut on ret
     let good_y = each_before IsGood other y f good_other in
     balanced k n x y there back (linked_before k one other x y e f cut linked) (all_use x good_x) (all_use y good_y) (all_free x good_x) (all_free y good_y) on returning
     (each_so IsGood GivesBackHeld (λ b e g. g rule.Count) y good_y)
+
+-- a message whose sending was good arrives well, where the records before it were good
+pub good_arrives : (k : ℕ) (one other : Past) → AreLinked k one other → (m : RpcMessage) (from to : Past) (sent received : Event) → IsPassed k m one other from to sent received →
+    Each IsGood (sent ∷ from) → Each IsGood to → ArrivesWell to received
+good_arrives k one other linked m from to sent received p good_x good_y =
+    arrives k one other linked m from to sent received p (all_use (sent ∷ from) good_x) (all_free (sent ∷ from) good_x)
+    (each_so IsGood GivesBackHeld (λ b e g. g rule.Count) (sent ∷ from) good_x) (good_x.0 rule.XUse) (all_use to good_y) (all_free to good_y)

@@ -14,3 +14,4 @@ pub mod Standing
 pub mod Good
 pub mod Coming
 pub mod Balance
+pub mod Arriving

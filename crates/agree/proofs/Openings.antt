@@ -20,12 +20,12 @@ pub own_agree : (k n : ℕ) (m : RpcMessage) (one other from to : Past) (sent re
 own_agree k n m one other from to sent received link p =
     number_stream (id k true n) from ∙ ap (λ l. last_number (asks n) l) (same_before k m one other from to sent received link p) ∙ sym (number_stream (id k false n) to)
 
-one_way : (a b : Bool) (m n : RpcMessage) → (if a && b then Some n else None) ≡ Some m → (a ≡ true) × (b ≡ true) × (n ≡ m)
+pub one_way : (a b : Bool) (m n : RpcMessage) → (if a && b then Some n else None) ≡ Some m → (a ≡ true) × (b ≡ true) × (n ≡ m)
 one_way true true m n h = let same : n ≡ m = cc in (refl, refl, same)
 one_way true false m n h = absurd (let no : ⊥ = cc in no)
 one_way false b m n h = absurd (let no : ⊥ = cc in no)
 
-same_way : (s o : Bool) → beq s o ≡ true → o ≡ s
+pub same_way : (s o : Bool) → beq s o ≡ true → o ≡ s
 same_way s o e = grind (arith, nat_tests)
 
 -- a record through which a message passed

@@ -8,3 +8,4 @@ pub mod Alive
 pub mod Lasting
 pub mod Standing
 pub mod Balance
+pub mod Arrival

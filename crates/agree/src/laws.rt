@@ -17,6 +17,7 @@ ghost use Rattle.agree.specs.Alive.{alive, let_go};
 ghost use Rattle.agree.specs.Lasting.{LivesFrom};
 ghost use Rattle.agree.specs.Standing.{AgreeOnLives, Agree};
 ghost use Rattle.agree.specs.Balance.{AreUnderWay, IsBalanced};
+ghost use Rattle.agree.specs.Arrival.{ArrivesWell};
 
 /// Where two vats share a connection in an order that fits, their logs are linked (`linked`); at each point of the order
 /// the two logs are at a consistent cut (`cut`); and what a vat received by a point of its log, the other had sent
@@ -109,4 +110,12 @@ pub fn counts_are_balanced()
         → Each UsesQuestions exporter → Each UsesQuestions importer → Each OpensFree exporter → Each OpensFree importer
         → AreUnderWay k exporter importer there → AreUnderWay k importer exporter back → Each GivesBackHeld importer
         → IsBalanced k n exporter importer there back }
+{}
+
+/// A message whose SEND was good is good at its RECV by QNEW, QUSE, XUSE and COUNT, where the records before it were good
+/// at both ends. So of these rules a bad RECV never stands alone: the other log has a bad record at or before the SEND, or
+/// the two logs aren't linked.
+pub fn messages_arrive_well()
+    ensures { (k : ℕ) (one other : Past) → AreLinked k one other → (m : RpcMessage) (from to : Past) (sent received : Event)
+        → IsPassed k m one other from to sent received → Each IsGood (sent ∷ from) → Each IsGood to → ArrivesWell to received }
 {}

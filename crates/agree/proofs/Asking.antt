@@ -1,15 +1,15 @@
 -- What is asked of a log's records is asked of the messages in its streams.
-use Rattle.std.proofs.Common.{◌≡◌, refl, sym, ◌∙◌, ap, ap₂, subst, ℕ, ◌+◌, ◌≤◌, ◌==◌, List, [], ◌∷◌, ◌++◌, length, Bool, true, false, not, ◌&&◌, ◌||◌, Option, Some, None, if◌then◌else◌, arith}
+use Rattle.std.proofs.Common.{◌≡◌, refl, sym, ◌∙◌, ap, ap₂, ℕ, ◌+◌, ◌≤◌, ◌==◌, List, [], ◌∷◌, ◌++◌, length, Bool, true, false, not, ◌&&◌, ◌||◌, Option, Some, None, if◌then◌else◌, arith}
 use Rattle.std.specs.Prelude.{is_some, option_map, IfSome}
 use Rattle.std.specs.List.{cons_option}
 use Rattle.std.specs.Bool.{beq}
-use Rattle.std.proofs.lemmas.Bool.{false≢true}
+use Rattle.std.proofs.lemmas.Bool.{false≢true, and_parts}
 use Rattle.std.proofs.lemmas.Bool.Decides.{nat_tests}
 use Rattle.agree.specs.Types.{RpcMessage, Bootstrap, Call, Return, Finish, Event, Host, Wire, Id}
-use Rattle.vat_view.specs.Past.{Past, Point, point, names, last_since, Each}
-use Rattle.vat_view.specs.Questions.{opened, returned, released, opens, returns, releases, opening, is_opened, is_released, is_free, is_unreturned}
+use Rattle.vat_view.specs.Past.{Past, id, Point, point, names, last_since, Each}
+use Rattle.vat_view.specs.Questions.{opened, returned, finished, released, opens, returns, finishes, releases, opening, is_finished, is_opened, is_released, is_free, is_unfinished, is_unreturned}
 use Rattle.vat_view.specs.Uses.{OpensFree, UsesQuestions}
-use Rattle.vat_view.proofs.Naming.{same_id_is}
+use Rattle.vat_view.proofs.Once.{used_so}
 use Rattle.agree.specs.Streams.{passing, stream, opening_number}
 
 -- a message opens the question of this number of its sender's
@@ -27,6 +27,11 @@ answers n _ = false
 abbrev pub frees : ℕ → RpcMessage → Bool
 frees n (Finish q true) = n == q
 frees n _ = false
+
+-- finishes one of its sender's
+abbrev pub ends : ℕ → RpcMessage → Bool
+ends n (Finish q release) = n == q
+ends n _ = false
 
 -- what a test says of a message, if there is one
 abbrev pub passes : (RpcMessage → Bool) → Option RpcMessage → Bool
@@ -76,6 +81,12 @@ releases_is q (Wire t j c rs m) = not_asked ((q.connection == j) && beq q.ours t
 releases_is q (Host r o) = refl
 releases_is q _ = refl
 
+finishes_is : (q : Id) (e : Event) → names q (finished e) ≡ passes (ends q.number) (passing q.connection q.ours e)
+finishes_is q (Wire t j c rs (Finish n release)) = as_asked ((q.connection == j) && beq q.ours t) (ends q.number) (Finish n release)
+finishes_is q (Wire t j c rs m) = not_asked ((q.connection == j) && beq q.ours t) (ends q.number) m refl
+finishes_is q (Host r o) = refl
+finishes_is q _ = refl
+
 turn : (a o t b : Bool) → (a && beq o (not t) && b) ≡ (a && beq (not o) t && b)
 turn a o t b = grind (arith, nat_tests)
 
@@ -106,15 +117,23 @@ some_if true t p o = refl
 some_if false true p o = refl
 some_if false false p o = refl
 
--- a question's results were given back where its Finish came since in the stream
-pub released_stream : (q : Id) (past : Past) → is_released q past ≡ came_since (asks q.number) (frees q.number) (stream q.connection q.ours past)
-released_stream q [] = refl
-released_stream q (e ∷ before) =
+-- what came since the last opening of a question, and went the same way, came since in the stream
+pub since_stream : (q : Id) (t : Past → Event → Bool) (test : RpcMessage → Bool) → ((before : Past) (e : Event) → t before e ≡ passes test (passing q.connection q.ours e)) → (past : Past) →
+    is_some (last_since (opens q) t past) ≡ came_since (asks q.number) test (stream q.connection q.ours past)
+since_stream q t test same [] = refl
+since_stream q t test same (e ∷ before) =
     let o = passing q.connection q.ours e in
-    some_if (opens q before e) (releases q before e) (point before e) (last_since (opens q) (releases q) before)
-    ∙ ap₂ (λ x y. if x then false else if y then true else is_released q before) (opens_is q e) (releases_is q e)
-    ∙ ap (λ z. if passes (asks q.number) o then false else if passes (frees q.number) o then true else z) (released_stream q before)
-    ∙ sym (since_at (asks q.number) (frees q.number) o (stream q.connection q.ours before))
+    some_if (opens q before e) (t before e) (point before e) (last_since (opens q) t before)
+    ∙ ap₂ (λ x y. if x then false else if y then true else is_some (last_since (opens q) t before)) (opens_is q e) (same before e)
+    ∙ ap (λ z. if passes (asks q.number) o then false else if passes test o then true else z) (since_stream q t test same before)
+    ∙ sym (since_at (asks q.number) test o (stream q.connection q.ours before))
+
+-- so were a question's results given back, and so was it finished
+pub released_stream : (q : Id) (past : Past) → is_released q past ≡ came_since (asks q.number) (frees q.number) (stream q.connection q.ours past)
+released_stream q past = since_stream q (releases q) (frees q.number) (λ before e. releases_is q e) past
+
+pub finished_stream : (q : Id) (past : Past) → is_finished q past ≡ came_since (asks q.number) (ends q.number) (stream q.connection q.ours past)
+finished_stream q past = since_stream q (finishes q) (ends q.number) (λ before e. finishes_is q e) past
 
 -- ---- the number of an opening
 
@@ -138,6 +157,20 @@ number_stream q (e ∷ past) =
     number_more q e past
     ∙ ap₂ (λ b o. if b then Some (length (stream q.connection q.ours past)) else o) (opens_is q e) (number_stream q past)
     ∙ sym (number_at (asks q.number) (passing q.connection q.ours e) (stream q.connection q.ours past))
+
+-- a question that is opened and not finished is so by the stream alone
+abbrev pub unfinished_in : ℕ → List RpcMessage → Bool
+unfinished_in n str = is_some (last_number (asks n) str) && not (came_since (asks n) (ends n) str)
+
+some_mapped : (f : Point → ℕ) (o : Option Point) → is_some o ≡ is_some (option_map f o)
+some_mapped f (Some p) = refl
+some_mapped f None = refl
+
+pub opened_stream : (q : Id) (past : Past) → is_opened q past ≡ is_some (last_number (asks q.number) (stream q.connection q.ours past))
+opened_stream q past = some_mapped (λ p. length (stream q.connection q.ours p.before)) (opening q past) ∙ ap (λ o. is_some o) (number_stream q past)
+
+pub unfinished_stream : (q : Id) (past : Past) → is_unfinished q past ≡ unfinished_in q.number (stream q.connection q.ours past)
+unfinished_stream q past = ap₂ (λ a b. a && not b) (opened_stream q past) (finished_stream q past)
 
 -- ---- where none of a kind came later
 
@@ -184,15 +217,26 @@ opens_no_return q (Wire s j c rs _) h = refl
 opens_no_return q (Host r o) h = refl
 opens_no_return q _ h = refl
 
-used_so : (q : Id) (f : Id → Bool) (o : Option Id) → IfSome o (λ i. f i ≡ true) → names q o ≡ true → f q ≡ true
-used_so q f (Some i) h e = subst (λ x. f x ≡ true) (sym (same_id_is q i e)) h
-used_so q f None h e = absurd (false≢true e)
+-- an opening has at most one Return and at most one Finish, and these have one
+abbrev pub EndsOnce : Past → Event → Type 0
+EndsOnce before e = IfSome (returned e) (λ q. is_unreturned q before ≡ true) × IfSome (finished e) (λ q. is_unfinished q before ≡ true)
+
+pub ends_once : (before : Past) (e : Event) → UsesQuestions before e → EndsOnce before e
+ends_once before (Wire s k c rs (Return n release outcome)) uses = (uses.returned_once, tt)
+ends_once before (Wire s k c rs (Finish n release)) uses = (tt, (and_parts (is_unfinished (id k s n) before) true uses.used).0)
+ends_once before (Wire s k c rs (Bootstrap n)) uses = (tt, tt)
+ends_once before (Wire s k c rs _) uses = (tt, tt)
+ends_once before (Host r o) uses = (tt, tt)
+ends_once before _ uses = (tt, tt)
+
+pub return_due : (q : Id) (before : Past) (e : Event) → EndsOnce before e → returns q before e ≡ true → is_due q (returns q) before ≡ true
+return_due q before e once h = used_so q (λ i. is_unreturned i before) (returned e) once.0 h
 
 -- a Return comes while it is due
 pub returns_waiting : (q : Id) (before : Past) (e : Event) → UsesQuestions before e → returns q before e ≡ true → is_due q (returns q) before ≡ true
 returns_waiting q before e uses h = used_so q (λ i. is_unreturned i before) (returned e) uses.returned_once h
 
-free_parts : (o r f : Bool) → (not o || (r && f)) ≡ true → (o && not r) ≡ false
+pub free_parts : (o r f : Bool) → (not o || (r && f)) ≡ true → (o && not r) ≡ false
 free_parts o r f e = grind (arith, nat_tests)
 
 idle_so : (q : Id) (before : Past) (o : Option Id) → IfSome o (λ i. is_free i before ≡ true) → names q o ≡ true → is_due q (returns q) before ≡ false
@@ -223,18 +267,25 @@ module _ (q : Id) where
   answered_more : (e : Event) (before : Past) → answered (e ∷ before) ≡ one_if (returns q before e) + answered before
   answered_more e before = count_more (answers q.number) (passing q.connection (not q.ours) e) (stream q.connection (not q.ours) before) ∙ ap (λ b. one_if b + answered before) (sym (returns_is q e))
 
+  -- Returns come while they are due; openings while none is
+  abbrev pub ReturnsDue : Past → Event → Type 0
+  ReturnsDue before e = names q (returned e) ≡ true → is_due q (returns q) before ≡ true
+
+  abbrev pub OpensIdle : Past → Event → Type 0
+  OpensIdle before e = names q (opened e) ≡ true → is_due q (returns q) before ≡ false
+
   -- each Return has an opening
-  pub fewer_returns : (past : Past) → Each UsesQuestions past → answered past + one_if (is_due q (returns q) past) ≤ asked past
+  pub fewer_returns : (past : Past) → Each ReturnsDue past → answered past + one_if (is_due q (returns q) past) ≤ asked past
   fewer_returns [] good = omega arith
   fewer_returns (e ∷ before) good =
-      let step = fewer_step (opens q before e) (returns q before e) (is_due q (returns q) before) (answered before) (asked before) (returns_waiting q before e good.0) (opens_no_return q e) (fewer_returns before good.1) in
+      let step = fewer_step (opens q before e) (returns q before e) (is_due q (returns q) before) (answered before) (asked before) good.0 (opens_no_return q e) (fewer_returns before good.1) in
       let now = ap (λ b. one_if b) (waits q (returns q) e before) in
       omega (arith, step, now, asked_more e before, answered_more e before)
 
   -- each opening but the last has a Return
-  pub more_returns : (past : Past) → Each OpensFree past → asked past ≤ answered past + one_if (is_due q (returns q) past)
+  pub more_returns : (past : Past) → Each OpensIdle past → asked past ≤ answered past + one_if (is_due q (returns q) past)
   more_returns [] good = omega arith
   more_returns (e ∷ before) good =
-      let step = more_step (opens q before e) (returns q before e) (is_due q (returns q) before) (answered before) (asked before) (opens_idle q before e good.0) (opens_no_return q e) (more_returns before good.1) in
+      let step = more_step (opens q before e) (returns q before e) (is_due q (returns q) before) (answered before) (asked before) good.0 (opens_no_return q e) (more_returns before good.1) in
       let now = ap (λ b. one_if b) (waits q (returns q) e before) in
       omega (arith, step, now, asked_more e before, answered_more e before)

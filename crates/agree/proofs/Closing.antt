@@ -9,11 +9,10 @@ use Rattle.agree.specs.Types.{Descriptor, SenderHosted, SenderPromise, RpcMessag
 use Rattle.vat_view.specs.Past.{Past, Point, point, id, is, names, same_id, last_since}
 use Rattle.vat_view.specs.Questions.{opened, opens, returns, releases, is_returned, is_released, is_late}
 use Rattle.vat_view.specs.Lives.{introduced, introduces, descriptors_of}
-use Rattle.vat_view.specs.Uses.{UsesQuestions}
 use Rattle.agree.specs.Streams.{passing, stream, opening_number}
 use Rattle.agree.specs.Told.{Telling, telling, told}
 use Rattle.agree.specs.Alive.{Closer, by_return, by_finish, is_same, closing, closed_by, is_closed, is_introduced, brings}
-use Rattle.agree.proofs.Asking.{answers, frees, passes, releases_is, returns_is}
+use Rattle.agree.proofs.Asking.{EndsOnce, answers, frees, passes, releases_is, returns_is}
 use Rattle.agree.proofs.Once.{number_if, number_there}
 use Rattle.agree.proofs.Openings.{passing_is}
 use Rattle.agree.proofs.Telling.{told_length, none_closed, finish_finish, return_return, finish_return, return_finish, opening_of, finish_of_none, return_of_none, no_finish_yet, no_return_yet, not_now}
@@ -110,22 +109,22 @@ not_closed_return k o q n (e ∷ before) h none =
 
 -- ---- a message that introduces
 
-fresh_of : (k : ℕ) (o : Bool) (past : Past) (c : ℕ) (rs : List ℕ) (m : RpcMessage) → UsesQuestions past (Wire o k c rs m) →
+fresh_of : (k : ℕ) (o : Bool) (past : Past) (c : ℕ) (rs : List ℕ) (m : RpcMessage) → EndsOnce past (Wire o k c rs m) →
     is_closed (told k (not o) past) (closed_by (telling k o past m) (length (told k o past))) ≡ is_late past (Wire o k c rs m)
 fresh_of k o past c rs (Call q target i m b) uses = no_return_yet k (not o) past (length (told k o past))
     (low_by k o past (length (told k o past)) (let same = told_length k o past in omega (arith, same)))
 fresh_of k o past c rs (Return q release outcome) uses =
-    let there = number_there (id k (not o) q) past (and_parts _ _ uses.returned_once).0 in
+    let there = number_there (id k (not o) q) past (and_parts _ _ uses.0).0 in
     ap (λ x. is_closed (told k (not o) past) (option_map by_finish x)) there.1 ∙ closed_finish k (not o) q there.0 past there.1
 fresh_of k o past c rs (Bootstrap q) uses = none_closed (told k (not o) past)
 fresh_of k o past c rs m uses = none_closed (told k (not o) past)
 
 -- a new message is closed exactly where it is late
-pub fresh : (k : ℕ) (o : Bool) (past : Past) (e : Event) (m : RpcMessage) → passing k o e ≡ Some m → UsesQuestions past e →
+pub fresh : (k : ℕ) (o : Bool) (past : Past) (e : Event) (m : RpcMessage) → passing k o e ≡ Some m → EndsOnce past e →
     is_closed (told k (not o) past) (closed_by (telling k o past m) (length (told k o past))) ≡ is_late past e
 fresh k o past e m h uses =
     let s = passing_is k o m e h in
-    fresh_of k o past s.0 s.1 m (subst (λ x. UsesQuestions past x) s.2 uses) ∙ ap (λ x. is_late past x) (sym s.2)
+    fresh_of k o past s.0 s.1 m (subst (λ x. EndsOnce past x) s.2 uses) ∙ ap (λ x. is_late past x) (sym s.2)
 
 counted : (g b : Bool) (u v : ℕ) → u ≡ (if g then v else 0) → cond (g && b) 1 0 + u ≡ (if g then cond b 1 0 + v else 0)
 counted true true u v e = ap (λ x. 1 + x) e

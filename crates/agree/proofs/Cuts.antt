@@ -150,3 +150,7 @@ shared_linked k v w row s = record {
   there = λ m from to sent received p. (met_before k v w row m from to sent received s p).cut;
   back = λ m from to sent received p. (met_before k w v row m from to sent received (turned k v w row s) p).cut;
 }
+
+-- the other way round
+pub linked_back : (k : ℕ) (one other : Past) → AreLinked k one other → AreLinked k other one
+linked_back k one other linked = record { cut = record { to_one = linked.cut.to_other; to_other = linked.cut.to_one }; there = linked.back; back = linked.there }

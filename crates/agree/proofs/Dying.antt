@@ -7,11 +7,10 @@ use Rattle.agree.specs.Types.{RpcMessage, Bootstrap, Call, Return, Event, Wire, 
 use Rattle.vat_view.specs.Past.{Past, Point, point, id, is, names, same_id, last_since, Each}
 use Rattle.vat_view.specs.Questions.{opened, returned, opens, returns, releases, opening, return_of, is_opened, is_returned, is_released, is_late}
 use Rattle.vat_view.specs.Lives.{introductions_at, introduces}
-use Rattle.vat_view.specs.Uses.{UsesQuestions}
 use Rattle.agree.specs.Streams.{passing, stream, opening_number}
 use Rattle.agree.specs.Told.{Telling, telling, told}
 use Rattle.agree.specs.Alive.{Closer, by_return, by_finish, is_same, closing, closed_by, is_closed, brings, alive_in}
-use Rattle.agree.proofs.Asking.{asks, answers, passes, opens_is, returns_is, returns_waiting}
+use Rattle.agree.proofs.Asking.{asks, answers, passes, opens_is, returns_is, EndsOnce, return_due}
 use Rattle.agree.proofs.Once.{number_if, opening_below}
 use Rattle.agree.proofs.Openings.{passing_is}
 use Rattle.agree.proofs.Telling.{told_length, grows, opening_of, not_yet}
@@ -203,7 +202,7 @@ count_stopped i s t p o e = ap (λ x. count_by (same_id i) (introductions_at (if
 returns_here : (k : ℕ) (o : Bool) (q : ℕ) (e : Event) → names (id k (not o) q) (returned e) ≡ passes (answers q) (passing k o e)
 returns_here k o q e = returns_is (id k (not o) q) e ∙ ap (λ b. passes (answers q) (passing k b e)) (not_not o)
 
-pub finish_gives : (k : ℕ) (o : Bool) (n q w : ℕ) (closers : List Telling) (p : Past) → Each UsesQuestions p → opening_number (id k (not o) q) p ≡ Some w → is_closed closers (Some (by_finish w)) ≡ false →
+pub finish_gives : (k : ℕ) (o : Bool) (n q w : ℕ) (closers : List Telling) (p : Past) → Each EndsOnce p → opening_number (id k (not o) q) p ≡ Some w → is_closed closers (Some (by_finish w)) ≡ false →
     is_released (id k (not o) q) p ≡ false → dies n closers (Some (by_finish w)) (told k o p) ≡ count_by (same_id (id k o n)) (introductions_at (return_of (id k (not o) q) p))
 finish_gives k o n q w closers [] uses h unclosed none = absurd (let no : ⊥ = cc in no)
 finish_gives k o n q w closers (e ∷ before) uses h unclosed none =
@@ -224,7 +223,7 @@ finish_gives k o n q w closers (e ∷ before) uses h unclosed none =
           elim (cases_Bool (names question (returned e))) [
             | inl back ↦
                 let m = asked_some (answers q) (passing k o e) (sym (returns_here k o q e) ∙ back) in
-                let due = returns_waiting question before e uses.0 back in
+                let due = return_due question before e uses.0 back in
                 let first = none_at (id k o n) (return_of question before) (not-true (is_returned question before) (and_parts (is_opened question before) (not (is_returned question before)) due).1) in
                 let dead = return_dies k o n q w closers before m.0 m.2 early unclosed (length (told k o before)) in
                 let gives = return_introduces k o n q before e m.0 m.1 m.2 parts.1 in

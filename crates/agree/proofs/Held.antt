@@ -14,9 +14,10 @@ use Rattle.vat_view.proofs.Counting.{no_more_went}
 use Rattle.agree.specs.Streams.{passing, opening_number}
 use Rattle.agree.specs.Told.{telling, told}
 use Rattle.agree.specs.Alive.{by_return, by_finish, closing, brings, alive_in, lets_go, released_in, alive, let_go}
-use Rattle.agree.proofs.Asking.{asks, answers, opens_is, returns_is}
+use Rattle.agree.proofs.Asking.{EndsOnce, ends_once, asks, answers, opens_is, returns_is}
 use Rattle.agree.proofs.Once.{number_there}
 use Rattle.agree.proofs.Openings.{passing_is}
+use Rattle.agree.proofs.Points.{each_so}
 use Rattle.agree.proofs.Cuts.{other_way}
 use Rattle.agree.proofs.Telling.{none_or_some, told_of}
 use Rattle.agree.proofs.Closing.{not_not, closed_finish, not_closed_return, fresh, introduces_is, introduces_some, introduces_none}
@@ -52,7 +53,7 @@ unfinished_unreleased q (e ∷ before) h =
     fewer_since (opens q before e) (finishes q before e) (releases q before e) (point before e) (last_since (opens q) (finishes q) before) (last_since (opens q) (releases q) before)
     (release_finishes q e) (unfinished_unreleased q before) h
 
-finish_died : (k : ℕ) (o : Bool) (n q : ℕ) (past : Past) → Each UsesQuestions past → is_unfinished (id k (not o) q) past ≡ true →
+finish_died : (k : ℕ) (o : Bool) (n q : ℕ) (past : Past) → Each EndsOnce past → is_unfinished (id k (not o) q) past ≡ true →
     dies n (told k (not o) past) (option_map by_finish (opening_number (id k (not o) q) past)) (told k o past) ≡ count_by (same_id (id k o n)) (introductions_at (return_of (id k (not o) q) past))
 finish_died k o n q past uses due =
     let parts = and_parts _ _ due in
@@ -68,7 +69,7 @@ self : (k n r : ℕ) (o : Bool) → same_id (id k o n) (id k (not (not o)) r) �
 self k n r true = ap (λ b. b && true && (n == r)) (eq-eqb k k refl)
 self k n r false = ap (λ b. b && true && (n == r)) (eq-eqb k k refl)
 
-gives_of : (k : ℕ) (o : Bool) (n : ℕ) (past : Past) (c : ℕ) (rs : List ℕ) (m : RpcMessage) → Each UsesQuestions past → UsesQuestions past (Wire (not o) k c rs m) →
+gives_of : (k : ℕ) (o : Bool) (n : ℕ) (past : Past) (c : ℕ) (rs : List ℕ) (m : RpcMessage) → Each EndsOnce past → EndsOnce past (Wire (not o) k c rs m) →
     gives_back (id k o n) past (Wire (not o) k c rs m) ≡ lets_go n m + dies n (told k (not o) past) (closing (telling k (not o) past m)) (told k o past)
 gives_of k o n past c rs (Release r count) each uses =
     let none = dies_none n (told k (not o) past) (told k o past) in
@@ -76,18 +77,18 @@ gives_of k o n past c rs (Release r count) each uses =
     omega (arith, none, same)
 gives_of k o n past c rs (Return q true outcome) each uses =
     only _ _ (sym (subst (λ b. is_unreturned (id k b q) past ≡ true → dies n (told k (not o) past) (option_map by_return (opening_number (id k b q) past)) (told k o past)
-    ≡ count_by (same_id (id k o n)) (introductions_at (opening (id k b q) past))) (sym (not_not o)) (return_died k o n q past) uses.returned_once))
+    ≡ count_by (same_id (id k o n)) (introductions_at (opening (id k b q) past))) (sym (not_not o)) (return_died k o n q past) uses.0))
 gives_of k o n past c rs (Return q false outcome) each uses = only _ _ (sym (dies_none n (told k (not o) past) (told k o past)))
-gives_of k o n past c rs (Finish q true) each uses = only _ _ (sym (finish_died k o n q past each (and_parts _ _ uses.used).0))
+gives_of k o n past c rs (Finish q true) each uses = only _ _ (sym (finish_died k o n q past each uses.1))
 gives_of k o n past c rs (Finish q false) each uses = only _ _ (sym (dies_none n (told k (not o) past) (told k o past)))
 gives_of k o n past c rs (Bootstrap q) each uses = only _ _ (sym (dies_none n (told k (not o) past) (told k o past)))
 gives_of k o n past c rs m each uses = only _ _ (sym (dies_none n (told k (not o) past) (told k o past)))
 
-gives_some : (k : ℕ) (o : Bool) (n : ℕ) (past : Past) (e : Event) (m : RpcMessage) → passing k (not o) e ≡ Some m → Each UsesQuestions past → UsesQuestions past e →
+gives_some : (k : ℕ) (o : Bool) (n : ℕ) (past : Past) (e : Event) (m : RpcMessage) → passing k (not o) e ≡ Some m → Each EndsOnce past → EndsOnce past e →
     gives_back (id k o n) past e ≡ lets_go n m + dies n (told k (not o) past) (closing (telling k (not o) past m)) (told k o past)
 gives_some k o n past e m h each uses =
     let s = passing_is k (not o) m e h in
-    ap (λ x. gives_back (id k o n) past x) s.2 ∙ gives_of k o n past s.0 s.1 m each (subst (λ x. UsesQuestions past x) s.2 uses)
+    ap (λ x. gives_back (id k o n) past x) s.2 ∙ gives_of k o n past s.0 s.1 m each (subst (λ x. EndsOnce past x) s.2 uses)
 
 -- ---- a record that didn't go that way gives nothing back
 
@@ -135,7 +136,7 @@ not_passing : (g : Bool) (m : RpcMessage) → (if g then Some m else None) ≡ N
 not_passing true m h = absurd (let no : ⊥ = cc in no)
 not_passing false m h = refl
 
-gives_none : (k : ℕ) (o : Bool) (n : ℕ) (past : Past) (e : Event) → passing k (not o) e ≡ None → gives_back (id k o n) past e ≡ 0
+pub gives_none : (k : ℕ) (o : Bool) (n : ℕ) (past : Past) (e : Event) → passing k (not o) e ≡ None → gives_back (id k o n) past e ≡ 0
 gives_none k o n past (Wire t j c rs m) h = gives_no k o n past t j c rs m (not_passing ((k == j) && beq (not o) t) m h)
 gives_none k o n past (Host r x) h = refl
 gives_none k o n past _ h = refl
@@ -151,10 +152,10 @@ alive_with k o n past e a b h g = (
 )
 
 -- what came and was released, is alive or went
-pub all_alive : (k : ℕ) (o : Bool) (n : ℕ) (past : Past) → Each UsesQuestions past → came (id k o n) past + let_go (id k o n) past ≡ alive (id k o n) past + went (id k o n) past
-all_alive k o n [] uses = refl
-all_alive k o n (e ∷ past) uses =
-    let rest = all_alive k o n past uses.1 in
+pub all_alive_once : (k : ℕ) (o : Bool) (n : ℕ) (past : Past) → Each EndsOnce past → came (id k o n) past + let_go (id k o n) past ≡ alive (id k o n) past + went (id k o n) past
+all_alive_once k o n [] uses = refl
+all_alive_once k o n (e ∷ past) uses =
+    let rest = all_alive_once k o n past uses.1 in
     elim (none_or_some (passing k o e)) [
       | inr m ↦
           let back = other_way k o m.0 e m.1 in
@@ -177,6 +178,9 @@ all_alive k o n (e ∷ past) uses =
             omega (arith, rest, with.0, with.1, nothing, gives)
       ]
     ]
+
+pub all_alive : (k : ℕ) (o : Bool) (n : ℕ) (past : Past) → Each UsesQuestions past → came (id k o n) past + let_go (id k o n) past ≡ alive (id k o n) past + went (id k o n) past
+all_alive k o n past uses = all_alive_once k o n past (each_so UsesQuestions EndsOnce ends_once past uses)
 
 -- what is held is what is alive, less what was released
 pub held_is_alive : (k : ℕ) (o : Bool) (n : ℕ) (past : Past) → Each UsesQuestions past → held (id k o n) past ≡ alive (id k o n) past - let_go (id k o n) past

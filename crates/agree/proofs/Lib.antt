@@ -12,3 +12,6 @@ pub mod Covered
 pub mod Lasting
 pub mod Standing
 pub mod Good
+pub mod Coming
+pub mod Balance
+pub mod Arriving

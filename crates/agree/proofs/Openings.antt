@@ -10,8 +10,8 @@ use Rattle.vat_view.specs.Uses.{OpensFree, UsesQuestions}
 use Rattle.agree.specs.Points.{GoesOn}
 use Rattle.agree.specs.Streams.{passing, stream, IsPassed, opening_number}
 use Rattle.agree.specs.Agreeing.{AreLinked, AgreeOnOpenings, AgreeOnLate}
-use Rattle.agree.proofs.Points.{before_it, each_before, each_at}
-use Rattle.agree.proofs.Asking.{asks, answers, frees, passes, count, count-append, came_since, last_number, one_if, returns_is, released_stream, number_stream, last_number_same, since_more, is_due, returns_waiting, fewer_returns, more_returns}
+use Rattle.agree.proofs.Points.{before_it, each_before, each_at, each_so}
+use Rattle.agree.proofs.Asking.{asks, answers, frees, passes, count, count-append, came_since, last_number, one_if, returns_is, released_stream, number_stream, last_number_same, since_more, is_due, returns_waiting, opens_idle, ReturnsDue, OpensIdle, fewer_returns, more_returns}
 use Rattle.agree.proofs.Cuts.{IsMet, same_before}
 
 -- a question opened the way in which a message goes has one last opening before it at both ends
@@ -20,12 +20,12 @@ pub own_agree : (k n : ℕ) (m : RpcMessage) (one other from to : Past) (sent re
 own_agree k n m one other from to sent received link p =
     number_stream (id k true n) from ∙ ap (λ l. last_number (asks n) l) (same_before k m one other from to sent received link p) ∙ sym (number_stream (id k false n) to)
 
-one_way : (a b : Bool) (m n : RpcMessage) → (if a && b then Some n else None) ≡ Some m → (a ≡ true) × (b ≡ true) × (n ≡ m)
+pub one_way : (a b : Bool) (m n : RpcMessage) → (if a && b then Some n else None) ≡ Some m → (a ≡ true) × (b ≡ true) × (n ≡ m)
 one_way true true m n h = let same : n ≡ m = cc in (refl, refl, same)
 one_way true false m n h = absurd (let no : ⊥ = cc in no)
 one_way false b m n h = absurd (let no : ⊥ = cc in no)
 
-same_way : (s o : Bool) → beq s o ≡ true → o ≡ s
+pub same_way : (s o : Bool) → beq s o ≡ true → o ≡ s
 same_way s o e = grind (arith, nat_tests)
 
 -- a record through which a message passed
@@ -45,15 +45,15 @@ late_is k s q release outcome before e h = ap (λ x. is_late before x) (passing_
 small : (b : Bool) → one_if b ≤ 1
 small b = grind (arith, nat_tests)
 
-module _ (k q : ℕ) (release : Bool) (outcome : Outcome) (one other from to : Past) (sent received : Event) (uses : Each UsesQuestions one) (free : Each OpensFree other)
+module _ (k q : ℕ) (release : Bool) (outcome : Outcome) (one other from to : Past) (sent received : Event) (uses : Each (ReturnsDue (id k false q)) one) (free : Each (OpensIdle (id k true q)) other)
     (p : IsPassed k (Return q release outcome) one other from to sent received) (met : IsMet k from to) where
   -- where a Return left and came, no opening of its question is on its way to the one who returns
   none_opened : count (asks q) met.cut.to_one.0 ≡ 0
   none_opened =
       let back : returns (id k false q) from sent ≡ true = returns_is (id k false q) sent ∙ ap (λ o. passes (answers q) o) p.sends ∙ eq-eqb q q refl in
-      let waits = ap (λ b. one_if b) (returns_waiting (id k false q) from sent (each_at UsesQuestions one uses from sent p.sent_there) back) in
-      let fewer = fewer_returns (id k false q) from (each_before UsesQuestions one from (before_it one sent from p.sent_there) uses) in
-      let more = more_returns (id k true q) to (each_before OpensFree other to (before_it other received to p.received_there) free) in
+      let waits = ap (λ b. one_if b) (each_at (ReturnsDue (id k false q)) one uses from sent p.sent_there back) in
+      let fewer = fewer_returns (id k false q) from (each_before (ReturnsDue (id k false q)) one from (before_it one sent from p.sent_there) uses) in
+      let more = more_returns (id k true q) to (each_before (OpensIdle (id k true q)) other to (before_it other received to p.received_there) free) in
       let parts : count (asks q) (stream k true to) ≡ count (asks q) met.cut.to_one.0 + count (asks q) (stream k false from) =
       ap (λ l. count (asks q) l) met.cut.to_one.1 ∙ count-append (asks q) met.cut.to_one.0 (stream k false from) in
       omega (arith, waits, fewer, more, small (is_due (id k true q) (returns (id k true q)) to), ap (λ l. count (answers q) l) met.all, parts)
@@ -83,18 +83,31 @@ module _ (k : ℕ) (one other : Past) (linked : AreLinked k one other) where
       opening_number (id k true n) from ≡ opening_number (id k false n) to
   own_linked n m from to sent received p = own_agree k n m one other from to sent received linked.cut.to_other p
 
-  module _ (uses : Each UsesQuestions one) (free : Each OpensFree other) where
-    pub openings_linked : AgreeOnOpenings k one other
-    openings_linked q release outcome from to sent received p =
-        returns_agree k q release outcome one other from to sent received uses free p (met (Return q release outcome) from to sent received p)
+  module _ (uses : (q : ℕ) → Each (ReturnsDue (id k false q)) one) (free : (q : ℕ) → Each (OpensIdle (id k true q)) other) where
+    pub openings_so : AgreeOnOpenings k one other
+    openings_so q release outcome from to sent received p =
+        returns_agree k q release outcome one other from to sent received (uses q) (free q) p (met (Return q release outcome) from to sent received p)
 
     never : (m : RpcMessage) (from to : Past) (sent received : Event) → IsPassed k m one other from to sent received → ((c : ℕ) (rs : List ℕ) → is_late from (Wire true k c rs m) ≡ false) →
         is_late from sent ≡ true → is_late to received ≡ true
     never m from to sent received p not_late late =
         let s = passing_is k true m sent p.sends in absurd (false≢true (sym (not_late s.0 s.1) ∙ sym (ap (λ x. is_late from x) s.2) ∙ late))
 
+    pub late_so : AgreeOnLate k one other
+    late_so (Return q release outcome) from to sent received p late =
+        late_agree k q release outcome one other from to sent received (uses q) (free q) p (met (Return q release outcome) from to sent received p) late
+    late_so (Bootstrap q) from to sent received p late = never (Bootstrap q) from to sent received p (λ c rs. refl) late
+    late_so m from to sent received p late = never m from to sent received p (λ c rs. refl) late
+
+  module _ (uses : Each UsesQuestions one) (free : Each OpensFree other) where
+    due : (q : ℕ) → Each (ReturnsDue (id k false q)) one
+    due q = each_so UsesQuestions (ReturnsDue (id k false q)) (returns_waiting (id k false q)) one uses
+
+    idle : (q : ℕ) → Each (OpensIdle (id k true q)) other
+    idle q = each_so OpensFree (OpensIdle (id k true q)) (opens_idle (id k true q)) other free
+
+    pub openings_linked : AgreeOnOpenings k one other
+    openings_linked = openings_so due idle
+
     pub late_linked : AgreeOnLate k one other
-    late_linked (Return q release outcome) from to sent received p late =
-        late_agree k q release outcome one other from to sent received uses free p (met (Return q release outcome) from to sent received p) late
-    late_linked (Bootstrap q) from to sent received p late = never (Bootstrap q) from to sent received p (λ c rs. refl) late
-    late_linked m from to sent received p late = never m from to sent received p (λ c rs. refl) late
+    late_linked = late_so due idle

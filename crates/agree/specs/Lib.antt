@@ -7,3 +7,5 @@ pub mod Told
 pub mod Alive
 pub mod Lasting
 pub mod Standing
+pub mod Balance
+pub mod Arrival

@@ -1,14 +1,11 @@
--- The types of records, messages and views, passed on from one place. A view's `Field` is here `FieldOf`.
+-- The types of records, messages and views, passed on from one place.
 pub use Rattle.rpc_view.specs.declared.message.Descriptor.{Descriptor}
 pub use Rattle.rpc_view.specs.declared.message.Descriptor.TheVariants.{NoCap, SenderHosted, SenderPromise, ReceiverHosted, ReceiverAnswer}
+pub use Rattle.rpc_view.specs.declared.message.Target.TheVariants.{Imported, Promised}
 pub use Rattle.rpc_view.specs.declared.message.Outcome.{Outcome}
-pub use Rattle.rpc_view.specs.declared.message.Outcome.TheVariants.{Results, Exception, Canceled}
-pub use Rattle.rpc_view.specs.declared.message.Resolution.{Resolution}
-pub use Rattle.rpc_view.specs.declared.message.Resolution.TheVariants.{Cap, Exception as Unkept}
 pub use Rattle.rpc_view.specs.declared.message.RpcMessage.{RpcMessage}
-pub use Rattle.rpc_view.specs.declared.message.RpcMessage.TheVariants.{Bootstrap, Call, Return, Finish, Resolve, Release, Disembargo, Abort}
+pub use Rattle.rpc_view.specs.declared.message.RpcMessage.TheVariants.{Bootstrap, Call, Return, Finish, Release, Disembargo}
 pub use Rattle.vat_view.specs.declared.event.Event.{Event}
-pub use Rattle.vat_view.specs.declared.event.Event.TheVariants.{Host, Vow, Fulfil, Break, Make, Field, Deliver, Answer, Fault, Wire}
+pub use Rattle.vat_view.specs.declared.event.Event.TheVariants.{Host, Wire}
 pub use Rattle.vat_view.specs.declared.view.View.{View}
-pub use Rattle.vat_view.specs.declared.view.View.TheVariants.{Object, Promise, Field as FieldOf, Import}
 pub use Rattle.vat_view.specs.declared.id.Id.{Id}

@@ -1,6 +1,6 @@
 //! Laws of two logs, which hold of all of them and not of one call.
 
-ghost use Rattle.std.specs.Prelude.{◌≡◌, ◌≤◌, ◌+◌, ◌-◌, ℕ, Bool, ◌∷◌, length, true, false};
+ghost use Rattle.std.specs.Prelude.{◌≡◌, ◌≤◌, ◌+◌, ◌-◌, ℕ, Bool, List, ◌∷◌, length, true, false};
 ghost use Rattle.agree.specs.Types.{RpcMessage, Event, Id};
 ghost use Rattle.vat_view.specs.Past.{Past, Each, id};
 ghost use Rattle.vat_view.specs.Questions.{returns, finishes};
@@ -16,6 +16,8 @@ ghost use Rattle.agree.specs.Told.{AreTold};
 ghost use Rattle.agree.specs.Alive.{alive, let_go};
 ghost use Rattle.agree.specs.Lasting.{LivesFrom};
 ghost use Rattle.agree.specs.Standing.{AgreeOnLives, Agree};
+ghost use Rattle.agree.specs.Balance.{AreUnderWay, IsBalanced};
+ghost use Rattle.agree.specs.Arrival.{ArrivesWell};
 
 /// Where two vats share a connection in an order that fits, their logs are linked (`linked`); at each point of the order
 /// the two logs are at a consistent cut (`cut`); and what a vat received by a point of its log, the other had sent
@@ -26,6 +28,11 @@ pub fn shared_logs_are_linked()
     ensures earlier { (k v w : ℕ) (row : Row) (one other : Past) (e : Event) → IsShared k v w row → GoesOn (log_of v row) one
         → GoesOn (log_of w row) (e ∷ other) → AllBefore v (length one) w (length other) row
         → GoesOn (stream k true other) (stream k false one) }
+{}
+
+/// Linked logs are linked at each consistent cut.
+pub fn cuts_are_linked()
+    ensures { (k : ℕ) (one other a b : Past) → GoesOn one a → GoesOn other b → IsCut k a b → AreLinked k one other → AreLinked k a b }
 {}
 
 /// The two ends of a message speak of the same openings. A question that is opened the way in which the message goes was
@@ -87,7 +94,28 @@ pub fn numbers_stand_alike()
         → AgreeOnOpenings k other one → AgreeOnLives k one other }
 {}
 
-/// The ends of two good logs that are linked agree on all of this, both ways.
+/// The ends of two good logs that are linked agree on all of this, both ways (`agree`), and at each consistent cut of
+/// them the counts of a number are balanced, either end as its exporter (`balanced`).
 pub fn good_ends_agree()
-    ensures { (k : ℕ) (one other : Past) → Each IsGood one → Each IsGood other → AreLinked k one other → Agree k one other }
+    ensures agree { (k : ℕ) (one other : Past) → Each IsGood one → Each IsGood other → AreLinked k one other → Agree k one other }
+    ensures balanced { (k : ℕ) (one other : Past) → Each IsGood one → Each IsGood other → AreLinked k one other
+        → (n : ℕ) (exporter importer : Past) (there back : List RpcMessage) → GoesOn one exporter → GoesOn other importer → IsCut k exporter importer
+        → AreUnderWay k exporter importer there → AreUnderWay k importer exporter back → IsBalanced k n exporter importer there back }
+{}
+
+/// Of two linked logs, the exporter holds of a number what the importer holds, and what is brought by the messages under
+/// way to the importer, and what is given back by those under way to the exporter.
+pub fn counts_are_balanced()
+    ensures { (k n : ℕ) (exporter importer : Past) (there back : List RpcMessage) → AreLinked k exporter importer
+        → Each UsesQuestions exporter → Each UsesQuestions importer → Each OpensFree exporter → Each OpensFree importer
+        → AreUnderWay k exporter importer there → AreUnderWay k importer exporter back → Each GivesBackHeld importer
+        → IsBalanced k n exporter importer there back }
+{}
+
+/// A message whose SEND was good is good at its RECV by QNEW, QUSE, XUSE and COUNT, where the records before it were good
+/// at both ends. So of these rules a bad RECV never stands alone: the other log has a bad record at or before the SEND, or
+/// the two logs aren't linked.
+pub fn messages_arrive_well()
+    ensures { (k : ℕ) (one other : Past) → AreLinked k one other → (m : RpcMessage) (from to : Past) (sent received : Event)
+        → IsPassed k m one other from to sent received → Each IsGood (sent ∷ from) → Each IsGood to → ArrivesWell to received }
 {}

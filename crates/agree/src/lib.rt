@@ -9,12 +9,14 @@
 //! in `specs/Agreeing.antt`. A message is told with the opening of its question that it belongs to (`specs/Told.antt`),
 //! and what introduced a number is alive until something closes it (`specs/Alive.antt`); `specs/Lasting.antt` speaks of
 //! lives from one point to another. What a number stands for at its two ends, and all that the ends agree on, is said in
-//! `specs/Standing.antt`. Each law is promised by a function of `src/laws.rt`, which does nothing.
+//! `specs/Standing.antt`; what is under way between them in `specs/Balance.antt`; and which rules a message keeps where
+//! it arrives in `specs/Arrival.antt`. Each law is promised by a function of `src/laws.rt`, which does nothing.
 #![tactic(auto)]
 
 mod laws;
 
 pub use laws::{
-    ends_agree_on_openings, good_ends_agree, held_is_alive, importers_are_covered,
-    lives_are_covered, numbers_stand_alike, openings_end_once, shared_logs_are_linked,
+    counts_are_balanced, cuts_are_linked, ends_agree_on_openings, good_ends_agree, held_is_alive,
+    importers_are_covered, lives_are_covered, messages_arrive_well, numbers_stand_alike,
+    openings_end_once, shared_logs_are_linked,
 };

@@ -5,6 +5,7 @@ pub mod Has
 pub mod Places
 pub mod Legal
 pub mod Links
+pub mod UnderWay
 pub mod Right
 pub mod Early
 pub mod Edges

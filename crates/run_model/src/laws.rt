@@ -1,7 +1,7 @@
 //! Laws of runs, which hold of every run and not of one call. Each speaks of the steps before a point, the newest first.
 
-ghost use Rattle.std.specs.Prelude.{◌≡◌, ◌≢◌, ◌↔◌, ◌≤◌, ◌++◌, ◌∷◌, [], ◌⊎◌, ℕ, List, Some, None, IsSome, IsSomeAnd};
-ghost use Rattle.std.specs.List.{AllByRecursion};
+ghost use Rattle.std.specs.Prelude.{◌≡◌, ◌≢◌, ◌↔◌, ◌≤◌, ◌++◌, ◌∷◌, [], ◌⊎◌, ℕ, List, Some, None, IsFalse, IsSome, IsSomeAnd};
+ghost use Rattle.std.specs.List.{list_any, AllByRecursion};
 ghost use Rattle.run_model.specs.Types.{Name, Cap, Object, FieldOf, Message, Call, Return, Resolve, Step, Send, Receive};
 ghost use Rattle.run_model.specs.Steps.{Past, OneOf, Each, last_answer, count};
 ghost use Rattle.run_model.specs.Leads.{Turns, Leads, LeadsByTurns};
@@ -9,6 +9,7 @@ ghost use Rattle.run_model.specs.Has.{Brings, Has};
 ghost use Rattle.run_model.specs.Places.{Asked, at_vat};
 ghost use Rattle.run_model.specs.Legal.{IsLegal, begins, ends, settles, delivers};
 ghost use Rattle.run_model.specs.Links.{IsLinked};
+ghost use Rattle.run_model.specs.UnderWay.{IsUnderWay, IsSomewhere};
 ghost use Rattle.run_model.specs.Right.{made, ReachesObject, IsOrdered};
 ghost use Rattle.run_model.specs.Early.{early};
 ghost use Rattle.run_model.specs.Edges.{IsForeign};
@@ -74,14 +75,26 @@ pub fn what_is_received_is_led_to()
         → IsLinked before (Receive v connection (Resolve promise cap) bound) → LeadsByTurns before promise cap }
 {}
 
-/// Where each step is legal and keeps to its link, a call is at one vat at most, it is at none when it comes out of a link,
-/// and it is delivered once at most.
+/// Where each step is legal and keeps to its link, a call is at one vat at most, and at none while it is under way or comes
+/// out of a link. While it is at a vat or under way it wasn't delivered, and it is delivered once at most.
 pub fn a_call_has_one_place()
     ensures at_one { (before : Past) → Each IsLegal before → Each IsLinked before → (c : Name) (v w : ℕ)
         → IsSome (at_vat before c v) → IsSome (at_vat before c w) → v ≡ w }
-    ensures under_way { (before : Past) → Each IsLegal before → Each IsLinked before → (c : Name) (v connection w : ℕ) (target : Cap) (interface method : ℕ) (caps bound : List Cap)
+    ensures at_rest { (before : Past) → Each IsLegal before → Each IsLinked before → (c : Name) (v : ℕ)
+        → IsSome (at_vat before c v) → IsUnderWay before c → ⊥ }
+    ensures received { (before : Past) → Each IsLegal before → Each IsLinked before → (c : Name) (v connection w : ℕ) (target : Cap) (interface method : ℕ) (caps bound : List Cap)
         → IsLinked before (Receive v connection (Call c target interface method caps) bound) → at_vat before c w ≡ None }
+    ensures undelivered_here { (before : Past) → Each IsLegal before → Each IsLinked before → (c : Name) (v : ℕ)
+        → IsSome (at_vat before c v) → IsFalse (list_any (delivers c) before) }
+    ensures undelivered_there { (before : Past) → Each IsLegal before → Each IsLinked before → (c : Name)
+        → IsUnderWay before c → IsFalse (list_any (delivers c) before) }
     ensures delivered { (before : Past) → Each IsLegal before → Each IsLinked before → (c : Name) → count (delivers c) before ≤ 1 }
+{}
+
+/// Where each step keeps to its link, a call that was made is at a vat, or under way between two, or was delivered or
+/// faulted.
+pub fn a_call_is_somewhere()
+    ensures { (before : Past) → Each IsLinked before → (c : Name) → IsSome (last_answer (made c) before) → IsSomewhere before c }
 {}
 
 /// Where each step is legal and keeps to its link, a call that is at a vat was made, the cap that it was made through leads

@@ -2,12 +2,12 @@
 //!
 //! It stands on `cap_frame` for its paths, and on nothing of the logs. A run is a list of steps, each of one vat
 //! ([`Step`]). It has no question, export or import number, no count, no table, no embargo and no byte: a call and a
-//! capability have one name for all vats ([`Name`], [`Cap`]). What a run means is said of a step and the steps before it, the newest first
-//! (`specs/Steps.antt`): where capabilities lead (`specs/Leads.antt`), which of them a vat has (`specs/Has.antt`), where a
-//! call is (`specs/Places.antt`), when a step is legal (`specs/Legal.antt`), what links carry (`specs/Links.antt`), what is
-//! promised of a run (`specs/Right.antt`, `specs/Early.antt`), and which capabilities of others a vat came to have
-//! (`specs/Edges.antt`). What holds of all runs by these definitions is promised by the functions of `src/laws.rt`, which
-//! do nothing.
+//! capability have one name for all vats ([`Name`], [`Cap`]). What a run means is said of a step and the steps before it,
+//! the newest first (`specs/Steps.antt`): where capabilities lead (`specs/Leads.antt`), which of them a vat has
+//! (`specs/Has.antt`), where a call is (`specs/Places.antt`), when a step is legal (`specs/Legal.antt`), what links carry
+//! and when a call is under way (`specs/Links.antt`, `specs/UnderWay.antt`), what is promised of a run
+//! (`specs/Right.antt`, `specs/Early.antt`), and which capabilities of others a vat came to have (`specs/Edges.antt`).
+//! What holds of all runs by these definitions is promised by the functions of `src/laws.rt`, which do nothing.
 #![tactic(auto)]
 
 mod cap;
@@ -23,10 +23,10 @@ mod step;
 pub use cap::Cap;
 pub use caps::Caps;
 pub use laws::{
-    a_call_has_one_place, calls_come_from_their_makers, calls_reach_their_objects,
-    leads_are_transitive, objects_stay, runs_are_ordered_unless_early, turns_go_one_way,
-    turns_only_grow, what_comes_once, what_is_foreign_was_brought, what_is_had_stays_had,
-    what_is_received_is_led_to, what_is_received_was_sent,
+    a_call_has_one_place, a_call_is_somewhere, calls_come_from_their_makers,
+    calls_reach_their_objects, leads_are_transitive, objects_stay, runs_are_ordered_unless_early,
+    turns_go_one_way, turns_only_grow, what_comes_once, what_is_foreign_was_brought,
+    what_is_had_stays_had, what_is_received_is_led_to, what_is_received_was_sent,
 };
 pub use message::Message;
 pub use name::Name;

@@ -1,0 +1,31 @@
+-- Calls between two vats.
+use Rattle.std.specs.Prelude.{ℕ, List, Bool, false, reverse, filter_map, length, IsTrue, IsSome, ◌≡◌, ◌≢◌, ◌⊎◌, ◌∷◌, ◌++◌, ◌≤◌}
+use Rattle.std.specs.List.{list_any}
+use Rattle.run_model.specs.Links.{sent_to, receives}
+use Rattle.run_model.specs.Places.{at_vat}
+use Rattle.run_model.specs.Steps.{Past, is_same, count}
+use Rattle.run_model.specs.Types.{Name, Cap, Call, Step, Deliver, Fault, Send}
+
+-- a call is under way: a Call of it was sent, and no other vat has received it yet, since each received no more on the
+-- connection than was sent to it there before
+pub record IsUnderWay (before : Past) (c : Name) : Type 0 where
+  pub from : ℕ
+  pub connection : ℕ
+  pub target : Cap
+  pub interface : ℕ
+  pub method : ℕ
+  pub caps : List Cap
+  pub later : Past
+  pub earlier : Past
+  pub sent : before ≡ later ++ Send from connection (Call c target interface method caps) ∷ earlier
+  pub waits : (v : ℕ) → v ≢ from → count (receives v connection) before ≤ length (filter_map (sent_to v connection) (reverse earlier))
+
+-- a step takes a call away for good: it delivers or faults it
+abbrev pub takes : Name → Step → Bool
+takes c (Deliver v d object) = is_same d c
+takes c (Fault v d) = is_same d c
+takes c _ = false
+
+-- a call is at a vat, or under way, or was delivered or faulted
+abbrev pub IsSomewhere : Past → Name → Type 0
+IsSomewhere before c = ((v : ℕ) × IsSome (at_vat before c v)) ⊎ IsUnderWay before c ⊎ IsTrue (list_any (takes c) before)

@@ -47,4 +47,7 @@ sight_of kept.Nothing = no_sight
 sight_of (kept.Reference v) = record { references = v ∷ []; question = None; promise = None; target = None; caps = [] }
 sight_of (kept.Question v) = record { references = []; question = Some v; promise = None; target = None; caps = [] }
 sight_of (kept.Target v) = record { references = []; question = None; promise = None; target = Some v; caps = [] }
+sight_of (kept.Listed lists) = record { references = lists.value.references; question = None; promise = None; target = None; caps = lists.value.caps }
+sight_of (kept.QuestionWith v lists) = record { references = lists.value.references; question = Some v; promise = None; target = None; caps = lists.value.caps }
+sight_of (kept.TargetWith v lists) = record { references = lists.value.references; question = None; promise = None; target = Some v; caps = lists.value.caps }
 sight_of (kept.Several parts) = sight_with parts.value.references parts.value.standing

@@ -2,7 +2,7 @@
 
 ghost use Rattle.std.specs.Prelude.{◌≡◌, ◌↔◌, ◌∷◌, [], IsTrue, IfOk, IfErr, length, map};
 ghost use Rattle.std.specs.Option.{option_copied};
-ghost use Rattle.vat_rules.specs.Glue.{entries_with, sight_with};
+ghost use Rattle.vat_rules.specs.Glue.{entries_with, sight_of, sight_with};
 
 use crate::standing::Standing;
 use std::alloc::{AllocError, Global};
@@ -62,7 +62,14 @@ impl Views {
     }
 }
 
-/// What several of a record's numbers stand for.
+/// What a record's references stand for, and its descriptors.
+#[derive(Debug, Drop)]
+struct Lists {
+    references: Views,
+    caps: Views,
+}
+
+/// What all numbers of a record stand for.
 #[derive(Debug, Drop)]
 struct Parts {
     references: Views,
@@ -80,7 +87,13 @@ enum Kept {
     Question(View),
     /// A target alone.
     Target(View),
-    /// Others, or more than one.
+    /// References and descriptors.
+    Listed(Box<Lists>),
+    /// A question, with references and descriptors.
+    QuestionWith(View, Box<Lists>),
+    /// A target, with references and descriptors.
+    TargetWith(View, Box<Lists>),
+    /// Others.
     Several(Box<Parts>),
 }
 
@@ -100,28 +113,11 @@ impl Model for Seen {
     ghost view = { λ seen. sight_of seen.kept };
 }
 
-/// Any numbers of one record with what they stand for.
-fn several(alloc: Global, references: Views, standing: Standing) -> Result<Seen, AllocError>
-    ensures { IfOk result (λ seen. seen ≡ sight_with references standing) }
-{
-    let parts = Parts {
-        references,
-        standing,
-    };
-    Ok(Seen {
-        kept: Kept::Several(Box::new(alloc, parts)?),
-    })
-}
-
-/// The same, without references and capabilities.
-fn without_lists(
-    alloc: Global,
-    references: Views,
-    standing: Standing,
-) -> Result<Seen, AllocError>
+/// What is kept of a record without references and descriptors.
+fn kept_alone(alloc: Global, references: Views, standing: Standing) -> Result<Kept, AllocError>
     requires references { references ≡ [] }
     requires caps { standing.caps ≡ [] }
-    ensures { IfOk result (λ seen. seen ≡ sight_with references standing) }
+    ensures { IfOk result (λ kept. sight_of kept ≡ sight_with references standing) }
 {
     let Standing {
         question,
@@ -130,25 +126,61 @@ fn without_lists(
         caps,
     } = standing;
     match (question, promise, target) {
-        (None, None, None) => Ok(Seen {
-            kept: Kept::Nothing,
-        }),
-        (Some(view), None, None) => Ok(Seen {
-            kept: Kept::Question(view),
-        }),
-        (None, None, Some(view)) => Ok(Seen {
-            kept: Kept::Target(view),
-        }),
-        (question, promise, target) => several(
-            alloc,
-            references,
-            Standing {
+        (None, None, None) => Ok(Kept::Nothing),
+        (Some(view), None, None) => Ok(Kept::Question(view)),
+        (None, None, Some(view)) => Ok(Kept::Target(view)),
+        (question, promise, target) => {
+            let standing = Standing {
                 question,
                 promise,
                 target,
                 caps,
-            },
-        ),
+            };
+            let parts = Parts {
+                references,
+                standing,
+            };
+            Ok(Kept::Several(Box::new(alloc, parts)?))
+        }
+    }
+}
+
+/// What is kept of a record with references or descriptors.
+fn kept_listed(alloc: Global, references: Views, standing: Standing) -> Result<Kept, AllocError>
+    ensures { IfOk result (λ kept. sight_of kept ≡ sight_with references standing) }
+{
+    let Standing {
+        question,
+        promise,
+        target,
+        caps,
+    } = standing;
+    match (question, promise, target) {
+        (None, None, None) => {
+            let lists = Lists { references, caps };
+            Ok(Kept::Listed(Box::new(alloc, lists)?))
+        }
+        (Some(view), None, None) => {
+            let lists = Lists { references, caps };
+            Ok(Kept::QuestionWith(view, Box::new(alloc, lists)?))
+        }
+        (None, None, Some(view)) => {
+            let lists = Lists { references, caps };
+            Ok(Kept::TargetWith(view, Box::new(alloc, lists)?))
+        }
+        (question, promise, target) => {
+            let standing = Standing {
+                question,
+                promise,
+                target,
+                caps,
+            };
+            let parts = Parts {
+                references,
+                standing,
+            };
+            Ok(Kept::Several(Box::new(alloc, parts)?))
+        }
     }
 }
 
@@ -162,20 +194,22 @@ impl Seen {
         ensures { IfOk result (λ seen. seen ≡ sight_with references standing) }
     {
         if !standing.caps.is_empty() {
-            return several(alloc, references, standing);
+            let kept = kept_listed(alloc, references, standing)?;
+            return Ok(Seen { kept });
         }
         if references.is_empty() {
-            return without_lists(alloc, references, standing);
+            let kept = kept_alone(alloc, references, standing)?;
+            return Ok(Seen { kept });
         }
         if !standing.is_empty() {
-            return several(alloc, references, standing);
+            let kept = kept_listed(alloc, references, standing)?;
+            return Ok(Seen { kept });
         }
-        match references.alone() {
-            Ok(view) => Ok(Seen {
-                kept: Kept::Reference(view),
-            }),
-            Err(references) => several(alloc, references, standing),
-        }
+        let kept = match references.alone() {
+            Ok(view) => Kept::Reference(view),
+            Err(references) => kept_listed(alloc, references, standing)?,
+        };
+        Ok(Seen { kept })
     }
 
     /// What the references stand for that the record binds or names, in its order, with the record counted.
@@ -184,6 +218,9 @@ impl Seen {
     {
         match &self.kept {
             Kept::Reference(view) => slice::from_ref(view),
+            Kept::Listed(lists) | Kept::QuestionWith(_, lists) | Kept::TargetWith(_, lists) => lists
+                .references
+                .as_slice(),
             Kept::Several(parts) => parts.references.as_slice(),
             _ => &[],
         }
@@ -194,7 +231,7 @@ impl Seen {
         ensures { option_copied result ≡ self.now.question }
     {
         match &self.kept {
-            Kept::Question(view) => Some(view),
+            Kept::Question(view) | Kept::QuestionWith(view, _) => Some(view),
             Kept::Several(parts) => parts.standing.question.as_ref(),
             _ => None,
         }
@@ -215,7 +252,7 @@ impl Seen {
         ensures { option_copied result ≡ self.now.target }
     {
         match &self.kept {
-            Kept::Target(view) => Some(view),
+            Kept::Target(view) | Kept::TargetWith(view, _) => Some(view),
             Kept::Several(parts) => parts.standing.target.as_ref(),
             _ => None,
         }
@@ -227,6 +264,9 @@ impl Seen {
         ensures { result.now ≡ self.now.caps }
     {
         match &self.kept {
+            Kept::Listed(lists) | Kept::QuestionWith(_, lists) | Kept::TargetWith(_, lists) => lists
+                .caps
+                .as_slice(),
             Kept::Several(parts) => parts.standing.caps.as_slice(),
             _ => &[],
         }

@@ -1,0 +1,7 @@
+pub mod Moves
+pub mod Lanes
+pub mod Placing
+pub mod Gathering
+pub mod Draining
+pub mod Taped
+pub mod NewLanes

@@ -1,0 +1,10 @@
+use Rattle.std.proofs.Common.{◌≡◌, take, map}
+use Rattle.vat_tap.specs.Held.{ring_of, AreTaken}
+use Rattle.vat_tap.proofs.tap.gather.Given as goal
+
+abbrev pub invariant-loop-index : goal.invariant-loop-index
+invariant-loop-index l = record {
+  rings : map (λ intake. ring_of intake.ring) l.intakes.items ≡ map (λ intake. ring_of intake.ring) l.initial.intakes.items;
+  lanes : l.lanes.items ≡ l.initial.lanes.items;
+  taken : AreTaken (map (λ intake. intake.taken.items) l.intakes.items) (take l.index l.initial.lanes.items);
+}

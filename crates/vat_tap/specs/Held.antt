@@ -1,0 +1,67 @@
+-- What a lane and a tap keep true of their fields.
+use Rattle.std.specs.Prelude.{◌≡◌, ℕ, ◌+◌, ◌*◌, ◌<◌, ◌≤◌, All, Some, slice_get, slice_index_or, List, [], ◌++◌, length}
+use Rattle.std.specs.List.Sorted.{IsStrictlyIncreasing}
+use Rattle.std.specs.declared.alloc.Global.{Global}
+use Rattle.atomic_table.specs.Seated.{TableId}
+use Rattle.atomic_table.specs.Table.{Me}
+use Rattle.rtrb.specs.Ring.{sent, producer_capacity}
+use Rattle.rtrb.specs.declared.producer.Producer.{Producer}
+use Rattle.rtrb.specs.declared.consumer.Consumer.{Consumer}
+use Rattle.vat_tap.specs.declared.view.View.{View}
+use Rattle.vat_tap.specs.Rule.{view}
+use Rattle.vat_tap.specs.Tickets.{Ticketed, Ring, LaneView, tickets_of, share_of}
+
+module _ {P : Type 0} where
+  abbrev pub ring_of : Consumer Ticketed Global P → Ring
+  ring_of ring = record { words = ring.end.words; slots = ring.end.slots; names = ring.end.names; heap = ring.end.heap }
+
+  abbrev pub sending : Producer Ticketed Global P → Ring
+  sending ring = record { words = ring.end.words; slots = ring.end.slots; names = ring.end.names; heap = ring.end.heap }
+
+  abbrev pub lane_view : TableId → ℕ → ℕ → Producer Ticketed Global P → LaneView
+  lane_view word number share ring = record {
+    word = word;
+    number = number;
+    share = share;
+    slots = producer_capacity ring;
+    ring = sending ring;
+    recorded = sent ring;
+  }
+
+  -- What a lane knows: its seat is at its ticket word and has the tickets of what the lane recorded, and they rise.
+  pub record IsLane (table word : TableId) (me : Me (Unit {0}) View) (recorded share : ℕ) (ring : Producer Ticketed Global P) : Type 0 where
+    pub at : word ≡ table
+    pub words : word.words ≡ 1
+    pub seat : me ≡ (view share share (tickets_of (sent ring)), [])
+    pub count : recorded ≡ length (sent ring)
+    pub within : recorded ≤ share
+    pub most : share ≤ 1048576
+    pub rising : IsStrictlyIncreasing (tickets_of (sent ring))
+
+-- so many more, behind those that were there
+abbrev pub Goes : List Ticketed → List Ticketed → ℕ → Type 0
+Goes before after count = (more : List Ticketed) × (after ≡ before ++ more) × (length more ≡ count)
+
+-- What a tap knows: its seat is at its ticket word, and has all the room but the shares of the lanes.
+pub record IsTap (table word : TableId) (me : Me (Unit {0}) View) (lanes : ℕ) : Type 0 where
+  pub few : lanes ≤ 64
+  pub at : word ≡ table
+  pub words : word.words ≡ 1
+  pub share : me.0.share ≡ share_of lanes
+  pub room : me.0.room + lanes * share_of lanes ≡ 1048576
+  pub tickets : me.0.tickets ≡ []
+  pub slots : me.1 ≡ []
+
+-- each of these lanes has its ring among these, at its number
+abbrev pub HaveRings : List Ring → List LaneView → Type 0
+HaveRings rings lanes = All (λ lane. slice_get rings lane.number ≡ Some lane.ring) lanes
+
+-- what each of these lanes recorded was taken, and stands at its number
+abbrev pub AreTaken : List (List Ticketed) → List LaneView → Type 0
+AreTaken taken lanes = All (λ lane. slice_get taken lane.number ≡ Some lane.recorded) lanes
+
+-- lanes of one ticket word that are new, each with its ring at its number
+pub record AreNew (word : TableId) (share slots : ℕ) (rings : List Ring) (lanes : List LaneView) : Type 0 where
+  pub count : length lanes ≡ length rings
+  pub each : All (λ lane. (lane.word ≡ word) × (lane.share ≡ share) × (lane.slots ≡ slots) × (lane.recorded ≡ []) × (slice_get rings lane.number ≡ Some lane.ring)) lanes
+  pub numbers : (k : ℕ) (d : LaneView) → k < length lanes → (slice_index_or lanes k d).number ≡ k

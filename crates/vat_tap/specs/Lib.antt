@@ -1,0 +1,4 @@
+pub mod Rule
+pub mod Tickets
+pub mod Held
+pub mod Arranged

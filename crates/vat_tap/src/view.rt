@@ -1,0 +1,71 @@
+//! The ticket word: what each seat at it knows, and the steps that may be taken. Nothing of it but the word is there when
+//! the program runs.
+
+use atomic_table::{Join, Play, Split, Table, TableRule};
+use std::alloc::Global;
+use std::collections::LinkedList;
+
+/// What a seat knows. No value of it is made.
+pub struct View {
+    /// How many tickets it may have.
+    pub room: u64,
+    /// How many of these each lane gets.
+    pub share: u64,
+    /// The tickets that it has, in the order in which it drew them.
+    pub tickets: LinkedList<u64>,
+}
+
+/// What holds of the word and of all seats between any two steps.
+pub struct TicketRule;
+
+impl TableRule<(), View, u64> for TicketRule {
+    ghost use Rattle.std.specs.Prelude.{[]};
+    ghost use Rattle.vat_tap.specs.Rule.{Kept, view};
+
+    ghost holds = { λ _ state. Kept 1048576 state };
+
+    ghost first = { λ share. view 1048576 share [] };
+}
+
+/// A lane's seat is split from the tap's.
+pub struct Opening;
+
+impl Split<View> for Opening {
+    ghost use Rattle.vat_tap.specs.Rule.{without_share, a_share};
+
+    ghost left = { without_share };
+
+    ghost right = { a_share };
+}
+
+/// A lane's seat is joined to the tap's.
+pub struct Closing;
+
+impl Join<View> for Closing {
+    ghost use Rattle.vat_tap.specs.Rule.{together, spent};
+
+    ghost both = { together };
+
+    ghost spent = { spent };
+}
+
+/// A ticket is drawn.
+pub struct Drawing;
+
+impl Play<(), View> for Drawing {
+    ghost use Rattle.vat_tap.specs.Rule.{Draws};
+
+    ghost then = { λ _ me found after. Draws 1048576 me found after };
+}
+
+/// The tap looks at the word, once all lanes are back.
+pub struct Looking;
+
+impl Play<(), View> for Looking {
+    ghost use Rattle.vat_tap.specs.Rule.{Looks};
+
+    ghost then = { λ _ me found after. Looks me found after };
+}
+
+/// The word from which tickets are drawn: how many were.
+pub type TicketWord = Table<(), View, u64, TicketRule, Global>;

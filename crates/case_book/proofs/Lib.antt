@@ -3,3 +3,7 @@ pub mod Rest
 pub mod Search
 pub mod Sorted
 pub mod Lowest
+pub mod Numbered
+pub mod Tied
+pub mod Booking
+pub mod Parting

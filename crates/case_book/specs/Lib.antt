@@ -2,3 +2,5 @@ pub mod Least
 pub mod Glue
 pub mod Case
 pub mod Ties
+pub mod Pieces
+pub mod Books

@@ -1,15 +1,20 @@
 //! Cases.
 
-ghost use Rattle.std.specs.Prelude.{◌≡◌, ◌≤◌, None, Some, IfOk, IfErr, length, map};
+ghost use Rattle.std.specs.Prelude.{◌≡◌, ◌≤◌, None, Some, IfOk, IfErr, MatchOption, length, map};
 ghost use Rattle.std.specs.Arc.{arc_value};
 ghost use Rattle.std.specs.List.Sorted.{IsPermutation, IsStrictlyIncreasing};
 ghost use Rattle.case_book.specs.Case.{vat_limit, link_limit, vats_fault, links_fault, refusal_of, vats_of, connections_of, IsCase, HoldsJust};
 ghost use Rattle.case_book.specs.Ties.{tie_fault_of};
+ghost use Rattle.case_book.specs.Pieces.{pieces_of, IsForPiece};
 
 use crate::error::CaseError;
+use crate::finding::Finding;
 use crate::link::Link;
+use crate::piece::Piece;
 use crate::repeats::{repeated_connection, repeated_vat};
 use crate::ties::{TieFault, least_missing, least_same_ended};
+use crate::work::{audited, compared};
+use std::alloc::{AllocError, Global};
 use std::marker::Model;
 use std::sync::Arc;
 use vat_log::VatLog;
@@ -64,6 +69,17 @@ fn rising_links(mut links: Vec<Link>) -> Result<Vec<Link>, CaseError>
     }
 }
 
+/// The same logs once more.
+fn copied(alloc: Global, logs: &[Arc<VatLog>]) -> Result<Vec<Arc<VatLog>>, AllocError>
+    ensures { IfOk result (λ copies. map arc_value copies.items ≡ map arc_value logs.now) }
+{
+    let mut copies = Vec::new(alloc);
+    for log in logs {
+        copies.push(Arc::try_clone(log)?)?;
+    }
+    Ok(copies)
+}
+
 impl Model for Case {
     ghost use Rattle.std.specs.Prelude.{map};
     ghost use Rattle.std.specs.Arc.{arc_value};
@@ -101,6 +117,7 @@ impl Case {
     pub fn logs(&self) -> &[Arc<VatLog>]
         ensures lent { map arc_value result.now ≡ self.now.logs }
         ensures rising { IsStrictlyIncreasing (vats_of (map arc_value result.now)) }
+        ensures few { length result.now ≤ vat_limit }
     {
         &self.logs
     }
@@ -109,6 +126,7 @@ impl Case {
     pub fn links(&self) -> &[Link]
         ensures lent { result.now ≡ self.now.links }
         ensures rising { IsStrictlyIncreasing (connections_of result.now) }
+        ensures few { length result.now ≤ link_limit }
     {
         &self.links
     }
@@ -123,5 +141,43 @@ impl Case {
             return Some(TieFault::MissingLog(connection));
         }
         least_same_ended(links).map(TieFault::SameEnds)
+    }
+
+    /// A case with the same logs and links. Only its lists are made anew: a log's bytes aren't copied.
+    ///
+    /// # Errors
+    ///
+    /// Want of memory.
+    pub fn copy(&self, alloc: Global) -> Result<Case, AllocError>
+        ensures { IfOk result (λ case. case ≡ self.now) }
+    {
+        let Case { logs, links } = self;
+        Ok(Case {
+            logs: copied(alloc, logs)?,
+            links: Vec::from_slice(alloc, links)?,
+        })
+    }
+
+    /// Does the work of a piece: audits its log within the default limits, or compares the ends of its link. `None` where
+    /// the case has no such piece.
+    ///
+    /// # Errors
+    ///
+    /// Want of memory.
+    pub fn find(&self, alloc: Global, piece: Piece) -> Result<Option<Finding>, AllocError>
+        requires { tie_fault_of self.now ≡ None }
+        ensures { IfOk result (λ found. MatchOption found (length (pieces_of self.now) ≤ piece.number)
+            (λ finding. IsForPiece self.now finding piece.number)) }
+    {
+        let Case { logs, links } = self;
+        let number = piece.number as usize;
+        if number < logs.len() {
+            return Ok(Some(Finding::Vat(audited(alloc, &logs[number])?)));
+        }
+        let at = number - logs.len();
+        if at < links.len() {
+            return Ok(Some(Finding::Link(compared(logs, &links[at])?)));
+        }
+        Ok(None)
     }
 }

@@ -1,20 +1,38 @@
-//! Cases: the logs of several vats and the links between them, to be audited together.
+//! Cases: the logs of several vats and the links between them, to be audited together, and the book of such an audit.
 //!
-//! It stands on `vat_log`. What a case holds and what is refused is said in `specs/Case.antt`, when its logs and links tie
-//! up in `specs/Ties.antt`. Faults name the least number of a list: `specs/Least.antt` says which that is, and the law
-//! [`least_is_least`] that it is the least. [`Case::new`] takes just what is handed in, or refuses it with the first fault
-//! that is defined, and [`Case::tie_fault`] is exactly the fault that is defined. Nothing here takes memory.
+//! It stands on `vat_log`, on `vat_rules`, which audits one log, and on `link_check`, which compares a link's ends. What a
+//! case holds and what is refused is said in `specs/Case.antt`, when its logs and links tie up in `specs/Ties.antt`. Faults
+//! name the least number of a list: `specs/Least.antt` says which that is, and the law [`least_is_least`] that it is the
+//! least. [`Case::new`] takes just what is handed in, or refuses it with the first fault that is defined, and
+//! [`Case::tie_fault`] is exactly the fault that is defined.
+//!
+//! `specs/Pieces.antt` says which pieces a case has, and when a finding is for one; a finding is for one piece at most (the
+//! law [`a_finding_is_for_one_piece`]). [`Case::find`] does the work of a piece. A [`Book`], of which `specs/Books.antt`
+//! speaks, hands the pieces out and keeps one finding for each. Memory is taken by [`Case::copy`], [`Case::find`] and
+//! [`Book::new`] alone.
 #![tactic(auto)]
 
+mod book;
 mod case;
 mod error;
+mod finding;
+mod findings;
 mod laws;
 mod link;
+mod piece;
+mod places;
+mod refused;
 mod repeats;
 mod ties;
+mod work;
 
+pub use book::Book;
 pub use case::Case;
 pub use error::CaseError;
-pub use laws::least_is_least;
+pub use finding::Finding;
+pub use findings::Findings;
+pub use laws::{a_finding_is_for_one_piece, least_is_least};
 pub use link::Link;
+pub use piece::Piece;
+pub use refused::Refused;
 pub use ties::TieFault;

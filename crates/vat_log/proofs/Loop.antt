@@ -63,6 +63,13 @@ spelled_more f xs i x a b out more lt is so_far step =
     step ∙ ap (λ o. o ++ f x) (so_far ∙ sym (append_assoc a b (flat_map f (take i xs)))) ∙ flat_map_more f (a ++ b) (take i xs) x
     ∙ append_assoc a b (flat_map f (take i xs ++ x ∷ [])) ∙ ap (λ ys. a ++ (b ++ flat_map f ys)) (sym (taken xs i x lt is))
 
+-- one more number was spelled
+pub spelled_next : (f : ℕ → List ℕ) (xs : List ℕ) (i : ℕ) (a b out more : List ℕ) → i < length xs → out ≡ a ++ (b ++ flat_map f (take i xs)) → more ≡ out ++ f (get_or xs i 0)
+    → more ≡ a ++ (b ++ flat_map f (take (i + 1) xs))
+spelled_next f xs i a b out more lt so_far step =
+    step ∙ ap (λ o. o ++ f (get_or xs i 0)) (so_far ∙ sym (append_assoc a b (flat_map f (take i xs)))) ∙ flat_map_more f (a ++ b) (take i xs) (get_or xs i 0)
+    ∙ append_assoc a b (flat_map f (take i xs ++ get_or xs i 0 ∷ [])) ∙ ap (λ ys. a ++ (b ++ flat_map f ys)) (sym (take_more xs i 0 lt))
+
 -- the records that were read before, and those that are still read
 abbrev pub with_records : List Body → Result (List Body) LogError → Result (List Body) LogError
 with_records front read = read >>= λ others. Ok (front ++ others)

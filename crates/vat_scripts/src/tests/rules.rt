@@ -44,6 +44,29 @@ fn a_good_log_is_told(rt: HostRuntime) {
     assert!(rt; good_once(&rt).is_ok() || good_once(&rt).is_ok());
 }
 
+/// A promise that is resolved, in its vat's log.
+const RESOLVED: &str = "S0 c1 boot q0; R0 r1 ret q0 senderPromise 0@[]; \
+    R0 r2 resolve promise 0 senderHosted 1";
+
+fn resolved_once(rt: &(impl Abort + AllocGlobal)) -> Result<(), Refused> {
+    let log = log(rt.alloc(), "1", RESOLVED)?;
+    let found = audit_vat(rt.alloc(), &log, Limits::default())?;
+    let Outcome::Good(story) = found.outcome() else {
+        return Err(Refused::from("every record is good"));
+    };
+    // the promise is what the first descriptor of record 1 brought
+    for (at, seen) in story.seen().iter().enumerate() {
+        assert_eq!(rt; seen.promise().is_some(), at == 2);
+        assert_eq!(rt; matches!(seen.promise(), Some(View::Import(1, 0))), at == 2);
+    }
+    Ok(())
+}
+
+#[test]
+fn a_resolved_promise_is_told(rt: HostRuntime) {
+    assert!(rt; resolved_once(&rt).is_ok() || resolved_once(&rt).is_ok());
+}
+
 fn unread_once(rt: &(impl Abort + AllocGlobal)) -> Result<(), Refused> {
     let log = log(rt.alloc(), "2", PIPELINED_CALL)?;
     let limits = Limits {

@@ -46,15 +46,18 @@ pub(crate) fn shorten(events: &[Event], turns: &Turns, bound: &mut Bound, from: 
     }
 }
 
-/// Where the field at a path of a call lands.
+/// Where the walk goes on from the field at a path of a call, after its first turn: where the view lands to which the
+/// field turns. A walk by 1 or more turns hops from there on.
 pub(crate) fn field_landed(
     events: &[Event],
     turns: &Turns,
+    bound: &Bound,
     call: u64,
     path: &[u16],
 ) -> Option<u64> {
     let number = turns.of(Pending::Results(call))?;
-    landing(path, event_at(events, number)?)
+    let first = landing(path, event_at(events, number)?)?;
+    reference_landed(events, turns, bound, first)
 }
 
 /// Where the view of a reference lands.
@@ -67,7 +70,8 @@ pub(crate) fn reference_landed(
     landed(events, turns, bound.of(reference)?)
 }
 
-/// Where the view lands for which an export or import number stands.
+/// Where the walk goes on from what an export or import number stands for, after its first turn: where the view lands to
+/// which that turns. A walk by 1 or more turns hops from there on.
 pub(crate) fn number_landed(
     events: &[Event],
     turns: &Turns,
@@ -76,9 +80,10 @@ pub(crate) fn number_landed(
     number: Id,
 ) -> Option<u64> {
     let origin = lives.origin_of(number)?;
-    if number.ours {
+    let first = if number.ours {
         reference_landed(events, turns, bound, origin.reference?)
     } else {
         landed(events, turns, &View::Import(origin.number, origin.place))
-    }
+    };
+    reference_landed(events, turns, bound, first?)
 }

@@ -67,7 +67,7 @@ fn is_told(alloc: Global, records: &str, told: &str) -> Result<bool, Refused> {
 
 #[test]
 fn loopbacks(rt: HostRuntime) {
-    for (records, told) in ROWS {
+    for (records, told) in &ROWS {
         let is_so = is_told(rt.alloc(), records, told).unwrap_or(false)
             || is_told(rt.alloc(), records, told).unwrap_or(false);
         assert!(rt; is_so, "{told}");

@@ -297,15 +297,15 @@ fn is_told(alloc: Global, records: &str, told: &str) -> Result<bool, Refused> {
 
 #[test]
 fn states(rt: HostRuntime) {
-    for (records, told) in ROWS {
+    for (records, told) in &ROWS {
         let is_so = is_told(rt.alloc(), records, told).unwrap_or(false)
             || is_told(rt.alloc(), records, told).unwrap_or(false);
         assert!(rt; is_so, "{told}");
     }
 }
 
-/// What is said of the first record of this log where it comes next, and the records that are given back.
-fn put_next(alloc: Global, out: &mut String, state: VatState, next: &str) -> Result<(), Refused> {
+/// What is said of the first record of this log where it comes next.
+fn put_next(alloc: Global, out: &mut String, state: &VatState, next: &str) -> Result<(), Refused> {
     let log = log(alloc, "2", next)?;
     let record = log.get(0).ok_or(Refused)?;
     let event = event_of(alloc, record.body())?;
@@ -316,6 +316,11 @@ fn put_next(alloc: Global, out: &mut String, state: VatState, next: &str) -> Res
         out,
         "keeps {keeps}; descriptors {descriptors:?}; new {new:?}; "
     )?;
+    Ok(())
+}
+
+/// The records that are given back, how many and the first.
+fn put_events(out: &mut String, state: VatState) -> Result<(), Refused> {
     let events = state.into_events();
     let (count, first) = (events.len(), events.first());
     write!(out, "{count} {first:?}")?;
@@ -326,13 +331,14 @@ fn put_next(alloc: Global, out: &mut String, state: VatState, next: &str) -> Res
 fn is_next_told(alloc: Global, records: &str, next: &str, told: &str) -> Result<bool, Refused> {
     let state = state_of(alloc, records)?;
     let mut out = String::new(alloc);
-    put_next(alloc, &mut out, state, next)?;
+    put_next(alloc, &mut out, &state, next)?;
+    put_events(&mut out, state)?;
     Ok(out.as_str() == told)
 }
 
 #[test]
 fn records_that_come_next(rt: HostRuntime) {
-    for (records, next, told) in NEXT {
+    for (records, next, told) in &NEXT {
         let is_so = is_next_told(rt.alloc(), records, next, told).unwrap_or(false)
             || is_next_told(rt.alloc(), records, next, told).unwrap_or(false);
         assert!(rt; is_so, "{told}");
@@ -358,7 +364,7 @@ fn is_over(alloc: Global, records: &str, told: &str) -> Result<bool, Refused> {
 
 #[test]
 fn connections(rt: HostRuntime) {
-    for (records, told) in OVER {
+    for (records, told) in &OVER {
         let is_so = is_over(rt.alloc(), records, told).unwrap_or(false)
             || is_over(rt.alloc(), records, told).unwrap_or(false);
         assert!(rt; is_so, "{told}");

@@ -56,13 +56,16 @@ clash h g = false≢true (sym g ∙ h)
 
 sound : (past : Past) → Each IsGood past → Each IsSound past
 sound [] good = tt
-sound (e ∷ before) good = (record {
-  refers = good.0 rule.Ref;
-  uses_questions = good.0 rule.QUse;
-  uses_numbers = good.0 rule.XUse;
-  gives_back_held = good.0 rule.Count;
-  notes_each = good_notes before e good.0;
-}, sound before good.1)
+sound (e ∷ before) good = (
+  record {
+    refers = good.0 rule.Ref;
+    uses_questions = good.0 rule.QUse;
+    uses_numbers = good.0 rule.XUse;
+    gives_back_held = good.0 rule.Count;
+    notes_each = good_notes before e good.0;
+  },
+  sound before good.1,
+)
 
 module _ (c : ℕ) where
   -- a record asks another vat for the call: it sends a Bootstrap or a Call of it
@@ -81,7 +84,7 @@ module _ (c : ℕ) where
   data Effect (before : Past) (e : Event) : Type 0 where
     -- nothing, or it takes the call from the vat
     quiet : asks before e ≡ false → delivers c before e ≡ false → boots c before e ≡ false → settles c before e ≡ false →
-      (is_at_vat c (e ∷ before) ≡ true → is_at_vat c before ≡ true) → Effect before e
+        (is_at_vat c (e ∷ before) ≡ true → is_at_vat c before ≡ true) → Effect before e
     -- it makes a new call
     makes : is_bound_call before c ≡ false → asks before e ≡ false → delivers c before e ≡ false → boots c before e ≡ false → settles c before e ≡ false → Effect before e
     -- it receives the Bootstrap of a new call
@@ -105,7 +108,7 @@ module _ (c : ℕ) where
   stayed_if false rest h = h
 
   came_if : (a : Asked) (b : Bool) (rest : Option Bool) → b ≡ false →
-    unwrap_or (option_or (if is_some (if b then Some a else None) then Some true else if false then Some false else None) rest) false ≡ true → unwrap_or rest false ≡ true
+      unwrap_or (option_or (if is_some (if b then Some a else None) then Some true else if false then Some false else None) rest) false ≡ true → unwrap_or rest false ≡ true
   came_if a b rest apart h = sym (ap (λ x. unwrap_or (option_or (if is_some (if x then Some a else None) then Some true else if false then Some false else None) rest) false) apart) ∙ h
 
   fresh : (before : Past) (d : ℕ) → list_all (λ x. not (is_bound_call before x)) (d ∷ []) ≡ true → (d == c) ≡ true → is_bound_call before c ≡ false

@@ -293,7 +293,13 @@ impl VatState {
     {
         for (path, _) in fields {
             let events = self.events.as_slice();
-            if let Some(first) = field_landed(events, &self.turns, &self.bound, call, path.as_slice()) {
+            if let Some(first) = field_landed(
+                events,
+                &self.turns,
+                &self.bound,
+                call,
+                path.as_slice(),
+            ) {
                 self.shorten_from(first);
             }
         }

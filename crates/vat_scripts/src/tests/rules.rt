@@ -69,8 +69,8 @@ fn is_resolved(alloc: Global) -> Result<bool, Refused> {
 
 #[test]
 fn a_resolved_promise_is_told(rt: HostRuntime) {
-    let is_so =
-        is_resolved(rt.alloc()).unwrap_or(false) || is_resolved(rt.alloc()).unwrap_or(false);
+    let is_so = is_resolved(rt.alloc()).unwrap_or(false)
+        || is_resolved(rt.alloc()).unwrap_or(false);
     assert!(rt; is_so);
 }
 

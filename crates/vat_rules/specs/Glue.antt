@@ -1,4 +1,5 @@
--- For the code's contracts, and no part of the meaning: what is asked of a record before it is applied, at once.
+-- For the code's contracts, and no part of the meaning: what a record's numbers stand for
+-- before it is applied, looked up at once, and how what is seen of a record is kept.
 use Rattle.std.specs.Prelude.{ℕ, List, [], ◌∷◌, map, Option, Some, None, slice_get, unwrap_or}
 use Rattle.std.specs.List.{zip}
 use Rattle.vat_rules.specs.Types.{Event, View}

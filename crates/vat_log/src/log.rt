@@ -182,7 +182,7 @@ pub fn write_lent_log(alloc: Global, vat: u32, records: &[&Record]) -> Result<Va
     // Too many records are refused as such before memory is asked for.
     ensures too_many { record_limit < length records.now → IfErr result (λ e. e ≡ LogError.TooLong) }
 {
-    if records.len() > MAX_RECORDS {
+    if MAX_RECORDS < records.len() {
         return Err(LogError::TooLong);
     }
     let bytes = Bytes::from_vec(written_of_lent(alloc, vat, records)?)?;

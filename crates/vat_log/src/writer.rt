@@ -1,6 +1,6 @@
 //! Writing a log record by record.
 
-ghost use Rattle.std.specs.Prelude.{◌≡◌, ◌<◌, [], ◌∷◌, ◌++◌, length, OnOk, IfOk, IfErr};
+ghost use Rattle.std.specs.Prelude.{◌≡◌, ◌≤◌, ◌<◌, [], ◌∷◌, ◌++◌, length, OnOk, IfOk, IfErr};
 ghost use Rattle.vat_log.specs.Fits.{record_limit, NotPushed};
 
 use crate::error::LogError;
@@ -52,8 +52,8 @@ impl LogWriter {
         ensures ok { OnOk result (self.new.records ≡ self.old.records ++ event ∷ []) }
         // What is left of a refused push, and why it was refused.
         ensures err { IfErr result (λ refused. (refused.1 ≡ event) × (self.new ≡ self.old) × NotPushed self.old refused.0) }
-        // A full log is told as such.
-        ensures full { length self.old.records ≡ record_limit → IfErr result (λ refused. refused.0 ≡ LogError.TooLong) }
+        // A full log takes no more.
+        ensures full { length self.new.records ≤ record_limit }
     {
         if self.records.len() >= MAX_RECORDS {
             return Err((LogError::TooLong, event));

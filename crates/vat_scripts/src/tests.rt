@@ -15,3 +15,4 @@ mod pointers;
 mod rules;
 mod runs;
 mod states;
+mod taps;

@@ -52,7 +52,7 @@ const RECORDS: [(&str, &str, &str); 8] = [
 ];
 
 /// What vats 1 and 2 of pipelined_call recorded, and the bytes of the files in `samples`.
-const SAMPLES: [(&str, &str, &str); 2] = [
+pub(super) const SAMPLES: [(&str, &str, &str); 2] = [
     (
         "1",
         "S0 c1 boot q0; FIELD r1 c1 []; MAKE c2 r1; S0 c2 call q1 answer 0 []; R0 r2 ret q0 senderHosted 0@[]; \
@@ -98,7 +98,7 @@ fn shown(alloc: Global, log: &VatLog) -> Result<String, Refused> {
 }
 
 /// A second body that says the same.
-fn copied(body: &Body) -> Result<Body, Refused> {
+pub(super) fn copied(body: &Body) -> Result<Body, Refused> {
     Ok(match body {
         Body::Host { reference, object } => Body::Host {
             reference: *reference,

@@ -1,0 +1,296 @@
+//! Recording: by a writer, and by the lanes of a tap, also on threads of their own.
+
+ghost use Rattle.std.specs.Prelude.{◌≡◌, ◌≢◌, ◌≤◌, IfOk};
+ghost use Rattle.vat_tap.specs.Tickets.{IsLaneOf, SameLane, SameTap};
+
+use super::given::{Refused, bytes_of_digits, bytes_of_log};
+use super::logs::{SAMPLES, copied};
+use cap_reader::Limits;
+use std::alloc::Global;
+use std::sync::atomic::{AtomicBool, Ordering};
+use std::sync::{Arc, Wait};
+use std::thread;
+use std::thread::Threads;
+use vat_log::{Body, LogWriter, Record, VatLog, parse_log, write_lent_log};
+use vat_rules::{Outcome, audit_vat};
+use vat_tap::{CloseError, Full, Lane, Tap};
+
+/// The log of the same vat, to which a second record for each is pushed.
+fn pushed(alloc: Global, log: &VatLog) -> Result<VatLog, Refused> {
+    let mut writer = LogWriter::new(alloc, log.vat());
+    for index in 0..log.len() {
+        let record = log.get(index).ok_or("a record")?;
+        let body = copied(record.body())?;
+        writer.push(Record::new(body)?)?;
+    }
+    Ok(writer.finish()?)
+}
+
+/// The log of the same vat with the same records.
+fn lent(alloc: Global, log: &VatLog) -> Result<VatLog, Refused> {
+    let mut records = Vec::new(alloc);
+    for index in 0..log.len() {
+        records.push(log.get(index).ok_or("a record")?)?;
+    }
+    Ok(write_lent_log(alloc, log.vat(), &records)?)
+}
+
+/// Whether vat 2's log of pipelined_call is written so.
+fn is_written(alloc: Global) -> Result<bool, Refused> {
+    let (vat, records, digits) = &SAMPLES[1];
+    let wanted = bytes_of_digits(alloc, digits)?;
+    let log = parse_log(alloc, bytes_of_log(alloc, vat, records)?)?;
+    let pushed = pushed(alloc, &log)?;
+    let lent = lent(alloc, &log)?;
+    let are_same = pushed.bytes().as_slice() == wanted.as_slice()
+        && lent.bytes().as_slice() == wanted.as_slice();
+    Ok(are_same && wanted.len() == 474)
+}
+
+#[test]
+fn a_log_is_written_record_by_record(rt: HostRuntime) {
+    let is_so = is_written(rt.alloc()).unwrap_or(false) || is_written(rt.alloc()).unwrap_or(false);
+    assert!(rt; is_so);
+}
+
+/// A tap of this vat with two lanes, each with a ring of so many records.
+fn two_lanes(alloc: Global, vat: u32, ring: usize) -> Result<(Tap, Lane, Lane), Refused>
+    requires { (1 ≤ ring) × (ring ≤ 65536) }
+    ensures first { IfOk result (λ opened. IsLaneOf opened.0 opened.1 × (opened.1.number ≡ 0)) }
+    ensures second { IfOk result (λ opened. IsLaneOf opened.0 opened.2 × (opened.2.number ≡ 1)) }
+{
+    let (tap, opened) = Tap::open(alloc, vat, 2, ring)?;
+    let mut lanes = opened;
+    let second = lanes.pop().ok_or("lane 1")?;
+    let first = lanes.pop().ok_or("lane 0")?;
+    Ok((tap, first, second))
+}
+
+/// The log of what two lanes of a tap recorded.
+fn closed(alloc: Global, tap: Tap, first: Lane, second: Lane) -> Result<VatLog, Refused>
+    requires first { IsLaneOf tap first }
+    requires second { IsLaneOf tap second }
+    requires different { first.number ≢ second.number }
+{
+    let mut lanes = Vec::new(alloc);
+    lanes.push(first)?;
+    lanes.push(second)?;
+    match tap.close(lanes) {
+        Ok(log) => Ok(log),
+        Err(_) => Err(Refused),
+    }
+}
+
+/// Records VOW of this reference, and answers its ticket.
+fn vow(lane: &mut Lane, reference: u64) -> Result<u64, Refused>
+    ensures { SameLane lane.old lane.new }
+{
+    let ticket = lane.record(Record::new(Body::Vow { reference })?)?;
+    Ok(ticket.number())
+}
+
+/// Whether the lane has no room for VOW of this reference, and hands it back.
+fn is_full(lane: &mut Lane, vowed: u64) -> Result<bool, Refused>
+    ensures { SameLane lane.old lane.new }
+{
+    match lane.record(Record::new(Body::Vow { reference: vowed })?) {
+        Ok(_) => Ok(false),
+        Err(Full(back)) => {
+            Ok(matches!(back.body(), Body::Vow { reference } if *reference == vowed))
+        }
+    }
+}
+
+/// Whether two lanes of ring 1 record what they have room for, and go on once it is drained.
+fn go_on(tap: &mut Tap, first: &mut Lane, second: &mut Lane) -> Result<bool, Refused>
+    ensures tap { SameTap tap.old tap.new }
+    ensures first { SameLane first.old first.new }
+    ensures second { SameLane second.old second.new }
+{
+    let is_0 = vow(first, 1)? == 0 && is_full(first, 2)?;
+    let is_1 = vow(second, 3)? == 1 && is_full(second, 4)?;
+    let is_drained = tap.drain()? == 2;
+    let is_2 = vow(first, 2)? == 2;
+    Ok(is_0 && is_1 && is_drained && is_2)
+}
+
+/// The tap and the lane, from a tap that isn't closed without its other lane.
+fn missing(alloc: Global, tap: Tap, second: Lane) -> Result<(Tap, Lane), Refused>
+    requires { IsLaneOf tap second }
+    ensures { IfOk result (λ back. SameTap tap back.0 × (back.1 ≡ second)) }
+{
+    let mut lanes = Vec::new(alloc);
+    lanes.push(second)?;
+    match tap.close(lanes) {
+        Err((CloseError::Missing, tap, back)) => {
+            let mut lanes = back;
+            let second = lanes.pop().ok_or("lane 1")?;
+            Ok((tap, second))
+        }
+        _ => Err(Refused),
+    }
+}
+
+/// Whether a log has VOW of just these references, in this order.
+fn has_vows(log: &VatLog, references: &[u64]) -> bool {
+    for (index, vowed) in references.iter().enumerate() {
+        let Some(record) = log.get(index) else {
+            return false;
+        };
+        if !matches!(record.body(), Body::Vow { reference } if *reference == *vowed) {
+            return false;
+        }
+    }
+    log.len() == references.len()
+}
+
+/// Whether a tap of vat 1 with two lanes of ring 1 answers so.
+fn is_drained(alloc: Global) -> Result<bool, Refused> {
+    let (tap, first, second) = two_lanes(alloc, 1, 1)?;
+    let (mut tap, mut first, mut second) = (tap, first, second);
+    let is_so = go_on(&mut tap, &mut first, &mut second)?;
+    let (tap, second) = missing(alloc, tap, second)?;
+    let log = closed(alloc, tap, first, second)?;
+    Ok(is_so && log.vat() == 1 && has_vows(&log, &[1, 3, 2]))
+}
+
+#[test]
+fn a_full_ring_goes_on_once_it_is_drained(rt: HostRuntime) {
+    let is_so = is_drained(rt.alloc()).unwrap_or(false) || is_drained(rt.alloc()).unwrap_or(false);
+    assert!(rt; is_so);
+}
+
+/// Whether a lane of 64 records its share and no more, also once its ring is empty.
+fn is_shared(alloc: Global) -> Result<bool, Refused> {
+    let (opened, lanes) = Tap::open(alloc, 1, 64, 16_384)?;
+    let (mut tap, mut lanes) = (opened, lanes);
+    let mut lane = lanes.pop().ok_or("lane 63")?;
+    for reference in 1..=16_384 {
+        vow(&mut lane, reference)?;
+    }
+    let is_before = is_full(&mut lane, 16_385)?;
+    let is_drained = tap.drain()? == 16_384;
+    Ok(is_before && is_drained && is_full(&mut lane, 16_385)?)
+}
+
+#[test]
+fn a_lane_records_its_share(rt: HostRuntime) {
+    let is_so = is_shared(rt.alloc()).unwrap_or(false) || is_shared(rt.alloc()).unwrap_or(false);
+    assert!(rt; is_so);
+}
+
+/// Whether a tap of vat 3 with 64 lanes gives a log without records.
+fn is_empty(alloc: Global) -> Result<bool, Refused> {
+    let wanted = bytes_of_digits(alloc, "5641544c4f473031 03000000")?;
+    let (tap, lanes) = Tap::open(alloc, 3, 64, 1)?;
+    match tap.close(lanes) {
+        Ok(log) => Ok(log.bytes().as_slice() == wanted.as_slice()),
+        Err(_) => Err(Refused),
+    }
+}
+
+#[test]
+fn a_tap_without_records(rt: HostRuntime) {
+    let is_so = is_empty(rt.alloc()).unwrap_or(false) || is_empty(rt.alloc()).unwrap_or(false);
+    assert!(rt; is_so);
+}
+
+/// Records 500 VOWs, of every second reference from this one on, and answers whether there was room for all.
+fn record_vows(lane: Lane, from: u64) -> (Lane, bool)
+    requires { from ≤ 2 }
+    ensures { SameLane lane result.0 }
+{
+    let mut lane = lane;
+    let mut is_so = true;
+    for count in 0..500 {
+        is_so = vow(&mut lane, from + 2 * count).is_ok() && is_so;
+    }
+    (lane, is_so)
+}
+
+/// Two threads record, each through its own lane, odd references and even ones.
+fn record_at_once<R: Threads>(rt: &R, first: Lane, second: Lane) -> ((Lane, bool), (Lane, bool))
+    ensures first { SameLane first result.0.0 }
+    ensures second { SameLane second result.1.0 }
+{
+    thread::join(
+        rt,
+        move || record_vows(first, 1),
+        move || record_vows(second, 2),
+    )
+}
+
+/// Whether a log has VOW of 1 to 1,000, the odd ones in their order and the even ones in theirs.
+fn are_in_order(log: &VatLog) -> bool {
+    let mut odd = 1u64;
+    let mut even = 2u64;
+    for index in 0..log.len() {
+        match log.get(index).map(|record| record.body()) {
+            Some(Body::Vow { reference }) if *reference == odd => odd = odd.wrapping_add(2),
+            Some(Body::Vow { reference }) if *reference == even => even = even.wrapping_add(2),
+            _ => return false,
+        }
+    }
+    (log.len(), odd, even) == (1_000, 1_001, 1_002)
+}
+
+/// Whether the audit of a log finds all of its records good, 1,000 of them.
+fn is_good(alloc: Global, log: VatLog) -> Result<bool, Refused> {
+    let log = Arc::new(alloc, log)?;
+    let found = audit_vat(alloc, &log, Limits::default())?;
+    Ok(matches!(found.outcome(), Outcome::Good(story) if story.events().len() == 1_000))
+}
+
+/// Whether what two threads recorded at once is a good log that has each lane's records in their order.
+fn is_of_both<R: Threads>(rt: &R, alloc: Global) -> Result<bool, Refused> {
+    let (tap, first, second) = two_lanes(alloc, 1, 1_024)?;
+    let ((first, odd), (second, even)) = record_at_once(rt, first, second);
+    let log = closed(alloc, tap, first, second)?;
+    Ok(odd && even && are_in_order(&log) && is_good(alloc, log)?)
+}
+
+#[test]
+fn two_threads_record_at_once(rt: HostRuntime) {
+    let is_so = is_of_both(&rt, rt.alloc()).unwrap_or(false)
+        || is_of_both(&rt, rt.alloc()).unwrap_or(false);
+    assert!(rt; is_so);
+}
+
+/// Records, and then tells so by a flag. The flag is raised whether or not it was recorded.
+fn record_and_tell(lane: Lane, flag: &AtomicBool) -> Result<u64, Refused> {
+    let mut lane = lane;
+    let ticket = vow(&mut lane, 1);
+    flag.store(true, Ordering::SeqCst);
+    ticket
+}
+
+/// Waits for the flag, and then records.
+fn wait_and_record(rt: &impl Wait, lane: Lane, flag: &AtomicBool) -> Result<u64, Refused> {
+    for _ in rt.forever() {
+        if flag.load(Ordering::SeqCst) {
+            break;
+        }
+        thread::yield_now();
+    }
+    let mut lane = lane;
+    vow(&mut lane, 2)
+}
+
+/// Whether a lane that records after another draws the later ticket.
+fn is_later<R: Threads + Wait + Sync>(rt: &R, alloc: Global) -> Result<bool, Refused> {
+    let (_tap, first, second) = two_lanes(alloc, 1, 1)?;
+    let flag = AtomicBool::new(false);
+    let (earlier, later) = thread::join(
+        rt,
+        || record_and_tell(first, &flag),
+        || wait_and_record(rt, second, &flag),
+    );
+    Ok(earlier? < later?)
+}
+
+#[test]
+fn a_lane_that_records_later_draws_a_later_ticket(rt: HostRuntime) {
+    let is_so = is_later(&rt, rt.alloc()).unwrap_or(false)
+        || is_later(&rt, rt.alloc()).unwrap_or(false);
+    assert!(rt; is_so);
+}

@@ -1,12 +1,16 @@
 -- What is asked of findings and an order, so that they name a run; as who made them knows it.
-use Rattle.std.specs.Prelude.{ℕ, List, Bool, true, false, map, IsTrue, Contains, ◌≡◌, ◌≢◌, ◌||◌}
+use Rattle.std.specs.Prelude.{ℕ, List, Bool, true, false, map, All, IsTrue, Contains, ◌≡◌, ◌≢◌, ◌||◌}
 use Rattle.std.specs.List.{list_any, list_all}
 use Rattle.vat_rules.specs.declared.outcome.Outcome.{Outcome}
 use Rattle.link_check.specs.Prefix.{IsPrefix, received, sent}
 use Rattle.merge_order.specs.Fits.{IsRising, IsFitting, sends, receives}
 use Rattle.vat_log.specs.Log.{Log}
-use Rattle.vat_rules.specs.Audit.{Found}
+use Rattle.vat_rules.specs.Audit.{Found, IsTrueOf}
 use Rattle.vat_rules.specs.declared.outcome.Outcome.TheVariants.{Good}
+
+-- the outcome of each finding is what the rules say of its log: who holds a finding knows it
+abbrev pub AreTrue : List Found → Type 0
+AreTrue findings = All (λ finding. IsTrueOf finding.log finding.limits finding.outcome) findings
 
 -- a finding says that every record is good
 abbrev pub is_good : Outcome → Bool

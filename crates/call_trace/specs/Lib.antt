@@ -5,4 +5,5 @@ pub mod Part
 pub mod Lives
 pub mod Balance
 pub mod Findings
+pub mod Taking
 pub mod Named

@@ -7,7 +7,7 @@ use Rattle.std.proofs.lemmas.Bool.{eq-eqb, cases_Bool}
 use Rattle.agree.specs.Points.{AtEach}
 use Rattle.agree.proofs.Points.{tails}
 use Rattle.vat_log.specs.Log.{Log}
-use Rattle.merge_order.specs.Fits.{Part, FitsFrom, IsFitting, IsRising, begin, after, further, may_come, used_up, sent}
+use Rattle.merge_order.specs.Fits.{Part, FitsFrom, IsFitting, IsRising, after, further, may_come, used_up, sent}
 use Rattle.merge_order.specs.Fits.{sent_by_others as others}
 use Rattle.merge_order.proofs.Greedy.{others_own}
 use Rattle.merge_order.proofs.Greedy.{others_more as others_of_more}

@@ -4,5 +4,7 @@ pub mod Linking
 pub mod Fitting
 pub mod Sharing
 pub mod Points
+pub mod Naming
+pub mod Carried
 mod PipelinedCall
 mod UnderWay

@@ -1,9 +1,8 @@
 -- What a message says, as one end reads it by its own log and names it. Where the log doesn't say what a number stands
 -- for, the message says nothing.
-use Rattle.std.specs.Prelude.{ℕ, List, [], Bool, true, false, not, Option, Some, None, if◌then◌else◌, filter_map, map, slice_get, option_and_then, option_map, unwrap_or, ◌∷◌}
-use Rattle.call_trace.specs.Naming.{Naming}
+use Rattle.std.specs.Prelude.{ℕ, List, [], Bool, true, false, not, Option, Some, None, filter_map, map, option_and_then, option_map, unwrap_or, ◌∷◌}
+use Rattle.call_trace.specs.Naming.{Naming, cap_at}
 use Rattle.call_trace.specs.Types.{Descriptor, NoCap, Results, Bootstrap, Call, Return, Finish, Resolve, Release, Disembargo, Abort, Event, Wire, Name, Cap, Message}
-use Rattle.run_model.specs.Legal.{is_cap}
 use Rattle.vat_view.specs.Lives.{descriptors}
 use Rattle.vat_view.specs.Past.{Past, id}
 use Rattle.vat_view.specs.Questions.{is_late, call_of}
@@ -29,7 +28,7 @@ caps_named names es e = together (map (descriptor_named names es e) (descriptors
 
 -- the caps that stand at paths: none stands where the index is past the table, or the cap there is Nothing
 abbrev pub given : List Cap → List (List ℕ × ℕ) → List (List ℕ × Cap)
-given caps fields = filter_map (λ field. option_and_then (λ c. if is_cap c then Some (field.0, c) else None) (slice_get caps field.1)) fields
+given caps fields = filter_map (λ field. option_map (λ c. (field.0, c)) (cap_at field.1 caps)) fields
 
 -- a Call whose caps, name and target are there
 abbrev pub say_call : ℕ → ℕ → Option (List Cap) → Option Name → Option Cap → Option Message

@@ -1,12 +1,21 @@
 //! Laws of runs and their logs.
 
-ghost use Rattle.std.specs.Prelude.{◌≡◌, ℕ, List, [], take, Contains};
+ghost use Rattle.std.specs.Prelude.{◌≡◌, ◌++◌, ℕ, List, [], length, take, true, false, Some, IsSome, Contains};
 ghost use Rattle.vat_rules.specs.Audit.{Found};
 ghost use Rattle.vat_rules.specs.Judged.{IsGood};
-ghost use Rattle.vat_view.specs.Past.{Each};
+ghost use Rattle.vat_view.specs.Past.{Past, Each, id};
+ghost use Rattle.vat_view.specs.Bindings.{Refers, is_bound, is_bound_call};
+ghost use Rattle.vat_view.specs.Laws.{EachAfter};
+ghost use Rattle.vat_view.specs.Lives.{is_in_life};
 ghost use Rattle.agree.specs.Rows.{log_of, IsShared};
 ghost use Rattle.agree.specs.Agreeing.{AreLinked};
-ghost use Rattle.agree.specs.Standing.{Agree};
+ghost use Rattle.agree.specs.Streams.{IsCut};
+ghost use Rattle.agree.specs.Standing.{AgreeOneWay, Agree};
+ghost use Rattle.run_model.specs.Legal.{is_cap};
+ghost use Rattle.call_trace.specs.Types.{Event, View, Name, Cap, Step};
+ghost use Rattle.call_trace.specs.Naming.{call_named, cap_named, naming};
+ghost use Rattle.call_trace.specs.Part.{reference_named, PairsOff};
+ghost use Rattle.call_trace.specs.Carried.{IsCarried, HasOneName};
 ghost use Rattle.call_trace.specs.Findings.{Share, logs_of, AreTrue, MayBeNamed};
 ghost use Rattle.call_trace.specs.Taking.{row_of};
 ghost use Rattle.call_trace.specs.Named.{taken, AtEachPoint, AreBalanced, IsRunOf};
@@ -36,4 +45,30 @@ pub fn ends_of_findings_agree()
     ensures linked { (findings : List Found) (order : List ℕ) → AreTrue findings → MayBeNamed findings order → AtEachPoint findings order AreLinked }
     ensures agree { (findings : List Found) (order : List ℕ) → AreTrue findings → MayBeNamed findings order → AtEachPoint findings order Agree }
     ensures balanced { (findings : List Found) (order : List ℕ) → AreTrue findings → MayBeNamed findings order → AreBalanced findings order }
+{}
+
+/// Names only grow: a call (`calls`) or a view (`caps`) that has a name after some records with their steps has that name
+/// after more of them, where those keep REF.
+pub fn names_only_grow()
+    ensures calls { (v : ℕ) (later : List Event) (es : Past) (added steps : List Step) → length later ≡ length added → EachAfter Refers later es
+        → (c : ℕ) (name : Name) → call_named v es steps c ≡ Some name → call_named v (later ++ es) (added ++ steps) c ≡ Some name }
+    ensures caps { (v : ℕ) (later : List Event) (es : Past) (added steps : List Step) → length later ≡ length added → EachAfter Refers later es
+        → (view : View) (c : Cap) → cap_named v es steps view ≡ Some c → cap_named v (later ++ es) (added ++ steps) view ≡ Some c }
+{}
+
+/// Where each record says its step, each call (`calls`) and each reference (`references`) that is bound has a name. No name
+/// of a view is Nothing (`caps`).
+pub fn what_is_bound_has_a_name()
+    ensures calls { (v : ℕ) (es : Past) (steps : List Step) → PairsOff v es steps → (c : ℕ) → is_bound_call es c ≡ true → IsSome (call_named v es steps c) }
+    ensures references { (v : ℕ) (es : Past) (steps : List Step) → PairsOff v es steps → Each Refers es → (r : ℕ) → is_bound es r ≡ true
+        → IsSome (reference_named (naming v es steps) es r) }
+    ensures caps { (v : ℕ) (es : Past) (steps : List Step) (view : View) (c : Cap) → cap_named v es steps view ≡ Some c → is_cap c ≡ true }
+{}
+
+/// A number in life at its importer stands for one cap at both ends: at a consistent cut of two logs that agree, where the
+/// exporter's records say their steps and keep REF, and what it sent is received in the run as it was sent.
+pub fn numbers_have_one_name()
+    ensures { (k n v w : ℕ) (exporter importer : Past) (its_steps importer_steps : List Step) → PairsOff v exporter its_steps → Each Refers exporter
+        → IsCut k exporter importer → AgreeOneWay k exporter importer → IsCarried k exporter its_steps importer importer_steps
+        → is_in_life (id k false n) importer ≡ true → HasOneName k n v exporter its_steps w importer importer_steps }
 {}

@@ -167,12 +167,13 @@ module _ (names : Naming) (es : Past) (k c : ℕ) (rs : List ℕ) (named_caps : 
   brings (Resolve n (Capped one)) M place view h late was =
       let e = Wire true k c rs (Resolve n (Capped one)) in
       let d = then_is (described (view_of_reference es) es e) (slice_get (descriptors e) place) view was in
-      let cs = mapped_is (say_resolve (promise_named names es k true n)) (caps_named names es e) M h in
+      let to = then_is (λ promise. option_map (say_resolve promise) (caps_named names es e)) (promise_named names es k true n) M h in
+      let cs = mapped_is (say_resolve to.0) (caps_named names es e) M to.2 in
       let x = at_place (Resolve n (Capped one)) place view d.0 d.1 d.2 cs.0 cs.1 in
       let is_one : d.0 ≡ one = first_is place d.0 one d.1 in (
         x.0,
         x.1,
-        resolve_brings (promise_named names es k true n) (descriptor_named names es e) one place M x.0 (named_caps view x.0 x.1) h
+        resolve_brings to.0 (descriptor_named names es e) one place M x.0 (named_caps view x.0 x.1) to.2
             (ap (descriptor_named names es e) (sym is_one) ∙ descriptor_is names es e d.0 view d.2 ∙ x.1) (d.1 ∙ ap (λ y. Some y) is_one),
       )
     where

@@ -2,8 +2,10 @@
 -- the order takes.
 use Rattle.std.proofs.Common.{◌≡◌, refl, sym, ◌∙◌, ap, subst, ℕ, zero, suc, ◌+◌, ◌<◌, ◌≤◌, ◌==◌, List, [], ◌∷◌, length, map, take, reverse, Bool, true, false, cond, ◌&&◌, ◌||◌, Option, Some, None, Result, Ok, Err, if◌then◌else◌, option_and_then, option_map, slice_get, arith, eqb-true, inl, inr}
 use Rattle.std.specs.Prelude.{Contains, nat_lt, nat_le}
-use Rattle.std.specs.List.{cons_option, filter_map, AllByRecursion, count_by, list_all}
-use Rattle.std.proofs.lemmas.List.{take_all}
+use Rattle.std.specs.List.{cons_option, filter_map, AllByRecursion, count_by, list_all, list_any}
+use Rattle.std.proofs.lemmas.List.{append-nil, take_all}
+use Rattle.std.proofs.lemmas.List.Sums.{sum_by-cons}
+use Rattle.agree.proofs.Cuts.{received_few, others_are}
 use Rattle.std.proofs.lemmas.List.Folds.{list_any_at}
 use Rattle.std.proofs.lemmas.Option.{slice_get_within, get_or_from_slice_get}
 use Rattle.std.proofs.lemmas.Bool.{eq-eqb, cases_Bool, cases_lt, ltb-true, leb-true}
@@ -21,7 +23,7 @@ use Rattle.vat_rules.specs.declared.outcome.Why.{Why}
 use Rattle.vat_rules.specs.Audit.{Found, IsTrueOf, reads_within}
 use Rattle.vat_rules.specs.Events.{Reader, event_of, event_or_none}
 use Rattle.call_trace.specs.Types.{RpcMessage, Event}
-use Rattle.call_trace.specs.Findings.{is_good, uses, Share, logs_of, AreTrue, MayBeNamed}
+use Rattle.call_trace.specs.Findings.{is_good, uses, AreEnds, logs_of, AreTrue, MayBeNamed}
 use Rattle.call_trace.specs.Named.{past_before, past_of}
 use Rattle.call_trace.specs.Taking.{finding_of, event_in, record_in, steps_by, next_record, taken_by, row_of}
 use Rattle.call_trace.proofs.Taking.{log_taken}
@@ -198,6 +200,26 @@ module _ (k : ℕ) (f : Found) (all : AllRecordsGood f) (n : ℕ) where
         ∙ ap (count_by (receives k)) (take_all (length f.log.records) f.log.records (omega arith) ∙ sym (take_all n f.log.records more))
   ]
 
+-- ---- who doesn't use a connection
+
+first_false : (a b : Bool) → (a || b) ≡ false → a ≡ false
+first_false false b h = refl
+first_false true b h = h
+
+second_false : (a b : Bool) → (a || b) ≡ false → b ≡ false
+second_false false b h = h
+second_false true b h = absurd (let no : ⊥ = cc in no)
+
+none_counted : {A : Type 0} (p q : A → Bool) → ((x : A) → q x ≡ false → p x ≡ false) → (xs : List A) → list_any q xs ≡ false → count_by p xs ≡ 0
+none_counted p q so [] h = refl
+none_counted p q so (x ∷ xs) h =
+    let none : ◌≡◌ {A = ℕ} (cond (p x) 1 0) 0 = ap (λ b. cond b 1 0) (so x (first_false (q x) (list_any q xs) h)) in
+    omega (arith, sum_by-cons (λ x. cond (p x) 1 0) x xs, none, none_counted p q so xs (second_false (q x) (list_any q xs) h))
+
+nothing_first : {A : Type 0} (xs ys : List A) → length ys ≡ 0 → GoesOn xs ys
+nothing_first xs [] e = (xs, sym (append-nil xs))
+nothing_first xs (y ∷ ys) e = absurd (omega (arith, e))
+
 -- ---- together
 
 module _ (findings : List Found) (order : List ℕ) (true_all : AreTrue findings) (asked : MayBeNamed findings order) where
@@ -247,25 +269,36 @@ module _ (findings : List Found) (order : List ℕ) (true_all : AreTrue findings
       list_any_at (λ b. sends k b || receives k b) f.log.records i b (slice_get_within f.log.records i b there)
       (ap (λ b. sends k b || receives k b) (get_or_from_slice_get f.log.records i b b there) ∙ ap (λ c. c || receives k b) is)
 
-  theirs : (k : ℕ) (one other : Found) → Share (logs_of findings) k one.log other.log → AtEach (IsTheirs k one.log.vat other.log.vat) (row_of findings order)
-  theirs k one other share before r p apart_one apart_other = at (passing k true r.1) refl
+  -- a record of the row that sends on the connection is of a log that uses it
+  record IsSender (k : ℕ) (r : ℕ × Event) : Type 0 where
+    pub finding : Found
+    pub there : Contains (logs_of findings) finding.log
+    pub own : finding.log.vat ≡ r.0
+    pub used : uses k finding.log ≡ true
+
+  sender_of : (k : ℕ) (before : Row) (r : ℕ × Event) (m : RpcMessage) → GoesOn (row_of findings order) (r ∷ before) → passing k true r.1 ≡ Some m → IsSender k r
+  sender_of k before r m p h =
+      let t = taken_at findings (reverse order) r before p in
+      let s = stored_at findings t.vat t.before r.1 t.next in
+      let at = found_in t.vat findings s.finding s.found in
+      record {
+        finding = s.finding;
+        there = at.2;
+        own = at.0 ∙ sym t.own;
+        used = uses_it k s.finding (steps_by t.vat t.before) s.stored s.there (sends_it k (reads_within s.finding.limits) s.stored r.1 m s.reads h);
+      }
+
+  theirs : (k : ℕ) (one other : Found) → AreEnds (logs_of findings) k one.log other.log → AtEach (IsTheirs k one.log.vat other.log.vat) (row_of findings order)
+  theirs k one other ends before r p apart_one apart_other = at (passing k true r.1) refl
     where
       at : (o : Option RpcMessage) → passing k true r.1 ≡ o → o ≡ None
       at None h = refl
       at (Some m) h =
-          let t = taken_at findings (reverse order) r before p in
-          let s = stored_at findings t.vat t.before r.1 t.next in
-          let f = s.finding in
-          let at = found_in t.vat findings f s.found in
-          let own : f.log.vat ≡ r.0 = at.0 ∙ sym t.own in
-          let third : Share (logs_of findings) k one.log f.log = record {
-            one_there = share.one_there;
-            other_there = at.2;
-            apart = λ e. apart_one (sym (e ∙ own));
-            one_uses = share.one_uses;
-            other_uses = uses_it k f (steps_by t.vat t.before) s.stored s.there (sends_it k (reads_within f.limits) s.stored r.1 m s.reads h);
-          } in
-          absurd (apart_other (sym (asked.two_ends k one.log other.log f.log share third ∙ own)))
+          let s = sender_of k before r m p h in
+          elim (ends.no_third s.finding.log s.there s.used) [
+            | inl first ↦ absurd (apart_one (sym s.own ∙ first))
+            | inr second ↦ absurd (apart_other (sym s.own ∙ second))
+          ]
 
   -- all records of each log are taken
   pub whole_log : (f : Found) → Contains findings f → log_of f.log.vat (row_of findings order) ≡ past_of f
@@ -273,29 +306,61 @@ module _ (findings : List Found) (order : List ℕ) (true_all : AreTrue findings
       let used = used_logs (reverse order) (logs_of findings) (fits_all (logs_of findings) order asked.fits).all in
       log_by f there (reverse order) ∙ past_whole f (steps_by f.log.vat (reverse order)) (member (logs_of findings) f.log (λ log. length log.records ≤ steps_by log.vat (reverse order)) used (log_there findings f there))
 
-  one_way : (k : ℕ) (one other : Found) → Contains findings one → Contains findings other → Share (logs_of findings) k one.log other.log →
-      GoesOn (row_sent k other.log.vat (row_of findings order)) (row_received k one.log.vat (row_of findings order))
-  one_way k one other there_one there_other share =
-      let first = received_first k one other (all_good one there_one) (all_good other there_other) (asked.linked k one.log other.log share) in
-      subst (λ p. GoesOn (stream k true p) (row_received k one.log.vat (row_of findings order))) (sym (whole_log other there_other))
-      (subst (λ p. GoesOn (stream k true (past_of other)) (stream k false p)) (sym (whole_log one there_one)) first)
+  -- who doesn't use a connection passes nothing on it
+  none_sent : (k : ℕ) (f : Found) → Contains findings f → uses k f.log ≡ false → length (stream k true (past_of f)) ≡ 0
+  none_sent k f there out =
+      sent_any k f (all_good f there) (length f.log.records) ∙ ap (count_by (sends k)) (take_all (length f.log.records) f.log.records (omega arith))
+      ∙ none_counted (sends k) (λ b. sends k b || receives k b) (λ b. first_false (sends k b) (receives k b)) f.log.records out
 
-  share_turned : (k : ℕ) (one other : Log) → Share (logs_of findings) k one other → Share (logs_of findings) k other one
-  share_turned k one other share = record {
-    one_there = share.other_there;
-    other_there = share.one_there;
-    apart = λ e. share.apart (sym e);
-    one_uses = share.other_uses;
-    other_uses = share.one_uses;
+  none_received : (k : ℕ) (f : Found) → Contains findings f → uses k f.log ≡ false → length (stream k false (past_of f)) ≡ 0
+  none_received k f there out =
+      received_any k f (all_good f there) (length f.log.records) ∙ ap (count_by (receives k)) (take_all (length f.log.records) f.log.records (omega arith))
+      ∙ none_counted (receives k) (λ b. sends k b || receives k b) (λ b. second_false (sends k b) (receives k b)) f.log.records out
+
+  -- what one end received is the beginning of what the other sent: by the link, where both use the connection; else
+  -- nothing was received
+  first_sent : (k : ℕ) (one other : Found) → Contains findings one → Contains findings other → AreEnds (logs_of findings) k one.log other.log → GoesOn (stream k true (past_of other)) (stream k false (past_of one))
+  first_sent k one other there_one there_other ends = elim (cases_Bool (uses k one.log)) [
+    | inr out ↦ nothing_first _ _ (none_received k one there_one out)
+    | inl one_uses ↦ elim (cases_Bool (uses k other.log)) [
+      | inl other_uses ↦
+          received_first k one other (all_good one there_one) (all_good other there_other) (asked.linked k one.log other.log
+          (record { one_there = ends.one_there; other_there = ends.other_there; apart = ends.apart; one_uses = one_uses; other_uses = other_uses }))
+      | inr out ↦
+          let row = row_of findings order in
+          let few = received_few k one.log.vat row (fits k) in
+          let others = ap length (others_are k one.log.vat other.log.vat row ends.apart (theirs k one other ends)) in
+          let mine = ap (λ p. length (stream k false p)) (whole_log one there_one) in
+          let its = ap (λ p. length (stream k true p)) (whole_log other there_other) in
+          let none = none_sent k other there_other out in
+          nothing_first _ _ (omega (arith, few, others, mine, its, none))
+    ]
+  ]
+
+  one_way : (k : ℕ) (one other : Found) → Contains findings one → Contains findings other → AreEnds (logs_of findings) k one.log other.log →
+      GoesOn (row_sent k other.log.vat (row_of findings order)) (row_received k one.log.vat (row_of findings order))
+  one_way k one other there_one there_other ends =
+      subst (λ p. GoesOn (stream k true p) (row_received k one.log.vat (row_of findings order))) (sym (whole_log other there_other))
+      (subst (λ p. GoesOn (stream k true (past_of other)) (stream k false p)) (sym (whole_log one there_one)) (first_sent k one other there_one there_other ends))
+
+  ends_turned : (k : ℕ) (one other : Log) → AreEnds (logs_of findings) k one other → AreEnds (logs_of findings) k other one
+  ends_turned k one other ends = record {
+    one_there = ends.other_there;
+    other_there = ends.one_there;
+    apart = λ e. ends.apart (sym e);
+    no_third = λ third there uses. elim (ends.no_third third there uses) [
+      | inl first ↦ inr first
+      | inr second ↦ inl second
+    ];
   }
 
-  -- two vats that share a connection share it in the row
-  pub shared : (k : ℕ) (one other : Found) → Contains findings one → Contains findings other → Share (logs_of findings) k one.log other.log →
+  -- the two ends of a connection share it in the row
+  pub shared : (k : ℕ) (one other : Found) → Contains findings one → Contains findings other → AreEnds (logs_of findings) k one.log other.log →
       IsShared k one.log.vat other.log.vat (row_of findings order)
-  shared k one other there_one there_other share = record {
-    apart = share.apart;
+  shared k one other there_one there_other ends = record {
+    apart = ends.apart;
     fits = fits k;
-    theirs = theirs k one other share;
-    to_one = one_way k one other there_one there_other share;
-    to_other = one_way k other one there_other there_one (share_turned k one.log other.log share);
+    theirs = theirs k one other ends;
+    to_one = one_way k one other there_one there_other ends;
+    to_other = one_way k other one there_other there_one (ends_turned k one.log other.log ends);
   }

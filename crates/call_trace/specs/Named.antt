@@ -2,7 +2,7 @@
 use Rattle.std.specs.Prelude.{ℕ, List, map, length, take, IsTrue, Contains, count_by, ◌≡◌, ◌==◌}
 use Rattle.std.specs.List.{list_any, AllByRecursion}
 use Rattle.call_trace.specs.Balance.{IsBalanced}
-use Rattle.call_trace.specs.Findings.{Share, logs_of}
+use Rattle.call_trace.specs.Findings.{AreEnds, logs_of}
 use Rattle.call_trace.specs.Lives.{UsesLives}
 use Rattle.call_trace.specs.Part.{IsPart}
 use Rattle.call_trace.specs.Types.{Step}
@@ -33,7 +33,7 @@ pub record AreParts (run : List Step) (findings : List Found) : Type 0 where
 
 -- so of the two ends of each connection, at each point of an order
 abbrev pub AtEachPoint : List Found → List ℕ → (ℕ → Past → Past → Type 0) → Type 0
-AtEachPoint findings order P = (i k : ℕ) (one other : Found) → Contains findings one → Contains findings other → Share (logs_of findings) k one.log other.log →
+AtEachPoint findings order P = (i k : ℕ) (one other : Found) → Contains findings one → Contains findings other → AreEnds (logs_of findings) k one.log other.log →
     P k (taken order i one) (taken order i other)
 
 -- Balance at each point of an order, of each number of each connection, either end as its exporter

@@ -16,7 +16,7 @@ ghost use Rattle.call_trace.specs.Types.{Event, View, Name, Cap, Step};
 ghost use Rattle.call_trace.specs.Naming.{call_named, cap_named, naming};
 ghost use Rattle.call_trace.specs.Part.{reference_named, PairsOff};
 ghost use Rattle.call_trace.specs.Carried.{IsCarried, HasOneName};
-ghost use Rattle.call_trace.specs.Findings.{Share, logs_of, AreTrue, MayBeNamed};
+ghost use Rattle.call_trace.specs.Findings.{AreEnds, logs_of, AreTrue, MayBeNamed};
 ghost use Rattle.call_trace.specs.Taking.{row_of};
 ghost use Rattle.call_trace.specs.Named.{taken, AtEachPoint, AreBalanced, IsRunOf};
 
@@ -27,15 +27,15 @@ pub fn no_findings_have_the_empty_run()
 {}
 
 /// Where findings are such as name a run, the row of records that the order takes holds, up to each point, just so many of
-/// each log as the order's steps up to there (`logs`), each of them good (`good`); and two vats that share a connection
-/// share it in that row (`shared`).
+/// each log as the order's steps up to there (`logs`), each of them good (`good`); and the two ends of a connection share
+/// it in that row (`shared`).
 pub fn orders_take_the_logs()
     ensures logs { (findings : List Found) (order : List ℕ) → AreTrue findings → MayBeNamed findings order → (i : ℕ) (one : Found) → Contains findings one
         → log_of one.log.vat (row_of findings (take i order)) ≡ taken order i one }
     ensures good { (findings : List Found) (order : List ℕ) → AreTrue findings → MayBeNamed findings order → (i : ℕ) (one : Found) → Contains findings one
         → Each IsGood (taken order i one) }
     ensures shared { (findings : List Found) (order : List ℕ) → AreTrue findings → MayBeNamed findings order → (k : ℕ) (one other : Found)
-        → Contains findings one → Contains findings other → Share (logs_of findings) k one.log other.log
+        → Contains findings one → Contains findings other → AreEnds (logs_of findings) k one.log other.log
         → IsShared k one.log.vat other.log.vat (row_of findings order) }
 {}
 

@@ -27,7 +27,7 @@ few_at k v r before true e fits le = one_more (passing k false r.1) _ (received_
 few_at k v r before false e fits le = few_more (passing k true r.1) _ _ le
 
 -- a vat received no more than the others sent
-received_few : (k v : ℕ) (row : Row) → AtEach (FitsAt k) row → length (received_by k v row) ≤ length (sent_by_others k v row)
+pub received_few : (k v : ℕ) (row : Row) → AtEach (FitsAt k) row → length (received_by k v row) ≤ length (sent_by_others k v row)
 received_few k v [] fits = omega arith
 received_few k v (r ∷ before) fits =
     few_at k v r before (r.0 == v) refl (fits before r ([], refl)) (received_few k v before (at_each_before (FitsAt k) (r ∷ before) before (r ∷ [], refl) fits))
@@ -43,7 +43,7 @@ theirs_at k v w r before false true e f apart theirs others h = ap (λ l. cons_o
 theirs_at k v w r before false false e f apart theirs others h = ap (λ o. cons_option o others) (theirs (apart_from r.0 v e) (apart_from r.0 w f)) ∙ h
 
 -- what the others sent is what the one other sent
-others_are : (k v w : ℕ) (row : Row) → v ≢ w → AtEach (IsTheirs k v w) row → sent_by_others k v row ≡ sent_by k w row
+pub others_are : (k v w : ℕ) (row : Row) → v ≢ w → AtEach (IsTheirs k v w) row → sent_by_others k v row ≡ sent_by k w row
 others_are k v w [] apart theirs = refl
 others_are k v w (r ∷ before) apart theirs = theirs_at k v w r before (r.0 == v) (r.0 == w) refl refl apart (theirs before r ([], refl)) _
     (others_are k v w before apart (at_each_before (IsTheirs k v w) (r ∷ before) before (r ∷ [], refl) theirs))

@@ -1,2 +1,10 @@
+pub mod Taking
+pub mod Reading
+pub mod Linking
+pub mod Fitting
+pub mod Sharing
+pub mod Points
+pub mod Naming
+pub mod Carried
 mod PipelinedCall
 mod UnderWay

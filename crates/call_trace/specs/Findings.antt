@@ -1,12 +1,16 @@
--- What is asked of findings and an order, so that they name a run; as who made them knows it.
-use Rattle.std.specs.Prelude.{ℕ, List, Bool, true, false, map, IsTrue, Contains, ◌≡◌, ◌≢◌, ◌||◌}
+-- What is asked of findings and an order, so that they name a run. Who made them can know it.
+use Rattle.std.specs.Prelude.{ℕ, List, Bool, true, false, map, All, IsTrue, Contains, ◌≡◌, ◌≢◌, ◌⊎◌, ◌||◌}
 use Rattle.std.specs.List.{list_any, list_all}
 use Rattle.vat_rules.specs.declared.outcome.Outcome.{Outcome}
 use Rattle.link_check.specs.Prefix.{IsPrefix, received, sent}
 use Rattle.merge_order.specs.Fits.{IsRising, IsFitting, sends, receives}
 use Rattle.vat_log.specs.Log.{Log}
-use Rattle.vat_rules.specs.Audit.{Found}
+use Rattle.vat_rules.specs.Audit.{Found, IsTrueOf}
 use Rattle.vat_rules.specs.declared.outcome.Outcome.TheVariants.{Good}
+
+-- the outcome of each finding is what the rules say of its log: who holds a finding knows it
+abbrev pub AreTrue : List Found → Type 0
+AreTrue findings = All (λ finding. IsTrueOf finding.log finding.limits finding.outcome) findings
 
 -- a finding says that every record is good
 abbrev pub is_good : Outcome → Bool
@@ -24,6 +28,13 @@ pub record Share (logs : List Log) (k : ℕ) (one other : Log) : Type 0 where
   pub apart : one.vat ≢ other.vat
   pub one_uses : IsTrue (uses k one)
   pub other_uses : IsTrue (uses k other)
+
+-- the two ends of a connection: two logs of two vats, and no third log uses it
+pub record AreEnds (logs : List Log) (k : ℕ) (one other : Log) : Type 0 where
+  pub one_there : Contains logs one
+  pub other_there : Contains logs other
+  pub apart : one.vat ≢ other.vat
+  pub no_third : (third : Log) → Contains logs third → IsTrue (uses k third) → (third.vat ≡ one.vat) ⊎ (third.vat ≡ other.vat)
 
 -- the logs of findings
 abbrev pub logs_of : List Found → List Log

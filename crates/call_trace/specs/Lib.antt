@@ -2,7 +2,9 @@ pub mod Types
 pub mod Naming
 pub mod Said
 pub mod Part
+pub mod Carried
 pub mod Lives
 pub mod Balance
 pub mod Findings
+pub mod Taking
 pub mod Named

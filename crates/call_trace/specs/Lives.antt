@@ -16,9 +16,9 @@ ResolvesLiving before _ = ⊤
 abbrev pub EchoesWaiting : Past → Event → Type 0
 EchoesWaiting before e = IfSome (echoed e) (λ i. IsSome (loopback_of i before))
 
--- a record uses numbers in their lives: targets, receiverHosted and Release numbers in life; targets and receiverAnswer
--- questions without a Finish; Finish and Return an opening that had none of that kind; and what opens a question a free
--- number
+-- a record uses numbers in their lives. Targets, receiverHosted and Release name numbers in life; targets and
+-- receiverAnswer name questions without a Finish. A Finish and a Return end an opening that had none of that kind. A
+-- question is opened under a free number. A Resolve that is sent, and an echo, are as above
 pub record UsesLives (before : Past) (e : Event) : Type 0 where
   pub numbers : UsesNumbers before e
   pub questions : UsesQuestions before e

@@ -2,7 +2,7 @@
 use Rattle.std.specs.Prelude.{ℕ, List, map, length, take, IsTrue, Contains, count_by, ◌≡◌, ◌==◌}
 use Rattle.std.specs.List.{list_any, AllByRecursion}
 use Rattle.call_trace.specs.Balance.{IsBalanced}
-use Rattle.call_trace.specs.Findings.{Share, logs_of}
+use Rattle.call_trace.specs.Findings.{AreEnds, logs_of}
 use Rattle.call_trace.specs.Lives.{UsesLives}
 use Rattle.call_trace.specs.Part.{IsPart}
 use Rattle.call_trace.specs.Types.{Step}
@@ -31,10 +31,14 @@ pub record AreParts (run : List Step) (findings : List Found) : Type 0 where
   pub parts : AllByRecursion (λ finding. IsPart run finding.log.vat (past_of finding)) findings
   pub no_others : AllByRecursion (λ s. IsTrue (list_any (λ finding. finding.log.vat == vat_of s) findings)) run
 
+-- so of the two ends of each connection, at each point of an order
+abbrev pub AtEachPoint : List Found → List ℕ → (ℕ → Past → Past → Type 0) → Type 0
+AtEachPoint findings order P = (i k : ℕ) (one other : Found) → Contains findings one → Contains findings other → AreEnds (logs_of findings) k one.log other.log →
+    P k (taken order i one) (taken order i other)
+
 -- Balance at each point of an order, of each number of each connection, either end as its exporter
 abbrev pub AreBalanced : List Found → List ℕ → Type 0
-AreBalanced findings order = (i k n : ℕ) (one other : Found) → Contains findings one → Contains findings other → Share (logs_of findings) k one.log other.log →
-    IsBalanced k n (taken order i one) (taken order i other)
+AreBalanced findings order = AtEachPoint findings order (λ k exporter importer. (n : ℕ) → IsBalanced k n exporter importer)
 
 -- the run of good logs by an order: the logs are its parts, it is a run of the machine over links, each call reached the
 -- object that it was to go to, each cap that a vat uses is one that it has, each number was used in its life, and the

@@ -53,8 +53,8 @@ read es e (message.Resolve promise c) = if resolves_released es e then message.R
 read es e (message.Broken promise) = if resolves_released es e then message.Broken cap.Nothing else message.Broken promise
 read es e m = m
 
--- a RECV says a Receive of a message, if this end reads by its own log what it reads of that message, and the references
--- noted are the caps bound
+-- a RECV says a Receive of a message: what the log says of the record is that message, but for what is left unread, and
+-- the references noted are the caps bound
 pub record SaysReceive (names : Naming) (es : Past) (e : Event) (k : ℕ) (references : List ℕ) (s : Step) : Type 0 where
   pub message : Message
   pub bound : List Cap

@@ -1,9 +1,8 @@
 -- What a message says, as one end reads it by its own log and names it. Where the log doesn't say what a number stands
--- for, the message says nothing.
-use Rattle.std.specs.Prelude.{ℕ, List, [], Bool, true, false, not, Option, Some, None, if◌then◌else◌, filter_map, map, slice_get, option_and_then, option_map, unwrap_or, ◌∷◌}
-use Rattle.call_trace.specs.Naming.{Naming}
+-- for, no message is said; only the promise of a received Resolve is Nothing then.
+use Rattle.std.specs.Prelude.{ℕ, List, [], Bool, true, false, not, Option, Some, None, filter_map, map, option_and_then, option_map, unwrap_or, ◌∷◌}
+use Rattle.call_trace.specs.Naming.{Naming, cap_at}
 use Rattle.call_trace.specs.Types.{Descriptor, NoCap, Results, Bootstrap, Call, Return, Finish, Resolve, Release, Disembargo, Abort, Event, Wire, Name, Cap, Message}
-use Rattle.run_model.specs.Legal.{is_cap}
 use Rattle.vat_view.specs.Lives.{descriptors}
 use Rattle.vat_view.specs.Past.{Past, id}
 use Rattle.vat_view.specs.Questions.{is_late, call_of}
@@ -29,7 +28,7 @@ caps_named names es e = together (map (descriptor_named names es e) (descriptors
 
 -- the caps that stand at paths: none stands where the index is past the table, or the cap there is Nothing
 abbrev pub given : List Cap → List (List ℕ × ℕ) → List (List ℕ × Cap)
-given caps fields = filter_map (λ field. option_and_then (λ c. if is_cap c then Some (field.0, c) else None) (slice_get caps field.1)) fields
+given caps fields = filter_map (λ field. option_map (λ c. (field.0, c)) (cap_at field.1 caps)) fields
 
 -- a Call whose caps, name and target are there
 abbrev pub say_call : ℕ → ℕ → Option (List Cap) → Option Name → Option Cap → Option Message
@@ -41,15 +40,16 @@ abbrev pub say_return : Bool → List (List ℕ × ℕ) → Name → Option (Lis
 say_return true fields c caps = Some (message.Late c)
 say_return false fields c caps = option_map (λ caps. message.Return c (given caps fields) caps) caps
 
--- a Resolve of a promise to the cap of its table; Broken where that is Nothing or the table empty
+-- a Resolve of a promise to its cap; Broken where there is none
 abbrev pub say_resolve : Cap → List Cap → Message
 say_resolve promise (cap.Nothing ∷ _) = message.Broken promise
 say_resolve promise (c ∷ _) = message.Resolve promise c
 say_resolve promise [] = message.Broken promise
 
--- the promise that a Resolve names; Nothing where its number is out of life
-abbrev pub promise_named : Naming → Past → ℕ → Bool → ℕ → Cap
-promise_named names es k sent n = unwrap_or (option_and_then names.cap (view_of_number (id k sent n) es)) cap.Nothing
+-- the promise that a Resolve names; Nothing where it is received and its number is out of life
+abbrev pub promise_named : Naming → Past → ℕ → Bool → ℕ → Option Cap
+promise_named names es k true n = option_and_then names.cap (view_of_number (id k true n) es)
+promise_named names es k false n = Some (unwrap_or (option_and_then names.cap (view_of_number (id k false n) es)) cap.Nothing)
 
 -- the call of the question that a Return answers
 abbrev pub answered : Naming → Past → ℕ → Bool → ℕ → Option Name
@@ -66,7 +66,7 @@ said names es (Wire sent k c references (Return q release (Results payload))) =
     option_and_then (λ name. say_return (is_late es e) payload.fields name (caps_named names es e)) (answered names es k sent q)
 said names es (Wire sent k c references (Return q release _)) = option_map message.Failed (answered names es k sent q)
 said names es (Wire sent k c references (Resolve n resolution)) =
-    option_map (say_resolve (promise_named names es k sent n)) (caps_named names es (Wire sent k c references (Resolve n resolution)))
+    option_and_then (λ promise. option_map (say_resolve promise) (caps_named names es (Wire sent k c references (Resolve n resolution)))) (promise_named names es k sent n)
 said names es (Wire sent k c references (Finish q release)) = Some (message.Plain plain.Finish)
 said names es (Wire sent k c references (Release n count)) = Some (message.Plain plain.Release)
 said names es (Wire sent k c references (Disembargo n loopback target)) = Some (message.Plain plain.Disembargo)

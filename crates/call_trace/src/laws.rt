@@ -1,11 +1,74 @@
 //! Laws of runs and their logs.
 
-ghost use Rattle.std.specs.Prelude.{[]};
-ghost use Rattle.call_trace.specs.Findings.{MayBeNamed};
-ghost use Rattle.call_trace.specs.Named.{IsRunOf};
+ghost use Rattle.std.specs.Prelude.{◌≡◌, ◌++◌, ℕ, List, [], length, take, true, false, Some, IsSome, Contains};
+ghost use Rattle.vat_rules.specs.Audit.{Found};
+ghost use Rattle.vat_rules.specs.Judged.{IsGood};
+ghost use Rattle.vat_view.specs.Past.{Past, Each, id};
+ghost use Rattle.vat_view.specs.Bindings.{Refers, is_bound, is_bound_call};
+ghost use Rattle.vat_view.specs.Laws.{EachAfter};
+ghost use Rattle.vat_view.specs.Lives.{is_in_life};
+ghost use Rattle.agree.specs.Rows.{log_of, IsShared};
+ghost use Rattle.agree.specs.Agreeing.{AreLinked};
+ghost use Rattle.agree.specs.Streams.{IsCut};
+ghost use Rattle.agree.specs.Standing.{AgreeOneWay, Agree};
+ghost use Rattle.run_model.specs.Legal.{is_cap};
+ghost use Rattle.call_trace.specs.Types.{Event, View, Name, Cap, Step};
+ghost use Rattle.call_trace.specs.Naming.{call_named, cap_named, naming};
+ghost use Rattle.call_trace.specs.Part.{reference_named, PairsOff};
+ghost use Rattle.call_trace.specs.Carried.{IsCarried, HasOneName};
+ghost use Rattle.call_trace.specs.Findings.{AreEnds, logs_of, AreTrue, MayBeNamed};
+ghost use Rattle.call_trace.specs.Taking.{row_of};
+ghost use Rattle.call_trace.specs.Named.{taken, AtEachPoint, AreBalanced, IsRunOf};
 
 /// No findings and the empty order name a run, and it is empty.
 pub fn no_findings_have_the_empty_run()
     ensures asked { MayBeNamed [] [] }
     ensures named { IsRunOf [] [] [] }
+{}
+
+/// Where findings are such as name a run, the row of records that the order takes holds, up to each point, just so many of
+/// each log as the order's steps up to there (`logs`), each of them good (`good`); and the two ends of a connection share
+/// it in that row (`shared`).
+pub fn orders_take_the_logs()
+    ensures logs { (findings : List Found) (order : List ℕ) → AreTrue findings → MayBeNamed findings order → (i : ℕ) (one : Found) → Contains findings one
+        → log_of one.log.vat (row_of findings (take i order)) ≡ taken order i one }
+    ensures good { (findings : List Found) (order : List ℕ) → AreTrue findings → MayBeNamed findings order → (i : ℕ) (one : Found) → Contains findings one
+        → Each IsGood (taken order i one) }
+    ensures shared { (findings : List Found) (order : List ℕ) → AreTrue findings → MayBeNamed findings order → (k : ℕ) (one other : Found)
+        → Contains findings one → Contains findings other → AreEnds (logs_of findings) k one.log other.log
+        → IsShared k one.log.vat other.log.vat (row_of findings order) }
+{}
+
+/// Where findings are such as name a run, the two logs of each connection are linked at each point of the order
+/// (`linked`), their ends agree (`agree`), and their counts are balanced (`balanced`).
+pub fn ends_of_findings_agree()
+    ensures linked { (findings : List Found) (order : List ℕ) → AreTrue findings → MayBeNamed findings order → AtEachPoint findings order AreLinked }
+    ensures agree { (findings : List Found) (order : List ℕ) → AreTrue findings → MayBeNamed findings order → AtEachPoint findings order Agree }
+    ensures balanced { (findings : List Found) (order : List ℕ) → AreTrue findings → MayBeNamed findings order → AreBalanced findings order }
+{}
+
+/// Names only grow: a call (`calls`) or a view (`caps`) that has a name after some records with their steps has that name
+/// after more of them, where those keep REF.
+pub fn names_only_grow()
+    ensures calls { (v : ℕ) (later : List Event) (es : Past) (added steps : List Step) → length later ≡ length added → EachAfter Refers later es
+        → (c : ℕ) (name : Name) → call_named v es steps c ≡ Some name → call_named v (later ++ es) (added ++ steps) c ≡ Some name }
+    ensures caps { (v : ℕ) (later : List Event) (es : Past) (added steps : List Step) → length later ≡ length added → EachAfter Refers later es
+        → (view : View) (c : Cap) → cap_named v es steps view ≡ Some c → cap_named v (later ++ es) (added ++ steps) view ≡ Some c }
+{}
+
+/// Where each record says its step, each call (`calls`) and each reference (`references`) that is bound has a name. No name
+/// of a view is Nothing (`caps`).
+pub fn what_is_bound_has_a_name()
+    ensures calls { (v : ℕ) (es : Past) (steps : List Step) → PairsOff v es steps → (c : ℕ) → is_bound_call es c ≡ true → IsSome (call_named v es steps c) }
+    ensures references { (v : ℕ) (es : Past) (steps : List Step) → PairsOff v es steps → Each Refers es → (r : ℕ) → is_bound es r ≡ true
+        → IsSome (reference_named (naming v es steps) es r) }
+    ensures caps { (v : ℕ) (es : Past) (steps : List Step) (view : View) (c : Cap) → cap_named v es steps view ≡ Some c → is_cap c ≡ true }
+{}
+
+/// A number in life at its importer stands for one cap at both ends: at a consistent cut of two logs that agree, where the
+/// exporter's records say their steps and keep REF, and what it sent is received in the run as it was sent.
+pub fn numbers_have_one_name()
+    ensures { (k n v w : ℕ) (exporter importer : Past) (its_steps importer_steps : List Step) → PairsOff v exporter its_steps → Each Refers exporter
+        → IsCut k exporter importer → AgreeOneWay k exporter importer → IsCarried k exporter its_steps importer importer_steps
+        → is_in_life (id k false n) importer ≡ true → HasOneName k n v exporter its_steps w importer importer_steps }
 {}

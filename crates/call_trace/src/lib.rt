@@ -4,11 +4,14 @@
 //! `agree` for what passed on a connection, on `merge_order` and `link_check`, and on `run_model` for runs. How a log
 //! names calls and capabilities is said in `specs/Naming.antt` and `specs/Said.antt`, when it is its vat's part of a run
 //! in `specs/Part.antt`, when numbers are used in their lives in `specs/Lives.antt`, and how the counts of both ends
-//! balance in `specs/Balance.antt`; what is asked of findings in `specs/Findings.antt`, and what their run has in
-//! `specs/Named.antt`. `proofs/PipelinedCall.antt` is an example. What holds of runs and their logs is promised by the
+//! balance in `specs/Balance.antt`; what is asked of findings in `specs/Findings.antt`, which records an order takes of
+//! their logs in `specs/Taking.antt`, and what their run has in `specs/Named.antt`. `proofs/PipelinedCall.antt` and `proofs/UnderWay.antt` are examples. What holds of runs and their logs is promised by the
 //! functions of `src/laws.rt`, which do nothing.
 #![tactic(auto)]
 
 mod laws;
 
-pub use laws::no_findings_have_the_empty_run;
+pub use laws::{
+    ends_of_findings_agree, names_only_grow, no_findings_have_the_empty_run, numbers_have_one_name,
+    orders_take_the_logs, what_is_bound_has_a_name,
+};

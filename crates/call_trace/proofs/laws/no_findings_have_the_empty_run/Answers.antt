@@ -31,5 +31,5 @@ returns-clause-named c = record {
   reached = tt;
   connected = tt;
   lives = tt;
-  balanced = λ i k n one other there. absurd (nothing_there there);
+  balanced = λ i k one other there. absurd (nothing_there there);
 }

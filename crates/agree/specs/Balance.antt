@@ -25,7 +25,7 @@ sum_coming count k (m ∷ earlier) past = count (after_coming k earlier past) (c
 
 -- The exporter holds what the importer holds, what comes to the importer, and what is given back on its way to the
 -- exporter. So a Return under way brings nothing once its importer has sent Finish with releaseResultCaps, and such a
--- Finish gives back what the Return brought that its receiver has sent.
+-- Finish gives back what its question's Return brought, if the exporter has sent that.
 abbrev pub IsBalanced : ℕ → ℕ → Past → Past → List RpcMessage → List RpcMessage → Type 0
 IsBalanced k n exporter importer there back =
     held (id k true n) exporter

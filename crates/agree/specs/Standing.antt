@@ -21,11 +21,11 @@ pub record StandsSince (k n : ℕ) (exporter importer : Past) (began : Birth) : 
   pub was : view_of_descriptor from sent began.place ≡ Some view
   pub stands : view_of_number (id k true n) exporter ≡ Some view
 
--- so of each number that is in life at the importer
+-- so, if the number is in life at the importer
 abbrev pub StandsAlike : ℕ → ℕ → Past → Past → Type 0
 StandsAlike k n exporter importer = (began : Birth) → birth (id k false n) importer ≡ Some began → StandsSince k n exporter importer began
 
--- so at each consistent cut of two logs
+-- so of each number, at each consistent cut of two logs
 abbrev pub AgreeOnLives : ℕ → Past → Past → Type 0
 AgreeOnLives k one other = (n : ℕ) (exporter importer : Past) → GoesOn one exporter → GoesOn other importer → IsCut k exporter importer → StandsAlike k n exporter importer
 

@@ -20,8 +20,8 @@ ghost use Rattle.agree.specs.Balance.{AreUnderWay, IsBalanced};
 ghost use Rattle.agree.specs.Arrival.{ArrivesWell};
 
 /// Where two vats share a connection in an order that fits, their logs are linked (`linked`); at each point of the order
-/// the two logs are at a consistent cut (`cut`); and what a vat received by a point of its log, the other had sent
-/// before each record that the order takes later than all records up to that point (`earlier`).
+/// the two logs are at a consistent cut (`cut`). If the order takes all records of a point of one log before a record of
+/// the other, then what the one received by that point the other had sent before that record (`earlier`).
 pub fn shared_logs_are_linked()
     ensures linked { (k v w : ℕ) (row : Row) → IsShared k v w row → AreLinked k (log_of v row) (log_of w row) }
     ensures cut { (k v w : ℕ) (row before : Row) → IsShared k v w row → GoesOn row before → IsCut k (log_of v before) (log_of w before) }
@@ -94,8 +94,8 @@ pub fn numbers_stand_alike()
         → AgreeOnOpenings k other one → AgreeOnLives k one other }
 {}
 
-/// The ends of two good logs that are linked agree on all of this, both ways (`agree`), and at each consistent cut of
-/// them the counts of a number are balanced, either end as its exporter (`balanced`).
+/// The ends of two good logs that are linked agree on openings, late Returns and lives, both ways (`agree`), and at each
+/// consistent cut of them the counts of a number are balanced, either end as its exporter (`balanced`).
 pub fn good_ends_agree()
     ensures agree { (k : ℕ) (one other : Past) → Each IsGood one → Each IsGood other → AreLinked k one other → Agree k one other }
     ensures balanced { (k : ℕ) (one other : Past) → Each IsGood one → Each IsGood other → AreLinked k one other

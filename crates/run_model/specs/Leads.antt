@@ -3,8 +3,8 @@ use Rattle.std.specs.Prelude.{◌≡◌}
 use Rattle.run_model.specs.Steps.{Past, OneOf}
 use Rattle.run_model.specs.Types.{Cap, Promise, FieldOf, Step, Fulfil, Answer}
 
--- a step turns a cap to another: FULFIL a promise to what it turned out to be, ANSWER the field of its call to the cap at
--- that path
+-- a step turns a cap to another: a Fulfil turns its promise to what it turned out to be; an Answer turns each field that
+-- it names to the cap at its path
 abbrev pub MakesTurn : Cap → Cap → Step → Type 0
 MakesTurn a b (Fulfil v p to) = (a ≡ Promise v p) × (b ≡ to)
 MakesTurn a b (Answer v c results) = OneOf (λ result. (a ≡ FieldOf c result.0) × (b ≡ result.1)) results

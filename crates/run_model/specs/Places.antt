@@ -13,8 +13,8 @@ pub record Asked : Type 0 where
 abbrev pub asks : Cap → ℕ → ℕ → Asked
 asks goal interface method = record { goal = goal; interface = interface; method = method }
 
--- whether a step brings a call to a vat, with what it asks for, or takes it away: MAKE brings it, its goal the cap that it
--- is made through; so does a received Call, its goal the target. It goes when it is sent on, delivered or faulted
+-- whether a step brings a call to a vat, with what it asks for, or takes it away: a Make brings it, its goal the cap that
+-- it is made through; so does a received Call, its goal the target. A call leaves when it is sent on, delivered or faulted
 abbrev pub moves : Name → ℕ → Step → Option (Option Asked)
 moves c v (Make w number cap reference interface method) = if (w == v) && is_same (call w number) c then Some (Some (asks cap interface method)) else None
 moves c v (Receive w connection (Call d target interface method caps) bound) = if (w == v) && is_same d c then Some (Some (asks target interface method)) else None

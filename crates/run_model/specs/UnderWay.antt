@@ -6,8 +6,8 @@ use Rattle.run_model.specs.Places.{at_vat}
 use Rattle.run_model.specs.Steps.{Past, is_same, count}
 use Rattle.run_model.specs.Types.{Name, Cap, Call, Step, Deliver, Fault, Send}
 
--- a call is under way: a Call of it was sent, and no other vat has received it yet, since each received no more on the
--- connection than was sent to it there before
+-- a call is under way: a Call of it was sent, and no other vat has received it: each has received on the connection at
+-- most as many messages as had been sent to it before this one
 pub record IsUnderWay (before : Past) (c : Name) : Type 0 where
   pub from : ℕ
   pub connection : ℕ

@@ -1,21 +1,21 @@
 //! Laws of runs, which hold of every run and not of one call. Each speaks of the steps before a point, the newest first.
 
-ghost use Rattle.std.specs.Prelude.{◌≡◌, ◌≢◌, ◌↔◌, ◌≤◌, ◌++◌, ◌∷◌, [], ◌⊎◌, ℕ, List, Some, None, IsFalse, IsSome, IsSomeAnd};
+ghost use Rattle.std.specs.Prelude.{◌≡◌, ◌≢◌, ◌↔◌, ◌≤◌, ◌++◌, ◌∷◌, [], ◌⊎◌, ℕ, List, Some, None, IsTrue, IsFalse, IsSome, IsSomeAnd};
 ghost use Rattle.std.specs.List.{list_any, AllByRecursion};
 ghost use Rattle.run_model.specs.Types.{Name, Cap, Object, FieldOf, Message, Call, Return, Resolve, Step, Send, Receive};
 ghost use Rattle.run_model.specs.Steps.{Past, OneOf, Each, last_answer, count};
 ghost use Rattle.run_model.specs.Leads.{Turns, Leads, LeadsByTurns};
 ghost use Rattle.run_model.specs.Has.{Brings, Has};
 ghost use Rattle.run_model.specs.Places.{Asked, at_vat};
-ghost use Rattle.run_model.specs.Legal.{IsLegal, begins, ends, settles, delivers};
+ghost use Rattle.run_model.specs.Legal.{IsLegal, begins, ends, answers, settles, delivers};
 ghost use Rattle.run_model.specs.Links.{IsLinked};
 ghost use Rattle.run_model.specs.UnderWay.{IsUnderWay, IsSomewhere};
 ghost use Rattle.run_model.specs.Right.{made, ReachesObject, IsOrdered};
 ghost use Rattle.run_model.specs.Early.{early};
 ghost use Rattle.run_model.specs.Edges.{IsForeign};
 
-/// Turns only grow: where a cap turned, it did for ever after, and what it leads to it leads to for ever after, by 1 or
-/// more turns too.
+/// Turns only grow: once a cap turns to another, it does so from then on, and what it leads to it leads to from then on,
+/// by 1 or more turns too.
 pub fn turns_only_grow()
     ensures turned { (later before : Past) (a b : Cap) → Turns before a b → Turns (later ++ before) a b }
     ensures leads { (later before : Past) (a b : Cap) → Leads before a b → Leads (later ++ before) a b }
@@ -65,12 +65,14 @@ pub fn what_is_received_was_sent()
         → (w : ℕ) × (later earlier : Past) × (w ≢ v) × (before ≡ later ++ Send w connection m ∷ earlier) }
 {}
 
-/// Where each step is legal, what is received is so: the field of a call leads by 1 or more turns to what a Return gives at
-/// its path, and a promise to what a Resolve says.
+/// Where each step is legal, what a received message says holds: the call of a Return with results was answered, its field
+/// leads by 1 or more turns to what the Return gives at each path, and a promise leads so to what a Resolve says.
 pub fn what_is_received_is_led_to()
     ensures results { (before : Past) → Each IsLegal before → (v connection : ℕ) (c : Name) (results : List (List ℕ × Cap)) (caps bound : List Cap)
         → IsLinked before (Receive v connection (Return c results caps) bound)
         → AllByRecursion (λ result. LeadsByTurns before (FieldOf c result.0) result.1) results }
+    ensures answered { (before : Past) → Each IsLegal before → (v connection : ℕ) (c : Name) (results : List (List ℕ × Cap)) (caps bound : List Cap)
+        → IsLinked before (Receive v connection (Return c results caps) bound) → IsTrue (list_any (answers c) before) }
     ensures resolved { (before : Past) → Each IsLegal before → (v connection : ℕ) (promise cap : Cap) (bound : List Cap)
         → IsLinked before (Receive v connection (Resolve promise cap) bound) → LeadsByTurns before promise cap }
 {}

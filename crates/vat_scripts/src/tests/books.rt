@@ -189,13 +189,15 @@ fn is_found(alloc: Global) -> Result<bool, Refused> {
         ([one, other], [a, b]) => one.bytes() == a.bytes() && other.bytes() == b.bytes(),
         _ => false,
     };
-    let first = match copy.find(alloc, Piece { number: 0 })? {
+    let audit = copy.find(alloc, Piece { number: 0 })?;
+    let first = match &audit {
         Some(Finding::Vat(found)) => {
             found.log().vat() == 1 && matches!(found.outcome(), Outcome::Good(_))
         }
         _ => false,
     };
-    let link = match copy.find(alloc, Piece { number: 2 })? {
+    let comparison = copy.find(alloc, Piece { number: 2 })?;
+    let link = match &comparison {
         Some(Finding::Link(found)) => found.connection() == 0,
         _ => false,
     };

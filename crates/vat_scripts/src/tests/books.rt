@@ -178,31 +178,40 @@ fn a_whole_book_gives_all_findings(rt: HostRuntime) {
     assert!(rt; is_so);
 }
 
-/// Whether the copy of a case has the same logs and links, and its pieces are found.
-fn is_found(alloc: Global) -> Result<bool, Refused> {
-    let Conversation { case, .. } = pipelined_call(alloc)?;
-    let copy = case.copy(alloc)?;
-    if copy.tie_fault().is_some() {
-        return Ok(false);
+/// What is found for a piece of a case, where it ties up.
+fn found(alloc: Global, case: &Case, number: u32) -> Result<Option<Finding>, Refused> {
+    if case.tie_fault().is_some() {
+        return Ok(None);
     }
-    let same = match (case.logs(), copy.logs()) {
-        ([one, other], [a, b]) => one.bytes() == a.bytes() && other.bytes() == b.bytes(),
-        _ => false,
-    };
-    let audit = copy.find(alloc, Piece { number: 0 })?;
+    Ok(case.find(alloc, Piece { number })?)
+}
+
+/// Whether the audit of the first log is found, and the comparison of the link, and no more pieces.
+fn are_found(alloc: Global, case: &Case) -> Result<bool, Refused> {
+    let audit = found(alloc, case, 0)?;
     let first = match &audit {
         Some(Finding::Vat(found)) => {
             found.log().vat() == 1 && matches!(found.outcome(), Outcome::Good(_))
         }
         _ => false,
     };
-    let comparison = copy.find(alloc, Piece { number: 2 })?;
+    let comparison = found(alloc, case, 2)?;
     let link = match &comparison {
         Some(Finding::Link(found)) => found.connection() == 0,
         _ => false,
     };
-    let none = copy.find(alloc, Piece { number: 3 })?.is_none();
-    Ok(same && copy.links() == case.links() && first && link && none)
+    Ok(first && link && found(alloc, case, 3)?.is_none())
+}
+
+/// Whether the copy of a case has the same logs and links, and its pieces are found.
+fn is_found(alloc: Global) -> Result<bool, Refused> {
+    let Conversation { case, .. } = pipelined_call(alloc)?;
+    let copy = case.copy(alloc)?;
+    let same = match (case.logs(), copy.logs()) {
+        ([one, other], [a, b]) => one.bytes() == a.bytes() && other.bytes() == b.bytes(),
+        _ => false,
+    };
+    Ok(same && copy.links() == case.links() && are_found(alloc, &copy)?)
 }
 
 #[test]

@@ -1,7 +1,7 @@
 -- What comes once.
-use Rattle.std.proofs.Common.{◌≡◌, ◌≤◌, ap₂, inl, inr, refl, ◌∙◌, subst, ℕ, suc, [], ◌∷◌, Bool, true, false, arith, if◌then◌else◌, eqb-true}
+use Rattle.std.proofs.Common.{◌≡◌, ◌≤◌, ap₂, inl, inr, refl, sym, ◌∙◌, subst, ℕ, suc, [], ◌∷◌, Bool, true, false, arith, if◌then◌else◌, eqb-true}
 use Rattle.std.specs.List.{list_any}
-use Rattle.std.proofs.lemmas.Bool.{and_parts, or_parts, false≢true}
+use Rattle.std.proofs.lemmas.Bool.{and_parts, or_parts, or_from, false_from_ne_true, false≢true}
 use Rattle.run_model.specs.Types.{Name, Cap, Boot, Step, Host, Vow, Fulfil, Break, Make, Deliver, Answer, Fault, Send, Receive}
 use Rattle.run_model.specs.Edges.{IsForeign}
 use Rattle.run_model.specs.Has.{Brings, Gets, Has}
@@ -21,6 +21,13 @@ pick false n none le = le
 pub once : (test : Step → Bool) (before : Past) → Each (λ b s. test s ≡ true → list_any test b ≡ false) before → count test before ≤ 1
 once test [] h = omega arith
 once test (s ∷ before) h = pick (test s) (count test before) (λ e. none_counts test before (h.0 e)) (once test before h.1)
+
+-- where each step that passes one test passes another, no step passes the one if none passes the other
+pub none_of : (test other : Step → Bool) → ((s : Step) → test s ≡ true → other s ≡ true) → (before : Past) → list_any other before ≡ false → list_any test before ≡ false
+none_of test other so [] e = refl
+none_of test other so (s ∷ before) e =
+    let parts = or_parts (other s) (list_any other before) e in
+    or_from (test s) (list_any test before) (false_from_ne_true (test s) (λ f. false≢true (sym parts.0 ∙ so s f))) (none_of test other so before parts.1)
 
 each_so : (P Q : Past → Step → Type 0) → ((b : Past) (s : Step) → P b s → Q b s) → (before : Past) → Each P before → Each Q before
 each_so P Q f [] h = h

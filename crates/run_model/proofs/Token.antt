@@ -1,10 +1,10 @@
--- What is received of a call wasn't received before.
+-- What is received of a link wasn't received before.
 use Rattle.std.proofs.Common.{◌≡◌, ◌≢◌, ◌⊎◌, ◌<◌, inl, inr, refl, sym, ◌∙◌, ap, subst, ℕ, zero, suc, ◌==◌, List, [], ◌∷◌, ◌++◌, length, Bool, true, false, not, ◌&&◌, Option, Some, None, if◌then◌else◌, reverse, filter_map, slice_get, arith, eqb-true, ne_eqb}
 use Rattle.std.specs.Prelude.{⊤}
 use Rattle.std.specs.List.{list_all, cons_option}
 use Rattle.std.proofs.lemmas.List.{reverse-reverse}
 use Rattle.std.proofs.lemmas.Bool.{and_parts, and_from, eq-eqb, false≢true, cases_eq}
-use Rattle.run_model.specs.Types.{Name, Cap, Message, Call, Step, Host, Send, Receive}
+use Rattle.run_model.specs.Types.{Name, Message, Call, Step, Host, Send, Receive}
 use Rattle.run_model.proofs.Sending.{sent_by, back_again}
 use Rattle.run_model.specs.Links.{CarriesNext, IsEnd, are_one, other_user, receives, sent_to}
 use Rattle.run_model.specs.Steps.{OneOf, Past, count, is_same}
@@ -17,19 +17,24 @@ number_at v k before = length (filter_map (sent_to v k) (reverse before))
 abbrev pub IsReceived : Past → Past → ℕ → ℕ → Type 0
 IsReceived whole before w k = (v : ℕ) × (v ≢ w) × (number_at v k before < count (receives v k) whole)
 
--- if the step sends the call on, that was received
-abbrev pub IsDone : Name → Past → Past → Step → Type 0
-IsDone c whole before (Send w k (Call d target i j caps)) = is_same d c ≡ true → IsReceived whole before w k
-IsDone c whole before _ = ⊤
+-- a message is a Call of this call
+abbrev pub is_call : Name → Message → Bool
+is_call c (Call d target i j caps) = is_same d c
+is_call c _ = false
 
--- each Send of the call was received
-abbrev pub AllDone : Name → Past → Past → Type 0
-AllDone c whole [] = ⊤
-AllDone c whole (s ∷ before) = IsDone c whole before s × AllDone c whole before
+-- if the step sends such a message, that was received
+abbrev pub IsDone : (Message → Bool) → Past → Past → Step → Type 0
+IsDone test whole before (Send w k m) = test m ≡ true → IsReceived whole before w k
+IsDone test whole before _ = ⊤
 
-pub done_at : (c : Name) (whole later earlier : Past) (s : Step) → AllDone c whole (later ++ s ∷ earlier) → IsDone c whole earlier s
-done_at c whole [] earlier s h = h.0
-done_at c whole (x ∷ later) earlier s h = done_at c whole later earlier s h.1
+-- each such message that was sent was received
+abbrev pub AllDone : (Message → Bool) → Past → Past → Type 0
+AllDone test whole [] = ⊤
+AllDone test whole (s ∷ before) = IsDone test whole before s × AllDone test whole before
+
+pub done_at : (test : Message → Bool) (whole later earlier : Past) (s : Step) → AllDone test whole (later ++ s ∷ earlier) → IsDone test whole earlier s
+done_at test whole [] earlier s h = h.0
+done_at test whole (x ∷ later) earlier s h = done_at test whole later earlier s h.1
 
 none_some : {A : Type 0} {x : A} → None ≡ Some x → ⊥
 none_some e = cc
@@ -124,10 +129,8 @@ not_received before v k m end at done = elim (cases_eq done.0 v) [
       (subst (λ l. OneOf (λ x. x ≡ at.0) (filter_map (other_user v k) l)) (sym at.4) (sender_uses v k at.0 m at.1 at.2 at.3)))
 ]
 
--- a call of which each Send was received isn't received
-pub nothing_to_receive : (before : Past) (v k : ℕ) (c d : Name) (target : Cap) (i j : ℕ) (caps : List Cap) → is_same d c ≡ true → IsEnd before v k →
-    CarriesNext before v k (Call d target i j caps) → AllDone c before before → ⊥
-nothing_to_receive before v k c d target i j caps same end next all =
-    let m : Message = Call d target i j caps in
+-- where each such message that was sent was received, none is received
+pub nothing_to_receive : (test : Message → Bool) (before : Past) (v k : ℕ) (m : Message) → test m ≡ true → IsEnd before v k → CarriesNext before v k m → AllDone test before before → ⊥
+nothing_to_receive test before v k m same end next all =
     let at = sent_at before v k m next in
-    not_received before v k m end at (done_at c before at.1 at.2 (Send at.0 k m) (subst (λ l. AllDone c before l) at.4 all) same)
+    not_received before v k m end at (done_at test before at.1 at.2 (Send at.0 k m) (subst (λ l. AllDone test before l) at.4 all) same)

@@ -78,7 +78,8 @@ pub fn what_is_received_is_led_to()
 {}
 
 /// Where each step is legal and keeps to its link, a call is at one vat at most, and at none while it is under way or comes
-/// out of a link. While it is at a vat or under way it wasn't delivered, and it is delivered once at most.
+/// out of a link. While it is at a vat or under way it wasn't delivered, answered or faulted, and it is delivered once at
+/// most.
 pub fn a_call_has_one_place()
     ensures at_one { (before : Past) → Each IsLegal before → Each IsLinked before → (c : Name) (v w : ℕ)
         → IsSome (at_vat before c v) → IsSome (at_vat before c w) → v ≡ w }
@@ -90,6 +91,10 @@ pub fn a_call_has_one_place()
         → IsSome (at_vat before c v) → IsFalse (list_any (delivers c) before) }
     ensures undelivered_there { (before : Past) → Each IsLegal before → Each IsLinked before → (c : Name)
         → IsUnderWay before c → IsFalse (list_any (delivers c) before) }
+    ensures unsettled_here { (before : Past) → Each IsLegal before → Each IsLinked before → (c : Name) (v : ℕ)
+        → IsSome (at_vat before c v) → IsFalse (list_any (settles c) before) }
+    ensures unsettled_there { (before : Past) → Each IsLegal before → Each IsLinked before → (c : Name)
+        → IsUnderWay before c → IsFalse (list_any (settles c) before) }
     ensures delivered { (before : Past) → Each IsLegal before → Each IsLinked before → (c : Name) → count (delivers c) before ≤ 1 }
 {}
 

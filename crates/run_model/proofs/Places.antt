@@ -192,7 +192,7 @@ there_alone past c u v rest some = elim (cases_eq v u) [
 abbrev pub IsSpentWhereItArrived : Past → Type 0
 IsSpentWhereItArrived past = (c : Name) (v : ℕ) → list_any (arrives c v) past ≡ true → list_any (spends c) past ≡ true
 
-or_either : (a b : Bool) → (a || b) ≡ true → (a ≡ true) ⊎ (b ≡ true)
+pub or_either : (a b : Bool) → (a || b) ≡ true → (a ≡ true) ⊎ (b ≡ true)
 or_either true b e = inl refl
 or_either false b e = inr e
 
@@ -243,7 +243,7 @@ next_place (Named v x) past c legal linked spent unborn place = still (Named v x
 next_place (Answer v d results) past c legal linked spent unborn place = still (Answer v d results) past c (λ w. refl) refl (λ b f. answer_spares v d results past c spent legal f) place
 
 -- a Bootstrap that was sent spent its call
-boot_spent : (c : Name) (later earlier : Past) (w k : ℕ) → list_any (spends c) (later ++ Send w k (Boot c) ∷ earlier) ≡ true
+pub boot_spent : (c : Name) (later earlier : Past) (w k : ℕ) → list_any (spends c) (later ++ Send w k (Boot c) ∷ earlier) ≡ true
 boot_spent c [] earlier w k = or_left (is_same c c) (list_any (spends c) earlier) (same_to_itself c)
 boot_spent c (x ∷ later) earlier w k = or_right (spends c x) (list_any (spends c) (later ++ Send w k (Boot c) ∷ earlier)) (boot_spent c later earlier w k)
 
@@ -269,7 +269,7 @@ here_begun : (past : Past) (d : Name) (v : ℕ) → Each IsLegal past → Each I
 here_begun past d v legal linked P None f h = absurd h
 here_begun past d v legal linked P (Some a) f h = begun past d _ (goes_to_goal past legal linked d v a f)
 
-some_here : (o : Option Asked) → is_some o ≡ true → IsSomeAnd o (λ a. ⊤)
+pub some_here : (o : Option Asked) → is_some o ≡ true → IsSomeAnd o (λ a. ⊤)
 some_here None e = absurd (false≢true e)
 some_here (Some a) e = tt
 

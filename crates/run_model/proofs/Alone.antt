@@ -10,7 +10,8 @@ use Rattle.run_model.specs.UnderWay.{IsUnderWay}
 use Rattle.run_model.proofs.Turning.{clash, same_to_itself}
 use Rattle.run_model.proofs.Once.{none_of}
 use Rattle.run_model.proofs.Token.{is_call, AllDone, done_at}
-use Rattle.run_model.proofs.Places.{Place, idle, held, flying, place, spends, delivers_spends, settles_spends}
+use Rattle.run_model.proofs.Spent.{spends, delivers_spends, settles_spends}
+use Rattle.run_model.proofs.Places.{Place, idle, held, flying, place}
 
 -- a call of which each Send was received isn't under way
 not_under_way : (past : Past) (c : Name) → AllDone (is_call c) past past → IsUnderWay past c → ⊥

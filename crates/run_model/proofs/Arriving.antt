@@ -8,57 +8,16 @@ use Rattle.run_model.specs.Steps.{Past, Each, count, is_same}
 use Rattle.run_model.specs.Places.{at_vat}
 use Rattle.run_model.specs.Legal.{IsLegal, arrives, begins, settles}
 use Rattle.run_model.specs.Links.{IsLinked}
-use Rattle.run_model.proofs.Sending.{was_sent}
-use Rattle.run_model.proofs.Once.{names_same, none_of, once}
+use Rattle.run_model.proofs.Once.{names_same, none_of, once, or_either}
 use Rattle.run_model.proofs.Turning.{clash, same_to_itself}
-use Rattle.run_model.proofs.Token.{AllDone, nothing_to_receive}
-use Rattle.run_model.proofs.Places.{Place, place, sends, spends, AllButLast, all_grow, but_last_grows, no_send, all_received, fresh_there, some_here, or_either, boot_spent, arrived_spent, spent_begun}
+use Rattle.run_model.proofs.Spent.{spends, some_here, reaches, arrives_reaches, settles_reaches, reached_spent, arrived_spent, spent_begun}
+use Rattle.run_model.proofs.Token.{AllDone, AllButLast, sends, all_grow, but_last_grows, no_send, nothing_to_receive, all_received}
+use Rattle.run_model.proofs.Places.{Place, place, fresh_there}
 
 -- a message is the Bootstrap of this call
 abbrev pub is_boot : Name → Message → Bool
 is_boot c (Boot d) = is_same d c
 is_boot c _ = false
-
--- a step by which a call becomes a vat's to answer, or is answered or faulted
-abbrev pub reaches : Name → Step → Bool
-reaches c (Deliver v d o) = is_same d c
-reaches c (Receive v k (Boot d) bound) = is_same d c
-reaches c (Answer v d results) = is_same d c
-reaches c (Fault v d) = is_same d c
-reaches c _ = false
-
-arrives_reaches : (c : Name) (v : ℕ) (s : Step) → arrives c v s ≡ true → reaches c s ≡ true
-arrives_reaches c v (Deliver w d o) e = (and_parts (w == v) (is_same d c) e).1
-arrives_reaches c v (Receive w k (Boot d) bound) e = (and_parts (w == v) (is_same d c) e).1
-arrives_reaches c v (Receive w k m bound) e = absurd (false≢true e)
-arrives_reaches c v (Host w o) e = absurd (false≢true e)
-arrives_reaches c v _ e = absurd (false≢true e)
-
-settles_reaches : (c : Name) (s : Step) → settles c s ≡ true → reaches c s ≡ true
-settles_reaches c (Answer v d results) e = e
-settles_reaches c (Fault v d) e = e
-settles_reaches c (Host v o) e = absurd (false≢true e)
-settles_reaches c _ e = absurd (false≢true e)
-
--- a call that reached its vat is spent
-reached_at : (s : Step) (past : Past) (c : Name) → IsLinked past s → reaches c s ≡ true → list_any (spends c) (s ∷ past) ≡ true
-reached_at (Deliver v d o) past c linked e = or_left (is_same d c) (list_any (spends c) past) e
-reached_at (Answer v d results) past c linked e = or_left (is_same d c) (list_any (spends c) past) e
-reached_at (Fault v d) past c linked e = or_left (is_same d c) (list_any (spends c) past) e
-reached_at (Receive v k (Boot d) bound) past c linked e =
-    let was = was_sent past v k (Boot d) bound linked in
-    let now : list_any (spends d) past ≡ true = subst (λ l. list_any (spends d) l ≡ true) (sym was.4) (boot_spent d was.1 was.2 was.0 k) in
-    subst (λ x. list_any (spends x) past ≡ true) (names_same d c e) now
-reached_at (Receive v k m bound) past c linked e = absurd (false≢true e)
-reached_at (Host v o) past c linked e = absurd (false≢true e)
-reached_at _ past c linked e = absurd (false≢true e)
-
-reached_spent : (past : Past) → Each IsLinked past → (c : Name) → list_any (reaches c) past ≡ true → list_any (spends c) past ≡ true
-reached_spent [] linked c e = absurd (false≢true e)
-reached_spent (s ∷ past) linked c e = elim (or_either (reaches c s) (list_any (reaches c) past) e) [
-  | inl now ↦ reached_at s past c linked.0 now
-  | inr before ↦ or_right (spends c s) (list_any (spends c) past) (reached_spent past linked.1 c before)
-]
 
 -- what is known of the Bootstraps of a call: each was received, or the newest is under way, and the call reached no vat
 pub data Booting (c : Name) (past : Past) : Type 0 where

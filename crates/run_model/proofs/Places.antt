@@ -1,62 +1,18 @@
 -- A call is at one vat at most, and at none while it is under way.
-use Rattle.std.proofs.Common.{◌≡◌, ◌≤◌, ◌≢◌, ◌⊎◌, ◌<◌, inl, inr, refl, sym, ◌∙◌, ap, subst, ℕ, suc, ◌==◌, List, [], ◌∷◌, ◌++◌, Bool, true, false, ◌&&◌, ◌||◌, Option, Some, None, if◌then◌else◌, option_and_then, IsSomeAnd, IsSome, is_some, arith, ne_eqb}
-use Rattle.std.specs.Prelude.{⊤}
+use Rattle.std.proofs.Common.{◌≡◌, ◌≤◌, ◌≢◌, ◌⊎◌, inl, inr, refl, sym, ◌∙◌, ap, subst, ℕ, ◌==◌, List, [], ◌∷◌, Bool, true, false, ◌&&◌, Some, None, if◌then◌else◌, option_and_then, IsSomeAnd, IsSome, is_some, ne_eqb}
 use Rattle.std.specs.List.{list_any}
 use Rattle.std.specs.Option.{option_or}
-use Rattle.std.proofs.lemmas.Bool.{and_parts, and_from, and_left, and_right, or_left, or_right, or_from, false_from_ne_true, eq-eqb, false≢true, cases_eq}
-use Rattle.run_model.specs.Types.{Name, Cap, Message, Boot, Call, Step, Host, Vow, Fulfil, Break, Make, Named, Deliver, Answer, Fault, Send, Receive}
-use Rattle.run_model.proofs.Sending.{was_sent}
-use Rattle.run_model.proofs.Once.{names_same, none_of, once}
+use Rattle.std.proofs.lemmas.Bool.{and_from, and_left, and_right, or_left, or_right, or_from, false_from_ne_true, eq-eqb, false≢true, cases_eq}
+use Rattle.run_model.specs.Types.{Name, Cap, Boot, Call, Step, Host, Vow, Fulfil, Break, Make, Named, Deliver, Answer, Fault, Send, Receive}
+use Rattle.run_model.proofs.Once.{names_same, none_of, once, or_either}
 use Rattle.run_model.proofs.Turning.{clash, same_to_itself}
-use Rattle.run_model.proofs.Goals.{begun, goes_to_goal}
-use Rattle.run_model.proofs.Token.{number_at, is_call, IsDone, AllDone, done_at, sent_at, not_received, nothing_to_receive}
-use Rattle.run_model.specs.Legal.{IsLegal, arrives, begins, delivers, settles}
-use Rattle.run_model.specs.Links.{IsLinked, receives}
+use Rattle.run_model.proofs.Goals.{begun}
+use Rattle.run_model.proofs.Spent.{spends, delivers_spends, IsSpentWhereItArrived, arrived_spent, spent_begun}
+use Rattle.run_model.proofs.Token.{is_call, AllDone, AllButLast, sends, all_grow, but_last_grows, no_send, nothing_to_receive, all_received}
+use Rattle.run_model.specs.Legal.{IsLegal, arrives, begins, delivers}
+use Rattle.run_model.specs.Links.{IsLinked}
 use Rattle.run_model.specs.Places.{Asked, asks, at_vat, moves}
 use Rattle.run_model.specs.Steps.{Each, Past, call, count, is_same, last_answer}
-
-grows : (b : Bool) (n m : ℕ) → n < m → n < (if b then suc m else m)
-grows true n m lt = omega (arith, lt)
-grows false n m lt = lt
-
-done_grows : (test : Message → Bool) (t : Step) (whole before : Past) (s : Step) → IsDone test whole before s → IsDone test (t ∷ whole) before s
-done_grows test t whole before (Send w k m) h =
-    λ e. let r = h e in (r.0, r.1, grows (receives r.0 k t) (number_at r.0 k before) (count (receives r.0 k) whole) r.2)
-done_grows test t whole before (Host w o) h = h
-done_grows test t whole before _ h = h
-
-pub all_grow : (test : Message → Bool) (t : Step) (whole before : Past) → AllDone test whole before → AllDone test (t ∷ whole) before
-all_grow test t whole [] h = h
-all_grow test t whole (s ∷ before) h = (done_grows test t whole before s h.0, all_grow test t whole before h.1)
-
--- a step sends such a message
-abbrev pub sends : (Message → Bool) → Step → Bool
-sends test (Send v k m) = test m
-sends test _ = false
-
--- each such message that was sent but the newest was received
-abbrev pub AllButLast : (Message → Bool) → Past → Past → Type 0
-AllButLast test whole [] = ⊥
-AllButLast test whole (s ∷ before) = ((sends test s ≡ true) × AllDone test whole before) ⊎ ((sends test s ≡ false) × AllButLast test whole before)
-
-pub but_last_grows : (test : Message → Bool) (t : Step) (whole before : Past) → AllButLast test whole before → AllButLast test (t ∷ whole) before
-but_last_grows test t whole [] h = h
-but_last_grows test t whole (s ∷ before) (inl h) = inl (h.0, all_grow test t whole before h.1)
-but_last_grows test t whole (s ∷ before) (inr h) = inr (h.0, but_last_grows test t whole before h.1)
-
--- a step that sends no such message has nothing to be received
-pub no_send : (test : Message → Bool) (whole before : Past) (s : Step) → sends test s ≡ false → IsDone test whole before s
-no_send test whole before (Send w k m) e = λ f. absurd (clash f e)
-no_send test whole before (Host w o) e = tt
-no_send test whole before _ e = tt
-
--- a step by which a call is no more to be delivered, or never was: it is delivered, answered or faulted, or it is a Bootstrap
-abbrev pub spends : Name → Step → Bool
-spends c (Send v k (Boot d)) = is_same d c
-spends c (Deliver v d o) = is_same d c
-spends c (Answer v d results) = is_same d c
-spends c (Fault v d) = is_same d c
-spends c _ = false
 
 -- where a call is
 pub data Place (c : Name) (past : Past) : Type 0 where
@@ -113,29 +69,6 @@ is_there P past c v u h rest = elim (cases_eq v u) [
   | inr apart ↦ absurd (subst (λ o. IsSomeAnd o P) (rest v apart) h)
 ]
 
--- the message that was left is received now
-pub finish : (test : Message → Bool) (t : Step) (whole later earlier : Past) (s : Step) → sends test s ≡ true → IsDone test (t ∷ whole) earlier s → (IsDone test whole earlier s → ⊥) →
-    AllButLast test whole (later ++ s ∷ earlier) → AllDone test (t ∷ whole) (later ++ s ∷ earlier)
-finish test t whole [] earlier s now done before (inl h) = (done, all_grow test t whole earlier h.1)
-finish test t whole [] earlier s now done before (inr h) = absurd (clash now h.0)
-finish test t whole (x ∷ later) earlier s now done before (inl h) = absurd (before (done_at test whole later earlier s h.1))
-finish test t whole (x ∷ later) earlier s now done before (inr h) =
-    (no_send test (t ∷ whole) (later ++ s ∷ earlier) x h.0, finish test t whole later earlier s now done before h.1)
-
--- such a message is received: it is the one that was left, so all were received now
-pub all_received : (test : Message → Bool) (past : Past) (v k : ℕ) (m : Message) (bound : List Cap) → test m ≡ true → IsLinked past (Receive v k m bound) →
-    AllButLast test past past → AllDone test (Receive v k m bound ∷ past) (Receive v k m bound ∷ past)
-all_received test past v k m bound same linked left =
-    let t : Step = Receive v k m bound in
-    let at = sent_at past v k m linked.1 in
-    let number = at.5 in
-    let more : number_at v k at.2 < count (receives v k) (t ∷ past) =
-    subst (λ b. number_at v k at.2 < (if b then suc (count (receives v k) past) else count (receives v k) past)) (sym (and_from (v == v) (k == k) (eq-eqb v v refl) (eq-eqb k k refl))) (omega (arith, number)) in (
-      tt,
-      subst (λ l. AllDone test (t ∷ past) l) (sym at.4)
-          (finish test t past at.1 at.2 (Send at.0 k m) same (λ e. (v, (λ e. at.3 (sym e)), more)) (λ h. not_received past v k m linked.0 at (h same)) (subst (λ l. AllButLast test past l) at.4 left)),
-    )
-
 make_place : (v n : ℕ) (cap : Cap) (r i j : ℕ) (past : Past) (c : Name) → IsLegal past (Make v n cap r i j) → (list_any (begins c) past ≡ false → list_any (spends c) past ≡ false) → (b : Bool) → is_same (call v n) c ≡ b → Place c past → Place c (Make v n cap r i j ∷ past)
 make_place v n cap r i j past c legal unborn true same (idle none all) = held v
     (λ w apart. same_place (Make v n cap r i j) past c w (other_vat v w (is_same (call v n) c) (Some (asks cap i j)) (λ e. apart (sym e))) (none w))
@@ -188,14 +121,6 @@ there_alone past c u v rest some = elim (cases_eq v u) [
   | inr apart ↦ absurd (clash some (ap (λ o. is_some o) (rest v apart)))
 ]
 
--- a call that is a vat's to answer is spent
-abbrev pub IsSpentWhereItArrived : Past → Type 0
-IsSpentWhereItArrived past = (c : Name) (v : ℕ) → list_any (arrives c v) past ≡ true → list_any (spends c) past ≡ true
-
-pub or_either : (a b : Bool) → (a || b) ≡ true → (a ≡ true) ⊎ (b ≡ true)
-or_either true b e = inl refl
-or_either false b e = inr e
-
 -- so a call that isn't spent is faulted where it is
 faulted_here : (v : ℕ) (d : Name) (past : Past) (c : Name) → IsSpentWhereItArrived past → IsLegal past (Fault v d) → is_same d c ≡ true → list_any (spends c) past ≡ false →
     IsSome (at_vat past c v)
@@ -242,61 +167,6 @@ next_place (Break v p) past c legal linked spent unborn place = still (Break v p
 next_place (Named v x) past c legal linked spent unborn place = still (Named v x) past c (λ w. refl) refl (λ b f. refl) place
 next_place (Answer v d results) past c legal linked spent unborn place = still (Answer v d results) past c (λ w. refl) refl (λ b f. answer_spares v d results past c spent legal f) place
 
--- a Bootstrap that was sent spent its call
-pub boot_spent : (c : Name) (later earlier : Past) (w k : ℕ) → list_any (spends c) (later ++ Send w k (Boot c) ∷ earlier) ≡ true
-boot_spent c [] earlier w k = or_left (is_same c c) (list_any (spends c) earlier) (same_to_itself c)
-boot_spent c (x ∷ later) earlier w k = or_right (spends c x) (list_any (spends c) (later ++ Send w k (Boot c) ∷ earlier)) (boot_spent c later earlier w k)
-
-spent_at : (s : Step) (past : Past) (c : Name) (v : ℕ) → IsLinked past s → arrives c v s ≡ true → list_any (spends c) (s ∷ past) ≡ true
-spent_at (Deliver w d o) past c v linked e = or_left (is_same d c) (list_any (spends c) past) (and_parts (w == v) (is_same d c) e).1
-spent_at (Receive w k (Boot d) bound) past c v linked e =
-    let was = was_sent past w k (Boot d) bound linked in
-    let now : list_any (spends d) past ≡ true = subst (λ l. list_any (spends d) l ≡ true) (sym was.4) (boot_spent d was.1 was.2 was.0 k) in
-    subst (λ x. list_any (spends x) past ≡ true) (names_same d c (and_parts (w == v) (is_same d c) e).1) now
-spent_at (Receive w k m bound) past c v linked e = absurd (false≢true e)
-spent_at (Host w o) past c v linked e = absurd (false≢true e)
-spent_at _ past c v linked e = absurd (false≢true e)
-
-pub arrived_spent : (past : Past) → Each IsLinked past → IsSpentWhereItArrived past
-arrived_spent [] linked c v e = absurd (false≢true e)
-arrived_spent (s ∷ past) linked c v e = elim (or_either (arrives c v s) (list_any (arrives c v) past) e) [
-  | inl now ↦ spent_at s past c v linked.0 now
-  | inr before ↦ or_right (spends c s) (list_any (spends c) past) (arrived_spent past linked.1 c v before)
-]
-
--- a call that is at a vat was begun
-here_begun : (past : Past) (d : Name) (v : ℕ) → Each IsLegal past → Each IsLinked past → (P : Asked → Type 0) (a : Option Asked) → at_vat past d v ≡ a → IsSomeAnd a P → list_any (begins d) past ≡ true
-here_begun past d v legal linked P None f h = absurd h
-here_begun past d v legal linked P (Some a) f h = begun past d _ (goes_to_goal past legal linked d v a f)
-
-pub some_here : (o : Option Asked) → is_some o ≡ true → IsSomeAnd o (λ a. ⊤)
-some_here None e = absurd (false≢true e)
-some_here (Some a) e = tt
-
--- a call that is spent was begun
-begun_at : (s : Step) (past : Past) (c : Name) → IsLegal past s → Each IsLegal past → Each IsLinked past → ((d : Name) → list_any (spends d) past ≡ true → list_any (begins d) past ≡ true) →
-    spends c s ≡ true → list_any (begins c) (s ∷ past) ≡ true
-begun_at (Send v k (Boot d)) past c legal before linked rest e = or_left (is_same d c) (list_any (begins c) past) e
-begun_at (Send v k m) past c legal before linked rest e = absurd (false≢true e)
-begun_at (Deliver v d o) past c legal before linked rest e =
-    subst (λ x. list_any (begins x) past ≡ true) (names_same d c e) (here_begun past d v before linked _ (at_vat past d v) refl legal.1)
-begun_at (Answer v d results) past c legal before linked rest e =
-    subst (λ x. list_any (begins x) past ≡ true) (names_same d c e) (rest d (arrived_spent past linked d v legal.1.0))
-begun_at (Fault v d) past c legal before linked rest e =
-    subst (λ x. list_any (begins x) past ≡ true) (names_same d c e) (elim (or_either (list_any (arrives d v) past) (is_some (at_vat past d v)) legal.1.0) [
-      | inl there ↦ rest d (arrived_spent past linked d v there)
-      | inr here ↦ here_begun past d v before linked (λ a. ⊤) (at_vat past d v) refl (some_here (at_vat past d v) here)
-    ])
-begun_at (Host v o) past c legal before linked rest e = absurd (false≢true e)
-begun_at _ past c legal before linked rest e = absurd (false≢true e)
-
-pub spent_begun : (past : Past) → Each IsLegal past → Each IsLinked past → (c : Name) → list_any (spends c) past ≡ true → list_any (begins c) past ≡ true
-spent_begun [] legal linked c e = absurd (false≢true e)
-spent_begun (s ∷ past) legal linked c e = elim (or_either (spends c s) (list_any (spends c) past) e) [
-  | inl now ↦ begun_at s past c legal.0 legal.1 linked.1 (spent_begun past legal.1 linked.1) now
-  | inr before ↦ or_right (begins c s) (list_any (begins c) past) (spent_begun past legal.1 linked.1 c before)
-]
-
 -- wherever a run is, a call is in one place
 pub place : (past : Past) (c : Name) → Each IsLegal past → Each IsLinked past → Place c past
 place [] c legal linked = idle (λ w. refl) tt
@@ -317,17 +187,6 @@ pub fresh_there : (P : Asked → Type 0) (past : Past) (c : Name) (v : ℕ) → 
 fresh_there P past c v (idle none all) h = absurd (not_at P past c v h (none v))
 fresh_there P past c v (held u rest all b f) h = f
 fresh_there P past c v (flying none left b f) h = f
-
-pub delivers_spends : (c : Name) (s : Step) → delivers c s ≡ true → spends c s ≡ true
-delivers_spends c (Deliver v d o) e = e
-delivers_spends c (Host v o) e = absurd (false≢true e)
-delivers_spends c _ e = absurd (false≢true e)
-
-pub settles_spends : (c : Name) (s : Step) → settles c s ≡ true → spends c s ≡ true
-settles_spends c (Answer v d results) e = e
-settles_spends c (Fault v d) e = e
-settles_spends c (Host v o) e = absurd (false≢true e)
-settles_spends c _ e = absurd (false≢true e)
 
 pub delivered_fresh : (s : Step) (past : Past) (c : Name) → IsLegal past s → ((d : Name) → Place d past) → delivers c s ≡ true → list_any (delivers c) past ≡ false
 delivered_fresh (Deliver v d o) past c legal places e =

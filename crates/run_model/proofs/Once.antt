@@ -1,12 +1,16 @@
 -- What comes once.
-use Rattle.std.proofs.Common.{◌≡◌, ◌≤◌, ap₂, inl, inr, refl, ◌∙◌, subst, ℕ, suc, [], ◌∷◌, Bool, true, false, arith, if◌then◌else◌, eqb-true}
+use Rattle.std.proofs.Common.{◌≡◌, ◌≤◌, ◌⊎◌, ◌||◌, ap₂, inl, inr, refl, sym, ◌∙◌, subst, ℕ, suc, [], ◌∷◌, Bool, true, false, arith, if◌then◌else◌, eqb-true}
 use Rattle.std.specs.List.{list_any}
-use Rattle.std.proofs.lemmas.Bool.{and_parts, or_parts, false≢true}
+use Rattle.std.proofs.lemmas.Bool.{and_parts, or_parts, or_left, or_right, false_from_ne_true, false≢true}
 use Rattle.run_model.specs.Types.{Name, Cap, Boot, Step, Host, Vow, Fulfil, Break, Make, Deliver, Answer, Fault, Send, Receive}
 use Rattle.run_model.specs.Edges.{IsForeign}
 use Rattle.run_model.specs.Has.{Brings, Gets, Has}
 use Rattle.run_model.specs.Legal.{IsLegal, begins, ends, settles}
 use Rattle.run_model.specs.Steps.{Each, OneOf, Past, call, count, is_same}
+
+pub or_either : (a b : Bool) → (a || b) ≡ true → (a ≡ true) ⊎ (b ≡ true)
+or_either true b e = inl refl
+or_either false b e = inr e
 
 none_counts : (test : Step → Bool) (before : Past) → list_any test before ≡ false → count test before ≡ 0
 none_counts test [] e = refl
@@ -21,6 +25,17 @@ pick false n none le = le
 pub once : (test : Step → Bool) (before : Past) → Each (λ b s. test s ≡ true → list_any test b ≡ false) before → count test before ≤ 1
 once test [] h = omega arith
 once test (s ∷ before) h = pick (test s) (count test before) (λ e. none_counts test before (h.0 e)) (once test before h.1)
+
+-- where each step that passes one test passes another, some step passes the other if some passes the one
+pub some_of : (test other : Step → Bool) → ((s : Step) → test s ≡ true → other s ≡ true) → (before : Past) → list_any test before ≡ true → list_any other before ≡ true
+some_of test other so [] e = absurd (false≢true e)
+some_of test other so (s ∷ before) e = elim (or_either (test s) (list_any test before) e) [
+  | inl now ↦ or_left (other s) (list_any other before) (so s now)
+  | inr old ↦ or_right (other s) (list_any other before) (some_of test other so before old)
+]
+
+pub none_of : (test other : Step → Bool) → ((s : Step) → test s ≡ true → other s ≡ true) → (before : Past) → list_any other before ≡ false → list_any test before ≡ false
+none_of test other so before e = false_from_ne_true (list_any test before) (λ f. false≢true (sym e ∙ some_of test other so before f))
 
 each_so : (P Q : Past → Step → Type 0) → ((b : Past) (s : Step) → P b s → Q b s) → (before : Past) → Each P before → Each Q before
 each_so P Q f [] h = h

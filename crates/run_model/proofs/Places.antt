@@ -1,62 +1,24 @@
 -- A call is at one vat at most, and at none while it is under way.
-use Rattle.std.proofs.Common.{◌≡◌, ◌≤◌, ◌≢◌, ◌⊎◌, ◌<◌, inl, inr, refl, sym, ◌∙◌, ap, subst, ℕ, suc, ◌==◌, List, [], ◌∷◌, ◌++◌, Bool, true, false, ◌&&◌, ◌||◌, Option, Some, None, if◌then◌else◌, option_and_then, IsSomeAnd, IsSome, is_some, arith, ne_eqb}
+use Rattle.std.proofs.Common.{◌≡◌, ◌≤◌, ◌≢◌, ◌⊎◌, inl, inr, refl, sym, ◌∙◌, ap, subst, ℕ, ◌==◌, List, [], ◌∷◌, Bool, true, false, ◌&&◌, Some, None, if◌then◌else◌, option_and_then, IsSomeAnd, IsSome, is_some, ne_eqb}
 use Rattle.std.specs.List.{list_any}
 use Rattle.std.specs.Option.{option_or}
 use Rattle.std.proofs.lemmas.Bool.{and_from, and_left, and_right, or_left, or_right, or_from, false_from_ne_true, eq-eqb, false≢true, cases_eq}
-use Rattle.run_model.specs.Types.{Name, Cap, Message, Boot, Call, Step, Host, Vow, Fulfil, Break, Make, Named, Deliver, Answer, Fault, Send, Receive}
-use Rattle.run_model.proofs.Once.{names_same, once}
+use Rattle.run_model.specs.Types.{Name, Cap, Boot, Call, Step, Host, Vow, Fulfil, Break, Make, Named, Deliver, Answer, Fault, Send, Receive}
+use Rattle.run_model.proofs.Once.{names_same, none_of, once, or_either}
 use Rattle.run_model.proofs.Turning.{clash, same_to_itself}
-use Rattle.run_model.proofs.Goals.{begun, goes_to_goal}
-use Rattle.run_model.proofs.Token.{number_at, IsDone, AllDone, done_at, sent_at, not_received, nothing_to_receive}
-use Rattle.run_model.specs.Legal.{IsLegal, begins, delivers}
-use Rattle.run_model.specs.Links.{IsLinked, receives}
+use Rattle.run_model.proofs.Goals.{begun}
+use Rattle.run_model.proofs.Spent.{spends, delivers_spends, IsSpentWhereItArrived, arrived_spent, spent_begun}
+use Rattle.run_model.proofs.Token.{is_call, AllDone, AllButLast, sends, all_grow, but_last_grows, no_send, nothing_to_receive, all_received}
+use Rattle.run_model.specs.Legal.{IsLegal, arrives, begins, delivers}
+use Rattle.run_model.specs.Links.{IsLinked}
 use Rattle.run_model.specs.Places.{Asked, asks, at_vat, moves}
 use Rattle.run_model.specs.Steps.{Each, Past, call, count, is_same, last_answer}
 
-grows : (b : Bool) (n m : ℕ) → n < m → n < (if b then suc m else m)
-grows true n m lt = omega (arith, lt)
-grows false n m lt = lt
-
-done_grows : (c : Name) (t : Step) (whole before : Past) (s : Step) → IsDone c whole before s → IsDone c (t ∷ whole) before s
-done_grows c t whole before (Send w k (Call d target i j caps)) h =
-    λ e. let r = h e in (r.0, r.1, grows (receives r.0 k t) (number_at r.0 k before) (count (receives r.0 k) whole) r.2)
-done_grows c t whole before (Send w k (Boot d)) h = h
-done_grows c t whole before (Send w k m) h = h
-done_grows c t whole before (Host w o) h = h
-done_grows c t whole before _ h = h
-
-all_grow : (c : Name) (t : Step) (whole before : Past) → AllDone c whole before → AllDone c (t ∷ whole) before
-all_grow c t whole [] h = h
-all_grow c t whole (s ∷ before) h = (done_grows c t whole before s h.0, all_grow c t whole before h.1)
-
--- a step sends the call on
-abbrev pub sends_call : Name → Step → Bool
-sends_call c (Send v k (Call d target i j caps)) = is_same d c
-sends_call c _ = false
-
--- each Send of the call but the newest was received
-abbrev pub AllButLast : Name → Past → Past → Type 0
-AllButLast c whole [] = ⊥
-AllButLast c whole (s ∷ before) = ((sends_call c s ≡ true) × AllDone c whole before) ⊎ ((sends_call c s ≡ false) × AllButLast c whole before)
-
-but_last_grows : (c : Name) (t : Step) (whole before : Past) → AllButLast c whole before → AllButLast c (t ∷ whole) before
-but_last_grows c t whole [] h = h
-but_last_grows c t whole (s ∷ before) (inl h) = inl (h.0, all_grow c t whole before h.1)
-but_last_grows c t whole (s ∷ before) (inr h) = inr (h.0, but_last_grows c t whole before h.1)
-
--- a step that doesn't send the call on has nothing to be received
-no_send : (c : Name) (whole before : Past) (s : Step) → sends_call c s ≡ false → IsDone c whole before s
-no_send c whole before (Send w k (Call d target i j caps)) e = λ f. absurd (clash f e)
-no_send c whole before (Send w k (Boot d)) e = tt
-no_send c whole before (Send w k m) e = tt
-no_send c whole before (Host w o) e = tt
-no_send c whole before _ e = tt
-
 -- where a call is
 pub data Place (c : Name) (past : Past) : Type 0 where
-  idle : ((w : ℕ) → at_vat past c w ≡ None) → AllDone c past past → Place c past
-  held : (v : ℕ) → ((w : ℕ) → w ≢ v → at_vat past c w ≡ None) → AllDone c past past → list_any (begins c) past ≡ true → list_any (delivers c) past ≡ false → Place c past
-  flying : ((w : ℕ) → at_vat past c w ≡ None) → AllButLast c past past → list_any (begins c) past ≡ true → list_any (delivers c) past ≡ false → Place c past
+  idle : ((w : ℕ) → at_vat past c w ≡ None) → AllDone (is_call c) past past → Place c past
+  held : (v : ℕ) → ((w : ℕ) → w ≢ v → at_vat past c w ≡ None) → AllDone (is_call c) past past → list_any (begins c) past ≡ true → list_any (spends c) past ≡ false → Place c past
+  flying : ((w : ℕ) → at_vat past c w ≡ None) → AllButLast (is_call c) past past → list_any (begins c) past ≡ true → list_any (spends c) past ≡ false → Place c past
 
 same_place : (s : Step) (past : Past) (c : Name) (w : ℕ) → moves c w s ≡ None → at_vat past c w ≡ None → at_vat (s ∷ past) c w ≡ None
 same_place s past c w e h = ap (λ o. option_and_then (λ a. a) (option_or o (last_answer (moves c w) past))) e ∙ h
@@ -64,13 +26,17 @@ same_place s past c w e h = ap (λ o. option_and_then (λ a. a) (option_or o (la
 left_place : (s : Step) (past : Past) (c : Name) (w : ℕ) → moves c w s ≡ Some None → at_vat (s ∷ past) c w ≡ None
 left_place s past c w e = ap (λ o. option_and_then (λ a. a) (option_or o (last_answer (moves c w) past))) e
 
--- a step that neither moves the call nor sends it on
-still : (s : Step) (past : Past) (c : Name) → ((w : ℕ) → moves c w s ≡ None) → sends_call c s ≡ false → delivers c s ≡ false → Place c past → Place c (s ∷ past)
-still s past c unmoved unsent apart (idle n a) = idle (λ w. same_place s past c w (unmoved w) (n w)) (no_send c (s ∷ past) past s unsent, all_grow c s past past a)
-still s past c unmoved unsent undelivered (held v n a b u) =
-    held v (λ w apart. same_place s past c w (unmoved w) (n w apart)) (no_send c (s ∷ past) past s unsent, all_grow c s past past a) (or_right (begins c s) (list_any (begins c) past) b) (or_from (delivers c s) (list_any (delivers c) past) undelivered u)
-still s past c unmoved unsent undelivered (flying n l b u) =
-    flying (λ w. same_place s past c w (unmoved w) (n w)) (inr (unsent, but_last_grows c s past past l)) (or_right (begins c s) (list_any (begins c) past) b) (or_from (delivers c s) (list_any (delivers c) past) undelivered u)
+-- a step that neither moves the call nor sends it on, and doesn't spend it while it has a place
+still : (s : Step) (past : Past) (c : Name) → ((w : ℕ) → moves c w s ≡ None) → sends (is_call c) s ≡ false →
+    (list_any (begins c) past ≡ true → list_any (spends c) past ≡ false → spends c s ≡ false) → Place c past → Place c (s ∷ past)
+still s past c unmoved unsent spares (idle n a) =
+    idle (λ w. same_place s past c w (unmoved w) (n w)) (no_send (is_call c) (s ∷ past) past s unsent, all_grow (is_call c) s past past a)
+still s past c unmoved unsent spares (held v n a b f) =
+    held v (λ w apart. same_place s past c w (unmoved w) (n w apart)) (no_send (is_call c) (s ∷ past) past s unsent, all_grow (is_call c) s past past a)
+    (or_right (begins c s) (list_any (begins c) past) b) (or_from (spends c s) (list_any (spends c) past) (spares b f) f)
+still s past c unmoved unsent spares (flying n l b f) =
+    flying (λ w. same_place s past c w (unmoved w) (n w)) (inr (unsent, but_last_grows (is_call c) s past past l))
+    (or_right (begins c s) (list_any (begins c) past) b) (or_from (spends c s) (list_any (spends c) past) (spares b f) f)
 
 -- the tests of a move
 other_vat : {A : Type 0} (v w : ℕ) (b : Bool) (x : A) → v ≢ w → (if (v == w) && b then Some x else None) ≡ None
@@ -103,44 +69,26 @@ is_there P past c v u h rest = elim (cases_eq v u) [
   | inr apart ↦ absurd (subst (λ o. IsSomeAnd o P) (rest v apart) h)
 ]
 
--- the Send that was left is received now
-finish : (c : Name) (t : Step) (whole later earlier : Past) (s : Step) → sends_call c s ≡ true → IsDone c (t ∷ whole) earlier s → (IsDone c whole earlier s → ⊥) →
-    AllButLast c whole (later ++ s ∷ earlier) → AllDone c (t ∷ whole) (later ++ s ∷ earlier)
-finish c t whole [] earlier s sends now before (inl h) = (now, all_grow c t whole earlier h.1)
-finish c t whole [] earlier s sends now before (inr h) = absurd (clash sends h.0)
-finish c t whole (x ∷ later) earlier s sends now before (inl h) = absurd (before (done_at c whole later earlier s h.1))
-finish c t whole (x ∷ later) earlier s sends now before (inr h) =
-    (no_send c (t ∷ whole) (later ++ s ∷ earlier) x h.0, finish c t whole later earlier s sends now before h.1)
-
-make_place : (v n : ℕ) (cap : Cap) (r i j : ℕ) (past : Past) (c : Name) → IsLegal past (Make v n cap r i j) → (list_any (begins c) past ≡ false → list_any (delivers c) past ≡ false) → (b : Bool) → is_same (call v n) c ≡ b → Place c past → Place c (Make v n cap r i j ∷ past)
+make_place : (v n : ℕ) (cap : Cap) (r i j : ℕ) (past : Past) (c : Name) → IsLegal past (Make v n cap r i j) → (list_any (begins c) past ≡ false → list_any (spends c) past ≡ false) → (b : Bool) → is_same (call v n) c ≡ b → Place c past → Place c (Make v n cap r i j ∷ past)
 make_place v n cap r i j past c legal unborn true same (idle none all) = held v
     (λ w apart. same_place (Make v n cap r i j) past c w (other_vat v w (is_same (call v n) c) (Some (asks cap i j)) (λ e. apart (sym e))) (none w))
-    (tt, all_grow c (Make v n cap r i j) past past all) (or_left (is_same (call v n) c) (list_any (begins c) past) same)
+    (tt, all_grow (is_call c) (Make v n cap r i j) past past all) (or_left (is_same (call v n) c) (list_any (begins c) past) same)
     (unborn (subst (λ d. list_any (begins d) past ≡ false) (names_same (call v n) c same) legal.1))
 make_place v n cap r i j past c legal unborn true same (held u none all begun fresh) = absurd (clash begun (subst (λ d. list_any (begins d) past ≡ false) (names_same (call v n) c same) legal.1))
 make_place v n cap r i j past c legal unborn true same (flying none left begun fresh) = absurd (clash begun (subst (λ d. list_any (begins d) past ≡ false) (names_same (call v n) c same) legal.1))
 make_place v n cap r i j past c legal unborn false same place =
-    still (Make v n cap r i j) past c (λ w. other_call v w (is_same (call v n) c) (Some (asks cap i j)) same) refl refl place
+    still (Make v n cap r i j) past c (λ w. other_call v w (is_same (call v n) c) (Some (asks cap i j)) same) refl (λ b f. refl) place
 
 receive_place : (v k : ℕ) (d : Name) (target : Cap) (i j : ℕ) (caps bound : List Cap) (past : Past) (c : Name) → IsLinked past (Receive v k (Call d target i j caps) bound) →
     (b : Bool) → is_same d c ≡ b → Place c past → Place c (Receive v k (Call d target i j caps) bound ∷ past)
-receive_place v k d target i j caps bound past c linked true same (idle none all) = absurd (nothing_to_receive past v k c d target i j caps same linked.0 linked.1 all)
-receive_place v k d target i j caps bound past c linked true same (held u none all begun fresh) = absurd (nothing_to_receive past v k c d target i j caps same linked.0 linked.1 all)
+receive_place v k d target i j caps bound past c linked true same (idle none all) = absurd (nothing_to_receive (is_call c) past v k (Call d target i j caps) same linked.0 linked.1 all)
+receive_place v k d target i j caps bound past c linked true same (held u none all begun fresh) = absurd (nothing_to_receive (is_call c) past v k (Call d target i j caps) same linked.0 linked.1 all)
 receive_place v k d target i j caps bound past c linked true same (flying none left begun fresh) =
-    let m : Message = Call d target i j caps in
-    let t : Step = Receive v k m bound in
-    let at = sent_at past v k m linked.1 in
-    let number = at.5 in
-    let more : number_at v k at.2 < count (receives v k) (t ∷ past) =
-    subst (λ b. number_at v k at.2 < (if b then suc (count (receives v k) past) else count (receives v k) past)) (sym (and_from (v == v) (k == k) (eq-eqb v v refl) (eq-eqb k k refl))) (omega (arith, number)) in
-    held v (λ w apart. same_place t past c w (other_vat v w (is_same d c) (Some (asks target i j)) (λ e. apart (sym e))) (none w)) (
-      tt,
-      subst (λ l. AllDone c (t ∷ past) l) (sym at.4)
-          (finish c t past at.1 at.2 (Send at.0 k m) same (λ e. (v, (λ e. at.3 (sym e)), more)) (λ h. not_received past v k m linked.0 at (h same)) (subst (λ l. AllButLast c past l) at.4 left)),
-    )
-    begun fresh
+    let t : Step = Receive v k (Call d target i j caps) bound in
+    held v (λ w apart. same_place t past c w (other_vat v w (is_same d c) (Some (asks target i j)) (λ e. apart (sym e))) (none w))
+    (all_received (is_call c) past v k (Call d target i j caps) bound same linked left) begun fresh
 receive_place v k d target i j caps bound past c linked false same place =
-    still (Receive v k (Call d target i j caps) bound) past c (λ w. other_call v w (is_same d c) (Some (asks target i j)) same) refl refl place
+    still (Receive v k (Call d target i j caps) bound) past c (λ w. other_call v w (is_same d c) (Some (asks target i j)) same) refl (λ b f. refl) place
 
 send_place : (v k : ℕ) (d : Name) (target : Cap) (i j : ℕ) (caps : List Cap) (past : Past) (c : Name) → IsLegal past (Send v k (Call d target i j caps)) →
     (b : Bool) → is_same d c ≡ b → Place c past → Place c (Send v k (Call d target i j caps) ∷ past)
@@ -152,9 +100,9 @@ send_place v k d target i j caps past c legal true same (held u none all begun f
     let s : Step = Send v k (Call d target i j caps) in
     let there = is_there _ past d v u legal.1 (λ w apart. subst (λ x. at_vat past x w ≡ None) (sym (names_same d c same)) (none w apart)) in
     flying (λ w. leaves s past c v u w (this_call v (is_same d c) None same) (λ x apart. other_vat v x (is_same d c) None (λ e. apart (sym e))) (none w) (inl there))
-    (inl (same, all_grow c s past past all)) begun fresh
+    (inl (same, all_grow (is_call c) s past past all)) begun fresh
 send_place v k d target i j caps past c legal false same place =
-    still (Send v k (Call d target i j caps)) past c (λ w. other_call v w (is_same d c) None same) same refl place
+    still (Send v k (Call d target i j caps)) past c (λ w. other_call v w (is_same d c) None same) same (λ b f. refl) place
 
 deliver_place : (v : ℕ) (d : Name) (o : ℕ) (past : Past) (c : Name) → IsLegal past (Deliver v d o) → (b : Bool) → is_same d c ≡ b → Place c past → Place c (Deliver v d o ∷ past)
 deliver_place v d o past c legal true same (idle none all) =
@@ -164,68 +112,66 @@ deliver_place v d o past c legal true same (flying none left begun fresh) =
 deliver_place v d o past c legal true same (held u none all begun fresh) =
     let s : Step = Deliver v d o in
     let there = is_there _ past d v u legal.1 (λ w apart. subst (λ x. at_vat past x w ≡ None) (sym (names_same d c same)) (none w apart)) in
-    idle (λ w. leaves s past c v u w (this_call v (is_same d c) None same) (λ x apart. other_vat v x (is_same d c) None (λ e. apart (sym e))) (none w) (inl there)) (tt, all_grow c s past past all)
-deliver_place v d o past c legal false same place = still (Deliver v d o) past c (λ w. other_call v w (is_same d c) None same) refl same place
-
-fault_place : (v : ℕ) (d : Name) (past : Past) (c : Name) → (b : Bool) → is_same d c ≡ b → Place c past → Place c (Fault v d ∷ past)
-fault_place v d past c true same (idle none all) =
-    idle (λ w. leaves (Fault v d) past c v v w (this_call v (is_same d c) None same) (λ x apart. other_vat v x (is_same d c) None (λ e. apart (sym e))) (λ e. none w) (inr (none w)))
-    (tt, all_grow c (Fault v d) past past all)
-fault_place v d past c true same (flying none left begun fresh) =
-    flying (λ w. leaves (Fault v d) past c v v w (this_call v (is_same d c) None same) (λ x apart. other_vat v x (is_same d c) None (λ e. apart (sym e))) (λ e. none w) (inr (none w)))
-    (inr (refl, but_last_grows c (Fault v d) past past left)) begun fresh
-fault_place v d past c true same (held u none all begun fresh) =
-    held u (λ w apart. leaves (Fault v d) past c v u w (this_call v (is_same d c) None same) (λ x far. other_vat v x (is_same d c) None (λ e. far (sym e))) (none w) (inr (none w apart)))
-    (tt, all_grow c (Fault v d) past past all) begun fresh
-fault_place v d past c false same place = still (Fault v d) past c (λ w. other_call v w (is_same d c) None same) refl refl place
-
-next_place : (s : Step) (past : Past) (c : Name) → IsLegal past s → IsLinked past s → (list_any (begins c) past ≡ false → list_any (delivers c) past ≡ false) → Place c past → Place c (s ∷ past)
-next_place (Make v n cap r i j) past c legal linked unborn place = make_place v n cap r i j past c legal unborn _ refl place
-next_place (Receive v k (Call d target i j caps) bound) past c legal linked unborn place = receive_place v k d target i j caps bound past c linked _ refl place
-next_place (Receive v k (Boot d) bound) past c legal linked unborn place = still (Receive v k (Boot d) bound) past c (λ w. refl) refl refl place
-next_place (Receive v k m bound) past c legal linked unborn place = still (Receive v k m bound) past c (λ w. refl) refl refl place
-next_place (Send v k (Call d target i j caps)) past c legal linked unborn place = send_place v k d target i j caps past c legal _ refl place
-next_place (Send v k (Boot d)) past c legal linked unborn place = still (Send v k (Boot d)) past c (λ w. refl) refl refl place
-next_place (Send v k m) past c legal linked unborn place = still (Send v k m) past c (λ w. refl) refl refl place
-next_place (Deliver v d o) past c legal linked unborn place = deliver_place v d o past c legal _ refl place
-next_place (Fault v d) past c legal linked unborn place = fault_place v d past c _ refl place
-next_place (Host v o) past c legal linked unborn place = still (Host v o) past c (λ w. refl) refl refl place
-next_place (Vow v p) past c legal linked unborn place = still (Vow v p) past c (λ w. refl) refl refl place
-next_place (Fulfil v p to) past c legal linked unborn place = still (Fulfil v p to) past c (λ w. refl) refl refl place
-next_place (Break v p) past c legal linked unborn place = still (Break v p) past c (λ w. refl) refl refl place
-next_place (Named v x) past c legal linked unborn place = still (Named v x) past c (λ w. refl) refl refl place
-next_place (Answer v d results) past c legal linked unborn place = still (Answer v d results) past c (λ w. refl) refl refl place
-
-delivered_at : (s : Step) (past : Past) (c : Name) → IsLegal past s → Each IsLegal past → Each IsLinked past → delivers c s ≡ true → list_any (begins c) past ≡ true
-delivered_at (Deliver v d o) past c legal before linked e = delivered_from _ (at_vat past d v) refl legal.1 where
-  delivered_from : (P : Asked → Type 0) (a : Option Asked) → at_vat past d v ≡ a → IsSomeAnd a P → list_any (begins c) past ≡ true
-  delivered_from P None f h = absurd h
-  delivered_from P (Some a) f h = subst (λ x. list_any (begins x) past ≡ true) (names_same d c e) (begun past d _ (goes_to_goal past before linked d v a f))
-delivered_at (Host v o) past c legal before linked e = absurd (false≢true e)
-delivered_at _ past c legal before linked e = absurd (false≢true e)
-
-or_either : (a b : Bool) → (a || b) ≡ true → (a ≡ true) ⊎ (b ≡ true)
-or_either true b e = inl refl
-or_either false b e = inr e
-
-delivered_begun : (past : Past) (c : Name) → Each IsLegal past → Each IsLinked past → list_any (delivers c) past ≡ true → list_any (begins c) past ≡ true
-delivered_begun [] c legal linked e = absurd (false≢true e)
-delivered_begun (s ∷ past) c legal linked e = or_right (begins c s) (list_any (begins c) past) (elim (or_either (delivers c s) (list_any (delivers c) past) e) [
-  | inl now ↦ delivered_at s past c legal.0 legal.1 linked.1 now
-  | inr before ↦ delivered_begun past c legal.1 linked.1 before
-])
-
--- wherever a run is, a call is in one place
-pub place : (past : Past) (c : Name) → Each IsLegal past → Each IsLinked past → Place c past
-place [] c legal linked = idle (λ w. refl) tt
-place (s ∷ past) c legal linked =
-    next_place s past c legal.0 linked.0 (λ e. false_from_ne_true _ (λ f. clash (delivered_begun past c legal.1 linked.1 f) e)) (place past c legal.1 linked.1)
+    idle (λ w. leaves s past c v u w (this_call v (is_same d c) None same) (λ x apart. other_vat v x (is_same d c) None (λ e. apart (sym e))) (none w) (inl there)) (tt, all_grow (is_call c) s past past all)
+deliver_place v d o past c legal false same place = still (Deliver v d o) past c (λ w. other_call v w (is_same d c) None same) refl (λ b f. same) place
 
 there_alone : (past : Past) (c : Name) (u v : ℕ) → ((w : ℕ) → w ≢ u → at_vat past c w ≡ None) → IsSome (at_vat past c v) → v ≡ u
 there_alone past c u v rest some = elim (cases_eq v u) [
   | inl e ↦ e
   | inr apart ↦ absurd (clash some (ap (λ o. is_some o) (rest v apart)))
 ]
+
+-- so a call that isn't spent is faulted where it is
+faulted_here : (v : ℕ) (d : Name) (past : Past) (c : Name) → IsSpentWhereItArrived past → IsLegal past (Fault v d) → is_same d c ≡ true → list_any (spends c) past ≡ false →
+    IsSome (at_vat past c v)
+faulted_here v d past c spent legal same fresh = subst (λ x. IsSome (at_vat past x v)) (names_same d c same) (elim (or_either (list_any (arrives d v) past) (is_some (at_vat past d v)) legal.1.0) [
+  | inl there ↦ absurd (clash (subst (λ x. list_any (spends x) past ≡ true) (names_same d c same) (spent d v there)) fresh)
+  | inr here ↦ here
+])
+
+fault_place : (v : ℕ) (d : Name) (past : Past) (c : Name) → IsSpentWhereItArrived past → IsLegal past (Fault v d) → (b : Bool) → is_same d c ≡ b → Place c past → Place c (Fault v d ∷ past)
+fault_place v d past c spent legal true same (idle none all) =
+    idle (λ w. leaves (Fault v d) past c v v w (this_call v (is_same d c) None same) (λ x apart. other_vat v x (is_same d c) None (λ e. apart (sym e))) (λ e. none w) (inr (none w)))
+    (tt, all_grow (is_call c) (Fault v d) past past all)
+fault_place v d past c spent legal true same (flying none left begun fresh) =
+    absurd (clash (faulted_here v d past c spent legal same fresh) (ap (λ o. is_some o) (none v)))
+fault_place v d past c spent legal true same (held u none all begun fresh) =
+    let there = there_alone past c u v none (faulted_here v d past c spent legal same fresh) in
+    idle (λ w. leaves (Fault v d) past c v u w (this_call v (is_same d c) None same) (λ x apart. other_vat v x (is_same d c) None (λ e. apart (sym e))) (none w) (inl there))
+    (tt, all_grow (is_call c) (Fault v d) past past all)
+fault_place v d past c spent legal false same place = still (Fault v d) past c (λ w. other_call v w (is_same d c) None same) refl (λ b f. same) place
+
+answer_spares : (v : ℕ) (d : Name) (results : List (List ℕ × Cap)) (past : Past) (c : Name) → IsSpentWhereItArrived past → IsLegal past (Answer v d results) →
+    list_any (spends c) past ≡ false → is_same d c ≡ false
+answer_spares v d results past c spent legal f = false_from_ne_true (is_same d c)
+    (λ e. clash (subst (λ x. list_any (spends x) past ≡ true) (names_same d c e) (spent d v legal.1.0)) f)
+
+boot_spares : (v k : ℕ) (d : Name) (past : Past) (c : Name) → IsLegal past (Send v k (Boot d)) → list_any (begins c) past ≡ true → is_same d c ≡ false
+boot_spares v k d past c legal b = false_from_ne_true (is_same d c)
+    (λ e. clash b (subst (λ x. list_any (begins x) past ≡ false) (names_same d c e) legal.1.1))
+
+next_place : (s : Step) (past : Past) (c : Name) → IsLegal past s → IsLinked past s → IsSpentWhereItArrived past → (list_any (begins c) past ≡ false → list_any (spends c) past ≡ false) → Place c past → Place c (s ∷ past)
+next_place (Make v n cap r i j) past c legal linked spent unborn place = make_place v n cap r i j past c legal unborn _ refl place
+next_place (Receive v k (Call d target i j caps) bound) past c legal linked spent unborn place = receive_place v k d target i j caps bound past c linked _ refl place
+next_place (Receive v k (Boot d) bound) past c legal linked spent unborn place = still (Receive v k (Boot d) bound) past c (λ w. refl) refl (λ b f. refl) place
+next_place (Receive v k m bound) past c legal linked spent unborn place = still (Receive v k m bound) past c (λ w. refl) refl (λ b f. refl) place
+next_place (Send v k (Call d target i j caps)) past c legal linked spent unborn place = send_place v k d target i j caps past c legal _ refl place
+next_place (Send v k (Boot d)) past c legal linked spent unborn place = still (Send v k (Boot d)) past c (λ w. refl) refl (λ b f. boot_spares v k d past c legal b) place
+next_place (Send v k m) past c legal linked spent unborn place = still (Send v k m) past c (λ w. refl) refl (λ b f. refl) place
+next_place (Deliver v d o) past c legal linked spent unborn place = deliver_place v d o past c legal _ refl place
+next_place (Fault v d) past c legal linked spent unborn place = fault_place v d past c spent legal _ refl place
+next_place (Host v o) past c legal linked spent unborn place = still (Host v o) past c (λ w. refl) refl (λ b f. refl) place
+next_place (Vow v p) past c legal linked spent unborn place = still (Vow v p) past c (λ w. refl) refl (λ b f. refl) place
+next_place (Fulfil v p to) past c legal linked spent unborn place = still (Fulfil v p to) past c (λ w. refl) refl (λ b f. refl) place
+next_place (Break v p) past c legal linked spent unborn place = still (Break v p) past c (λ w. refl) refl (λ b f. refl) place
+next_place (Named v x) past c legal linked spent unborn place = still (Named v x) past c (λ w. refl) refl (λ b f. refl) place
+next_place (Answer v d results) past c legal linked spent unborn place = still (Answer v d results) past c (λ w. refl) refl (λ b f. answer_spares v d results past c spent legal f) place
+
+-- wherever a run is, a call is in one place
+pub place : (past : Past) (c : Name) → Each IsLegal past → Each IsLinked past → Place c past
+place [] c legal linked = idle (λ w. refl) tt
+place (s ∷ past) c legal linked =
+    next_place s past c legal.0 linked.0 (arrived_spent past linked.1) (λ e. false_from_ne_true _ (λ f. clash (spent_begun past legal.1 linked.1 c f) e)) (place past c legal.1 linked.1)
 
 at_one : (past : Past) (c : Name) → Place c past → (v w : ℕ) → IsSome (at_vat past c v) → IsSome (at_vat past c w) → v ≡ w
 at_one past c (idle none all) v w h k = absurd (clash h (ap (λ o. is_some o) (none v)))
@@ -234,16 +180,17 @@ at_one past c (flying none left b f) v w h k = absurd (clash h (ap (λ o. is_som
 
 at_none : (past : Past) (c : Name) → Place c past → (v k w : ℕ) (target : Cap) (i j : ℕ) (caps bound : List Cap) → IsLinked past (Receive v k (Call c target i j caps) bound) → at_vat past c w ≡ None
 at_none past c (idle none all) v k w target i j caps bound linked = none w
-at_none past c (held u rest all b f) v k w target i j caps bound linked = absurd (nothing_to_receive past v k c c target i j caps (same_to_itself c) linked.0 linked.1 all)
+at_none past c (held u rest all b f) v k w target i j caps bound linked = absurd (nothing_to_receive (is_call c) past v k (Call c target i j caps) (same_to_itself c) linked.0 linked.1 all)
 at_none past c (flying none left b f) v k w target i j caps bound linked = none w
 
-fresh_there : (P : Asked → Type 0) (past : Past) (c : Name) (v : ℕ) → Place c past → IsSomeAnd (at_vat past c v) P → list_any (delivers c) past ≡ false
+pub fresh_there : (P : Asked → Type 0) (past : Past) (c : Name) (v : ℕ) → Place c past → IsSomeAnd (at_vat past c v) P → list_any (spends c) past ≡ false
 fresh_there P past c v (idle none all) h = absurd (not_at P past c v h (none v))
 fresh_there P past c v (held u rest all b f) h = f
 fresh_there P past c v (flying none left b f) h = f
 
 pub delivered_fresh : (s : Step) (past : Past) (c : Name) → IsLegal past s → ((d : Name) → Place d past) → delivers c s ≡ true → list_any (delivers c) past ≡ false
-delivered_fresh (Deliver v d o) past c legal places e = subst (λ x. list_any (delivers x) past ≡ false) (names_same d c e) (fresh_there _ past d v (places d) legal.1)
+delivered_fresh (Deliver v d o) past c legal places e =
+    none_of (delivers c) (spends c) (delivers_spends c) past (subst (λ x. list_any (spends x) past ≡ false) (names_same d c e) (fresh_there _ past d v (places d) legal.1))
 delivered_fresh (Host v o) past c legal places e = absurd (false≢true e)
 delivered_fresh _ past c legal places e = absurd (false≢true e)
 

@@ -1,6 +1,7 @@
 -- What is received was sent before.
 use Rattle.std.proofs.Common.{◌≡◌, ◌≢◌, refl, sym, ◌∙◌, ap, subst, ℕ, zero, suc, ◌==◌, List, [], ◌∷◌, ◌++◌, Bool, true, false, not, ◌&&◌, Option, Some, None, reverse, slice_get, filter_map, if◌then◌else◌, append_assoc, true≢false, eqb-true}
 use Rattle.std.proofs.lemmas.List.{reverse-append, reverse-reverse}
+use Rattle.std.proofs.lemmas.List.Folds.{list_any-append}
 use Rattle.std.proofs.lemmas.Bool.{and_parts, or_right, eq-eqb}
 use Rattle.std.specs.List.{AllByRecursion, cons_option, list_any}
 use Rattle.run_model.specs.Types.{Name, Cap, FieldOf, Message, Return, Resolve, Step, Host, Send, Receive}
@@ -73,9 +74,9 @@ received_leads before legal v k c results caps bound linked =
     subst (λ l. AllByRecursion (λ r. LeadsByTurns l (FieldOf c r.0) r.1) results) (sym s.4)
     (all_grow s.1 (Send s.0 k (Return c results caps) ∷ s.2) c results (all_grow (Send s.0 k (Return c results caps) ∷ []) s.2 c results there.1.1))
 
-list_grows : (test : Step → Bool) (later earlier : Past) → list_any test earlier ≡ true → list_any test (later ++ earlier) ≡ true
-list_grows test [] earlier e = e
-list_grows test (x ∷ later) earlier e = or_right (test x) (list_any test (later ++ earlier)) (list_grows test later earlier e)
+-- a step that passes a test stays
+pub passes_later : (test : Step → Bool) (later earlier : Past) → list_any test earlier ≡ true → list_any test (later ++ earlier) ≡ true
+passes_later test later earlier e = list_any-append test later earlier ∙ or_right (list_any test later) (list_any test earlier) e
 
 pub received_answered : (before : Past) → Each IsLegal before → (v k : ℕ) (c : Name) (results : List (List ℕ × Cap)) (caps bound : List Cap) →
     IsLinked before (Receive v k (Return c results caps) bound) → list_any (answers c) before ≡ true
@@ -83,7 +84,7 @@ received_answered before legal v k c results caps bound linked =
     let m : Message = Return c results caps in
     let s = was_sent before v k m bound linked in
     let there = legal_at s.1 s.2 (Send s.0 k m) (subst (λ l. Each IsLegal l) s.4 legal) in
-    subst (λ l. list_any (answers c) l ≡ true) (sym s.4) (list_grows (answers c) s.1 (Send s.0 k m ∷ s.2) there.1.0)
+    subst (λ l. list_any (answers c) l ≡ true) (sym s.4) (passes_later (answers c) s.1 (Send s.0 k m ∷ s.2) there.1.0)
 
 pub resolved_leads : (before : Past) → Each IsLegal before → (v k : ℕ) (promise cap : Cap) (bound : List Cap) → IsLinked before (Receive v k (Resolve promise cap) bound) →
     LeadsByTurns before promise cap

@@ -1,12 +1,13 @@
--- What is received of a call wasn't received before.
+-- What is received on a link wasn't received before.
 use Rattle.std.proofs.Common.{◌≡◌, ◌≢◌, ◌⊎◌, ◌<◌, inl, inr, refl, sym, ◌∙◌, ap, subst, ℕ, zero, suc, ◌==◌, List, [], ◌∷◌, ◌++◌, length, Bool, true, false, not, ◌&&◌, Option, Some, None, if◌then◌else◌, reverse, filter_map, slice_get, arith, eqb-true, ne_eqb}
 use Rattle.std.specs.Prelude.{⊤}
 use Rattle.std.specs.List.{list_all, cons_option}
 use Rattle.std.proofs.lemmas.List.{reverse-reverse}
 use Rattle.std.proofs.lemmas.Bool.{and_parts, and_from, eq-eqb, false≢true, cases_eq}
 use Rattle.run_model.specs.Types.{Name, Cap, Message, Call, Step, Host, Send, Receive}
+use Rattle.run_model.proofs.Turning.{clash}
 use Rattle.run_model.proofs.Sending.{sent_by, back_again}
-use Rattle.run_model.specs.Links.{CarriesNext, IsEnd, are_one, other_user, receives, sent_to}
+use Rattle.run_model.specs.Links.{CarriesNext, IsEnd, IsLinked, are_one, other_user, receives, sent_to}
 use Rattle.run_model.specs.Steps.{OneOf, Past, count, is_same}
 
 -- the number that a message from another vat would have that is sent to v on k next
@@ -17,19 +18,24 @@ number_at v k before = length (filter_map (sent_to v k) (reverse before))
 abbrev pub IsReceived : Past → Past → ℕ → ℕ → Type 0
 IsReceived whole before w k = (v : ℕ) × (v ≢ w) × (number_at v k before < count (receives v k) whole)
 
--- if the step sends the call on, that was received
-abbrev pub IsDone : Name → Past → Past → Step → Type 0
-IsDone c whole before (Send w k (Call d target i j caps)) = is_same d c ≡ true → IsReceived whole before w k
-IsDone c whole before _ = ⊤
+-- a message is a Call of this call
+abbrev pub is_call : Name → Message → Bool
+is_call c (Call d target i j caps) = is_same d c
+is_call c _ = false
 
--- each Send of the call was received
-abbrev pub AllDone : Name → Past → Past → Type 0
-AllDone c whole [] = ⊤
-AllDone c whole (s ∷ before) = IsDone c whole before s × AllDone c whole before
+-- if the step sends such a message, that was received
+abbrev pub IsDone : (Message → Bool) → Past → Past → Step → Type 0
+IsDone test whole before (Send w k m) = test m ≡ true → IsReceived whole before w k
+IsDone test whole before _ = ⊤
 
-pub done_at : (c : Name) (whole later earlier : Past) (s : Step) → AllDone c whole (later ++ s ∷ earlier) → IsDone c whole earlier s
-done_at c whole [] earlier s h = h.0
-done_at c whole (x ∷ later) earlier s h = done_at c whole later earlier s h.1
+-- each such message that was sent was received
+abbrev pub AllDone : (Message → Bool) → Past → Past → Type 0
+AllDone test whole [] = ⊤
+AllDone test whole (s ∷ before) = IsDone test whole before s × AllDone test whole before
+
+pub done_at : (test : Message → Bool) (whole later earlier : Past) (s : Step) → AllDone test whole (later ++ s ∷ earlier) → IsDone test whole earlier s
+done_at test whole [] earlier s h = h.0
+done_at test whole (x ∷ later) earlier s h = done_at test whole later earlier s h.1
 
 none_some : {A : Type 0} {x : A} → None ≡ Some x → ⊥
 none_some e = cc
@@ -124,10 +130,66 @@ not_received before v k m end at done = elim (cases_eq done.0 v) [
       (subst (λ l. OneOf (λ x. x ≡ at.0) (filter_map (other_user v k) l)) (sym at.4) (sender_uses v k at.0 m at.1 at.2 at.3)))
 ]
 
--- a call of which each Send was received isn't received
-pub nothing_to_receive : (before : Past) (v k : ℕ) (c d : Name) (target : Cap) (i j : ℕ) (caps : List Cap) → is_same d c ≡ true → IsEnd before v k →
-    CarriesNext before v k (Call d target i j caps) → AllDone c before before → ⊥
-nothing_to_receive before v k c d target i j caps same end next all =
-    let m : Message = Call d target i j caps in
+-- where each such message that was sent was received, none is received
+pub nothing_to_receive : (test : Message → Bool) (before : Past) (v k : ℕ) (m : Message) → test m ≡ true → IsEnd before v k → CarriesNext before v k m → AllDone test before before → ⊥
+nothing_to_receive test before v k m same end next all =
     let at = sent_at before v k m next in
-    not_received before v k m end at (done_at c before at.1 at.2 (Send at.0 k m) (subst (λ l. AllDone c before l) at.4 all) same)
+    not_received before v k m end at (done_at test before at.1 at.2 (Send at.0 k m) (subst (λ l. AllDone test before l) at.4 all) same)
+
+grows : (b : Bool) (n m : ℕ) → n < m → n < (if b then suc m else m)
+grows true n m lt = omega (arith, lt)
+grows false n m lt = lt
+
+done_grows : (test : Message → Bool) (t : Step) (whole before : Past) (s : Step) → IsDone test whole before s → IsDone test (t ∷ whole) before s
+done_grows test t whole before (Send w k m) h =
+    λ e. let r = h e in (r.0, r.1, grows (receives r.0 k t) (number_at r.0 k before) (count (receives r.0 k) whole) r.2)
+done_grows test t whole before (Host w o) h = h
+done_grows test t whole before _ h = h
+
+pub all_grow : (test : Message → Bool) (t : Step) (whole before : Past) → AllDone test whole before → AllDone test (t ∷ whole) before
+all_grow test t whole [] h = h
+all_grow test t whole (s ∷ before) h = (done_grows test t whole before s h.0, all_grow test t whole before h.1)
+
+-- a step sends such a message
+abbrev pub sends : (Message → Bool) → Step → Bool
+sends test (Send v k m) = test m
+sends test _ = false
+
+-- each such message that was sent but the newest was received
+abbrev pub AllButLast : (Message → Bool) → Past → Past → Type 0
+AllButLast test whole [] = ⊥
+AllButLast test whole (s ∷ before) = ((sends test s ≡ true) × AllDone test whole before) ⊎ ((sends test s ≡ false) × AllButLast test whole before)
+
+pub but_last_grows : (test : Message → Bool) (t : Step) (whole before : Past) → AllButLast test whole before → AllButLast test (t ∷ whole) before
+but_last_grows test t whole [] h = h
+but_last_grows test t whole (s ∷ before) (inl h) = inl (h.0, all_grow test t whole before h.1)
+but_last_grows test t whole (s ∷ before) (inr h) = inr (h.0, but_last_grows test t whole before h.1)
+
+-- a step that sends no such message has nothing to be received
+pub no_send : (test : Message → Bool) (whole before : Past) (s : Step) → sends test s ≡ false → IsDone test whole before s
+no_send test whole before (Send w k m) e = λ f. absurd (clash f e)
+no_send test whole before (Host w o) e = tt
+no_send test whole before _ e = tt
+
+-- the message that was left is received now
+finish : (test : Message → Bool) (t : Step) (whole later earlier : Past) (s : Step) → sends test s ≡ true → IsDone test (t ∷ whole) earlier s → (IsDone test whole earlier s → ⊥) →
+    AllButLast test whole (later ++ s ∷ earlier) → AllDone test (t ∷ whole) (later ++ s ∷ earlier)
+finish test t whole [] earlier s now done before (inl h) = (done, all_grow test t whole earlier h.1)
+finish test t whole [] earlier s now done before (inr h) = absurd (clash now h.0)
+finish test t whole (x ∷ later) earlier s now done before (inl h) = absurd (before (done_at test whole later earlier s h.1))
+finish test t whole (x ∷ later) earlier s now done before (inr h) =
+    (no_send test (t ∷ whole) (later ++ s ∷ earlier) x h.0, finish test t whole later earlier s now done before h.1)
+
+-- such a message is received: it is the one that was left, so all were received now
+pub all_received : (test : Message → Bool) (past : Past) (v k : ℕ) (m : Message) (bound : List Cap) → test m ≡ true → IsLinked past (Receive v k m bound) →
+    AllButLast test past past → AllDone test (Receive v k m bound ∷ past) (Receive v k m bound ∷ past)
+all_received test past v k m bound same linked left =
+    let t : Step = Receive v k m bound in
+    let at = sent_at past v k m linked.1 in
+    let number = at.5 in
+    let more : number_at v k at.2 < count (receives v k) (t ∷ past) =
+    subst (λ b. number_at v k at.2 < (if b then suc (count (receives v k) past) else count (receives v k) past)) (sym (and_from (v == v) (k == k) (eq-eqb v v refl) (eq-eqb k k refl))) (omega (arith, number)) in (
+      tt,
+      subst (λ l. AllDone test (t ∷ past) l) (sym at.4)
+          (finish test t past at.1 at.2 (Send at.0 k m) same (λ e. (v, (λ e. at.3 (sym e)), more)) (λ h. not_received past v k m linked.0 at (h same)) (subst (λ l. AllButLast test past l) at.4 left)),
+    )

@@ -2,12 +2,12 @@
 
 ghost use Rattle.std.specs.Prelude.{◌≡◌, ◌≢◌, ◌↔◌, ◌≤◌, ◌++◌, ◌∷◌, [], ◌⊎◌, ℕ, List, Some, None, IsTrue, IsFalse, IsSome, IsSomeAnd};
 ghost use Rattle.std.specs.List.{list_any, AllByRecursion};
-ghost use Rattle.run_model.specs.Types.{Name, Cap, Object, FieldOf, Message, Call, Return, Resolve, Step, Send, Receive};
+ghost use Rattle.run_model.specs.Types.{Name, Cap, Object, FieldOf, Message, Boot, Call, Return, Resolve, Step, Send, Receive};
 ghost use Rattle.run_model.specs.Steps.{Past, OneOf, Each, last_answer, count};
 ghost use Rattle.run_model.specs.Leads.{Turns, Leads, LeadsByTurns};
 ghost use Rattle.run_model.specs.Has.{Brings, Has};
 ghost use Rattle.run_model.specs.Places.{Asked, at_vat};
-ghost use Rattle.run_model.specs.Legal.{IsLegal, begins, ends, answers, settles, delivers};
+ghost use Rattle.run_model.specs.Legal.{IsLegal, begins, ends, answers, arrives, settles, delivers};
 ghost use Rattle.run_model.specs.Links.{IsLinked};
 ghost use Rattle.run_model.specs.UnderWay.{IsUnderWay, IsSomewhere};
 ghost use Rattle.run_model.specs.Right.{made, ReachesObject, IsOrdered};
@@ -78,7 +78,8 @@ pub fn what_is_received_is_led_to()
 {}
 
 /// Where each step is legal and keeps to its link, a call is at one vat at most, and at none while it is under way or comes
-/// out of a link. While it is at a vat or under way it wasn't delivered, and it is delivered once at most.
+/// out of a link. While it is at a vat or under way it wasn't delivered, answered or faulted, and it is delivered once at
+/// most.
 pub fn a_call_has_one_place()
     ensures at_one { (before : Past) → Each IsLegal before → Each IsLinked before → (c : Name) (v w : ℕ)
         → IsSome (at_vat before c v) → IsSome (at_vat before c w) → v ≡ w }
@@ -90,7 +91,24 @@ pub fn a_call_has_one_place()
         → IsSome (at_vat before c v) → IsFalse (list_any (delivers c) before) }
     ensures undelivered_there { (before : Past) → Each IsLegal before → Each IsLinked before → (c : Name)
         → IsUnderWay before c → IsFalse (list_any (delivers c) before) }
+    ensures unsettled_here { (before : Past) → Each IsLegal before → Each IsLinked before → (c : Name) (v : ℕ)
+        → IsSome (at_vat before c v) → IsFalse (list_any (settles c) before) }
+    ensures unsettled_there { (before : Past) → Each IsLegal before → Each IsLinked before → (c : Name)
+        → IsUnderWay before c → IsFalse (list_any (settles c) before) }
     ensures delivered { (before : Past) → Each IsLegal before → Each IsLinked before → (c : Name) → count (delivers c) before ≤ 1 }
+{}
+
+/// Where each step is legal and keeps to its link, a call arrives once at most, where it is delivered or its Bootstrap is
+/// received, and at one vat at most. A call whose Bootstrap is received arrived nowhere before, and wasn't answered or
+/// faulted.
+pub fn a_call_arrives_once()
+    ensures booted { (before : Past) → Each IsLegal before → Each IsLinked before → (c : Name) (v connection w : ℕ) (bound : List Cap)
+        → IsLinked before (Receive v connection (Boot c) bound) → IsFalse (list_any (arrives c w) before) }
+    ensures unsettled { (before : Past) → Each IsLegal before → Each IsLinked before → (c : Name) (v connection : ℕ) (bound : List Cap)
+        → IsLinked before (Receive v connection (Boot c) bound) → IsFalse (list_any (settles c) before) }
+    ensures once { (before : Past) → Each IsLegal before → Each IsLinked before → (c : Name) (v : ℕ) → count (arrives c v) before ≤ 1 }
+    ensures at_one { (before : Past) → Each IsLegal before → Each IsLinked before → (c : Name) (v w : ℕ)
+        → IsTrue (list_any (arrives c v) before) → IsTrue (list_any (arrives c w) before) → v ≡ w }
 {}
 
 /// Where each step keeps to its link, a call that was made is at a vat, or under way between two, or was delivered or

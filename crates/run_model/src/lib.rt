@@ -23,7 +23,7 @@ mod step;
 pub use cap::Cap;
 pub use caps::Caps;
 pub use laws::{
-    a_call_has_one_place, a_call_is_somewhere, calls_come_from_their_makers,
+    a_call_arrives_once, a_call_has_one_place, a_call_is_somewhere, calls_come_from_their_makers,
     calls_reach_their_objects, leads_are_transitive, objects_stay, runs_are_ordered_unless_early,
     turns_go_one_way, turns_only_grow, what_comes_once, what_is_foreign_was_brought,
     what_is_had_stays_had, what_is_received_is_led_to, what_is_received_was_sent,

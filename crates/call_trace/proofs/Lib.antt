@@ -6,5 +6,6 @@ pub mod Sharing
 pub mod Points
 pub mod Naming
 pub mod Carried
+pub mod Tells
 mod PipelinedCall
 mod UnderWay

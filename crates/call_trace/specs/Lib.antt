@@ -3,6 +3,7 @@ pub mod Naming
 pub mod Said
 pub mod Part
 pub mod Carried
+pub mod Tells
 pub mod Lives
 pub mod Balance
 pub mod Findings

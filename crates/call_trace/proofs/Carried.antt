@@ -184,7 +184,7 @@ module _ (names : Naming) (es : Past) (k c : ℕ) (rs : List ℕ) (named_caps : 
 
 -- ---- together
 
-each_after : (later : List Event) (past : Past) → Each Refers (later ++ past) → EachAfter Refers later past
+pub each_after : (later : List Event) (past : Past) → Each Refers (later ++ past) → EachAfter Refers later past
 each_after [] past h = tt
 each_after (e ∷ later) past h = (h.0, each_after later past h.1)
 

@@ -7,5 +7,6 @@ pub mod Points
 pub mod Naming
 pub mod Carried
 pub mod Tells
+pub mod Within
 mod PipelinedCall
 mod UnderWay

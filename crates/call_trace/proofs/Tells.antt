@@ -272,7 +272,7 @@ resolve_tells v i place es steps k c rs n resolution s b x says began there name
 
 -- ---- together
 
-own_promise : (v p : ℕ) (es : Past) (steps : List Step) (e : Event) (s : Step) (b : View) → Says v es steps e s → keeps p es e ≡ Some (turns b) → TurnsNames (naming v (e ∷ es) (s ∷ steps)) (Promise p) b s
+pub own_promise : (v p : ℕ) (es : Past) (steps : List Step) (e : Event) (s : Step) (b : View) → Says v es steps e s → keeps p es e ≡ Some (turns b) → TurnsNames (naming v (e ∷ es) (s ∷ steps)) (Promise p) b s
 own_promise v p es steps (Fulfil r to) s b says h =
     let t = turned_is (is_promise p (view_of_reference es r)) (on_to (view_of_reference es to)) b h in
     kept_tells v p es steps r to s b says t.0 (on_is (view_of_reference es to) b t.1)
@@ -283,7 +283,7 @@ not_late_on : (late : Bool) (o : Option View) (b : View) → (if late then stops
 not_late_on true o b h = absurd (no_stop b h)
 not_late_on false o b h = (refl, on_is o b h)
 
-of_call : (v call : ℕ) (path : List ℕ) (es : Past) (steps : List Step) (e : Event) (s : Step) (b : View) → Says v es steps e s → answers call path es e ≡ Some (turns b) → TurnsNames (naming v (e ∷ es) (s ∷ steps)) (FieldOf call path) b s
+pub of_call : (v call : ℕ) (path : List ℕ) (es : Past) (steps : List Step) (e : Event) (s : Step) (b : View) → Says v es steps e s → answers call path es e ≡ Some (turns b) → TurnsNames (naming v (e ∷ es) (s ∷ steps)) (FieldOf call path) b s
 of_call v call path es steps (Answer c results) s b says h =
     let t = turned_is (c == call) (on_to (answer_at path es results)) b h in
     answer_tells v call path es steps c results s b says (eqb-true c call t.0) (on_is (answer_at path es results) b t.1)
@@ -295,7 +295,7 @@ of_call v call path es steps (Wire false k c rs (Return q release outcome)) s b 
     return_tells v call path es steps k c rs q release outcome s b says t.0 on.0 on.1
 of_call v call path es steps e s b says h = absurd (let no : ⊥ = cc in no)
 
-of_import : (v i place : ℕ) (es : Past) (steps : List Step) (e : Event) (s : Step) (b : View) (x : Cap) → Says v es steps e s → resolves i place es e ≡ Some (turns b) →
+pub of_import : (v i place : ℕ) (es : Past) (steps : List Step) (e : Event) (s : Step) (b : View) (x : Cap) → Says v es steps e s → resolves i place es e ≡ Some (turns b) →
     cap_named v (e ∷ es) (s ∷ steps) (Import i place) ≡ Some x → TurnsNames (naming v (e ∷ es) (s ∷ steps)) (Import i place) b s
 of_import v i place es steps (Wire false k c rs (Resolve n resolution)) s b x says h named =
     let e = Wire false k c rs (Resolve n resolution) in

@@ -8,5 +8,6 @@ pub mod Naming
 pub mod Carried
 pub mod Tells
 pub mod Within
+pub mod Having
 mod PipelinedCall
 mod UnderWay

@@ -100,7 +100,7 @@ import_before i place before e n h = absurd (let no : ⊥ = cc in no)
 
 -- ---- a vat's step stands in the run
 
-abbrev StandsIn : List Step → Step → Type 0
+abbrev pub StandsIn : List Step → Step → Type 0
 StandsIn before s = (later earlier : List Step) × (before ≡ later ++ s ∷ earlier)
 
 heads : {x y : Step} {xs ys : List Step} → (x ∷ xs) ≡ (y ∷ ys) → x ≡ y
@@ -109,7 +109,7 @@ heads e = cc
 tails : {x y : Step} {xs ys : List Step} → (x ∷ xs) ≡ (y ∷ ys) → xs ≡ ys
 tails e = cc
 
-stands_in : (p : Step → Bool) (before added rest : List Step) (s : Step) → filter p before ≡ added ++ s ∷ rest → StandsIn before s
+pub stands_in : (p : Step → Bool) (before added rest : List Step) (s : Step) → filter p before ≡ added ++ s ∷ rest → StandsIn before s
 stands_in p [] [] rest s h = absurd (let no : ⊥ = cc in no)
 stands_in p [] (y ∷ added) rest s h = absurd (let no : ⊥ = cc in no)
 stands_in p (x ∷ before) added rest s h = elim (cases_Bool (p x)) [

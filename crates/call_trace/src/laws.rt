@@ -13,6 +13,8 @@ ghost use Rattle.agree.specs.Agreeing.{AreLinked};
 ghost use Rattle.agree.specs.Streams.{IsCut};
 ghost use Rattle.agree.specs.Standing.{AgreeOneWay, Agree};
 ghost use Rattle.run_model.specs.Legal.{is_cap};
+ghost use Rattle.run_model.specs.Has.{Has};
+ghost use Rattle.run_model.specs.declared.cap.Cap.TheVariants.{Field as FieldCap};
 ghost use Rattle.run_model.specs.Leads.{Leads as RunLeads, LeadsByTurns as RunLeadsByTurns};
 ghost use Rattle.call_trace.specs.Types.{Event, View, Name, Cap, Step};
 ghost use Rattle.call_trace.specs.Naming.{call_named, cap_named, naming};
@@ -92,4 +94,13 @@ pub fn views_lead_in_the_run()
         → cap_named v es steps a ≡ Some x → HasNameAfter (naming v es steps) (RunLeads before) x b }
     ensures by_turns { (v : ℕ) (es : Past) (steps before : List Step) → IsWithin v es steps before → (a b : View) (x : Cap) → LeadsByTurns es a b
         → cap_named v es steps a ≡ Some x → HasNameAfter (naming v es steps) (RunLeadsByTurns before) x b }
+{}
+
+/// In the run a vat has what its log binds: the cap of each reference (`references`), and each field of each call that has a
+/// name (`fields`).
+pub fn what_is_bound_is_had()
+    ensures references { (v : ℕ) (es : Past) (steps before : List Step) → IsWithin v es steps before → (r : ℕ) → is_bound es r ≡ true
+        → (c : Cap) × (reference_named (naming v es steps) es r ≡ Some c) × Has before v c }
+    ensures fields { (v : ℕ) (es : Past) (steps before : List Step) → IsWithin v es steps before → (c : ℕ) (name : Name)
+        → call_named v es steps c ≡ Some name → (path : List ℕ) → Has before v (FieldCap name path) }
 {}

@@ -58,7 +58,7 @@ message_later i (s ∷ added) steps m h = message_step i (added ++ steps) s m (m
 
 -- ---- what a message brings at a place is what its sender names there
 
-together_at : {A : Type 0} (f : A → Option Cap) (xs : List A) (i : ℕ) (x : A) (cs : List Cap) → together (map f xs) ≡ Some cs → slice_get xs i ≡ Some x → (c : Cap) × (f x ≡ Some c) × (slice_get cs i ≡ Some c)
+pub together_at : {A : Type 0} (f : A → Option Cap) (xs : List A) (i : ℕ) (x : A) (cs : List Cap) → together (map f xs) ≡ Some cs → slice_get xs i ≡ Some x → (c : Cap) × (f x ≡ Some c) × (slice_get cs i ≡ Some c)
 together_at f [] i x cs h there = absurd (let no : ⊥ = cc in no)
 together_at f (y ∷ xs) i x cs h there = at (f y) refl h i there (λ i. together_at f xs i x)
   where
@@ -93,7 +93,7 @@ return_brings false fields name None place m c late h there = absurd (let no : �
 return_brings false fields name (Some caps) place m c late h there =
     let same : message.Return name (given caps fields) caps ≡ m = cc in ap (λ m. slice_get (brought m) place) (sym same) ∙ there caps refl
 
-resolve_is : (promise c : Cap) (rest : List Cap) → is_cap c ≡ true → say_resolve promise (c ∷ rest) ≡ message.Resolve promise c
+pub resolve_is : (promise c : Cap) (rest : List Cap) → is_cap c ≡ true → say_resolve promise (c ∷ rest) ≡ message.Resolve promise c
 resolve_is promise cap.Nothing rest is = absurd (let no : ⊥ = cc in no)
 resolve_is promise c rest is = refl
 
@@ -108,7 +108,7 @@ resolve_brings promise f d zero m c is h named there =
 resolve_brings promise f d (suc place) m c is h named there = absurd (let no : ⊥ = cc in no)
 
 -- a descriptor that stands for a view has its name
-descriptor_is : (names : Naming) (es : Past) (e : Event) (d : Descriptor) (view : View) → described (view_of_reference es) es e d ≡ Some view → descriptor_named names es e d ≡ names.cap view
+pub descriptor_is : (names : Naming) (es : Past) (e : Event) (d : Descriptor) (view : View) → described (view_of_reference es) es e d ≡ Some view → descriptor_named names es e d ≡ names.cap view
 descriptor_is names es e NoCap view h = absurd (none es e h)
   where
     none : (es : Past) (e : Event) → described (view_of_reference es) es e NoCap ≡ Some view → ⊥
@@ -184,7 +184,7 @@ module _ (names : Naming) (es : Past) (k c : ℕ) (rs : List ℕ) (named_caps : 
 
 -- ---- together
 
-each_after : (later : List Event) (past : Past) → Each Refers (later ++ past) → EachAfter Refers later past
+pub each_after : (later : List Event) (past : Past) → Each Refers (later ++ past) → EachAfter Refers later past
 each_after [] past h = tt
 each_after (e ∷ later) past h = (h.0, each_after later past h.1)
 

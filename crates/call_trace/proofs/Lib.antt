@@ -6,5 +6,8 @@ pub mod Sharing
 pub mod Points
 pub mod Naming
 pub mod Carried
+pub mod Tells
+pub mod Within
+pub mod Having
 mod PipelinedCall
 mod UnderWay

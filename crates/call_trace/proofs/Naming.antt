@@ -87,7 +87,7 @@ pub then_is : {A B : Type 0} (f : A → Option B) (o : Option A) (y : B) → opt
 then_is f (Some x) y h = (x, refl, h)
 then_is f None y h = absurd (let no : ⊥ = cc in no)
 
-cap_step : (v : ℕ) (es : Past) (e : Event) (steps : List Step) (s : Step) (view : View) (c : Cap) → Refers es e → cap_named v es steps view ≡ Some c → cap_named v (e ∷ es) (s ∷ steps) view ≡ Some c
+pub cap_step : (v : ℕ) (es : Past) (e : Event) (steps : List Step) (s : Step) (view : View) (c : Cap) → Refers es e → cap_named v es steps view ≡ Some c → cap_named v (e ∷ es) (s ∷ steps) view ≡ Some c
 cap_step v es e steps s (Object object) c refers h = h
 cap_step v es e steps s (Promise r) c refers h = h
 cap_step v es e steps s (FieldOf call path) c refers h =
@@ -121,7 +121,7 @@ Has {A} o = (x : A) × (o ≡ Some x)
 pub is_there : {A : Type 0} (o : Option A) → Has o → IsSome o
 is_there o h = subst IsSome (sym h.1) refl
 
-is_one : (b : Bool) → (b || false) ≡ true → b ≡ true
+pub is_one : (b : Bool) → (b || false) ≡ true → b ≡ true
 is_one true h = refl
 is_one false h = h
 

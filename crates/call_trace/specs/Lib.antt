@@ -3,6 +3,8 @@ pub mod Naming
 pub mod Said
 pub mod Part
 pub mod Carried
+pub mod Tells
+pub mod Within
 pub mod Lives
 pub mod Balance
 pub mod Findings

@@ -1,20 +1,26 @@
 //! Laws of runs and their logs.
 
-ghost use Rattle.std.specs.Prelude.{◌≡◌, ◌++◌, ℕ, List, [], length, take, true, false, Some, IsSome, Contains};
+ghost use Rattle.std.specs.Prelude.{◌≡◌, ◌∷◌, ◌++◌, ℕ, List, [], length, take, true, false, Some, IsSome, Contains};
 ghost use Rattle.vat_rules.specs.Audit.{Found};
 ghost use Rattle.vat_rules.specs.Judged.{IsGood};
 ghost use Rattle.vat_view.specs.Past.{Past, Each, id};
 ghost use Rattle.vat_view.specs.Bindings.{Refers, is_bound, is_bound_call};
 ghost use Rattle.vat_view.specs.Laws.{EachAfter};
 ghost use Rattle.vat_view.specs.Lives.{is_in_life};
+ghost use Rattle.vat_view.specs.Walks.{turns, turn, Leads, LeadsByTurns};
 ghost use Rattle.agree.specs.Rows.{log_of, IsShared};
 ghost use Rattle.agree.specs.Agreeing.{AreLinked};
 ghost use Rattle.agree.specs.Streams.{IsCut};
 ghost use Rattle.agree.specs.Standing.{AgreeOneWay, Agree};
 ghost use Rattle.run_model.specs.Legal.{is_cap};
+ghost use Rattle.run_model.specs.Has.{Has};
+ghost use Rattle.run_model.specs.declared.cap.Cap.TheVariants.{Field as FieldCap};
+ghost use Rattle.run_model.specs.Leads.{Leads as RunLeads, LeadsByTurns as RunLeadsByTurns};
 ghost use Rattle.call_trace.specs.Types.{Event, View, Name, Cap, Step};
 ghost use Rattle.call_trace.specs.Naming.{call_named, cap_named, naming};
-ghost use Rattle.call_trace.specs.Part.{reference_named, PairsOff};
+ghost use Rattle.call_trace.specs.Part.{reference_named, Says, PairsOff};
+ghost use Rattle.call_trace.specs.Tells.{TurnsNames};
+ghost use Rattle.call_trace.specs.Within.{IsWithin, HasNameAfter};
 ghost use Rattle.call_trace.specs.Carried.{IsCarried, HasOneName};
 ghost use Rattle.call_trace.specs.Findings.{AreEnds, logs_of, AreTrue, MayBeNamed};
 ghost use Rattle.call_trace.specs.Taking.{row_of};
@@ -71,4 +77,30 @@ pub fn numbers_have_one_name()
     ensures { (k n v w : ℕ) (exporter importer : Past) (its_steps importer_steps : List Step) → PairsOff v exporter its_steps → Each Refers exporter
         → IsCut k exporter importer → AgreeOneWay k exporter importer → IsCarried k exporter its_steps importer importer_steps
         → is_in_life (id k false n) importer ≡ true → HasOneName k n v exporter its_steps w importer importer_steps }
+{}
+
+/// Where a record turns a view that has a name to another view, its step turns the one's name to the other's, or receives a
+/// message that says that it leads there.
+pub fn turns_are_told()
+    ensures { (v : ℕ) (es : Past) (steps : List Step) (e : Event) (s : Step) (a b : View) (x : Cap) → Says v es steps e s → turn a es e ≡ Some (turns b)
+        → cap_named v (e ∷ es) (s ∷ steps) a ≡ Some x → TurnsNames (naming v (e ∷ es) (s ∷ steps)) a b s }
+{}
+
+/// Where a log is paired with its vat's steps of a run so far, and each step of the run is legal and keeps to its link, a
+/// view that has a name leads to views that have names, and in the run its name leads to theirs (`leads`), by 1 or more
+/// turns where the view does (`by_turns`).
+pub fn views_lead_in_the_run()
+    ensures leads { (v : ℕ) (es : Past) (steps before : List Step) → IsWithin v es steps before → (a b : View) (x : Cap) → Leads es a b
+        → cap_named v es steps a ≡ Some x → HasNameAfter (naming v es steps) (RunLeads before) x b }
+    ensures by_turns { (v : ℕ) (es : Past) (steps before : List Step) → IsWithin v es steps before → (a b : View) (x : Cap) → LeadsByTurns es a b
+        → cap_named v es steps a ≡ Some x → HasNameAfter (naming v es steps) (RunLeadsByTurns before) x b }
+{}
+
+/// In the run a vat has what its log binds: the cap of each reference (`references`), and each field of each call that has a
+/// name (`fields`).
+pub fn what_is_bound_is_had()
+    ensures references { (v : ℕ) (es : Past) (steps before : List Step) → IsWithin v es steps before → (r : ℕ) → is_bound es r ≡ true
+        → (c : Cap) × (reference_named (naming v es steps) es r ≡ Some c) × Has before v c }
+    ensures fields { (v : ℕ) (es : Past) (steps before : List Step) → IsWithin v es steps before → (c : ℕ) (name : Name)
+        → call_named v es steps c ≡ Some name → (path : List ℕ) → Has before v (FieldCap name path) }
 {}

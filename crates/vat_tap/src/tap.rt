@@ -52,7 +52,8 @@ impl Model for Tap {
 }
 
 impl Tap {
-    /// A log of this vat that so many lanes record, each through a ring of so many records.
+    /// A log of this vat that so many lanes record, 1 to 64, each through a ring of so many records, 1 to 65,536. A lane's
+    /// share is as many records as it may record in all: 1,048,576 divided by the number of lanes, rounded down.
     ///
     /// # Errors
     ///

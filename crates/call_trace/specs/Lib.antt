@@ -10,3 +10,4 @@ pub mod Balance
 pub mod Findings
 pub mod Taking
 pub mod Named
+pub mod Running

@@ -1,6 +1,6 @@
 //! Laws of runs and their logs.
 
-ghost use Rattle.std.specs.Prelude.{◌≡◌, ◌∷◌, ◌++◌, ℕ, List, [], length, take, true, false, Some, IsSome, Contains};
+ghost use Rattle.std.specs.Prelude.{◌≡◌, ◌∷◌, ◌++◌, ℕ, List, [], length, take, true, false, Some, IsSome, IsTrue, Contains};
 ghost use Rattle.vat_rules.specs.Audit.{Found};
 ghost use Rattle.vat_rules.specs.Judged.{IsGood};
 ghost use Rattle.vat_view.specs.Past.{Past, Each, id};
@@ -12,7 +12,7 @@ ghost use Rattle.agree.specs.Rows.{log_of, IsShared};
 ghost use Rattle.agree.specs.Agreeing.{AreLinked};
 ghost use Rattle.agree.specs.Streams.{IsCut};
 ghost use Rattle.agree.specs.Standing.{AgreeOneWay, Agree};
-ghost use Rattle.run_model.specs.Legal.{is_cap};
+ghost use Rattle.run_model.specs.Legal.{is_cap, MayCome};
 ghost use Rattle.run_model.specs.Has.{Has};
 ghost use Rattle.run_model.specs.declared.cap.Cap.TheVariants.{Field as FieldCap};
 ghost use Rattle.run_model.specs.Leads.{Leads as RunLeads, LeadsByTurns as RunLeadsByTurns};
@@ -24,6 +24,7 @@ ghost use Rattle.call_trace.specs.Within.{IsWithin, HasNameAfter};
 ghost use Rattle.call_trace.specs.Carried.{IsCarried, HasOneName};
 ghost use Rattle.call_trace.specs.Findings.{AreEnds, logs_of, AreTrue, MayBeNamed};
 ghost use Rattle.call_trace.specs.Taking.{row_of};
+ghost use Rattle.call_trace.specs.Kinds.{is_own_making};
 ghost use Rattle.call_trace.specs.Named.{taken, AtEachPoint, AreBalanced, IsRunOf};
 
 /// No findings and the empty order name a run, and it is empty.
@@ -103,4 +104,11 @@ pub fn what_is_bound_is_had()
         → (c : Cap) × (reference_named (naming v es steps) es r ≡ Some c) × Has before v c }
     ensures fields { (v : ℕ) (es : Past) (steps before : List Step) → IsWithin v es steps before → (c : ℕ) (name : Name)
         → call_named v es steps c ≡ Some name → (path : List ℕ) → Has before v (FieldCap name path) }
+{}
+
+/// What a vat makes by itself may come in the run, where its record is good: a vat ends only promises that it vowed, each
+/// once, and a call that it makes or boots is its own, and new. Nothing is asked of the rest.
+pub fn own_steps_may_come()
+    ensures { (v : ℕ) (es : Past) (steps before : List Step) (e : Event) (s : Step) → IsWithin v es steps before → IsGood es e → IsTrue (is_own_making e)
+        → Says v es steps e s → MayCome before s }
 {}

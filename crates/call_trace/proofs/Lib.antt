@@ -11,3 +11,6 @@ pub mod Within
 pub mod Having
 mod PipelinedCall
 mod UnderWay
+pub mod Using
+pub mod Sayable
+pub mod Resulting

@@ -124,7 +124,7 @@ stands_in p (x ∷ before) added rest s h = elim (cases_Bool (p x)) [
     at [] h rest_is = ([], before, ap (λ y. y ∷ before) (heads h))
     at (y ∷ added) h rest_is = later (rest_is added (tails h))
 
-each_earlier : (P : List Step → Step → Type 0) (later rest : List Step) → EachStep P (later ++ rest) → EachStep P rest
+pub each_earlier : (P : List Step → Step → Type 0) (later rest : List Step) → EachStep P (later ++ rest) → EachStep P rest
 each_earlier P [] rest h = h
 each_earlier P (s ∷ later) rest h = each_earlier P later rest h.1
 

@@ -13,3 +13,6 @@ pub mod Making
 pub mod Settling
 mod PipelinedCall
 mod UnderWay
+pub mod Using
+pub mod Sayable
+pub mod Resulting

@@ -1,8 +1,9 @@
 //! Laws of runs and their logs.
 
-ghost use Rattle.std.specs.Prelude.{◌≡◌, ◌∷◌, ◌++◌, ℕ, List, [], length, take, true, false, Some, IsSome, IsTrue, Contains};
+ghost use Rattle.std.specs.Prelude.{◌≡◌, ◌∷◌, ◌++◌, ℕ, List, [], length, take, true, false, Some, IsSome, IsTrue, Contains, Bool};
 ghost use Rattle.vat_rules.specs.Audit.{Found};
 ghost use Rattle.vat_rules.specs.Judged.{IsGood};
+ghost use Rattle.vat_rules.specs.OfCaps.{is_received};
 ghost use Rattle.vat_view.specs.Past.{Past, Each, id};
 ghost use Rattle.vat_view.specs.Bindings.{Refers, is_bound, is_bound_call};
 ghost use Rattle.vat_view.specs.Laws.{EachAfter};
@@ -12,13 +13,14 @@ ghost use Rattle.agree.specs.Rows.{log_of, IsShared};
 ghost use Rattle.agree.specs.Agreeing.{AreLinked};
 ghost use Rattle.agree.specs.Streams.{IsCut};
 ghost use Rattle.agree.specs.Standing.{AgreeOneWay, Agree};
-ghost use Rattle.run_model.specs.Legal.{is_cap, MayCome};
+ghost use Rattle.run_model.specs.Legal.{is_cap, MayCome, HasUsed};
 ghost use Rattle.run_model.specs.Has.{Has};
 ghost use Rattle.run_model.specs.declared.cap.Cap.TheVariants.{Field as FieldCap};
 ghost use Rattle.run_model.specs.Leads.{Leads as RunLeads, LeadsByTurns as RunLeadsByTurns};
-ghost use Rattle.call_trace.specs.Types.{Event, View, Name, Cap, Step};
+ghost use Rattle.call_trace.specs.Types.{Outcome, Return, Resolution, Resolve, Event, Wire, View, Name, Cap, Step};
 ghost use Rattle.call_trace.specs.Naming.{call_named, cap_named, naming};
 ghost use Rattle.call_trace.specs.Part.{reference_named, Says, PairsOff};
+ghost use Rattle.call_trace.specs.Running.{step_of};
 ghost use Rattle.call_trace.specs.Tells.{TurnsNames};
 ghost use Rattle.call_trace.specs.Within.{IsWithin, HasNameAfter};
 ghost use Rattle.call_trace.specs.Carried.{IsCarried, HasOneName};
@@ -111,4 +113,30 @@ pub fn what_is_bound_is_had()
 pub fn own_steps_may_come()
     ensures { (v : ℕ) (es : Past) (steps before : List Step) (e : Event) (s : Step) → IsWithin v es steps before → IsGood es e → IsTrue (is_own_making e)
         → Says v es steps e s → MayCome before s }
+{}
+
+/// Where a log is paired with its vat's steps of a run so far, and its records are good, a further good record that isn't
+/// received takes a step and says it: all that it names has a name.
+pub fn what_is_named_has_a_name()
+    ensures { (v : ℕ) (es : Past) (steps before : List Step) (e : Event) → IsWithin v es steps before → Each IsGood es → IsGood es e → is_received e ≡ false
+        → (s : Step) × (step_of v es steps before e ≡ Some s) × Says v es steps e s }
+{}
+
+/// Where a log is paired with its vat's steps of a run so far, and its records are good, the vat has each cap that the step of
+/// a further good record uses.
+pub fn what_is_used_is_had()
+    ensures { (v : ℕ) (es : Past) (steps before : List Step) (e : Event) (s : Step) → IsWithin v es steps before → Each IsGood es → IsGood es e
+        → Says v es steps e s → HasUsed before s }
+{}
+
+/// Where a log is paired with its vat's steps of a run so far, and its records are good, the step of a further good record
+/// that sends a Return (`returned`) or a Resolve (`resolved`) may come. So a call was answered before its results are sent,
+/// and they lead to what is given, as a promise does to what it is resolved to.
+pub fn returns_follow_answers()
+    ensures returned { (v : ℕ) (es : Past) (steps before : List Step) → IsWithin v es steps before → Each IsGood es
+        → (k c : ℕ) (references : List ℕ) (q : ℕ) (release : Bool) (outcome : Outcome) (s : Step) → IsGood es (Wire true k c references (Return q release outcome))
+        → Says v es steps (Wire true k c references (Return q release outcome)) s → MayCome before s }
+    ensures resolved { (v : ℕ) (es : Past) (steps before : List Step) → IsWithin v es steps before → Each IsGood es
+        → (k c : ℕ) (references : List ℕ) (n : ℕ) (resolution : Resolution) (s : Step) → IsGood es (Wire true k c references (Resolve n resolution))
+        → Says v es steps (Wire true k c references (Resolve n resolution)) s → MayCome before s }
 {}

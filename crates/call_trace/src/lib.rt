@@ -6,7 +6,8 @@
 //! in `specs/Part.antt`, when numbers are used in their lives in `specs/Lives.antt`, and how the counts of both ends
 //! balance in `specs/Balance.antt`; what is asked of findings in `specs/Findings.antt`, which records an order takes of
 //! their logs in `specs/Taking.antt`, and what their run has in `specs/Named.antt`.
-//! What the laws say of names beside that stands in `specs/Carried.antt`, `specs/Tells.antt` and `specs/Within.antt`.
+//! What the laws say of names beside that stands in `specs/Carried.antt`, `specs/Tells.antt`, `specs/Within.antt` and
+//! `specs/Placed.antt`.
 //! `proofs/PipelinedCall.antt` and `proofs/UnderWay.antt` are examples. What holds of runs and their logs is promised by
 //! the functions of `src/laws.rt`, which do nothing.
 #![tactic(auto)]
@@ -14,7 +15,7 @@
 mod laws;
 
 pub use laws::{
-    ends_of_findings_agree, names_only_grow, no_findings_have_the_empty_run, numbers_have_one_name,
-    orders_take_the_logs, turns_are_told, views_lead_in_the_run, what_is_bound_has_a_name,
-    what_is_bound_is_had,
+    calls_are_where_logs_have_them, calls_go_where_they_lead, ends_of_findings_agree,
+    names_only_grow, no_findings_have_the_empty_run, numbers_have_one_name, orders_take_the_logs,
+    turns_are_told, views_lead_in_the_run, what_is_bound_has_a_name, what_is_bound_is_had,
 };

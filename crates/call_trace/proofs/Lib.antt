@@ -11,6 +11,7 @@ pub mod Within
 pub mod Having
 pub mod Making
 pub mod Settling
+pub mod Placing
 mod PipelinedCall
 mod UnderWay
 pub mod Using

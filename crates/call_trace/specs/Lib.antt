@@ -12,3 +12,4 @@ pub mod Taking
 pub mod Named
 pub mod Running
 pub mod Kinds
+pub mod Placed

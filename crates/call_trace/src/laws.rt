@@ -1,11 +1,13 @@
 //! Laws of runs and their logs.
 
 ghost use Rattle.std.specs.Prelude.{◌≡◌, ◌∷◌, ◌++◌, ℕ, List, [], length, take, true, false, Some, IsSome, IsTrue, Contains, Bool};
+ghost use Rattle.rpc_view.specs.declared.message.Payload.{Payload};
 ghost use Rattle.vat_rules.specs.Audit.{Found};
 ghost use Rattle.vat_rules.specs.Judged.{IsGood};
 ghost use Rattle.vat_rules.specs.OfCaps.{is_received};
 ghost use Rattle.vat_view.specs.Past.{Past, Each, id};
 ghost use Rattle.vat_view.specs.Bindings.{Refers, is_bound, is_bound_call};
+ghost use Rattle.vat_view.specs.Calls.{is_at_vat};
 ghost use Rattle.vat_view.specs.Laws.{EachAfter};
 ghost use Rattle.vat_view.specs.Lives.{is_in_life};
 ghost use Rattle.vat_view.specs.Walks.{turns, turn, Leads, LeadsByTurns};
@@ -17,12 +19,13 @@ ghost use Rattle.run_model.specs.Legal.{is_cap, MayCome, HasUsed};
 ghost use Rattle.run_model.specs.Has.{Has};
 ghost use Rattle.run_model.specs.declared.cap.Cap.TheVariants.{Field as FieldCap};
 ghost use Rattle.run_model.specs.Leads.{Leads as RunLeads, LeadsByTurns as RunLeadsByTurns};
-ghost use Rattle.call_trace.specs.Types.{Outcome, Return, Resolution, Resolve, Event, Wire, View, Name, Cap, Step};
+ghost use Rattle.call_trace.specs.Types.{Outcome, Return, Resolution, Resolve, Event, Wire, View, Name, Cap, Step, Target, Call, Deliver, Answer, Fault};
 ghost use Rattle.call_trace.specs.Naming.{call_named, cap_named, naming};
 ghost use Rattle.call_trace.specs.Part.{reference_named, Says, PairsOff};
 ghost use Rattle.call_trace.specs.Running.{step_of};
 ghost use Rattle.call_trace.specs.Tells.{TurnsNames};
 ghost use Rattle.call_trace.specs.Within.{IsWithin, HasNameAfter};
+ghost use Rattle.call_trace.specs.Placed.{IsThere};
 ghost use Rattle.call_trace.specs.Carried.{IsCarried, HasOneName};
 ghost use Rattle.call_trace.specs.Findings.{AreEnds, logs_of, AreTrue, MayBeNamed};
 ghost use Rattle.call_trace.specs.Taking.{row_of};
@@ -139,4 +142,31 @@ pub fn returns_follow_answers()
     ensures resolved { (v : ℕ) (es : Past) (steps before : List Step) → IsWithin v es steps before → Each IsGood es
         → (k c : ℕ) (references : List ℕ) (n : ℕ) (resolution : Resolution) (s : Step) → IsGood es (Wire true k c references (Resolve n resolution))
         → Says v es steps (Wire true k c references (Resolve n resolution)) s → MayCome before s }
+{}
+
+/// In the run a call is where a good log has it: a call that is at the vat by the log has a name, and the call of that name
+/// is at that vat, and asks there for what the log says.
+pub fn calls_are_where_logs_have_them()
+    ensures { (v : ℕ) (es : Past) (steps before : List Step) → IsWithin v es steps before → Each IsGood es → (c : ℕ) → is_at_vat c es ≡ true
+        → IsThere v es steps before c }
+{}
+
+/// A call goes where its goal leads in the run too: where a good record of a good log delivers a call (`delivered`) or sends
+/// it on (`sent`), the step that it says may come.
+pub fn calls_go_where_they_lead()
+    ensures delivered { (v : ℕ) (es : Past) (steps before : List Step) (c object : ℕ) (s : Step) → IsWithin v es steps before → Each IsGood es
+        → IsGood es (Deliver c object) → Says v es steps (Deliver c object) s → MayCome before s }
+    ensures sent { (v : ℕ) (es : Past) (steps before : List Step) (k c : ℕ) (references : List ℕ) (q : ℕ) (target : Target) (interface method : ℕ)
+        (params : Payload) (s : Step) → IsWithin v es steps before → Each IsGood es
+        → IsGood es (Wire true k c references (Call q target interface method params))
+        → Says v es steps (Wire true k c references (Call q target interface method params)) s → MayCome before s }
+{}
+
+/// A call is answered or faulted once in the run, where the record is good: it is answered (`answered`) at the vat at which
+/// it was delivered or its Bootstrap received, and no path has two results; it is faulted (`faulted`) there or where it is.
+pub fn calls_are_settled_once()
+    ensures answered { (v : ℕ) (es : Past) (steps before : List Step) (c : ℕ) (results : List (ℕ × List ℕ)) (s : Step) → IsWithin v es steps before
+        → Each IsGood es → IsGood es (Answer c results) → Says v es steps (Answer c results) s → MayCome before s }
+    ensures faulted { (v : ℕ) (es : Past) (steps before : List Step) (c : ℕ) (s : Step) → IsWithin v es steps before → Each IsGood es
+        → IsGood es (Fault c) → Says v es steps (Fault c) s → MayCome before s }
 {}

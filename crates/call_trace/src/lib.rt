@@ -6,8 +6,9 @@
 //! in `specs/Part.antt`, when numbers are used in their lives in `specs/Lives.antt`, and how the counts of both ends
 //! balance in `specs/Balance.antt`; what is asked of findings in `specs/Findings.antt`, which records an order takes of
 //! their logs in `specs/Taking.antt`, and what their run has in `specs/Named.antt`.
-//! What the laws say of names beside that stands in `specs/Carried.antt`, `specs/Tells.antt` and `specs/Within.antt`,
-//! and which records are of what a vat makes by itself in `specs/Kinds.antt`.
+//! What the laws say of names beside that stands in `specs/Carried.antt`, `specs/Tells.antt` and `specs/Within.antt`, of
+//! where calls are in `specs/Placed.antt`, and which records are of what a vat makes by itself in `specs/Kinds.antt`. How
+//! the records of several logs take their steps is said in `specs/Running.antt`.
 //! `proofs/PipelinedCall.antt` and `proofs/UnderWay.antt` are examples. What holds of runs and their logs is promised by
 //! the functions of `src/laws.rt`, which do nothing.
 #![tactic(auto)]
@@ -15,6 +16,7 @@
 mod laws;
 
 pub use laws::{
+    calls_are_settled_once, calls_are_where_logs_have_them, calls_go_where_they_lead,
     ends_of_findings_agree, names_only_grow, no_findings_have_the_empty_run, numbers_have_one_name,
     orders_take_the_logs, own_steps_may_come, returns_follow_answers, turns_are_told,
     views_lead_in_the_run, what_is_bound_has_a_name, what_is_bound_is_had,

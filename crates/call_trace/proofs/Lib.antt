@@ -9,5 +9,6 @@ pub mod Carried
 pub mod Tells
 pub mod Within
 pub mod Having
+pub mod Carrying
 mod PipelinedCall
 mod UnderWay

@@ -10,5 +10,6 @@ pub mod Tells
 pub mod Within
 pub mod Having
 pub mod Carrying
+pub mod Whole
 mod PipelinedCall
 mod UnderWay

@@ -11,5 +11,7 @@ pub mod Within
 pub mod Having
 pub mod Carrying
 pub mod Whole
+pub mod Next
+pub mod Running
 mod PipelinedCall
 mod UnderWay

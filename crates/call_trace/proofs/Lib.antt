@@ -12,6 +12,10 @@ pub mod Having
 pub mod Making
 pub mod Settling
 pub mod Placing
+pub mod Carrying
+pub mod Whole
+pub mod Next
+pub mod Running
 mod PipelinedCall
 mod UnderWay
 pub mod Using

@@ -11,3 +11,5 @@ pub mod Within
 pub mod Having
 mod PipelinedCall
 mod UnderWay
+pub mod Asking
+pub mod Receipts

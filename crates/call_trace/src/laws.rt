@@ -1,24 +1,28 @@
 //! Laws of runs and their logs.
 
-ghost use Rattle.std.specs.Prelude.{◌≡◌, ◌∷◌, ◌++◌, ℕ, List, [], length, take, true, false, Some, IsSome, Contains};
+ghost use Rattle.std.specs.Prelude.{◌≡◌, ◌∷◌, ◌++◌, ℕ, Bool, List, [], length, take, true, false, Some, IsSome, Contains};
 ghost use Rattle.vat_rules.specs.Audit.{Found};
 ghost use Rattle.vat_rules.specs.Judged.{IsGood};
 ghost use Rattle.vat_view.specs.Past.{Past, Each, id};
 ghost use Rattle.vat_view.specs.Bindings.{Refers, is_bound, is_bound_call};
 ghost use Rattle.vat_view.specs.Laws.{EachAfter};
 ghost use Rattle.vat_view.specs.Lives.{is_in_life};
+ghost use Rattle.vat_view.specs.Questions.{is_unfinished, is_unreturned, call_of};
 ghost use Rattle.vat_view.specs.Walks.{turns, turn, Leads, LeadsByTurns};
 ghost use Rattle.agree.specs.Rows.{log_of, IsShared};
 ghost use Rattle.agree.specs.Agreeing.{AreLinked};
-ghost use Rattle.agree.specs.Streams.{IsCut};
+ghost use Rattle.agree.specs.Streams.{IsCut, IsPassed};
 ghost use Rattle.agree.specs.Standing.{AgreeOneWay, Agree};
 ghost use Rattle.run_model.specs.Legal.{is_cap};
+ghost use Rattle.run_model.specs.declared.step.Step.TheVariants.{Receive};
 ghost use Rattle.run_model.specs.Has.{Has};
 ghost use Rattle.run_model.specs.declared.cap.Cap.TheVariants.{Field as FieldCap};
 ghost use Rattle.run_model.specs.Leads.{Leads as RunLeads, LeadsByTurns as RunLeadsByTurns};
-ghost use Rattle.call_trace.specs.Types.{Event, View, Name, Cap, Step};
-ghost use Rattle.call_trace.specs.Naming.{call_named, cap_named, naming};
-ghost use Rattle.call_trace.specs.Part.{reference_named, Says, PairsOff};
+ghost use Rattle.call_trace.specs.Types.{Outcome, RpcMessage, Return, Event, Wire, View, Name, Cap, Message, Step};
+ghost use Rattle.call_trace.specs.Naming.{call_named, cap_named, message_at, naming};
+ghost use Rattle.call_trace.specs.Said.{said};
+ghost use Rattle.call_trace.specs.Part.{read, reference_named, Says, PairsOff};
+ghost use Rattle.call_trace.specs.Running.{AreMet};
 ghost use Rattle.call_trace.specs.Tells.{TurnsNames};
 ghost use Rattle.call_trace.specs.Within.{IsWithin, HasNameAfter};
 ghost use Rattle.call_trace.specs.Carried.{IsCarried, HasOneName};
@@ -103,4 +107,18 @@ pub fn what_is_bound_is_had()
         → (c : Cap) × (reference_named (naming v es steps) es r ≡ Some c) × Has before v c }
     ensures fields { (v : ℕ) (es : Past) (steps before : List Step) → IsWithin v es steps before → (c : ℕ) (name : Name)
         → call_named v es steps c ≡ Some name → (path : List ℕ) → Has before v (FieldCap name path) }
+{}
+
+/// A question has one call name at both ends of a message: a question of its sender's that hasn't had its Finish where the
+/// message comes (`asked`), and the question that a Return answers (`answered`).
+pub fn questions_have_one_call()
+    ensures asked { (k v w : ℕ) (one : Past) (its_steps : List Step) (other : Past) (steps : List Step) (m : RpcMessage) (from : Past) (sent e : Event)
+        → AreMet k v one its_steps w other steps → AreLinked k one (e ∷ other) → IsGood other e → IsPassed k m one (e ∷ other) from other sent e
+        → (q c : ℕ) (name : Name) → is_unfinished (id k false q) other ≡ true → call_of (id k true q) from ≡ Some c → call_named v one its_steps c ≡ Some name
+        → (d : ℕ) × (call_of (id k false q) other ≡ Some d) × (call_named w other steps d ≡ Some name) }
+    ensures answered { (k v w : ℕ) (one : Past) (its_steps : List Step) (other : Past) (steps : List Step) (m : RpcMessage) (from : Past) (sent e : Event)
+        → AreMet k v one its_steps w other steps → AreLinked k one (e ∷ other) → IsGood other e → IsPassed k m one (e ∷ other) from other sent e
+        → (q : ℕ) (release : Bool) (outcome : Outcome) (c : ℕ) (name : Name) → m ≡ Return q release outcome → is_unreturned (id k true q) other ≡ true
+        → call_of (id k false q) from ≡ Some c → call_named v one its_steps c ≡ Some name
+        → (d : ℕ) × (call_of (id k true q) other ≡ Some d) × (call_named w other steps d ≡ Some name) }
 {}

@@ -9,5 +9,7 @@ pub mod Carried
 pub mod Tells
 pub mod Within
 pub mod Having
+pub mod Describing
+pub mod Binding
 mod PipelinedCall
 mod UnderWay

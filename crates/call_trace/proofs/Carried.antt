@@ -49,7 +49,7 @@ pairs_as_long v [] (s ∷ steps) part = absurd part
 pairs_as_long v (e ∷ es) [] part = absurd part
 pairs_as_long v (e ∷ es) (s ∷ steps) part = ap suc (pairs_as_long v es steps part.1)
 
-message_there : (i : ℕ) (s : Step) (earlier : List Step) (m : Message) → length earlier ≡ i → message_of s ≡ Some m → message_at i (s ∷ earlier) ≡ Some m
+pub message_there : (i : ℕ) (s : Step) (earlier : List Step) (m : Message) → length earlier ≡ i → message_of s ≡ Some m → message_at i (s ∷ earlier) ≡ Some m
 message_there i s earlier m same is = ap (λ b. if b then message_of s else message_at i earlier) (eq-eqb (length earlier) i same) ∙ is
 
 message_later : (i : ℕ) (added steps : List Step) (m : Message) → message_at i steps ≡ Some m → message_at i (added ++ steps) ≡ Some m

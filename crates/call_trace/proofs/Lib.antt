@@ -9,6 +9,8 @@ pub mod Carried
 pub mod Tells
 pub mod Within
 pub mod Having
+pub mod Describing
+pub mod Binding
 mod PipelinedCall
 mod UnderWay
 pub mod Asking

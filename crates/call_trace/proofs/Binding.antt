@@ -1,5 +1,5 @@
 -- What a received message binds is what it brings.
-use Rattle.std.proofs.Common.{◌≡◌, refl, sym, ◌∙◌, ap, ap₂, subst, ℕ, zero, suc, ◌+◌, ◌<◌, ◌==◌, List, [], ◌∷◌, length, Bool, true, false, not, Option, Some, None, if◌then◌else◌, option_and_then, option_map, slice_get, arith, eqb-true, inl, inr}
+use Rattle.std.proofs.Common.{◌≡◌, refl, sym, ◌∙◌, ap, ap₂, subst, append_assoc, ℕ, zero, suc, ◌+◌, ◌<◌, ◌==◌, List, [], ◌∷◌, ◌++◌, length, Bool, true, false, not, Option, Some, None, if◌then◌else◌, option_and_then, option_map, slice_get, arith, eqb-true, inl, inr}
 use Rattle.std.specs.Prelude.{map, find}
 use Rattle.std.specs.List.{zip}
 use Rattle.std.specs.Option.{option_or}
@@ -7,6 +7,7 @@ use Rattle.std.proofs.lemmas.Bool.{cases_Bool, and_parts, or_left, or_right, not
 use Rattle.agree.specs.Streams.{IsPassed}
 use Rattle.agree.specs.Agreeing.{AreLinked}
 use Rattle.agree.proofs.Openings.{passing_is}
+use Rattle.agree.proofs.Points.{before_it}
 use Rattle.vat_rules.specs.declared.rule.Rule.TheVariants as rule
 use Rattle.vat_rules.specs.Judged.{IsGood}
 use Rattle.vat_view.specs.Past.{Past}
@@ -22,6 +23,7 @@ use Rattle.call_trace.specs.Running.{AreMet}
 use Rattle.call_trace.proofs.Naming.{then_is, mapped_is, names_are_caps}
 use Rattle.call_trace.proofs.Carried.{IsPaired, paired_at, pairs_as_long, send_is}
 use Rattle.call_trace.proofs.Within.{message_back}
+use Rattle.call_trace.proofs.Asking.{call_is_one, call_lasts, all_refer}
 use Rattle.call_trace.proofs.Describing.{CallsAreOne, IsHeard, says_brings, sent_in_time, caps_are_one}
 use Rattle.run_model.specs.Legal.{is_cap, present, brought, MayBind}
 use Rattle.run_model.specs.declared.cap.Cap.TheVariants as cap
@@ -221,3 +223,28 @@ module _ (k v : ℕ) (one : Past) (its_steps : List Step) (w : ℕ) (other : Pas
               may_bind message (present caps.0) (sym caps.2.1),
             )
       ]
+
+  -- questions have one call name at both ends
+  calls_are_one : CallsAreOne k v from pair.earlier w other steps
+  calls_are_one q c name used h named =
+      call_is_one k v w one its_steps other steps m from sent received met linked good p q c name used h
+      (call_lasts v one from its_steps pair.earlier (before_it one sent from p.sent_there) (pair.added ++ pair.step ∷ [], pair.whole ∙ sym (append_assoc pair.added (pair.step ∷ []) pair.earlier))
+      (pairs_as_long v one its_steps met.one_paired) (pairs_as_long v from pair.earlier pair.paired.1) (all_refer one met.one_good) c name named)
+
+  -- so what is heard names its descriptors and its target alike
+  pub passed_is_heard : IsHeard k v one its_steps w other steps received m from pair.earlier sent pair.step message
+  passed_is_heard = is_heard calls_are_one
+
+  -- what a receipt binds, whatever its step is said to bind, which no name rests on
+  pub receipt_is_bound : (bound : List Cap) × ((any : List Cap) → Bound any bound) × MayBind message bound
+  receipt_is_bound = receipt_binds calls_are_one
+
+-- of a step that binds nothing yet
+pub receipts_bind : (k v w c : ℕ) (one : Past) (its_steps : List Step) (other : Past) (steps : List Step) (references : List ℕ) (m : RpcMessage) (from : Past) (sent : Event) (message : Message) →
+    AreMet k v one its_steps w other steps → AreLinked k one (Wire false k c references m ∷ other) → IsGood other (Wire false k c references m) →
+    IsPassed k m one (Wire false k c references m ∷ other) from other sent (Wire false k c references m) → message_at (length from) its_steps ≡ Some message →
+    (bound : List Cap)
+    × (together (map (reference_named (naming w (Wire false k c references m ∷ other) (step.Receive w k message [] ∷ steps)) (Wire false k c references m ∷ other)) references) ≡ Some bound)
+    × MayBind message bound
+receipts_bind k v w c one its_steps other steps references m from sent message met linked good p is_said =
+    let r = receipt_is_bound k v one its_steps w other steps c references m from sent message met linked good p is_said in (r.0, r.1 [], r.2)

@@ -1,6 +1,6 @@
 //! Laws of runs and their logs.
 
-ghost use Rattle.std.specs.Prelude.{◌≡◌, ◌∷◌, ◌++◌, ℕ, Bool, List, [], length, take, true, false, Some, IsSome, Contains};
+ghost use Rattle.std.specs.Prelude.{◌≡◌, ◌∷◌, ◌++◌, ℕ, Bool, List, [], length, take, map, true, false, Some, IsSome, Contains};
 ghost use Rattle.vat_rules.specs.Audit.{Found};
 ghost use Rattle.vat_rules.specs.Judged.{IsGood};
 ghost use Rattle.vat_view.specs.Past.{Past, Each, id};
@@ -13,14 +13,14 @@ ghost use Rattle.agree.specs.Rows.{log_of, IsShared};
 ghost use Rattle.agree.specs.Agreeing.{AreLinked};
 ghost use Rattle.agree.specs.Streams.{IsCut, IsPassed};
 ghost use Rattle.agree.specs.Standing.{AgreeOneWay, Agree};
-ghost use Rattle.run_model.specs.Legal.{is_cap};
+ghost use Rattle.run_model.specs.Legal.{is_cap, MayBind};
 ghost use Rattle.run_model.specs.declared.step.Step.TheVariants.{Receive};
 ghost use Rattle.run_model.specs.Has.{Has};
 ghost use Rattle.run_model.specs.declared.cap.Cap.TheVariants.{Field as FieldCap};
 ghost use Rattle.run_model.specs.Leads.{Leads as RunLeads, LeadsByTurns as RunLeadsByTurns};
 ghost use Rattle.call_trace.specs.Types.{Outcome, RpcMessage, Return, Event, Wire, View, Name, Cap, Message, Step};
 ghost use Rattle.call_trace.specs.Naming.{call_named, cap_named, message_at, naming};
-ghost use Rattle.call_trace.specs.Said.{said};
+ghost use Rattle.call_trace.specs.Said.{together, said};
 ghost use Rattle.call_trace.specs.Part.{read, reference_named, Says, PairsOff};
 ghost use Rattle.call_trace.specs.Running.{AreMet};
 ghost use Rattle.call_trace.specs.Tells.{TurnsNames};
@@ -121,4 +121,15 @@ pub fn questions_have_one_call()
         → (q : ℕ) (release : Bool) (outcome : Outcome) (c : ℕ) (name : Name) → m ≡ Return q release outcome → is_unreturned (id k true q) other ≡ true
         → call_of (id k false q) from ≡ Some c → call_named v one its_steps c ≡ Some name
         → (d : ℕ) × (call_of (id k true q) other ≡ Some d) × (call_named w other steps d ≡ Some name) }
+{}
+
+/// Where two logs met, and the one's next record receives a message that the other sent, the references noted beside it have
+/// names, those of the caps that the message brings, and the receipt may bind these.
+pub fn receipts_bind_what_is_brought()
+    ensures { (k v w c : ℕ) (one : Past) (its_steps : List Step) (other : Past) (steps : List Step) (references : List ℕ) (m : RpcMessage) (from : Past)
+        (sent : Event) (message : Message) → AreMet k v one its_steps w other steps → AreLinked k one (Wire false k c references m ∷ other)
+        → IsGood other (Wire false k c references m) → IsPassed k m one (Wire false k c references m ∷ other) from other sent (Wire false k c references m)
+        → message_at (length from) its_steps ≡ Some message → (bound : List Cap) × (together (map (reference_named (naming w
+        (Wire false k c references m ∷ other) (Receive w k message [] ∷ steps)) (Wire false k c references m ∷ other)) references) ≡ Some bound)
+        × MayBind message bound }
 {}

@@ -1,5 +1,5 @@
 -- What a received message binds is what it brings.
-use Rattle.std.proofs.Common.{◌≡◌, refl, sym, ◌∙◌, ap, ap₂, subst, append_assoc, ℕ, zero, suc, ◌+◌, ◌<◌, ◌==◌, List, [], ◌∷◌, ◌++◌, length, Bool, true, false, not, Option, Some, None, if◌then◌else◌, option_and_then, option_map, slice_get, arith, eqb-true, inl, inr}
+use Rattle.std.proofs.Common.{◌≡◌, refl, sym, ◌∙◌, ap, ap₂, subst, append_assoc, ℕ, zero, suc, ◌+◌, ◌==◌, List, [], ◌∷◌, ◌++◌, length, Bool, true, false, not, Option, Some, None, if◌then◌else◌, option_and_then, option_map, slice_get, arith, eqb-true, inl, inr}
 use Rattle.std.specs.Prelude.{map, find}
 use Rattle.std.specs.List.{zip}
 use Rattle.std.specs.Option.{option_or}
@@ -22,8 +22,7 @@ use Rattle.call_trace.specs.Part.{reference_named, PairsOff}
 use Rattle.call_trace.specs.Running.{AreMet}
 use Rattle.call_trace.proofs.Naming.{then_is, mapped_is, names_are_caps}
 use Rattle.call_trace.proofs.Carried.{IsPaired, paired_at, pairs_as_long, send_is}
-use Rattle.call_trace.proofs.Within.{message_back}
-use Rattle.call_trace.proofs.Asking.{call_is_one, call_lasts, all_refer}
+use Rattle.call_trace.proofs.Asking.{call_is_one, call_lasts, all_refer, message_of_pair}
 use Rattle.call_trace.proofs.Describing.{CallsAreOne, IsHeard, says_brings, sent_in_time, caps_are_one}
 use Rattle.run_model.specs.Legal.{is_cap, present, brought, MayBind}
 use Rattle.run_model.specs.declared.cap.Cap.TheVariants as cap
@@ -174,11 +173,7 @@ module _ (k v : ℕ) (one : Past) (its_steps : List Step) (w : ℕ) (other : Pas
   pair = paired_at v p.sent_there.0 sent from its_steps (subst (λ es. PairsOff v es its_steps) p.sent_there.1 met.one_paired)
 
   message_is : message_of pair.step ≡ Some message
-  message_is =
-      let as_long = sym (pairs_as_long v from pair.earlier pair.paired.1) in
-      let lt : length from < length (pair.step ∷ pair.earlier) = omega (arith, as_long) in
-      sym (ap (λ b. if b then message_of pair.step else message_at (length from) pair.earlier) (eq-eqb (length pair.earlier) (length from) as_long))
-      ∙ sym (ap (message_at (length from)) pair.whole ∙ message_back (length from) pair.added (pair.step ∷ pair.earlier) lt) ∙ is_said
+  message_is = sym (message_of_pair v its_steps p.sent_there.0 sent from pair) ∙ is_said
 
   says_it : said (naming v (sent ∷ from) (pair.step ∷ pair.earlier)) from sent ≡ Some message
   says_it =

@@ -28,14 +28,14 @@ use Rattle.vat_view.proofs.Describing.{sender_keeps}
 use Rattle.vat_view.proofs.Lasting.{birth_kept}
 use Rattle.vat_view.proofs.Viewed.{begins_some, begins_parts, introduced_there}
 use Rattle.call_trace.specs.Types.{Descriptor, NoCap, SenderHosted, SenderPromise, ReceiverHosted, ReceiverAnswer, Target, Imported, Promised, Results, Capped, Unkept, Bootstrap, Call, Return, Finish, Resolve, Release, Disembargo, Abort, RpcMessage, Event, Wire, View, FieldOf, Import, Name, Cap, Message, Step}
-use Rattle.call_trace.specs.Naming.{Naming, naming, cap_at, names_call, call_named, cap_named, message_at, message_of}
+use Rattle.call_trace.specs.Naming.{Naming, naming, cap_at, names_call, call_named, cap_named, message_of}
 use Rattle.call_trace.specs.Said.{together, said, say_call, say_return, say_resolve, descriptor_named, caps_named, promise_named, answered, given}
 use Rattle.call_trace.specs.Part.{PairsOff}
 use Rattle.call_trace.specs.Carried.{number_named}
 use Rattle.call_trace.specs.Running.{AreMet}
 use Rattle.call_trace.proofs.Naming.{then_is, mapped_is, cap_step, names_are_caps}
 use Rattle.call_trace.proofs.Carried.{pairs_as_long, message_there, together_at, resolve_is, one_name}
-use Rattle.call_trace.proofs.Within.{message_back}
+use Rattle.call_trace.proofs.Asking.{all_refer, message_from}
 use Rattle.run_model.specs.Legal.{is_cap, present, brought}
 use Rattle.run_model.specs.declared.cap.Cap.TheVariants as cap
 use Rattle.run_model.specs.declared.message.Message.TheVariants as message
@@ -302,9 +302,6 @@ module _ (k v : ℕ) (from : Past) (its_from : List Step) (s : Step) (w : ℕ) (
   refers_there : Refers other received
   refers_there = told.good_there rule.Ref
 
-  all_refer : (past : Past) → Each IsGood past → Each Refers past
-  all_refer past good = each_so IsGood Refers (λ b e g. g rule.Ref) past good
-
   -- a number of the receiver's
   back_named : (n : ℕ) (x : Cap) → option_and_then its_names.cap (view_of_number (id k false n) from) ≡ Some x → option_and_then names_there.cap (view_of_number (id k true n) other) ≡ Some x
   back_named n x h =
@@ -403,9 +400,6 @@ module _ (k v : ℕ) (from : Past) (its_from : List Step) (s : Step) (w : ℕ) (
 
 -- ---- of two logs that met, an earlier point of one
 
-message_earlier : (i : ℕ) (whole added steps : List Step) → whole ≡ added ++ steps → i < length steps → message_at i whole ≡ message_at i steps
-message_earlier i whole added steps is lt = ap (message_at i) is ∙ message_back i added steps lt
-
 pub met_before : (k v : ℕ) (one : Past) (its_steps : List Step) (w : ℕ) (other : Past) (steps : List Step) (from : Past) (its_from added : List Step) → AreMet k v one its_steps w other steps → GoesOn one from →
     its_steps ≡ added ++ its_from → PairsOff v from its_from → AreMet k v from its_from w other steps
 met_before k v one its_steps w other steps from its_from added met on whole paired = record {
@@ -416,11 +410,11 @@ met_before k v one its_steps w other steps from its_from added met on whole pair
   there = λ m before to sent received p.
       let q : IsPassed k m one other before to sent received =
       record { sent_there = through one from (sent ∷ before) on p.sent_there; received_there = p.received_there; sends = p.sends; receives = p.receives; same_number = p.same_number } in
-      met.there m before to sent received q ∙ message_earlier (length before) its_steps added its_from whole (within before sent p.sent_there);
+      met.there m before to sent received q ∙ message_from its_steps its_from (added, whole) (length before) (within before sent p.sent_there);
   back = λ m before to sent received p.
       let q : IsPassed k m other one before to sent received =
       record { sent_there = p.sent_there; received_there = through one from (received ∷ to) on p.received_there; sends = p.sends; receives = p.receives; same_number = p.same_number } in
-      sym (message_earlier (length to) its_steps added its_from whole (within to received p.received_there)) ∙ met.back m before to sent received q;
+      sym (message_from its_steps its_from (added, whole) (length to) (within to received p.received_there)) ∙ met.back m before to sent received q;
 }
   where
     within : (before : Past) (e : Event) → GoesOn from (e ∷ before) → length before < length its_from

@@ -21,3 +21,7 @@ mod UnderWay
 pub mod Using
 pub mod Sayable
 pub mod Resulting
+pub mod Describing
+pub mod Binding
+pub mod Asking
+pub mod Receipts

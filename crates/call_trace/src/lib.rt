@@ -14,7 +14,8 @@
 mod laws;
 
 pub use laws::{
-    ends_of_findings_agree, names_only_grow, no_findings_have_the_empty_run, numbers_have_one_name,
-    orders_take_the_logs, questions_have_one_call, receipts_bind_what_is_brought, turns_are_told,
-    views_lead_in_the_run, what_is_bound_has_a_name, what_is_bound_is_had,
+    ends_of_findings_agree, messages_are_read_as_sent, names_only_grow,
+    no_findings_have_the_empty_run, numbers_have_one_name, orders_take_the_logs,
+    questions_have_one_call, receipts_bind_what_is_brought, turns_are_told, views_lead_in_the_run,
+    what_is_bound_has_a_name, what_is_bound_is_had,
 };

@@ -1,5 +1,5 @@
 -- A question has one call name at both ends: that of the Bootstrap or Call that opened it.
-use Rattle.std.proofs.Common.{◌≡◌, refl, sym, ◌∙◌, ap, ap₂, subst, ℕ, suc, ◌<◌, ◌==◌, List, [], ◌∷◌, ◌++◌, length, Bool, true, false, not, ◌&&◌, ◌||◌, Option, Some, None, if◌then◌else◌, option_and_then, option_map, length-append, arith, eqb-true, inl, inr}
+use Rattle.std.proofs.Common.{◌≡◌, refl, sym, ◌∙◌, ap, ap₂, subst, ℕ, suc, ◌<◌, List, [], ◌∷◌, ◌++◌, length, Bool, true, false, not, ◌&&◌, ◌||◌, Option, Some, None, if◌then◌else◌, option_and_then, option_map, length-append, arith, inl, inr}
 use Rattle.std.specs.List.{cons_option}
 use Rattle.std.specs.Option.{option_or}
 use Rattle.std.proofs.lemmas.Bool.{cases_Bool, eq-eqb}
@@ -26,6 +26,7 @@ use Rattle.call_trace.specs.Carried.{IsCarried}
 use Rattle.call_trace.specs.Running.{AreMet}
 use Rattle.call_trace.proofs.Naming.{mapped_is, call_keeps}
 use Rattle.call_trace.proofs.Carried.{IsPaired, paired_at, pairs_as_long, each_after}
+use Rattle.call_trace.proofs.Within.{message_back}
 use Rattle.run_model.specs.Has.{called}
 use Rattle.run_model.specs.declared.message.Message.TheVariants as message
 use Rattle.run_model.specs.declared.step.Step.TheVariants as step
@@ -144,17 +145,10 @@ call_lasts v one es xs steps log run all some refers c name h =
     ∙ call_keeps v log.0 es run.0 steps (suffix_as_long one log.0 es xs run.0 steps log.1 run.1 all some) (each_after log.0 es (subst (Each Refers) log.1 refers)) c name h
 
 -- the message of a step stands at its number in the whole
-message_below : (i : ℕ) (added steps : List Step) → i < length steps → message_at i (added ++ steps) ≡ message_at i steps
-message_below i [] steps lt = refl
-message_below i (s ∷ added) steps lt = elim (cases_Bool (length (added ++ steps) == i)) [
-  | inl here ↦ absurd (omega (arith, lt, eqb-true (length (added ++ steps)) i here, length-append added steps))
-  | inr other ↦ ap (λ b. if b then message_of s else message_at i (added ++ steps)) other ∙ message_below i added steps lt
-]
+message_from : (xs steps : List Step) → GoesOn xs steps → (i : ℕ) → i < length steps → message_at i xs ≡ message_at i steps
+message_from xs steps run i lt = ap (message_at i) run.1 ∙ message_back i run.0 steps lt
 
-pub message_from : (xs steps : List Step) → GoesOn xs steps → (i : ℕ) → i < length steps → message_at i xs ≡ message_at i steps
-message_from xs steps run i lt = ap (message_at i) run.1 ∙ message_below i run.0 steps lt
-
-pub message_of_pair : (v : ℕ) (xs : List Step) (later : List Event) (e : Event) (before : Past) (p : IsPaired v xs later e before) → message_at (length before) xs ≡ message_of p.step
+message_of_pair : (v : ℕ) (xs : List Step) (later : List Event) (e : Event) (before : Past) (p : IsPaired v xs later e before) → message_at (length before) xs ≡ message_of p.step
 message_of_pair v xs later e before p =
     let same : length p.earlier ≡ length before = sym (pairs_as_long v before p.earlier p.paired.1) in
     message_from xs (p.step ∷ p.earlier) (p.added, p.whole) (length before) (omega (arith, same))

@@ -1,12 +1,10 @@
 -- What a received message says, by the receiver's log, is the message that was sent, but for what is left unread.
-use Rattle.std.proofs.Common.{◌≡◌, refl, sym, ◌∙◌, ap, ap₂, subst, ℕ, List, [], ◌∷◌, ◌++◌, length, Bool, true, false, not, Option, Some, None, if◌then◌else◌, option_and_then, option_map, append_assoc, arith, inl, inr}
+use Rattle.std.proofs.Common.{◌≡◌, refl, sym, ◌∙◌, ap, ap₂, subst, ℕ, List, [], ◌∷◌, ◌++◌, length, Bool, true, false, not, Option, Some, None, if◌then◌else◌, option_and_then, option_map, append_assoc, inl, inr}
 use Rattle.std.specs.Prelude.{unwrap_or}
 use Rattle.std.proofs.lemmas.Bool.{cases_Bool, eq-eqb}
-use Rattle.agree.specs.Points.{GoesOn}
-use Rattle.agree.specs.Streams.{IsCut, IsPassed}
+use Rattle.agree.specs.Streams.{IsPassed}
 use Rattle.agree.specs.Agreeing.{AreLinked}
-use Rattle.agree.specs.Standing.{AgreeOneWay}
-use Rattle.agree.proofs.Points.{through, before_it, no_longer, each_before}
+use Rattle.agree.proofs.Points.{before_it, each_before}
 use Rattle.agree.proofs.Asking.{asks}
 use Rattle.agree.proofs.Good.{good_agree}
 use Rattle.agree.proofs.Openings.{passing_is}
@@ -21,12 +19,14 @@ use Rattle.rpc_view.specs.declared.message.Payload.{Payload}
 use Rattle.call_trace.specs.Types.{Target, Outcome, Results, Exception, Canceled, Resolution, RpcMessage, Bootstrap, Call, Return, Finish, Resolve, Release, Disembargo, Abort, Event, Wire, Name, Cap, Message, Step}
 use Rattle.call_trace.specs.Naming.{Naming, naming, cap_named, call_named, message_at}
 use Rattle.call_trace.specs.Said.{said, say_call, say_return, say_resolve, caps_named, promise_named, answered, given}
-use Rattle.call_trace.specs.Part.{PairsOff, read, resolves_released}
-use Rattle.call_trace.specs.Carried.{IsCarried, HasOneName}
+use Rattle.call_trace.specs.Part.{read, resolves_released}
+use Rattle.call_trace.specs.Carried.{HasOneName}
 use Rattle.call_trace.specs.Running.{AreMet}
 use Rattle.call_trace.proofs.Naming.{mapped_is, then_is, cap_step, call_keeps}
-use Rattle.call_trace.proofs.Carried.{IsPaired, paired_at, pairs_as_long, one_name, send_is}
-use Rattle.call_trace.proofs.Asking.{answerer_names, call_lasts, message_from, message_of_pair, all_refer, answer_is_one}
+use Rattle.call_trace.proofs.Carried.{pairs_as_long, one_name}
+use Rattle.call_trace.proofs.Asking.{answerer_names, call_lasts, all_refer, answer_is_one}
+use Rattle.call_trace.proofs.Describing.{IsHeard, met_before, caps_are_one, targets_are_one}
+use Rattle.call_trace.proofs.Binding.{pair, passed_is_heard}
 use Rattle.run_model.specs.Has.{called}
 use Rattle.run_model.specs.declared.cap.Cap.TheVariants as cap
 use Rattle.run_model.specs.declared.message.Message.TheVariants as message
@@ -149,103 +149,82 @@ module _ (mine : Naming) (from : Past) (theirs : Naming) (other : Past) (k d c :
 promise_gone : (k n : ℕ) (es : Past) → is_in_life (id k false n) es ≡ false → view_of_number (id k false n) es ≡ None
 promise_gone k n es h = ap (λ b. option_and_then (view_given (view_of_reference es) false) (if b then last_answer (begins (id k false n)) es else None)) h
 
-module _ (k v w : ℕ) (one : Past) (its_steps : List Step) (other : Past) (steps : List Step) (m : RpcMessage) (from : Past) (sent e : Event) (met : AreMet k v one its_steps w other steps)
-    (linked : AreLinked k one (e ∷ other)) (good : IsGood other e) (passed : IsPassed k m one (e ∷ other) from other sent e) where
-  -- the sender's step of the message
-  pub its : IsPaired v its_steps passed.sent_there.0 sent from
-  its = paired_at v passed.sent_there.0 sent from its_steps (subst (λ es. PairsOff v es its_steps) passed.sent_there.1 met.one_paired)
-
-  pub sent_good : Each IsGood (sent ∷ from)
-  sent_good = each_before IsGood one (sent ∷ from) passed.sent_there met.one_good
-
-  -- the two ends where the message was sent, and where it comes
-  pub cut_there : IsCut k from other
-  cut_there = linked.there m from other sent e passed
-
-  pub agree_there : AgreeOneWay k from other
-  agree_there =
-      (good_agree k from other sent_good.1 met.other_good
-      (linked_before k one (e ∷ other) from other (before_it one sent from passed.sent_there) (e ∷ [], refl) cut_there linked)).there
-
-  pub carried_there : IsCarried k from its.earlier other steps
-  carried_there n a b x y p =
-      let up = before_it one sent from passed.sent_there in
-      let wide : IsPassed k n one other a b x y =
-      record { sent_there = through one from (x ∷ a) up p.sent_there; received_there = p.received_there; sends = p.sends; receives = p.receives; same_number = p.same_number } in
-      let long = no_longer from (x ∷ a) p.sent_there in
-      let run : GoesOn its_steps its.earlier = (its.added ++ its.step ∷ [], its.whole ∙ sym (append_assoc its.added (its.step ∷ []) its.earlier)) in
-      met.there n a b x y wide ∙ message_from its_steps its.earlier run (length a) (omega (arith, long, pairs_as_long v from its.earlier its.paired.1))
+module _ (k v : ℕ) (one : Past) (its_steps : List Step) (w : ℕ) (other : Past) (steps : List Step) (e : Event) (m : RpcMessage) (from : Past) (its_from : List Step) (sent : Event) (s : Step) (message : Message)
+    (h : IsHeard k v one its_steps w other steps e m from its_from sent s message) where
+  sent_good : Each IsGood (sent ∷ from)
+  sent_good = each_before IsGood one (sent ∷ from) h.passed.sent_there h.met.one_good
 
   -- a number in life where the message comes has one name at both ends
-  pub number_there : (n : ℕ) → is_in_life (id k false n) other ≡ true → HasOneName k n v from its.earlier w other steps
-  number_there n alive = one_name k n v w from other its.earlier steps its.paired.1 (all_refer from sent_good.1) cut_there agree_there carried_there alive
+  number_there : (n : ℕ) → is_in_life (id k false n) other ≡ true → HasOneName k n v from its_from w other steps
+  number_there n alive =
+      let before = before_it one sent from h.passed.sent_there in
+      let met = met_before k v one its_steps w other steps from its_from (h.added ++ s ∷ []) h.met before (h.whole ∙ sym (append_assoc h.added (s ∷ []) its_from)) h.paired.1 in
+      let cut = h.linked.there m from other sent e h.passed in
+      let agree = good_agree k from other sent_good.1 h.met.other_good (linked_before k one (e ∷ other) from other before (e ∷ [], refl) cut h.linked) in
+      one_name k n v w from other its_from steps h.paired.1 (all_refer from sent_good.1) cut agree.there met.there alive
 
   -- a promise is named alike, or is Nothing where it is out of life
-  promise_alike : (s : Step) (n : ℕ) (x : Cap) → promise_named (naming v (sent ∷ from) (its.step ∷ its.earlier)) from k true n ≡ Some x →
-      promise_named (naming w (e ∷ other) (s ∷ steps)) other k false n ≡ Some (if not (is_in_life (id k false n) other) then cap.Nothing else x)
-  promise_alike s n x h = elim (cases_Bool (is_in_life (id k false n) other)) [
+  promise_alike : (r : Step) (n : ℕ) (x : Cap) → promise_named (naming v (sent ∷ from) (s ∷ its_from)) from k true n ≡ Some x →
+      promise_named (naming w (e ∷ other) (r ∷ steps)) other k false n ≡ Some (if not (is_in_life (id k false n) other) then cap.Nothing else x)
+  promise_alike r n x named = elim (cases_Bool (is_in_life (id k false n) other)) [
     | inl alive ↦
         let one = number_there n alive in
-        let view = then_is (cap_named v from its.earlier) (view_of_number (id k true n) from) one.0 one.1 in
+        let view = then_is (cap_named v from its_from) (view_of_number (id k true n) from) one.0 one.1 in
         let got = then_is (cap_named w other steps) (view_of_number (id k false n) other) one.0 one.2 in
-        let is_sent : option_and_then (cap_named v (sent ∷ from) (its.step ∷ its.earlier)) (view_of_number (id k true n) from) ≡ Some one.0 =
-        ap (λ o. option_and_then (cap_named v (sent ∷ from) (its.step ∷ its.earlier)) o) view.1 ∙ cap_step v from sent its.earlier its.step view.0 one.0 (sent_good.0 rule.Ref) view.2 in
-        let is_got : option_and_then (cap_named w (e ∷ other) (s ∷ steps)) (view_of_number (id k false n) other) ≡ Some one.0 =
-        ap (λ o. option_and_then (cap_named w (e ∷ other) (s ∷ steps)) o) got.1 ∙ cap_step w other e steps s got.0 one.0 (good rule.Ref) got.2 in
-        let same : ◌≡◌ {A = Option Cap} (Some one.0) (Some x) = sym is_sent ∙ h in
+        let is_sent : option_and_then (cap_named v (sent ∷ from) (s ∷ its_from)) (view_of_number (id k true n) from) ≡ Some one.0 =
+        ap (λ o. option_and_then (cap_named v (sent ∷ from) (s ∷ its_from)) o) view.1 ∙ cap_step v from sent its_from s view.0 one.0 (sent_good.0 rule.Ref) view.2 in
+        let is_got : option_and_then (cap_named w (e ∷ other) (r ∷ steps)) (view_of_number (id k false n) other) ≡ Some one.0 =
+        ap (λ o. option_and_then (cap_named w (e ∷ other) (r ∷ steps)) o) got.1 ∙ cap_step w other e steps r got.0 one.0 (h.good rule.Ref) got.2 in
+        let same : ◌≡◌ {A = Option Cap} (Some one.0) (Some x) = sym is_sent ∙ named in
         ap (λ o. Some (unwrap_or o cap.Nothing)) (is_got ∙ same) ∙ ap (λ b. Some (if not b then cap.Nothing else x)) (sym alive)
     | inr gone ↦
-        ap (λ o. Some (unwrap_or (option_and_then (cap_named w (e ∷ other) (s ∷ steps)) o) cap.Nothing)) (promise_gone k n other gone)
+        ap (λ o. Some (unwrap_or (option_and_then (cap_named w (e ∷ other) (r ∷ steps)) o) cap.Nothing)) (promise_gone k n other gone)
         ∙ ap (λ b. Some (if not b then cap.Nothing else x)) (sym gone)
   ]
 
   -- the call that a Return answers is named alike
-  answers_alike : (s : Step) (q : ℕ) (release : Bool) (outcome : Outcome) → m ≡ Return q release outcome → is_unreturned (id k true q) other ≡ true → (name : Name) →
-      answered (naming v (sent ∷ from) (its.step ∷ its.earlier)) from k true q ≡ Some name → answered (naming w (e ∷ other) (s ∷ steps)) other k false q ≡ Some name
-  answers_alike s q release outcome is used name h =
-      let c = then_is (call_named v (sent ∷ from) (its.step ∷ its.earlier)) (call_of (id k false q) from) name h in
-      let named =
-      call_lasts v one (sent ∷ from) its_steps (its.step ∷ its.earlier) passed.sent_there (its.added, its.whole) (pairs_as_long v one its_steps met.one_paired)
-      (pairs_as_long v (sent ∷ from) (its.step ∷ its.earlier) its.paired) (all_refer one met.one_good) c.0 name c.2 in
-      let d = answer_is_one k v w one its_steps other steps m from sent e met linked good passed q release outcome c.0 name is used c.1 named in
-      ap (λ o. option_and_then (call_named w (e ∷ other) (s ∷ steps)) o) d.1
-      ∙ call_keeps w (e ∷ []) other (s ∷ []) steps refl (good rule.Ref, tt) d.0 name d.2
+  answers_alike : (r : Step) (q : ℕ) (release : Bool) (outcome : Outcome) → m ≡ Return q release outcome → is_unreturned (id k true q) other ≡ true → (name : Name) →
+      answered (naming v (sent ∷ from) (s ∷ its_from)) from k true q ≡ Some name → answered (naming w (e ∷ other) (r ∷ steps)) other k false q ≡ Some name
+  answers_alike r q release outcome is used name named =
+      let c = then_is (call_named v (sent ∷ from) (s ∷ its_from)) (call_of (id k false q) from) name named in
+      let lasts =
+      call_lasts v one (sent ∷ from) its_steps (s ∷ its_from) h.passed.sent_there (h.added, h.whole) (pairs_as_long v one its_steps h.met.one_paired)
+      (pairs_as_long v (sent ∷ from) (s ∷ its_from) h.paired) (all_refer one h.met.one_good) c.0 name c.2 in
+      let d = answer_is_one k v w one its_steps other steps m from sent e h.met h.linked h.good h.passed q release outcome c.0 name is used c.1 lasts in
+      ap (λ o. option_and_then (call_named w (e ∷ other) (r ∷ steps)) o) d.1 ∙ call_keeps w (e ∷ []) other (r ∷ []) steps refl (h.good rule.Ref, tt) d.0 name d.2
 
 -- ---- together
 
 returns_waiting : (k c q : ℕ) (references : List ℕ) (release : Bool) (outcome : Outcome) (es : Past) → IsGood es (Wire false k c references (Return q release outcome)) → is_unreturned (id k true q) es ≡ true
 returns_waiting k c q references release outcome es good = (good rule.QUse).returned_once
 
-module _ (k v w c : ℕ) (one : Past) (its_steps : List Step) (other : Past) (steps : List Step) (references : List ℕ) (m : RpcMessage) (from : Past) (sent : Event) (message : Message) (bound : List Cap)
-    (met : AreMet k v one its_steps w other steps) (linked : AreLinked k one (Wire false k c references m ∷ other)) (good : IsGood other (Wire false k c references m))
-    (passed : IsPassed k m one (Wire false k c references m ∷ other) from other sent (Wire false k c references m)) where
-  abbrev it : Event
-  it = Wire false k c references m
+module _ (k v w c : ℕ) (one : Past) (its_steps : List Step) (other : Past) (steps : List Step) (references : List ℕ) (m : RpcMessage) (from : Past) (sent : Event) (message : Message) where
+  abbrev received : Event
+  received = Wire false k c references m
 
-  abbrev mine : Naming
-  mine = let p = its k v w one its_steps other steps m from sent it met linked good passed in naming v (sent ∷ from) (p.step ∷ p.earlier)
-
-  abbrev theirs : Naming
-  theirs = naming w (it ∷ other) (step.Receive w k message bound ∷ steps)
-
-  -- where descriptors and targets are named alike, a message is read as it was sent
-  pub read_as_sent : message_at (length from) its_steps ≡ Some message → (is_late other it ≡ false → (cs : List Cap) → caps_named mine from sent ≡ Some cs → caps_named theirs other it ≡ Some cs) →
-      ((t : Cap) → option_and_then mine.cap (view_of_target from sent) ≡ Some t → option_and_then theirs.cap (view_of_target other it) ≡ Some t) → said theirs other it ≡ Some (read other it message)
-  read_as_sent there caps target =
-      let p = its k v w one its_steps other steps m from sent it met linked good passed in
-      let s = step.Receive w k message bound in
-      let went = passing_is k true m sent passed.sends in
-      let M = send_is v from p.earlier k went.0 went.1 m sent p.step went.2 p.paired.0 in
-      let same : ◌≡◌ {A = Option Message} (Some M.0) (Some message) = sym M.2 ∙ sym (message_of_pair v its_steps passed.sent_there.0 sent from p) ∙ there in
-      let late = (good_agree k one (it ∷ other) met.one_good (good, met.other_good) linked).there.late m from other sent it passed in
-      let alike : IsReadAlike mine from sent theirs other it k c m message = record {
-        calls = λ name is q asks. answerer_names w other steps s k c references m q message name asks refl is;
-        caps = caps;
-        target = target;
+  -- a message that is heard is read as it was sent
+  heard_read : (its_from : List Step) (s : Step) (bound : List Cap) → IsHeard k v one its_steps w other steps received m from its_from sent s message →
+      said (naming w (received ∷ other) (step.Receive w k message bound ∷ steps)) other received ≡ Some (read other received message)
+  heard_read its_from s bound h =
+      let r = step.Receive w k message bound in
+      let mine = naming v (sent ∷ from) (s ∷ its_from) in
+      let theirs = naming w (received ∷ other) (r ∷ steps) in
+      let went = passing_is k true m sent h.passed.sends in
+      let late = (good_agree k one (received ∷ other) h.met.one_good (h.good, h.met.other_good) h.linked).there.late m from other sent received h.passed in
+      let alike : IsReadAlike mine from sent theirs other received k c m message = record {
+        calls = λ name is q asks. answerer_names w other steps r k c references m q message name asks refl is;
+        caps = λ in_time cs named. caps_are_one k v one its_steps w other steps c references m from its_from s message sent bound in_time h cs named;
+        target = λ t named. targets_are_one k v one its_steps w other steps c references m from its_from s message sent bound h t named;
         late = late;
-        answers = λ q release outcome is name h. answers_alike k v w one its_steps other steps m from sent it met linked good passed s q release outcome is
-            (returns_waiting k c q references release outcome other (subst (λ m. IsGood other (Wire false k c references m)) is good)) name h;
-        promise = promise_alike k v w one its_steps other steps m from sent it met linked good passed s;
+        answers = λ q release outcome is name named. answers_alike k v one its_steps w other steps received m from its_from sent s message h r q release outcome is
+            (returns_waiting k c q references release outcome other (subst (λ m. IsGood other (Wire false k c references m)) is h.good)) name named;
+        promise = promise_alike k v one its_steps w other steps received m from its_from sent s message h r;
       } in
-      read_as_said mine from theirs other k went.0 c went.1 references message m (subst (λ x. IsReadAlike mine from x theirs other it k c m message) went.2 alike)
-      (ap (said mine from) (sym went.2) ∙ M.1 ∙ same)
+      read_as_said mine from theirs other k went.0 c went.1 references message m (subst (λ x. IsReadAlike mine from x theirs other received k c m message) went.2 alike)
+      (ap (said mine from) (sym went.2) ∙ h.says)
+
+  pub message_read : (bound : List Cap) → AreMet k v one its_steps w other steps → AreLinked k one (received ∷ other) → IsGood other received → IsPassed k m one (received ∷ other) from other sent received →
+      message_at (length from) its_steps ≡ Some message → said (naming w (received ∷ other) (step.Receive w k message bound ∷ steps)) other received ≡ Some (read other received message)
+  message_read bound met linked good passed there =
+      let p = pair k v one its_steps w other steps c references m from sent message met linked good passed there in
+      heard_read p.earlier p.step bound (passed_is_heard k v one its_steps w other steps c references m from sent message met linked good passed there)

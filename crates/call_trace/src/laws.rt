@@ -198,3 +198,14 @@ pub fn receipts_bind_what_is_brought()
         (Wire false k c references m ∷ other) (Receive w k message [] ∷ steps)) (Wire false k c references m ∷ other)) references) ≡ Some bound)
         × MayBind message bound }
 {}
+
+/// A received message says, by its receiver's log, what the sent message says, but for what is left unread: the caps of a
+/// Return that is late there, and the promise of a Resolve whose number is out of life there.
+pub fn messages_are_read_as_sent()
+    ensures { (k v w c : ℕ) (one : Past) (its_steps : List Step) (other : Past) (steps : List Step) (references : List ℕ) (m : RpcMessage) (from : Past)
+        (sent : Event) (message : Message) (bound : List Cap) → AreMet k v one its_steps w other steps → AreLinked k one (Wire false k c references m ∷ other)
+        → IsGood other (Wire false k c references m) → IsPassed k m one (Wire false k c references m ∷ other) from other sent (Wire false k c references m)
+        → message_at (length from) its_steps ≡ Some message
+        → said (naming w (Wire false k c references m ∷ other) (Receive w k message bound ∷ steps)) other (Wire false k c references m)
+        ≡ Some (read other (Wire false k c references m) message) }
+{}

@@ -145,10 +145,10 @@ call_lasts v one es xs steps log run all some refers c name h =
     ∙ call_keeps v log.0 es run.0 steps (suffix_as_long one log.0 es xs run.0 steps log.1 run.1 all some) (each_after log.0 es (subst (Each Refers) log.1 refers)) c name h
 
 -- the message of a step stands at its number in the whole
-message_from : (xs steps : List Step) → GoesOn xs steps → (i : ℕ) → i < length steps → message_at i xs ≡ message_at i steps
+pub message_from : (xs steps : List Step) → GoesOn xs steps → (i : ℕ) → i < length steps → message_at i xs ≡ message_at i steps
 message_from xs steps run i lt = ap (message_at i) run.1 ∙ message_back i run.0 steps lt
 
-message_of_pair : (v : ℕ) (xs : List Step) (later : List Event) (e : Event) (before : Past) (p : IsPaired v xs later e before) → message_at (length before) xs ≡ message_of p.step
+pub message_of_pair : (v : ℕ) (xs : List Step) (later : List Event) (e : Event) (before : Past) (p : IsPaired v xs later e before) → message_at (length before) xs ≡ message_of p.step
 message_of_pair v xs later e before p =
     let same : length p.earlier ≡ length before = sym (pairs_as_long v before p.earlier p.paired.1) in
     message_from xs (p.step ∷ p.earlier) (p.added, p.whole) (length before) (omega (arith, same))

@@ -25,3 +25,4 @@ pub mod Describing
 pub mod Binding
 pub mod Asking
 pub mod Receipts
+pub mod Good

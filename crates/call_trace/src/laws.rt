@@ -1,6 +1,6 @@
 //! Laws of runs and their logs.
 
-ghost use Rattle.std.specs.Prelude.{◌≡◌, ◌∷◌, ◌++◌, ℕ, List, [], length, take, true, false, Some, IsSome, IsTrue, Contains, Bool, map};
+ghost use Rattle.std.specs.Prelude.{◌≡◌, ◌∷◌, ◌++◌, ℕ, List, [], length, take, true, false, Some, IsSome, IsTrue, Contains, Bool, map, reverse};
 ghost use Rattle.rpc_view.specs.declared.message.Payload.{Payload};
 ghost use Rattle.vat_rules.specs.Audit.{Found};
 ghost use Rattle.vat_rules.specs.Judged.{IsGood};
@@ -23,7 +23,7 @@ ghost use Rattle.run_model.specs.Leads.{Leads as RunLeads, LeadsByTurns as RunLe
 ghost use Rattle.call_trace.specs.Types.{Outcome, Return, Resolution, Resolve, Event, Wire, View, Name, Cap, Step, Target, Call, Deliver, Answer, Fault, RpcMessage, Message};
 ghost use Rattle.call_trace.specs.Naming.{call_named, cap_named, naming, message_at};
 ghost use Rattle.call_trace.specs.Part.{reference_named, Says, PairsOff, read};
-ghost use Rattle.call_trace.specs.Running.{step_of, AreMet};
+ghost use Rattle.call_trace.specs.Running.{step_of, AreMet, steps_of_row};
 ghost use Rattle.run_model.specs.declared.step.Step.TheVariants.{Receive};
 ghost use Rattle.call_trace.specs.Said.{together, said};
 ghost use Rattle.call_trace.specs.Tells.{TurnsNames};
@@ -208,4 +208,13 @@ pub fn messages_are_read_as_sent()
         → message_at (length from) its_steps ≡ Some message
         → said (naming w (Wire false k c references m ∷ other) (Receive w k message bound ∷ steps)) other (Wire false k c references m)
         ≡ Some (read other (Wire false k c references m) message) }
+{}
+
+/// Good findings have a run: where findings are such as name a run, each record of the row that the order takes has its step,
+/// and these steps are a run of the machine over first-in first-out links, of which the logs are the parts; in it each call
+/// reached the object that it was to go to, each capability that a vat uses is one that it has, each number was used in its
+/// life, and the counts of both ends balance.
+pub fn good_findings_have_a_run()
+    ensures { (findings : List Found) (order : List ℕ) → AreTrue findings → MayBeNamed findings order
+        → (before : List Step) × (steps_of_row (row_of findings order) ≡ Some before) × IsRunOf findings order (reverse before) }
 {}

@@ -9,5 +9,8 @@ pub mod Carried
 pub mod Tells
 pub mod Within
 pub mod Having
+pub mod Noting
+pub mod Behind
+pub mod Early
 mod PipelinedCall
 mod UnderWay

@@ -11,3 +11,4 @@ pub mod Findings
 pub mod Taking
 pub mod Named
 pub mod Running
+pub mod Overtaking

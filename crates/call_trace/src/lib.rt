@@ -1,4 +1,5 @@
-//! From good logs to one run of the machine. Its definitions stand; its calls are to come.
+//! From good logs to one run of the machine. Its definitions stand, and [`order_fault`], which finds where a run breaks the
+//! order of calls; the call that makes the run is to come.
 //!
 //! It stands on `vat_rules`, which says when a log is good, on `vat_view` for what the numbers of a log stand for, on
 //! `agree` for what passed on a connection, on `merge_order` and `link_check`, and on `run_model` for runs. How a log
@@ -6,13 +7,19 @@
 //! in `specs/Part.antt`, when numbers are used in their lives in `specs/Lives.antt`, and how the counts of both ends
 //! balance in `specs/Balance.antt`; what is asked of findings in `specs/Findings.antt`, which records an order takes of
 //! their logs in `specs/Taking.antt`, and what their run has in `specs/Named.antt`.
+//! What a run's deliveries overtake is kept in tables, of which `specs/Overtaking.antt` speaks.
 //! What the laws say of names beside that stands in `specs/Carried.antt`, `specs/Tells.antt` and `specs/Within.antt`.
 //! `proofs/PipelinedCall.antt` and `proofs/UnderWay.antt` are examples. What holds of runs and their logs is promised by
 //! the functions of `src/laws.rt`, which do nothing.
 #![tactic(auto)]
 
+mod fault;
+mod latest;
 mod laws;
+mod numbers;
+mod overtaking;
 
+pub use fault::order_fault;
 pub use laws::{
     ends_of_findings_agree, names_only_grow, no_findings_have_the_empty_run, numbers_have_one_name,
     orders_take_the_logs, turns_are_told, views_lead_in_the_run, what_is_bound_has_a_name,

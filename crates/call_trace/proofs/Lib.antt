@@ -16,6 +16,9 @@ pub mod Carrying
 pub mod Whole
 pub mod Next
 pub mod Running
+pub mod Noting
+pub mod Behind
+pub mod Early
 mod PipelinedCall
 mod UnderWay
 pub mod Using

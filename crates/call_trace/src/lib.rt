@@ -1,4 +1,5 @@
-//! From good logs to one run of the machine. Its definitions stand; its calls are to come.
+//! From good logs to one run of the machine. Its definitions stand, and [`order_fault`], which finds where a run breaks the
+//! order of calls; the call that makes the run is to come.
 //!
 //! It stands on `vat_rules`, which says when a log is good, on `vat_view` for what the numbers of a log stand for, on
 //! `agree` for what passed on a connection, on `merge_order` and `link_check`, and on `run_model` for runs. How a log
@@ -9,12 +10,19 @@
 //! What the laws say of names beside that stands in `specs/Carried.antt`, `specs/Tells.antt` and `specs/Within.antt`, of
 //! where calls are in `specs/Placed.antt`, and which records are of what a vat makes by itself in `specs/Kinds.antt`. How
 //! the records of several logs take their steps is said in `specs/Running.antt`.
+//! What a run's deliveries overtake is kept in tables, of which `specs/Overtaking.antt` speaks.
+//! What the laws say of names beside that stands in `specs/Carried.antt`, `specs/Tells.antt` and `specs/Within.antt`.
 //! `proofs/PipelinedCall.antt` and `proofs/UnderWay.antt` are examples. What holds of runs and their logs is promised by
 //! the functions of `src/laws.rt`, which do nothing.
 #![tactic(auto)]
 
+mod fault;
+mod latest;
 mod laws;
+mod numbers;
+mod overtaking;
 
+pub use fault::order_fault;
 pub use laws::{
     calls_are_settled_once, calls_are_where_logs_have_them, calls_go_where_they_lead,
     ends_of_findings_agree, good_findings_have_a_run, messages_are_read_as_sent, names_only_grow,

@@ -10,22 +10,22 @@ pub mod Tells
 pub mod Within
 pub mod Having
 pub mod Making
-pub mod Settling
 pub mod Placing
+pub mod Settling
+pub mod Using
+pub mod Sayable
+pub mod Resulting
+pub mod Asking
+pub mod Describing
+pub mod Binding
+pub mod Receipts
 pub mod Carrying
-pub mod Whole
 pub mod Next
 pub mod Running
+pub mod Whole
+pub mod Good
 pub mod Noting
 pub mod Behind
 pub mod Early
 mod PipelinedCall
 mod UnderWay
-pub mod Using
-pub mod Sayable
-pub mod Resulting
-pub mod Describing
-pub mod Binding
-pub mod Asking
-pub mod Receipts
-pub mod Good

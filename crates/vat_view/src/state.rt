@@ -241,7 +241,7 @@ impl VatState {
         self.resolves.note_resolve(promise, number);
         self.connections.note_event(&event);
         self.waits.change(change);
-        self.events.push(event)?;
+        self.events.push_reserved(event);
         Ok(())
     }
 

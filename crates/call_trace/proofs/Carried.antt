@@ -204,7 +204,7 @@ not_late false c h e = refl
 not_late true c h e = sym (h refl) ∙ e
 
 -- of a record that is sent, its step
-send_is : (v : ℕ) (es : Past) (steps : List Step) (k c : ℕ) (rs : List ℕ) (m : RpcMessage) (e : Event) (s : Step) → e ≡ Wire true k c rs m → Says v es steps e s →
+pub send_is : (v : ℕ) (es : Past) (steps : List Step) (k c : ℕ) (rs : List ℕ) (m : RpcMessage) (e : Event) (s : Step) → e ≡ Wire true k c rs m → Says v es steps e s →
     (M : Message) × (said (naming v (e ∷ es) (s ∷ steps)) es e ≡ Some M) × (message_of s ≡ Some M)
 send_is v es steps k c rs m e s is says =
     let e' = Wire true k c rs m in

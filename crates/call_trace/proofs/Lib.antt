@@ -16,8 +16,16 @@ pub mod Carrying
 pub mod Whole
 pub mod Next
 pub mod Running
+pub mod Noting
+pub mod Behind
+pub mod Early
 mod PipelinedCall
 mod UnderWay
 pub mod Using
 pub mod Sayable
 pub mod Resulting
+pub mod Describing
+pub mod Binding
+pub mod Asking
+pub mod Receipts
+pub mod Good

@@ -1,5 +1,5 @@
 -- The induction along a row that may run: each record takes a step that it says, that is legal and keeps to its link.
-use Rattle.std.proofs.Common.{◌≡◌, refl, sym, ◌∙◌, ap, ap₂, subst, ℕ, ◌==◌, List, [], ◌∷◌, length, map, reverse, Bool, true, false, not, ◌||◌, Option, Some, None, option_and_then, option_map, eqb-true, inl, inr}
+use Rattle.std.proofs.Common.{◌≡◌, refl, sym, ◌∙◌, ap, ap₂, subst, ℕ, ◌==◌, List, [], ◌∷◌, length, map, reverse, true, false, Option, Some, None, option_and_then, option_map, eqb-true, inl, inr}
 use Rattle.std.specs.Option.{option_or}
 use Rattle.std.proofs.lemmas.Bool.{cases_Bool}
 use Rattle.agree.specs.Agreeing.{AreLinked}
@@ -20,12 +20,12 @@ use Rattle.call_trace.specs.Part.{reference_named, Says, PairsOff, read}
 use Rattle.call_trace.specs.Running.{step_received, step_of, steps_by, steps_of_row, AreMet, IsNamedRow, IsGoodAt, MayRun}
 use Rattle.call_trace.specs.Said.{together, said}
 use Rattle.call_trace.specs.Taking.{row_of}
-use Rattle.call_trace.specs.Types.{Bootstrap, Call, Return, Resolve, RpcMessage, Event, Host, Vow, Fulfil, Break, Make, Field, Deliver, Answer, Fault, Wire, View, Object, Promise, FieldOf, Import, Cap, Message, Step}
+use Rattle.call_trace.specs.Types.{Bootstrap, Call, RpcMessage, Event, Host, Vow, Fulfil, Break, Make, Field, Deliver, Answer, Fault, Wire, View, Object, Promise, FieldOf, Import, Cap, Message, Step}
 use Rattle.call_trace.specs.Within.{IsWithin}
 use Rattle.call_trace.proofs.Carrying.{says_alike, log_here, log_there, steps_here, steps_there}
 use Rattle.call_trace.proofs.Next.{may_run, run_before, logs_good, is_end, keeps_link, received_here, is_coming}
 use Rattle.call_trace.proofs.Whole.{is_run}
-use Rattle.run_model.specs.Legal.{IsLegal, HasUsed, MayCome, MayBind}
+use Rattle.run_model.specs.Legal.{IsLegal, MayBind}
 use Rattle.run_model.specs.Links.{IsLinked}
 use Rattle.run_model.specs.Steps.{vat_of}
 use Rattle.run_model.specs.declared.cap.Cap.TheVariants as cap
@@ -53,45 +53,6 @@ IsBrought = (k v w c : ℕ) (one : Past) (its_steps : List Step) (other : Past) 
     (bound : List Cap)
     × (together (map (reference_named (naming w (Wire false k c references m ∷ other) (step.Receive w k message [] ∷ steps)) (Wire false k c references m ∷ other)) references) ≡ Some bound)
     × MayBind message bound
-
--- the same, part by part: what isn't received has a step that it says
-abbrev pub IsSayable : Type 0
-IsSayable = (v : ℕ) (es : Past) (steps before : List Step) (e : Event) → IsWithin v es steps before → Each IsGood es → IsGood es e → is_received e ≡ false →
-    (s : Step) × (step_of v es steps before e ≡ Some s) × Says v es steps e s
-
--- its vat has what the step uses
-abbrev pub HasItsUsed : Type 0
-HasItsUsed = (v : ℕ) (es : Past) (steps before : List Step) (e : Event) (s : Step) → IsWithin v es steps before → Each IsGood es → IsGood es e → is_received e ≡ false → Says v es steps e s → HasUsed before s
-
--- and the step may come; so of records of one kind
-abbrev pub ComesOf : (Event → Bool) → Type 0
-ComesOf kind = (v : ℕ) (es : Past) (steps before : List Step) (e : Event) (s : Step) → IsWithin v es steps before → Each IsGood es → IsGood es e → kind e ≡ true → Says v es steps e s → MayCome before s
-
--- a call leaves the vat, or is delivered
-abbrev pub is_moved : Event → Bool
-is_moved (Deliver c object) = true
-is_moved (Wire true k c rs (Call q target interface method params)) = true
-is_moved e = false
-
--- a Return or a Resolve is sent
-abbrev pub is_told : Event → Bool
-is_told (Wire true k c rs (Return q release outcome)) = true
-is_told (Wire true k c rs (Resolve n resolution)) = true
-is_told e = false
-
--- anything else that isn't received
-abbrev pub is_plain : Event → Bool
-is_plain e = not (is_received e || is_moved e || is_told e)
-
-pub takes_step : IsSayable → HasItsUsed → ComesOf is_moved → ComesOf is_told → ComesOf is_plain → TakesStep
-takes_step says uses moved told plain v es steps before e within good now own =
-    let t = says v es steps before e within good now own in
-    (t.0, t.1, t.2, (uses v es steps before e t.0 within good now own t.2, at (is_received e) (is_moved e) (is_told e) own refl refl refl t.0 t.2))
-  where
-    at : (a b c : Bool) → a ≡ false → is_moved e ≡ b → is_told e ≡ c → is_plain e ≡ not (a || b || c) → (s : Step) → Says v es steps e s → MayCome before s
-    at a true c out here there rest s h = moved v es steps before e s within good now here h
-    at a false true out here there rest s h = told v es steps before e s within good now there h
-    at a false false out here there rest s h = plain v es steps before e s within good now (rest ∙ ap (λ x. not (x || false || false)) out) h
 
 -- ---- what a vat binds names nothing otherwise
 

@@ -53,7 +53,7 @@ next_is a b es h = turned_at a b es (at (last_answer (turn a) es) h)
 
 -- ---- an import's name stands since its message
 
-message_back : (i : ℕ) (added steps : List Step) → i < length steps → message_at i (added ++ steps) ≡ message_at i steps
+pub message_back : (i : ℕ) (added steps : List Step) → i < length steps → message_at i (added ++ steps) ≡ message_at i steps
 message_back i [] steps lt = refl
 message_back i (s ∷ added) steps lt = elim (cases_Bool (length (added ++ steps) == i)) [
   | inl same ↦ absurd (let e = eqb-true (length (added ++ steps)) i same in omega (arith, e, length-append added steps, lt))

@@ -1,6 +1,6 @@
 //! Laws of runs and their logs.
 
-ghost use Rattle.std.specs.Prelude.{◌≡◌, ◌∷◌, ◌++◌, ℕ, List, [], length, take, true, false, Some, IsSome, IsTrue, Contains, Bool};
+ghost use Rattle.std.specs.Prelude.{◌≡◌, ◌∷◌, ◌++◌, ℕ, List, [], length, take, true, false, Some, IsSome, IsTrue, Contains, Bool, map, reverse};
 ghost use Rattle.rpc_view.specs.declared.message.Payload.{Payload};
 ghost use Rattle.vat_rules.specs.Audit.{Found};
 ghost use Rattle.vat_rules.specs.Judged.{IsGood};
@@ -10,19 +10,22 @@ ghost use Rattle.vat_view.specs.Bindings.{Refers, is_bound, is_bound_call};
 ghost use Rattle.vat_view.specs.Calls.{is_at_vat};
 ghost use Rattle.vat_view.specs.Laws.{EachAfter};
 ghost use Rattle.vat_view.specs.Lives.{is_in_life};
+ghost use Rattle.vat_view.specs.Questions.{is_unfinished, is_unreturned, call_of};
 ghost use Rattle.vat_view.specs.Walks.{turns, turn, Leads, LeadsByTurns};
 ghost use Rattle.agree.specs.Rows.{log_of, IsShared};
 ghost use Rattle.agree.specs.Agreeing.{AreLinked};
-ghost use Rattle.agree.specs.Streams.{IsCut};
+ghost use Rattle.agree.specs.Streams.{IsCut, IsPassed};
 ghost use Rattle.agree.specs.Standing.{AgreeOneWay, Agree};
-ghost use Rattle.run_model.specs.Legal.{is_cap, MayCome, HasUsed};
+ghost use Rattle.run_model.specs.Legal.{is_cap, MayCome, HasUsed, MayBind};
 ghost use Rattle.run_model.specs.Has.{Has};
 ghost use Rattle.run_model.specs.declared.cap.Cap.TheVariants.{Field as FieldCap};
 ghost use Rattle.run_model.specs.Leads.{Leads as RunLeads, LeadsByTurns as RunLeadsByTurns};
-ghost use Rattle.call_trace.specs.Types.{Outcome, Return, Resolution, Resolve, Event, Wire, View, Name, Cap, Step, Target, Call, Deliver, Answer, Fault};
-ghost use Rattle.call_trace.specs.Naming.{call_named, cap_named, naming};
-ghost use Rattle.call_trace.specs.Part.{reference_named, Says, PairsOff};
-ghost use Rattle.call_trace.specs.Running.{step_of};
+ghost use Rattle.call_trace.specs.Types.{Outcome, Return, Resolution, Resolve, Event, Wire, View, Name, Cap, Step, Target, Call, Deliver, Answer, Fault, RpcMessage, Message};
+ghost use Rattle.call_trace.specs.Naming.{call_named, cap_named, naming, message_at};
+ghost use Rattle.call_trace.specs.Part.{reference_named, Says, PairsOff, read};
+ghost use Rattle.call_trace.specs.Running.{step_of, AreMet, steps_of_row};
+ghost use Rattle.run_model.specs.declared.step.Step.TheVariants.{Receive};
+ghost use Rattle.call_trace.specs.Said.{together, said};
 ghost use Rattle.call_trace.specs.Tells.{TurnsNames};
 ghost use Rattle.call_trace.specs.Within.{IsWithin, HasNameAfter};
 ghost use Rattle.call_trace.specs.Placed.{IsThere};
@@ -169,4 +172,49 @@ pub fn calls_are_settled_once()
         → Each IsGood es → IsGood es (Answer c results) → Says v es steps (Answer c results) s → MayCome before s }
     ensures faulted { (v : ℕ) (es : Past) (steps before : List Step) (c : ℕ) (s : Step) → IsWithin v es steps before → Each IsGood es
         → IsGood es (Fault c) → Says v es steps (Fault c) s → MayCome before s }
+{}
+
+/// A question has one call name at both ends of a message: a question of its sender's that hasn't had its Finish where the
+/// message comes (`asked`), and the question that a Return answers (`answered`).
+pub fn questions_have_one_call()
+    ensures asked { (k v w : ℕ) (one : Past) (its_steps : List Step) (other : Past) (steps : List Step) (m : RpcMessage) (from : Past) (sent e : Event)
+        → AreMet k v one its_steps w other steps → AreLinked k one (e ∷ other) → IsGood other e → IsPassed k m one (e ∷ other) from other sent e
+        → (q c : ℕ) (name : Name) → is_unfinished (id k false q) other ≡ true → call_of (id k true q) from ≡ Some c → call_named v one its_steps c ≡ Some name
+        → (d : ℕ) × (call_of (id k false q) other ≡ Some d) × (call_named w other steps d ≡ Some name) }
+    ensures answered { (k v w : ℕ) (one : Past) (its_steps : List Step) (other : Past) (steps : List Step) (m : RpcMessage) (from : Past) (sent e : Event)
+        → AreMet k v one its_steps w other steps → AreLinked k one (e ∷ other) → IsGood other e → IsPassed k m one (e ∷ other) from other sent e
+        → (q : ℕ) (release : Bool) (outcome : Outcome) (c : ℕ) (name : Name) → m ≡ Return q release outcome → is_unreturned (id k true q) other ≡ true
+        → call_of (id k false q) from ≡ Some c → call_named v one its_steps c ≡ Some name
+        → (d : ℕ) × (call_of (id k true q) other ≡ Some d) × (call_named w other steps d ≡ Some name) }
+{}
+
+/// Where two logs met, and the one's next record receives a message that the other sent, the references noted beside it have
+/// names, those of the caps that the message brings, and the receipt may bind these.
+pub fn receipts_bind_what_is_brought()
+    ensures { (k v w c : ℕ) (one : Past) (its_steps : List Step) (other : Past) (steps : List Step) (references : List ℕ) (m : RpcMessage) (from : Past)
+        (sent : Event) (message : Message) → AreMet k v one its_steps w other steps → AreLinked k one (Wire false k c references m ∷ other)
+        → IsGood other (Wire false k c references m) → IsPassed k m one (Wire false k c references m ∷ other) from other sent (Wire false k c references m)
+        → message_at (length from) its_steps ≡ Some message → (bound : List Cap) × (together (map (reference_named (naming w
+        (Wire false k c references m ∷ other) (Receive w k message [] ∷ steps)) (Wire false k c references m ∷ other)) references) ≡ Some bound)
+        × MayBind message bound }
+{}
+
+/// A received message says, by its receiver's log, what the sent message says, but for what is left unread: the caps of a
+/// Return that is late there, and the promise of a Resolve whose number is out of life there.
+pub fn messages_are_read_as_sent()
+    ensures { (k v w c : ℕ) (one : Past) (its_steps : List Step) (other : Past) (steps : List Step) (references : List ℕ) (m : RpcMessage) (from : Past)
+        (sent : Event) (message : Message) (bound : List Cap) → AreMet k v one its_steps w other steps → AreLinked k one (Wire false k c references m ∷ other)
+        → IsGood other (Wire false k c references m) → IsPassed k m one (Wire false k c references m ∷ other) from other sent (Wire false k c references m)
+        → message_at (length from) its_steps ≡ Some message
+        → said (naming w (Wire false k c references m ∷ other) (Receive w k message bound ∷ steps)) other (Wire false k c references m)
+        ≡ Some (read other (Wire false k c references m) message) }
+{}
+
+/// Good findings have a run: where findings are such as name a run, each record of the row that the order takes has its step,
+/// and these steps are a run of the machine over first-in first-out links, of which the logs are the parts; in it each call
+/// reached the object that it was to go to, each capability that a vat uses is one that it has, each number was used in its
+/// life, and the counts of both ends balance.
+pub fn good_findings_have_a_run()
+    ensures { (findings : List Found) (order : List ℕ) → AreTrue findings → MayBeNamed findings order
+        → (before : List Step) × (steps_of_row (row_of findings order) ≡ Some before) × IsRunOf findings order (reverse before) }
 {}

@@ -1,0 +1,5 @@
+use Rattle.call_trace.proofs.Early.{IsNumbered, IsFault}
+use Rattle.call_trace.proofs.fault.order_fault.Given as goal
+
+abbrev pub invariant-loop-index : goal.invariant-loop-index
+invariant-loop-index l = IsNumbered l.steps l.index l.numbers × IsFault l.steps l.index l.fault

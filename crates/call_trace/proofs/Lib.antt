@@ -29,3 +29,5 @@ pub mod Binding
 pub mod Asking
 pub mod Receipts
 pub mod Good
+pub mod Reordering
+pub mod Orders

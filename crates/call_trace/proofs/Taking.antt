@@ -49,7 +49,7 @@ steps_other v u before apart =
     let none : ◌≡◌ {A = ℕ} (cond (u == v) 1 0) 0 = ap (λ b. cond b 1 0) apart in
     omega (arith, sum_by-cons (λ u. cond (u == v) 1 0) u before, none)
 
-log_at : (v u : ℕ) (o : Option Event) (row : Row) (b : Bool) → (u == v) ≡ b → log_of v (cons_option (option_map (λ e. (u, e)) o) row) ≡ (if b then cons_option o (log_of v row) else log_of v row)
+pub log_at : (v u : ℕ) (o : Option Event) (row : Row) (b : Bool) → (u == v) ≡ b → log_of v (cons_option (option_map (λ e. (u, e)) o) row) ≡ (if b then cons_option o (log_of v row) else log_of v row)
 log_at v u None row true e = refl
 log_at v u None row false e = refl
 log_at v u (Some x) row true e = ap (λ b. cons_option (if b then Some x else None) (log_of v row)) e

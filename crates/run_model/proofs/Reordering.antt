@@ -33,7 +33,7 @@ heads e = cc
 tails : {A : Type 0} {x y : A} {xs ys : List A} → (x ∷ xs) ≡ (y ∷ ys) → xs ≡ ys
 tails e = cc
 
-steps_turned : (v : ℕ) (run : List Step) → steps_of v (reverse run) ≡ reverse (steps_of v run)
+pub steps_turned : (v : ℕ) (run : List Step) → steps_of v (reverse run) ≡ reverse (steps_of v run)
 steps_turned v [] = refl
 steps_turned v (s ∷ run) =
     ap (steps_of v) (reverse-append (s ∷ []) run) ∙ filter-append (λ s. vat_of s == v) (reverse run) (s ∷ []) ∙ at (vat_of s == v) (steps_turned v run)
@@ -479,7 +479,7 @@ one_of_turned P (x ∷ xs) h = at (one_of_split P (reverse xs) (x ∷ []) (subst
     at (inr (inl h)) rest = inl h
     at (inr (inr h)) rest = absurd h
 
-one_of_own : (v : ℕ) (P : Step → Type 0) → ((s : Step) → P s → vat_of s ≡ v) → (past : Past) → OneOf P past → OneOf P (steps_of v past)
+pub one_of_own : (v : ℕ) (P : Step → Type 0) → ((s : Step) → P s → vat_of s ≡ v) → (past : Past) → OneOf P past → OneOf P (steps_of v past)
 one_of_own v P own [] h = h
 one_of_own v P own (s ∷ past) (inl h) = subst (OneOf P) (sym (own_step v s past (own s h))) (inl h)
 one_of_own v P own (s ∷ past) (inr h) = one_of_rest P (vat_of s == v) s (steps_of v past) (one_of_own v P own past h)
@@ -493,7 +493,7 @@ one_of_all v P (s ∷ past) h = at (vat_of s == v) h (one_of_all v P past)
     at true (inr h) rest = inr (rest h)
     at false h rest = inr (rest h)
 
-own_through : (v r : ℕ) (a : Cap) (s : Step) → MakesThrough v r a s → vat_of s ≡ v
+pub own_through : (v r : ℕ) (a : Cap) (s : Step) → MakesThrough v r a s → vat_of s ≡ v
 own_through v r a (Make w n b reference i m) h = h.0
 own_through v r a (Host w o) h = absurd h
 own_through v r a _ h = absurd h
@@ -504,7 +504,7 @@ keeps_too run other same keeps v r a b h k = keeps v r a b (back a h) (back b k)
     back : (c : Cap) → OneOf (MakesThrough v r c) other → OneOf (MakesThrough v r c) run
     back c h = one_of_all v (MakesThrough v r c) run (subst (OneOf (MakesThrough v r c)) (sym (same v)) (one_of_own v (MakesThrough v r c) (own_through v r c) other h))
 
-keeps_turned : (run : List Step) → KeepsReferences run → KeepsReferences (reverse run)
+pub keeps_turned : (run : List Step) → KeepsReferences run → KeepsReferences (reverse run)
 keeps_turned run keeps v r a b h k = keeps v r a b (one_of_turned (MakesThrough v r a) run h) (one_of_turned (MakesThrough v r b) run k)
 
 pub same_early : (run other : List Step) → IsLegalRun run → IsLinkedRun run → KeepsReferences run → HaveSameSteps run other → (place : ℕ × ℕ) → OneOf (λ p. p ≡ place) (early run) →

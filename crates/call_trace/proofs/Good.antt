@@ -1,7 +1,6 @@
 -- Good findings have a run: what holds of each record, put together.
 use Rattle.std.proofs.Common.{◌≡◌, refl, ℕ, List, true, false}
 use Rattle.std.specs.Prelude.{reverse, Some}
-use Rattle.agree.specs.Rows.{Row}
 use Rattle.vat_rules.specs.Audit.{Found}
 use Rattle.vat_rules.specs.Judged.{IsGood}
 use Rattle.vat_rules.specs.OfCaps.{is_received}
@@ -9,7 +8,7 @@ use Rattle.vat_view.specs.Past.{Past, Each}
 use Rattle.call_trace.specs.Findings.{AreTrue, MayBeNamed}
 use Rattle.call_trace.specs.Named.{IsRunOf}
 use Rattle.call_trace.specs.Part.{Says}
-use Rattle.call_trace.specs.Running.{steps_of_row, MayRun}
+use Rattle.call_trace.specs.Running.{steps_of_row}
 use Rattle.call_trace.specs.Taking.{row_of}
 use Rattle.call_trace.specs.Types.{Bootstrap, Call, Return, Finish, Resolve, Release, Disembargo, Abort, Event, Host, Vow, Fulfil, Break, Make, Field, Deliver, Answer, Fault, Wire, Step}
 use Rattle.call_trace.specs.Within.{IsWithin}
@@ -18,7 +17,7 @@ use Rattle.call_trace.proofs.Making.{own_may_come}
 use Rattle.call_trace.proofs.Placing.{is_here, delivery_may_come, sent_call_may_come}
 use Rattle.call_trace.proofs.Receipts.{message_read}
 use Rattle.call_trace.proofs.Resulting.{return_comes, resolve_comes}
-use Rattle.call_trace.proofs.Running.{TakesStep, IsRead, HasSteps, row_named, findings_run}
+use Rattle.call_trace.proofs.Running.{TakesStep, findings_run}
 use Rattle.call_trace.proofs.Sayable.{step_there, used_had}
 use Rattle.call_trace.proofs.Settling.{answer_may_come, fault_may_come}
 use Rattle.run_model.specs.Legal.{MayCome}
@@ -52,14 +51,10 @@ takes_step v es steps before e w goods good own =
     let t = step_there v es steps before e w goods good own in
     (t.0, t.1, t.2, (used_had v es steps before e t.0 w goods good t.2, step_may_come v es steps before e t.0 w goods good own t.2))
 
-read_as_sent : IsRead
-read_as_sent k v w c one its_steps other steps references m from sent message bound met linked good passed there =
-    message_read k v w c one its_steps other steps references m from sent message bound met linked good passed there
-
--- a row that may run has its steps
-pub good_row : (row : Row) → MayRun row → HasSteps row
-good_row = row_named takes_step read_as_sent receipts_bind
-
 pub good_run : (findings : List Found) (order : List ℕ) → AreTrue findings → MayBeNamed findings order →
     (before : List Step) × (steps_of_row (row_of findings order) ≡ Some before) × IsRunOf findings order (reverse before)
-good_run = findings_run takes_step read_as_sent receipts_bind
+good_run =
+    findings_run takes_step
+    (λ k v w c one its_steps other steps references m from sent message bound met linked good passed there.
+    message_read k v w c one its_steps other steps references m from sent message bound met linked good passed there)
+    receipts_bind

@@ -30,4 +30,5 @@ pub mod Asking
 pub mod Receipts
 pub mod Good
 pub mod Reordering
+pub mod Single
 pub mod Orders

@@ -1,39 +1,32 @@
 -- Two orders of the same findings give one order fault and the same edges.
-use Rattle.std.proofs.Common.{◌≡◌, refl, sym, ◌∙◌, ap, subst, ℕ, ◌==◌, List, [], ◌∷◌, reverse, true, false, Option, Some, None, option_and_then, option_map, eqb-true, inl, inr}
+use Rattle.std.proofs.Common.{◌≡◌, refl, sym, ◌∙◌, ap, subst, ℕ, List, [], ◌∷◌, reverse, true, false, Option, Some, None, option_and_then, option_map, inl, inr}
 use Rattle.std.specs.Prelude.{map}
-use Rattle.std.specs.List.{cons_option}
-use Rattle.std.proofs.lemmas.Bool.{cases_Bool}
 use Rattle.std.proofs.lemmas.List.{reverse-reverse}
 use Rattle.agree.specs.Rows.{Row, log_of}
-use Rattle.agree.proofs.Points.{each_so}
 use Rattle.vat_rules.specs.Audit.{Found}
-use Rattle.vat_rules.specs.Judged.{IsGood}
-use Rattle.vat_rules.specs.declared.rule.Rule.TheVariants as rule
 use Rattle.vat_view.specs.Bindings.{Refers}
 use Rattle.vat_view.specs.Past.{Past, Each}
 use Rattle.vat_view.specs.Views.{view_of_reference}
 use Rattle.vat_view.proofs.Lasting.{view_step}
 use Rattle.call_trace.specs.Findings.{AreTrue, MayBeNamed}
+use Rattle.call_trace.specs.Named.{IsRunOf}
 use Rattle.call_trace.specs.Naming.{naming, cap_named}
 use Rattle.call_trace.specs.Part.{reference_named, promise_in, result_named, Says, PairsOff}
-use Rattle.call_trace.specs.Running.{steps_by, steps_of_row, IsNamedRow, MayRun}
+use Rattle.call_trace.specs.Running.{steps_by, IsNamedRow, MayRun}
 use Rattle.call_trace.specs.Said.{together, said}
-use Rattle.call_trace.specs.Taking.{finding_of, record_in, next_record, taken_by, row_of}
-use Rattle.call_trace.specs.Taking.{steps_by as turns_of}
+use Rattle.call_trace.specs.Taking.{finding_of, row_of}
 use Rattle.call_trace.specs.Types.{Event, Host, Vow, Fulfil, Break, Make, Field, Deliver, Answer, Fault, Wire, Cap, Step}
-use Rattle.call_trace.proofs.Good.{good_row}
 use Rattle.call_trace.proofs.Naming.{mapped_is, then_is, cap_step}
 use Rattle.call_trace.proofs.Next.{may_run, logs_good}
+use Rattle.call_trace.proofs.Running.{refers_all}
 use Rattle.call_trace.proofs.Reordering.{IsDone, same_steps}
+use Rattle.call_trace.proofs.Single.{named_row, run_taken}
 use Rattle.call_trace.proofs.Sharing.{found_in, whole_log}
-use Rattle.call_trace.proofs.Taking.{log_at}
+use Rattle.call_trace.proofs.Taking.{no_log}
 use Rattle.run_model.specs.Early.{IsOrderFault}
 use Rattle.run_model.specs.Edges.{Edge, AreEdges}
-use Rattle.run_model.specs.Legal.{IsLegal, IsLegalRun}
-use Rattle.run_model.specs.Links.{IsLinked, IsLinkedRun}
 use Rattle.run_model.specs.Reordered.{HaveSameSteps, MakesThrough, KeepsReferences}
-use Rattle.run_model.specs.Steps.{OneOf}
-use Rattle.run_model.specs.Steps.{Each as EachStep}
+use Rattle.run_model.specs.Steps.{OneOf, steps_of}
 use Rattle.run_model.proofs.Reordering.{steps_turned, one_of_own, own_through, keeps_turned, same_fault, same_edges, one_fault, one_graph}
 use Rattle.run_model.specs.declared.cap.Cap.TheVariants as cap
 use Rattle.run_model.specs.declared.step.Step.TheVariants as step
@@ -94,9 +87,6 @@ made_named v (e ∷ es) [] part refers r a h = absurd part
 made_named v (e ∷ es) (s ∷ steps) part refers r a (inl now) = made_now v es steps e s part.0 refers.0 r a now
 made_named v (e ∷ es) (s ∷ steps) part refers r a (inr old) = reference_step v es steps e s refers.0 r a (made_named v es steps part.1 refers.1 r a old)
 
-refers_all : (es : Past) → Each IsGood es → Each Refers es
-refers_all es good = each_so IsGood Refers (λ b e g. g rule.Ref) es good
-
 keeps_references : (row : Row) (before : List Step) → MayRun row → IsNamedRow row before → KeepsReferences before
 keeps_references row before run named v r a b h k = some_cap a b (sym (cap_is a h) ∙ cap_is b k)
   where
@@ -106,16 +96,6 @@ keeps_references row before run named v r a b h k = some_cap a b (sym (cap_is a 
         (one_of_own v (MakesThrough v r c) (own_through v r c) before there)
 
 -- ---- two orders take the same logs
-
-no_log : (findings : List Found) (v : ℕ) → finding_of v findings ≡ None → (turns : List ℕ) → log_of v (taken_by findings turns) ≡ []
-no_log findings v none [] = refl
-no_log findings v none (u ∷ turns) = elim (cases_Bool (u == v)) [
-  | inl own ↦
-      let next : next_record findings turns u ≡ None =
-      ap (λ w. next_record findings turns w) (eqb-true u v own) ∙ ap (λ o. option_and_then (λ f. record_in f (turns_of v turns)) o) none in
-      log_at v u (next_record findings turns u) (taken_by findings turns) true own ∙ ap (λ o. cons_option o (log_of v (taken_by findings turns))) next ∙ no_log findings v none turns
-  | inr apart ↦ log_at v u (next_record findings turns u) (taken_by findings turns) false apart ∙ no_log findings v none turns
-]
 
 same_logs : (findings : List Found) (order other : List ℕ) → AreTrue findings → MayBeNamed findings order → MayBeNamed findings other → (v : ℕ) →
     log_of v (row_of findings order) ≡ log_of v (row_of findings other)
@@ -129,43 +109,32 @@ same_logs findings order other true_all asked asked_too v = at (finding_of v fin
 
 -- ---- and their runs
 
-done_by : (findings : List Found) (order : List ℕ) → AreTrue findings → MayBeNamed findings order → (steps : List Step) → steps_of_row (row_of findings order) ≡ Some steps →
-    IsDone (row_of findings order) steps
-done_by findings order true_all asked steps takes =
-    let r = good_row (row_of findings order) (may_run findings order true_all asked) in
-    let here : ◌≡◌ {A = Option (List Step)} (Some r.0) (Some steps) = sym r.1 ∙ takes in
-    let same : r.0 ≡ steps = cc in
-    record { takes = takes; named = subst (IsNamedRow (row_of findings order)) same r.2 }
+is_done : (findings : List Found) (order : List ℕ) → AreTrue findings → MayBeNamed findings order → (run : List Step) → IsRunOf findings order run → IsDone (row_of findings order) (reverse run)
+is_done findings order true_all asked run is = record { takes = run_taken findings order true_all asked run is; named = named_row findings order true_all asked run is }
 
-pub references_kept : (findings : List Found) (order : List ℕ) → AreTrue findings → MayBeNamed findings order → (steps : List Step) → steps_of_row (row_of findings order) ≡ Some steps →
-    KeepsReferences (reverse steps)
-references_kept findings order true_all asked steps takes =
-    keeps_turned steps (keeps_references (row_of findings order) steps (may_run findings order true_all asked) (done_by findings order true_all asked steps takes).named)
+pub references_kept : (findings : List Found) (order : List ℕ) → AreTrue findings → MayBeNamed findings order → (run : List Step) → IsRunOf findings order run → KeepsReferences run
+references_kept findings order true_all asked run is =
+    subst KeepsReferences (reverse-reverse run)
+    (keeps_turned (reverse run) (keeps_references (row_of findings order) (reverse run) (may_run findings order true_all asked) (named_row findings order true_all asked run is)))
 
-module _ (findings : List Found) (order other : List ℕ) (true_all : AreTrue findings) (asked : MayBeNamed findings order) (asked_too : MayBeNamed findings other) (steps others : List Step)
-    (takes : steps_of_row (row_of findings order) ≡ Some steps) (takes_too : steps_of_row (row_of findings other) ≡ Some others) where
-  pub same_steps_by : (v : ℕ) → steps_by v steps ≡ steps_by v others
+turned_back : {A : Type 0} (xs ys : List A) → reverse xs ≡ reverse ys → xs ≡ ys
+turned_back xs ys h = sym (reverse-reverse xs) ∙ ap reverse h ∙ reverse-reverse ys
+
+module _ (findings : List Found) (order other : List ℕ) (true_all : AreTrue findings) (asked : MayBeNamed findings order) (asked_too : MayBeNamed findings other) (run other_run : List Step)
+    (is : IsRunOf findings order run) (is_too : IsRunOf findings other other_run) where
+  same_steps_by : (v : ℕ) → steps_by v (reverse run) ≡ steps_by v (reverse other_run)
   same_steps_by =
       same_steps (row_of findings order) (row_of findings other) (may_run findings order true_all asked) (may_run findings other true_all asked_too)
-      (same_logs findings order other true_all asked asked_too) others (done_by findings other true_all asked_too others takes_too) steps (done_by findings order true_all asked steps takes)
+      (same_logs findings order other true_all asked asked_too) (reverse other_run) (is_done findings other true_all asked_too other_run is_too) (reverse run)
+      (is_done findings order true_all asked run is)
 
-  have_same : HaveSameSteps (reverse steps) (reverse others)
-  have_same v = steps_turned v steps ∙ ap reverse (same_steps_by v) ∙ sym (steps_turned v others)
+  pub have_same_steps : HaveSameSteps run other_run
+  have_same_steps v = turned_back (steps_of v run) (steps_of v other_run) (sym (steps_turned v run) ∙ same_steps_by v ∙ steps_turned v other_run)
 
-  legal_run : (row : Row) (before : List Step) → IsDone row before → IsLegalRun (reverse before)
-  legal_run row before done = subst (EachStep IsLegal) (sym (reverse-reverse before)) done.named.legal
-
-  linked_run : (row : Row) (before : List Step) → IsDone row before → IsLinkedRun (reverse before)
-  linked_run row before done = subst (EachStep IsLinked) (sym (reverse-reverse before)) done.named.linked
-
-  pub one_order_fault : (place other_place : Option (ℕ × ℕ)) → IsOrderFault (reverse steps) place → IsOrderFault (reverse others) other_place → place ≡ other_place
+  pub one_order_fault : (place other_place : Option (ℕ × ℕ)) → IsOrderFault run place → IsOrderFault other_run other_place → place ≡ other_place
   one_order_fault place other_place fault fault_too =
-      let done = done_by findings order true_all asked steps takes in
-      let done_too = done_by findings other true_all asked_too others takes_too in
-      one_fault (reverse others) place other_place
-      (same_fault (reverse steps) (reverse others) (legal_run (row_of findings order) steps done) (linked_run (row_of findings order) steps done)
-      (legal_run (row_of findings other) others done_too) (linked_run (row_of findings other) others done_too) (references_kept findings order true_all asked steps takes) have_same place fault)
-      fault_too
+      one_fault other_run place other_place
+      (same_fault run other_run is.legal is.linked is_too.legal is_too.linked (references_kept findings order true_all asked run is) have_same_steps place fault) fault_too
 
-  pub one_list_of_edges : (edges other_edges : List Edge) → AreEdges (reverse steps) edges → AreEdges (reverse others) other_edges → edges ≡ other_edges
-  one_list_of_edges edges other_edges are are_too = one_graph (reverse others) edges other_edges (same_edges (reverse steps) (reverse others) have_same edges are) are_too
+  pub one_list_of_edges : (edges other_edges : List Edge) → AreEdges run edges → AreEdges other_run other_edges → edges ≡ other_edges
+  one_list_of_edges edges other_edges are are_too = one_graph other_run edges other_edges (same_edges run other_run have_same_steps edges are) are_too

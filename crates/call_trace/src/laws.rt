@@ -20,13 +20,13 @@ ghost use Rattle.run_model.specs.Legal.{is_cap, MayCome, HasUsed, MayBind};
 ghost use Rattle.run_model.specs.Early.{IsOrderFault};
 ghost use Rattle.run_model.specs.Edges.{Edge, AreEdges};
 ghost use Rattle.run_model.specs.Has.{Has};
-ghost use Rattle.run_model.specs.Reordered.{KeepsReferences};
+ghost use Rattle.run_model.specs.Reordered.{HaveSameSteps, KeepsReferences};
 ghost use Rattle.run_model.specs.declared.cap.Cap.TheVariants.{Field as FieldCap};
 ghost use Rattle.run_model.specs.Leads.{Leads as RunLeads, LeadsByTurns as RunLeadsByTurns};
 ghost use Rattle.call_trace.specs.Types.{Outcome, Return, Resolution, Resolve, Event, Wire, View, Name, Cap, Step, Target, Call, Deliver, Answer, Fault, RpcMessage, Message};
 ghost use Rattle.call_trace.specs.Naming.{call_named, cap_named, naming, message_at};
 ghost use Rattle.call_trace.specs.Part.{reference_named, Says, PairsOff, read};
-ghost use Rattle.call_trace.specs.Running.{step_of, AreMet, steps_by, steps_of_row};
+ghost use Rattle.call_trace.specs.Running.{step_of, AreMet, steps_of_row};
 ghost use Rattle.run_model.specs.declared.step.Step.TheVariants.{Receive};
 ghost use Rattle.call_trace.specs.Said.{together, said};
 ghost use Rattle.call_trace.specs.Tells.{TurnsNames};
@@ -222,23 +222,30 @@ pub fn good_findings_have_a_run()
         → (before : List Step) × (steps_of_row (row_of findings order) ≡ Some before) × IsRunOf findings order (reverse before) }
 {}
 
-/// Two orders of the same findings give each vat the same steps (`steps`). In such a run each reference of a vat stands for
-/// one cap (`references`).
-pub fn orders_give_the_same_steps()
-    ensures steps { (findings : List Found) (order other : List ℕ) → AreTrue findings → MayBeNamed findings order → MayBeNamed findings other
-        → (before others : List Step) → steps_of_row (row_of findings order) ≡ Some before → steps_of_row (row_of findings other) ≡ Some others
-        → (v : ℕ) → steps_by v before ≡ steps_by v others }
-    ensures references { (findings : List Found) (order : List ℕ) → AreTrue findings → MayBeNamed findings order
-        → (before : List Step) → steps_of_row (row_of findings order) ≡ Some before → KeepsReferences (reverse before) }
+/// Findings have one run by an order (`one`): in it each record of the row that the order takes has its step (`row`).
+pub fn findings_have_one_run()
+    ensures row { (findings : List Found) (order : List ℕ) → AreTrue findings → MayBeNamed findings order → (run : List Step)
+        → IsRunOf findings order run → steps_of_row (row_of findings order) ≡ Some (reverse run) }
+    ensures one { (findings : List Found) (order : List ℕ) → AreTrue findings → MayBeNamed findings order → (run other_run : List Step)
+        → IsRunOf findings order run → IsRunOf findings order other_run → run ≡ other_run }
 {}
 
-/// Which order it is doesn't matter: of two orders of the same findings, the runs have the same order fault, or none
+/// In the runs of the same findings by two orders each vat has the same steps (`steps`). In such a run each reference of a vat
+/// stands for one cap (`references`).
+pub fn orders_give_the_same_steps()
+    ensures steps { (findings : List Found) (order other : List ℕ) → AreTrue findings → MayBeNamed findings order → MayBeNamed findings other
+        → (run other_run : List Step) → IsRunOf findings order run → IsRunOf findings other other_run → HaveSameSteps run other_run }
+    ensures references { (findings : List Found) (order : List ℕ) → AreTrue findings → MayBeNamed findings order → (run : List Step)
+        → IsRunOf findings order run → KeepsReferences run }
+{}
+
+/// Which order it is doesn't matter: the runs of the same findings by two orders have the same order fault, or none
 /// (`fault`), and the same edges (`edges`).
 pub fn orders_give_one_fault()
     ensures fault { (findings : List Found) (order other : List ℕ) → AreTrue findings → MayBeNamed findings order → MayBeNamed findings other
-        → (before others : List Step) → steps_of_row (row_of findings order) ≡ Some before → steps_of_row (row_of findings other) ≡ Some others
-        → (place other_place : Option (ℕ × ℕ)) → IsOrderFault (reverse before) place → IsOrderFault (reverse others) other_place → place ≡ other_place }
+        → (run other_run : List Step) → IsRunOf findings order run → IsRunOf findings other other_run
+        → (place other_place : Option (ℕ × ℕ)) → IsOrderFault run place → IsOrderFault other_run other_place → place ≡ other_place }
     ensures edges { (findings : List Found) (order other : List ℕ) → AreTrue findings → MayBeNamed findings order → MayBeNamed findings other
-        → (before others : List Step) → steps_of_row (row_of findings order) ≡ Some before → steps_of_row (row_of findings other) ≡ Some others
-        → (edges other_edges : List Edge) → AreEdges (reverse before) edges → AreEdges (reverse others) other_edges → edges ≡ other_edges }
+        → (run other_run : List Step) → IsRunOf findings order run → IsRunOf findings other other_run
+        → (edges other_edges : List Edge) → AreEdges run edges → AreEdges other_run other_edges → edges ≡ other_edges }
 {}

@@ -24,6 +24,9 @@ pub mod Next
 pub mod Running
 pub mod Whole
 pub mod Good
+pub mod Reordering
+pub mod Orders
+pub mod Single
 pub mod Noting
 pub mod Behind
 pub mod Early

@@ -19,6 +19,7 @@ pub mod Running
 pub mod Noting
 pub mod Behind
 pub mod Early
+pub mod Passing
 mod PipelinedCall
 mod UnderWay
 pub mod Using

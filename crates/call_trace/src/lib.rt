@@ -10,7 +10,8 @@
 //! What the laws say of names beside that stands in `specs/Carried.antt`, `specs/Tells.antt` and `specs/Within.antt`, of
 //! where calls are in `specs/Placed.antt`, and which records are of what a vat makes by itself in `specs/Kinds.antt`. How
 //! the records of several logs take their steps is said in `specs/Running.antt`.
-//! What a run's deliveries overtake is kept in tables, of which `specs/Overtaking.antt` speaks.
+//! What a run's deliveries overtake is kept in tables, of which `specs/Overtaking.antt` speaks, and what its steps sent in
+//! one of which `specs/Lines.antt` does.
 //! What the laws say of names beside that stands in `specs/Carried.antt`, `specs/Tells.antt` and `specs/Within.antt`.
 //! `proofs/PipelinedCall.antt` and `proofs/UnderWay.antt` are examples. What holds of runs and their logs is promised by
 //! the functions of `src/laws.rt`, which do nothing.
@@ -19,6 +20,7 @@
 mod fault;
 mod latest;
 mod laws;
+mod lines;
 mod numbers;
 mod overtaking;
 

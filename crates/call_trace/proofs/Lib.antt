@@ -30,5 +30,6 @@ pub mod Single
 pub mod Noting
 pub mod Behind
 pub mod Early
+pub mod Passing
 mod PipelinedCall
 mod UnderWay

@@ -220,9 +220,14 @@ void canceledInQueue(World& world) {
   KJ_ASSERT(nextBy(promise, 1).send().wait(two.io.waitScope).getValue() == 12);
 }
 
-// The caller drops a call that was delivered, and one that waits for its result.
+// The caller drops a call that was delivered, and then one with a call that waits for its result.
 void cancel(World& world) {
   Two two(world);
+  {
+    auto never = two.counter.neverRequest().send();
+    two.settle();
+  }
+  two.settle();
   {
     auto never = two.counter.neverRequest().send();
     auto onResult = nextBy(never.getCounter(), 1).send();
@@ -232,11 +237,22 @@ void cancel(World& world) {
   nextBy(two.counter, 1).send().wait(two.io.waitScope);
 }
 
-// The caller drops a call at once: its Finish goes out before the Return comes in, which is late then.
+// The caller drops a call at once: its Finish goes out before the Return comes in, which is late then. And it drops
+// one whose method still waits, so that the Return is late at both ends.
 void earlyFinish(World& world) {
   Two two(world);
   two.settle();
   { auto made = two.counter.makeRequest().send(); }
+  two.settle();
+  auto paf = kj::newPromiseAndFulfiller<Counter::Client>();
+  {
+    auto request = two.counter.callRequest();
+    request.setBack(two.first.promise(kj::mv(paf.promise)));
+    auto dropped = request.send();
+    two.settle();
+  }
+  two.settle();
+  paf.fulfiller->fulfill(two.first.host<CounterObject>(two.first, 10));
   two.settle();
   nextBy(two.counter, 1).send().wait(two.io.waitScope);
 }
@@ -267,23 +283,49 @@ void empty(World& world) {
   mine.nothingRequest().send().wait(two.io.waitScope);
 }
 
-// Vat 1 goes, and vat 2 answers its abort.
-void abort(World& world) {
+// A peer that isn't recorded ends the connection, and vat 1 answers its abort.
+void endedByPeer(World& world, bool isAnswerRecorded) {
+  vataudit::Recorder first(world.log(1).c_str(), 1);
+  if (!isAnswerRecorded) first.leaveOutAbortsInAnswer();
+  kj::TwoWayPipe pipe = world.io.provider->newTwoWayPipe();
+  vataudit::TwoPartyClient client(first, *pipe.ends[0], 0);
+  auto counter = client.bootstrap().castAs<Counter>();
+  world.settle();
+  capnp::MallocMessageBuilder message;
+  message.initRoot<capnp::rpc::Message>().initAbort().setReason("no more");
+  capnp::writeMessage(*pipe.ends[1], message).wait(world.io.waitScope);
+  world.settle();
+}
+
+void abort(World& world) { endedByPeer(world, true); }
+
+void abortLeftOut(World& world) { endedByPeer(world, false); }
+
+// The peer is gone without a word: no abort comes, so the abort that vat 2 sends is the first.
+void gone(World& world) {
   Two two(world);
   nextBy(two.counter, 1).send().wait(two.io.waitScope);
   two.counter = nullptr;
+  two.settle();
   two.client = nullptr;
+  two.pipe.ends[0] = nullptr;
   two.settle();
 }
 
-// The same, and vat 2's recorder leaves that answer out.
-void abortLeftOut(World& world) {
+// Two connections of one vat at once, and an object of the one given over the other.
+void twoConnections(World& world) {
   Two two(world);
-  two.second.leaveOutAbortsInAnswer();
-  nextBy(two.counter, 1).send().wait(two.io.waitScope);
-  two.counter = nullptr;
-  two.client = nullptr;
-  two.settle();
+  vataudit::Recorder third(world.log(3).c_str(), 3);
+  kj::TwoWayPipe pipe = two.io.provider->newTwoWayPipe();
+  vataudit::TwoPartyClient server(third, *pipe.ends[1], 1, third.host<CounterObject>(third, 30), Side::SERVER);
+  vataudit::TwoPartyClient client(two.first, *pipe.ends[0], 1);
+  Counter::Client other = client.bootstrap().castAs<Counter>();
+  auto request = two.counter.callRequest();
+  request.setBack(other);
+  auto response = request.send().wait(two.io.waitScope);
+  KJ_ASSERT(response.getValue() == 35);
+  KJ_ASSERT(nextBy(response.getBack(), 1).send().wait(two.io.waitScope).getValue() == 36);
+  KJ_ASSERT(nextBy(other, 1).send().wait(two.io.waitScope).getValue() == 37);
 }
 
 // A promise that is given away twice before it is settled.
@@ -315,6 +357,19 @@ void promiseOfPromise(World& world) {
   two.settle();
 }
 
+// The same, and the second promise goes out as well: C++ gives it the first one's number, without a Resolve.
+void numberTakenOver(World& world) {
+  Two two(world);
+  auto outer = kj::newPromiseAndFulfiller<Counter::Client>();
+  auto inner = kj::newPromiseAndFulfiller<Counter::Client>();
+  Counter::Client mine = two.first.promise(kj::mv(outer.promise));
+  Counter::Client next = two.first.promise(kj::mv(inner.promise));
+  holdOf(two.counter, mine).send().wait(two.io.waitScope);
+  outer.fulfiller->fulfill(Counter::Client(next));
+  two.settle();
+  holdOf(two.counter, next).send().wait(two.io.waitScope);
+}
+
 const std::map<std::string, std::function<void(World&)>> scenarios = {
   { "ping", ping }, { "pipeline", pipeline }, { "callback", callback }, { "promised", promised },
   { "broken_promise", brokenPromise }, { "own_promise", ownPromise }, { "relay", relay },
@@ -323,6 +378,7 @@ const std::map<std::string, std::function<void(World&)>> scenarios = {
   { "cancel", cancel }, { "early_finish", earlyFinish },
   { "lists", lists }, { "empty", empty }, { "abort", abort }, { "abort_left_out", abortLeftOut },
   { "promise_twice", promiseTwice }, { "promise_of_promise", promiseOfPromise },
+  { "number_taken_over", numberTakenOver }, { "gone", gone }, { "two_connections", twoConnections },
 };
 
 }  // namespace

@@ -447,18 +447,19 @@ public:
   std::deque<std::shared_ptr<Call>> waiting;  // calls made and sent through a promise: neither sent nor delivered
   std::unordered_map<const ClientHook*, Reference> hosted;  // the runtime's hooks of objects; they live as long
   Outgoing* unsent = nullptr;       // the messages that are being made, the latest first
-  Reference bootstrap;              // of the object that this vat gives to who asks
   uint64_t records = 0;
   bool isFlushedEachTime = false;
   bool hasNoAbortsInAnswer = false;
 
-  // The oldest waiting call with this method and these parameters: the runtime copied it out of a queue. Two such
-  // calls that are alike in all this are told apart by their order alone.
-  std::shared_ptr<Call> takeWaiting(uint64_t interfaceId, uint16_t methodId, uint64_t content) {
+  // The oldest waiting call with this method and these parameters, where the runtime copied it. Two such calls that
+  // are alike in all this are told apart by their order alone.
+  std::shared_ptr<Call> takeWaiting(uint64_t interfaceId, uint16_t methodId, AnyPointer::Reader params) {
     while (!waiting.empty() && waiting.front()->isGone) waiting.pop_front();
+    if (waiting.empty()) return nullptr;
+    uint64_t hash = Content(params).hash;
     for (auto& call: waiting) {
       bool isLike = call->interfaceId == interfaceId && call->methodId == methodId;
-      if (!call->isGone && isLike && (!call->hasContent || call->content == content)) return call;
+      if (!call->isGone && isLike && (!call->hasContent || call->content == hash)) return call;
     }
     return nullptr;
   }
@@ -777,11 +778,14 @@ inline capnp::Request<AnyPointer, AnyPointer> Handle::newCall(
     uint64_t interfaceId, uint16_t methodId, kj::Maybe<capnp::MessageSize> sizeHint) {
   if (!vat->isRecording()) return inner->newCall(interfaceId, methodId, sizeHint);
   auto call = vat->newCall(interfaceId, methodId);
+  // What became an object of this vat, or waits for one, is called directly, as ClientHook::getResolved allows: the
+  // runtime would only copy the parameters once more, and DELIVER finds its call by where they lie.
   ClientHook& end = KJ_ASSERT_NONNULL(getResolved());
-  call->hasContent = end.getBrand() == nullptr && vat->hosted.count(&end) == 0;  // a promise, whose queue copies
+  bool isHere = end.getBrand() == nullptr;
+  call->hasContent = isHere && vat->hosted.count(&end) == 0;
   auto request = [&] {
     Meanwhile meanwhile(vat->building, call);
-    return inner->newCall(interfaceId, methodId, sizeHint);
+    return (isHere ? end : *inner).newCall(interfaceId, methodId, sizeHint);
   }();
   auto hook = kj::heap<Request>(vat, reference, kj::mv(call), kj::mv(request));
   auto params = hook->params();
@@ -910,9 +914,12 @@ public:
   ClientHook* hook = nullptr;
 
 private:
-  // A call through `thisCap()` has no MAKE yet: it goes straight to the runtime's hook.
+  // Finds the call by where its parameters lie. The runtime copies them where a promise was settled between the
+  // making of a request and its sending: then by what they are. What is left are calls through `thisCap()`, which
+  // goes straight to the runtime's hook: they have no MAKE yet.
   std::shared_ptr<Call> delivered(AnyPointer::Reader params, uint64_t interfaceId, uint16_t methodId) {
     auto call = vat->callOf(params, interfaceId, methodId);
+    if (call == nullptr) call = vat->takeWaiting(interfaceId, methodId, params);
     if (call == nullptr) {
       call = vat->newCall(interfaceId, methodId);
       vat->make(*call, reference);
@@ -948,6 +955,7 @@ public:
 
   SharedVat vat;
   std::shared_ptr<Call> lastBootstrap;
+  Reference bootstrap;  // of the object that the peer gets as the bootstrap object
   uint32_t number() const { return connection; }
 
   // A message that is handed to the transport: the SEND of docs/FORMATS.md. A Call comes with the call whose
@@ -1047,8 +1055,7 @@ private:
                 std::vector<Reference>& references) {
     auto payload = message.getParams();
     if (call == nullptr) {
-      Content content(payload.getContent());
-      call = vat->takeWaiting(message.getInterfaceId(), message.getMethodId(), content.hash);
+      call = vat->takeWaiting(message.getInterfaceId(), message.getMethodId(), payload.getContent());
     }
     if (call == nullptr || call->number == 0) {
       vat->stop("a Call is sent, and no MAKE or received Call stands before it");
@@ -1083,10 +1090,10 @@ private:
     Call& call = *answered.call;
     if (answered.isBootstrap) {
       if (payload.getCapTable().size() > 0) {
-        call.resultsByIndex = { vat->bootstrap };
-        call.fields = { { Path(), vat->bootstrap } };
+        call.resultsByIndex = { bootstrap };
+        call.fields = { { Path(), bootstrap } };
       }
-      if (vat->bootstrap.number != 0) vat->answer(call);
+      if (bootstrap.number != 0) vat->answer(call);
     }
     bool isWrittenHere = answered.isBootstrap || (call.isLocallyAnswered && call.answeredBy == nullptr);
     return isWrittenHere ? call.resultsByIndex : copied(payload, call.resultsAsMet);
@@ -1396,17 +1403,22 @@ public:
 
   using RpcSystem = capnp::RpcSystem<capnp::rpc::twoparty::VatId>;
 
-  // In the place of capnp::makeRpcServer and capnp::makeRpcClient. The bootstrap object has to be known to the
-  // recorder.
+  // In the place of capnp::makeRpcServer and capnp::makeRpcClient.
   RpcSystem serve(capnp::Capability::Client bootstrap) {
-    auto hook = capnp::ClientHook::from(kj::mv(bootstrap));
-    vat->bootstrap = inside::referenceOf(*vat, *hook);
-    if (vat->bootstrap.number == 0 && !hook->isNull()) {
-      vat->stop("the bootstrap object is none of `host`, `promise` or a result");
-    }
-    return capnp::makeRpcServer(*this, capnp::Capability::Client(inside::unwrapped(kj::mv(hook))));
+    return capnp::makeRpcServer(*this, asBootstrap(kj::mv(bootstrap)));
   }
   RpcSystem client() { return capnp::makeRpcClient(*this); }
+
+  // Notes which object the vat gives to who asks for its bootstrap object, and gives it for an RpcSystem that you
+  // make yourself.
+  capnp::Capability::Client asBootstrap(capnp::Capability::Client bootstrap) {
+    auto hook = capnp::ClientHook::from(kj::mv(bootstrap));
+    end->bootstrap = inside::referenceOf(*vat, *hook);
+    if (end->bootstrap.number == 0 && !hook->isNull()) {
+      vat->stop("the bootstrap object is none of `host`, `promise` or a result");
+    }
+    return capnp::Capability::Client(inside::unwrapped(kj::mv(hook)));
+  }
 
   // In the place of RpcSystem::bootstrap: the peer's bootstrap object, and its FIELD.
   capnp::Capability::Client bootstrap(RpcSystem& system) {

@@ -26,6 +26,8 @@ struct Fault {
   virtual void sent(rpc::Message::Reader, Base::Connection&) {}
   // Whether a message is held back until the next one has gone out.
   virtual bool holds(rpc::Message::Reader) { return false; }
+  // Whether a message stays in a queue for good once it was looked at.
+  virtual bool keeps(rpc::Message::Reader) { return false; }
   // Changes in memory what the runtime makes of a message, after it was recorded.
   virtual void understands(rpc::Message::Reader) {}
 };
@@ -46,12 +48,16 @@ public:
     return kj::heap<Outgoing>(*this, inner->newOutgoingMessage(firstSegmentWordSize));
   }
   kj::Promise<kj::Maybe<kj::Own<capnp::IncomingRpcMessage>>> receiveIncomingMessage() override {
-    return inner->receiveIncomingMessage().then([this](kj::Maybe<kj::Own<capnp::IncomingRpcMessage>>&& message)
-                                                    -> kj::Maybe<kj::Own<capnp::IncomingRpcMessage>> {
+    using Received = kj::Maybe<kj::Own<capnp::IncomingRpcMessage>>;
+    return inner->receiveIncomingMessage().then([this](Received&& message) -> kj::Promise<Received> {
       KJ_IF_MAYBE(read, message) {
-        return kj::Own<capnp::IncomingRpcMessage>(kj::heap<Incoming>(fault, kj::mv(*read)));
+        if (fault.keeps((*read)->getBody().getAs<rpc::Message>())) {
+          kept.push_back(kj::mv(*read));
+          return receiveIncomingMessage();
+        }
+        return Received(kj::Own<capnp::IncomingRpcMessage>(kj::heap<Incoming>(fault, kj::mv(*read))));
       } else {
-        return nullptr;
+        return Received(nullptr);
       }
     });
   }
@@ -61,6 +67,7 @@ private:
   kj::Own<Base::Connection> inner;
   Fault& fault;
   kj::Maybe<kj::Own<capnp::OutgoingRpcMessage>> held;
+  std::vector<kj::Own<capnp::IncomingRpcMessage>> kept;
 
   struct Outgoing final: capnp::OutgoingRpcMessage {
     Outgoing(FaultyConnection& line, kj::Own<capnp::OutgoingRpcMessage> inner): line(line), inner(kj::mv(inner)) {}
@@ -240,6 +247,11 @@ struct EchoedTwice: Fault {
   }
 };
 
+// A call stays in a queue of vat 2, and the echo goes round it.
+struct EchoOvertakes: Fault {
+  bool keeps(rpc::Message::Reader message) override { return isCallOf(message, NEXT); }
+};
+
 // Vat 2 returns the results of one call as those of another, which is still at work.
 struct WrongQuestion: Fault {
   bool sends(rpc::Message::Builder message, Base::Connection&) override {
@@ -303,6 +315,15 @@ void resolvePromise(Two& two) {
   two.settle();
 }
 
+void liftEmbargoAfterCall(Two& two) {
+  holdOf(two.counter, two.first.host<CounterObject>(two.first, 10)).send().wait(two.io.waitScope);
+  Counter::Client promise = two.counter.laterRequest().send().wait(two.io.waitScope).getCounter();
+  auto early = nextBy(promise, 1).send();
+  settleAs(two.counter, 2).send().wait(two.io.waitScope);
+  auto late = nextBy(promise, 2).send();
+  two.settle();
+}
+
 void liftEmbargo(Two& two) {
   holdOf(two.counter, two.first.host<CounterObject>(two.first, 10)).send().wait(two.io.waitScope);
   Counter::Client promise = two.counter.laterRequest().send().wait(two.io.waitScope).getCounter();
@@ -352,6 +373,7 @@ const std::map<std::string, std::function<void(kj::AsyncIoContext&, const std::s
   { "fault_returned_twice", inSecond<ReturnedTwice>(callNext) },
   { "fault_resolved_twice", inSecond<ResolvedTwice>(resolvePromise) },
   { "fault_echoed_twice", inSecond<EchoedTwice>(liftEmbargo) },
+  { "fault_echo_overtakes", inSecond<EchoOvertakes>(liftEmbargoAfterCall) },
   { "fault_wrong_question", inSecond<WrongQuestion>(callWhileWaiting) },
   { "fault_wrong_result", wrongResult },
 };

@@ -77,6 +77,13 @@ protected:
     for (uint at = 0; at < given.size(); at++) results.set(at, given[given.size() - 1 - at]);
     return kj::READY_NOW;
   }
+  kj::Promise<void> handOn(HandOnContext context) override {
+    KJ_IF_MAYBE(counter, kept) {
+      return context.tailCall(counter->handOnRequest());
+    }
+    context.getResults().setCounter(thisCap().castAs<Counter>());
+    return kj::READY_NOW;
+  }
   kj::Promise<void> nothing(NothingContext) override { return kj::READY_NOW; }
 
 private:

@@ -281,6 +281,11 @@ void empty(World& world) {
   auto same = mine.sameRequest().send();
   KJ_ASSERT(nextBy(same.getCounter(), 1).send().wait(two.io.waitScope).getValue() == 11);
   mine.nothingRequest().send().wait(two.io.waitScope);
+  auto null = capnp::Capability::Client(two.counter).typelessRequest(capnp::typeId<Counter>(), 11, nullptr);
+  auto other = capnp::Capability::Client(two.counter).typelessRequest(capnp::typeId<Counter>(), 11, nullptr);
+  auto one = null.send();
+  other.send().wait(two.io.waitScope);
+  one.wait(two.io.waitScope);
 }
 
 // A peer that isn't recorded ends the connection, and vat 1 answers its abort.
@@ -370,6 +375,87 @@ void numberTakenOver(World& world) {
   holdOf(two.counter, next).send().wait(two.io.waitScope);
 }
 
+// An object of vat 2 ends its method with a tail call to vat 3, whose results are then its own. Where vat 1 calls the
+// result before it is there, vat 2 sends that on before it can say what the result is.
+void handOver(World& world, bool isEarly) {
+  vataudit::Recorder first(world.log(1).c_str(), 1), second(world.log(2).c_str(), 2), third(world.log(3).c_str(), 3);
+  kj::TwoWayPipe near = world.io.provider->newTwoWayPipe();
+  kj::TwoWayPipe far = world.io.provider->newTwoWayPipe();
+  vataudit::TwoPartyClient farServer(third, *far.ends[1], 1, third.host<CounterObject>(third), Side::SERVER);
+  vataudit::TwoPartyClient farClient(second, *far.ends[0], 1);
+  Counter::Client between = second.host<CounterObject>(second);
+  holdOf(between, farClient.bootstrap().castAs<Counter>()).send().wait(world.io.waitScope);
+  world.settle();
+  vataudit::TwoPartyClient server(second, *near.ends[1], 0, between, Side::SERVER);
+  vataudit::TwoPartyClient client(first, *near.ends[0], 0);
+  Counter::Client counter = client.bootstrap().castAs<Counter>();
+  world.settle();
+  auto handed = counter.handOnRequest().send();
+  Counter::Client result = handed.getCounter();
+  if (!isEarly) result = handed.wait(world.io.waitScope).getCounter();
+  KJ_ASSERT(nextBy(result, 1).send().wait(world.io.waitScope).getValue() == 1);
+}
+
+void handedOn(World& world) { handOver(world, false); }
+
+void handedOnEarly(World& world) { handOver(world, true); }
+
+// Calls that wait in vat 1 for a promise of its own, which becomes an object of vat 2; and others for one that becomes
+// an object of vat 1.
+void queued(World& world) {
+  Two two(world);
+  auto far = kj::newPromiseAndFulfiller<Counter::Client>();
+  auto near = kj::newPromiseAndFulfiller<Counter::Client>();
+  Counter::Client farPromise = two.first.promise(kj::mv(far.promise));
+  Counter::Client nearPromise = two.first.promise(kj::mv(near.promise));
+  auto one = nextBy(farPromise, 1).send();
+  auto same = farPromise.sameRequest().send();
+  auto second = nextBy(same.getCounter(), 2).send();
+  auto request = farPromise.callRequest();
+  request.setBack(two.first.host<CounterObject>(two.first, 10));
+  auto three = request.send();
+  auto four = nextBy(nearPromise, 4).send();
+  auto five = nextBy(nearPromise, 4).send();
+  two.settle();
+  far.fulfiller->fulfill(Counter::Client(two.counter));
+  near.fulfiller->fulfill(two.first.host<CounterObject>(two.first, 100));
+  KJ_ASSERT(one.wait(two.io.waitScope).getValue() == 1);
+  KJ_ASSERT(second.wait(two.io.waitScope).getValue() == 3);
+  KJ_ASSERT(three.wait(two.io.waitScope).getValue() == 15);
+  KJ_ASSERT(four.wait(two.io.waitScope).getValue() == 104);
+  KJ_ASSERT(five.wait(two.io.waitScope).getValue() == 108);
+}
+
+// A call that was canceled while it waited for a promise of vat 2 is delivered all the same.
+void canceledWaiting(World& world) {
+  Two two(world);
+  Counter::Client promise = two.counter.laterRequest().send().wait(two.io.waitScope).getCounter();
+  { auto canceled = nextBy(promise, 1).send(); }
+  two.settle();
+  settleAs(two.counter, 0).send().wait(two.io.waitScope);
+  two.settle();
+  KJ_ASSERT(nextBy(promise, 1).send().wait(two.io.waitScope).getValue() == 1002);
+}
+
+// What a recorder refuses: it says so once, and the program goes on. Vat 1 gives away an object that no recorder
+// knows, vat 2's log has no room on its disk, and vat 3's can't be made.
+void refused(World& world) {
+  vataudit::Recorder first(world.log(1).c_str(), 1), second("/dev/full", 2), third("/nowhere/log", 3);
+  kj::TwoWayPipe near = world.io.provider->newTwoWayPipe();
+  kj::TwoWayPipe far = world.io.provider->newTwoWayPipe();
+  vataudit::TwoPartyClient farServer(third, *far.ends[1], 1, third.host<CounterObject>(third), Side::SERVER);
+  vataudit::TwoPartyClient farClient(second, *far.ends[0], 1);
+  vataudit::TwoPartyClient server(second, *near.ends[1], 0, farClient.bootstrap(), Side::SERVER);
+  vataudit::TwoPartyClient client(first, *near.ends[0], 0);
+  Counter::Client counter = client.bootstrap().castAs<Counter>();
+  second.flush();
+  auto request = counter.callRequest();
+  request.setBack(kj::heap<CounterObject>(first, 10));
+  KJ_ASSERT(request.send().wait(world.io.waitScope).getValue() == 15);
+  KJ_ASSERT(nextBy(counter, 1).send().wait(world.io.waitScope).getValue() == 1);
+  KJ_ASSERT(!first.isRecording() && !second.isRecording() && !third.isRecording());
+}
+
 const std::map<std::string, std::function<void(World&)>> scenarios = {
   { "ping", ping }, { "pipeline", pipeline }, { "callback", callback }, { "promised", promised },
   { "broken_promise", brokenPromise }, { "own_promise", ownPromise }, { "relay", relay },
@@ -379,6 +465,8 @@ const std::map<std::string, std::function<void(World&)>> scenarios = {
   { "lists", lists }, { "empty", empty }, { "abort", abort }, { "abort_left_out", abortLeftOut },
   { "promise_twice", promiseTwice }, { "promise_of_promise", promiseOfPromise },
   { "number_taken_over", numberTakenOver }, { "gone", gone }, { "two_connections", twoConnections },
+  { "refused", refused }, { "handed_on", handedOn }, { "handed_on_early", handedOnEarly },
+  { "queued", queued }, { "canceled_waiting", canceledWaiting },
 };
 
 }  // namespace

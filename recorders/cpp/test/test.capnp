@@ -14,4 +14,5 @@ interface Counter {
   settle @9 (how :UInt32) -> ();
   pass @10 (counters :List(Counter)) -> (counters :List(Counter));
   nothing @11 () -> ();
+  handOn @12 () -> (counter :Counter);
 }

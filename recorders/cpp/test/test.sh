@@ -36,7 +36,11 @@ mkdir logs
 for suite in scenarios faults; do
   "./$suite" logs 2>> logs/said || { cat logs/said; echo "$suite ended with $?"; exit 1; }
 done
-if grep vataudit: logs/said; then echo "a recorder stopped"; exit 1; fi
+make --quiet -C ../demo record >> logs/said 2>&1 || { cat logs/said; echo "the demo ended with $?"; exit 1; }
+mv ../demo/client.log logs/demo.vat1.log
+mv ../demo/server.log logs/demo.vat2.log
+grep vataudit: logs/said > logs/refused || true
+if ! diff refused.txt logs/refused; then echo "the recorders said something else than refused.txt has"; exit 1; fi
 
 # Case files, as docs/FORMATS.md has them.
 for log in logs/*.vat1.log; do
@@ -86,7 +90,7 @@ done < logs/lines
 wanted="$(grep -c '^[a-z].* | ' expected.txt)"
 count="$(ls logs/*.log | wc -l)"
 cases="$(ls logs/*.order | wc -l)"
-if [ "$tested" -ne $((count + cases)) ] || [ "$wanted" -ne $((count + 2)) ]; then
+if [ "$tested" -ne $((count + cases)) ] || [ "$wanted" -ne $((count + 3)) ]; then
   echo "$tested lines for $count logs and $cases cases; expected.txt has $wanted"
   exit 1
 fi

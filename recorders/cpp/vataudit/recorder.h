@@ -23,11 +23,16 @@
 //
 // One recorder belongs to one event loop, as all of capnp's objects do.
 //
-// What it can't record: a capability in the brackets below, and it stops there and says so.
-// - File descriptors sent along (they aren't passed), and EzRpcClient and EzRpcServer (they let nobody in).
-// - A bootstrap object made anew for each client (BootstrapFactory).
-// - `CallContext::setPipeline`, and calls pipelined on a call that another one answers by `tailCall`: a log of
-//   version 1 has no record for "this call's results are that call's", so the audit finds no goal for them.
+// What it can't do:
+// - EzRpcClient and EzRpcServer let no recorder in, and file descriptors aren't passed along.
+// - A bootstrap object that is made anew for each client (BootstrapFactory) has to be given by `asBootstrap`.
+// - Where a method ends by `tailCall` or names its results beforehand by `setPipeline`, a log has no record for "the
+//   results of this call are those of that one" before they are there. A call that goes on to such a result before
+//   is told `no .. rule GOAL`. The runtime's own tail calls, back over the connection by which a call came, are
+//   `outside .. TailCall`.
+// - Where a call waits in a queue of the runtime for a promise and then goes out, or is delivered, as a copy, its
+//   MAKE is found by interface, method and parameters, the oldest first. If the runtime exchanged two such calls
+//   that are alike in all of this, the log couldn't tell. All other calls are found by where their parameters lie.
 
 #pragma once
 
@@ -61,7 +66,7 @@ class Outgoing;
 class Vat;
 }  // namespace inside
 
-// ======================================================================================= What a program uses
+// =========================================================================== What a program uses
 
 // The log of one vat. Make one at the start of the program, before all that it records.
 class Recorder {
@@ -104,7 +109,7 @@ private:
   friend class Network;
 };
 
-// ======================================================================================= The log
+// =========================================================================== The log
 
 namespace inside {
 
@@ -128,9 +133,11 @@ public:
 
   template <typename Number>
   void number(Number value) {
+    char bytes[sizeof(Number)];
     for (size_t place = 0; place < sizeof(Number); place++) {
-      buffer.push_back(static_cast<char>(static_cast<uint64_t>(value) >> (8 * place)));
+      bytes[place] = static_cast<char>(static_cast<uint64_t>(value) >> (8 * place));
     }
+    buffer.append(bytes, sizeof(Number));
   }
 
   void add(const void* bytes, size_t length) {
@@ -159,7 +166,7 @@ private:
   std::string buffer;
 };
 
-// ======================================================================================= What is known
+// =========================================================================== What is known
 
 struct Call;
 struct View;
@@ -291,11 +298,11 @@ inline std::vector<Reference> asMet(const std::vector<Met>& met, const std::vect
   return list;
 }
 
-// ======================================================================================= The vat
+// =========================================================================== The vat
 
 // What the vat has recorded, and what later records need of it. The numbers of references and calls rise from 1,
 // each used once.
-class Vat: public std::enable_shared_from_this<Vat> {
+class Vat {
 public:
   Vat(const char* path, uint32_t number): log(path, number), number(number) {
     if (!log.isOpen()) stop("the log can't be made");
@@ -313,6 +320,7 @@ public:
   }
 
   void end() {
+    flush();
     recording = false;
     log.close();
   }
@@ -335,16 +343,19 @@ public:
     return reference;
   }
 
+  // FULFIL stands before all that uses what the promise became.
   void fulfil(const Reference& promise, const Reference& became) {
     if (became.number == 0) return stop("a promise became a capability that isn't known here");
     promise.view->turn = became;
     begin(0x03, [&] { log.number(promise.number), log.number(became.number); });
   }
 
+  // A promise that is settled without a capability: it isn't hosted, so it must not go out as if it were.
   void breakPromise(const Reference& promise) {
     begin(0x04, [&] { log.number(promise.number); });
   }
 
+  // MAKE is what the program calls, not what a frame says: else the audit would compare frames with themselves.
   void make(Call& call, const Reference& target) {
     if (target.number == 0) return stop("a call is made through a capability that isn't known here");
     call.number = ++lastCall;
@@ -376,6 +387,8 @@ public:
     });
   }
 
+  // Of a call that was delivered and failed: where it came from another vat its Return says so as well, where it is
+  // the vat's own no frame does. A call that was sent on has left, and gets none; nor does one that was canceled.
   void fault(Call& call) {
     begin(0x09, [&] { log.number(call.number); });
   }
@@ -405,7 +418,7 @@ public:
     return call;
   }
 
-  void number_(Call& call) { call.number = ++lastCall; }
+  void bind(Call& call) { call.number = ++lastCall; }
   uint64_t newObject() { return ++lastObject; }
 
   // What a capability has become, as far as it is known here: the last reference on its way. None where it turned
@@ -414,7 +427,7 @@ public:
     Reference last;
     const View* view = from.view.get();
     for (int steps = 0; view != nullptr && steps < 1000; steps++) {
-      Reference next = next_(*view);
+      Reference next = nextOf(*view);
       if (next.number == 0) break;
       last = next;
       view = next.view.get();
@@ -422,20 +435,39 @@ public:
     return last;
   }
 
-  // Calls that lie at this place in memory, until they are delivered.
+  // A call whose parameters lie at this place, until it is delivered. Null parameters lie nowhere: the calls that
+  // have them are kept in their order.
   void keep(const std::shared_ptr<Call>& call, AnyPointer::Reader params) {
     call->params = placeOf(params);
-    callAt[call->params] = call;
+    if (call->params == nullptr) {
+      withoutParams.push_back(call);
+    } else {
+      callAt[call->params] = call;
+    }
   }
 
   std::shared_ptr<Call> callOf(AnyPointer::Reader params, uint64_t interfaceId, uint16_t methodId) {
-    auto found = callAt.find(placeOf(params));
+    const void* place = placeOf(params);
+    if (place == nullptr) {
+      for (auto& call: withoutParams) {
+        if (call->interfaceId == interfaceId && call->methodId == methodId) return call;
+      }
+      return nullptr;
+    }
+    auto found = callAt.find(place);
     if (found == callAt.end()) return nullptr;
     auto call = found->second;
     return call->interfaceId == interfaceId && call->methodId == methodId ? call : nullptr;
   }
 
   void forget(Call& call) {
+    if (call.params == nullptr) {
+      for (auto at = withoutParams.begin(); at != withoutParams.end(); ++at) {
+        if (at->get() != &call) continue;
+        withoutParams.erase(at);
+        return;
+      }
+    }
     auto found = callAt.find(call.params);
     if (found != callAt.end() && found->second.get() == &call) callAt.erase(found);
   }
@@ -445,7 +477,8 @@ public:
   std::shared_ptr<Call> building;   // the call whose request is being made
   std::shared_ptr<Call> sending;    // the call whose request is being sent
   std::deque<std::shared_ptr<Call>> waiting;  // calls made and sent through a promise: neither sent nor delivered
-  std::unordered_map<const ClientHook*, Reference> hosted;  // the runtime's hooks of objects; they live as long
+  // The runtime's hooks of objects. An entry goes with its object, for addresses are used again.
+  std::unordered_map<const ClientHook*, Reference> hosted;
   Outgoing* unsent = nullptr;       // the messages that are being made, the latest first
   uint64_t records = 0;
   bool isFlushedEachTime = false;
@@ -470,6 +503,7 @@ private:
   bool recording = true;
   uint64_t lastReference = 0, lastCall = 0, lastObject = 0;
   std::unordered_map<const void*, std::shared_ptr<Call>> callAt;
+  std::deque<std::shared_ptr<Call>> withoutParams;
 
   template <typename Fields>
   void begin(uint8_t kind, Fields&& fields) {
@@ -498,7 +532,7 @@ private:
     for (auto& segment: segments) log.add(segment.begin(), segment.asBytes().size());
   }
 
-  static Reference next_(const View& view) {
+  static Reference nextOf(const View& view) {
     if (view.call == nullptr) return view.turn;
     const Call* call = view.call.get();
     while (call->answeredBy != nullptr) call = call->answeredBy.get();
@@ -511,7 +545,7 @@ private:
 
 using SharedVat = std::shared_ptr<Vat>;
 
-// ======================================================================================= Capabilities in the program's hands
+// =========================================================================== Capabilities in the program's hands
 
 // A capability that the program holds: the runtime's hook and its reference. The runtime itself never gets one, so
 // that it does what it would do unrecorded.
@@ -644,7 +678,7 @@ private:
   capnp::_::CapTableBuilder* inner = nullptr;
 };
 
-// ======================================================================================= Calls that the program makes
+// =========================================================================== Calls that the program makes
 
 // Says for a while which call is at work, and then again what was said before.
 class Meanwhile {
@@ -792,7 +826,7 @@ inline capnp::Request<AnyPointer, AnyPointer> Handle::newCall(
   return capnp::Request<AnyPointer, AnyPointer>(params, kj::mv(hook));
 }
 
-// ======================================================================================= Objects
+// =========================================================================== Objects
 
 // Opens the one member of a call's context that a derived server can't reach: the hook. Naming a private member in
 // an explicit instantiation is allowed.
@@ -931,7 +965,7 @@ private:
   }
 };
 
-// ======================================================================================= One end of a connection
+// =========================================================================== One end of a connection
 
 namespace rpc = capnp::rpc;
 
@@ -967,7 +1001,7 @@ public:
     switch (message.which()) {
       case rpc::Message::BOOTSTRAP: {
         lastBootstrap = vat->newCall(0, 0);
-        vat->number_(*lastBootstrap);
+        vat->bind(*lastBootstrap);
         number = lastBootstrap->number;
         asked[message.getBootstrap().getQuestionId()] = question(lastBootstrap, true);
         break;
@@ -1004,7 +1038,7 @@ public:
     switch (message.which()) {
       case rpc::Message::BOOTSTRAP:
         call = vat->newCall(0, 0);
-        vat->number_(*call);
+        vat->bind(*call);
         answering[message.getBootstrap().getQuestionId()] = question(call, true);
         break;
       case rpc::Message::CALL:
@@ -1058,7 +1092,8 @@ private:
       call = vat->takeWaiting(message.getInterfaceId(), message.getMethodId(), payload.getContent());
     }
     if (call == nullptr || call->number == 0) {
-      vat->stop("a Call is sent, and no MAKE or received Call stands before it");
+      vat->stop("a Call is sent, and no MAKE or received Call stands before it: was it made through a client of a "
+                "promise that isn't from `promise`?");
       return false;
     }
     call->isGone = true;
@@ -1152,7 +1187,7 @@ private:
 
   std::shared_ptr<Call> receivedCall(rpc::Call::Reader message, std::vector<Reference>& references) {
     auto call = vat->newCall(message.getInterfaceId(), message.getMethodId());
-    vat->number_(*call);
+    vat->bind(*call);
     Question opened = question(call, false);
     auto payload = message.getParams();
     call->paramsByIndex = take(payload.getCapTable(), references, opened.broughtByCall);
@@ -1267,7 +1302,7 @@ private:
   }
 };
 
-// ======================================================================================= Messages
+// =========================================================================== Messages
 
 using Segments = std::vector<kj::ArrayPtr<const capnp::word>>;
 
@@ -1327,7 +1362,8 @@ private:
   }
 };
 
-// A message that came in. RECV is recorded at the first look at it.
+// A message that came in. RECV is recorded at the first look at it, before the runtime acts on it: all that the
+// message brings about stands behind it.
 class Incoming final: public capnp::IncomingRpcMessage {
 public:
   Incoming(std::shared_ptr<End> end, kj::Own<capnp::MessageReader> message)
@@ -1380,7 +1416,7 @@ private:
 
 }  // namespace inside
 
-// ======================================================================================= Networks
+// =========================================================================== Networks
 
 // One connection between two vats over any stream, in the place of capnp::TwoPartyVatNetwork. Its number is your
 // choice: the same in both vats' logs, and no other connection of the conversation has it. A vat may have several.
@@ -1598,7 +1634,7 @@ private:
   void taskFailed(kj::Exception&& exception) override { KJ_LOG(ERROR, exception); }
 };
 
-// ======================================================================================= The recorder's own code
+// =========================================================================== The recorder's own code
 
 inline Recorder::Recorder(const char* path, uint32_t vat): vat(std::make_shared<inside::Vat>(path, vat)) {}
 inline Recorder::~Recorder() { vat->end(); }

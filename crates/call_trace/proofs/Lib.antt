@@ -21,3 +21,5 @@ mod UnderWay
 pub mod Using
 pub mod Sayable
 pub mod Resulting
+pub mod Gathering
+pub mod Seeing

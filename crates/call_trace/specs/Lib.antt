@@ -13,3 +13,4 @@ pub mod Named
 pub mod Running
 pub mod Kinds
 pub mod Placed
+pub mod Glue

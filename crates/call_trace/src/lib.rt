@@ -11,9 +11,14 @@
 //! the records of several logs take their steps is said in `specs/Running.antt`.
 //! `proofs/PipelinedCall.antt` and `proofs/UnderWay.antt` are examples. What holds of runs and their logs is promised by
 //! the functions of `src/laws.rt`, which do nothing.
+//! `specs/Glue.antt` serves the contracts of private functions alone.
 #![tactic(auto)]
 
+mod calls;
 mod laws;
+mod ledger;
+mod released;
+mod saying;
 
 pub use laws::{
     calls_are_settled_once, calls_are_where_logs_have_them, calls_go_where_they_lead,

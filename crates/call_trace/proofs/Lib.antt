@@ -23,3 +23,4 @@ pub mod Sayable
 pub mod Resulting
 pub mod Gathering
 pub mod Seeing
+pub mod Keeping

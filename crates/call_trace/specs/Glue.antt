@@ -1,6 +1,6 @@
 -- For the code's contracts, and no part of the meaning: the tables that are kept of each vat and of all connections, and
 -- how its calls and views are named by them.
-use Rattle.std.specs.Prelude.{◌≡◌, ◌==◌, ◌+◌, ◌++◌, ◌∷◌, ℕ, List, [], Bool, true, false, Option, Some, None, if◌then◌else◌, is_some, map, reverse, option_and_then, option_map, slice_get, unwrap_or}
+use Rattle.std.specs.Prelude.{◌≡◌, ◌==◌, ◌+◌, ◌++◌, ◌∷◌, ℕ, List, [], Bool, true, false, not, Option, Some, None, if◌then◌else◌, is_some, map, reverse, option_and_then, option_map, slice_get, unwrap_or}
 use Rattle.std.specs.BTreeMap.{get}
 use Rattle.std.specs.Ordering.{nat_cmp}
 use Rattle.call_trace.specs.declared.calls.Calls.{Calls}
@@ -8,6 +8,7 @@ use Rattle.call_trace.specs.declared.ledger.Ledger.{Ledger}
 use Rattle.call_trace.specs.declared.released.Released.{Released}
 use Rattle.call_trace.specs.Naming.{Naming, message_of, call_named, cap_at}
 use Rattle.call_trace.specs.Part.{promise_in}
+use Rattle.call_trace.specs.Running.{step_received}
 use Rattle.call_trace.specs.Said.{together, say_call, say_return, say_resolve}
 use Rattle.call_trace.specs.Types.{Descriptor, NoCap, Results, RpcMessage, Bootstrap, Call, Return, Finish, Resolve, Release, Disembargo, Abort, Event, Host, Vow, Fulfil, Break, Make, Field, Deliver, Answer, Fault, Wire, View, Object, Promise, FieldOf, Import, Name, Cap, Message, Step}
 use Rattle.run_model.specs.Has.{called}
@@ -15,7 +16,7 @@ use Rattle.run_model.specs.Legal.{brought}
 use Rattle.run_model.specs.Steps.{call}
 use Rattle.vat_rules.specs.Told.{Sight}
 use Rattle.vat_view.specs.Lives.{descriptors_of}
-use Rattle.vat_view.specs.Past.{Past, names}
+use Rattle.vat_view.specs.Past.{Past, id, names}
 use Rattle.vat_view.specs.Questions.{opened, released, is_released}
 use Rattle.vat_view.specs.Tables.{id_cmp}
 use Rattle.vat_view.specs.declared.id.Id.{Id}
@@ -201,3 +202,18 @@ pub record IsKept (v : ℕ) (es : Past) (own run : List Step) (ledger : Ledger) 
 abbrev pub IsTaken : ℕ → Past → Event → List Step → Option Step → List Step → List Step → Ledger → Bool → Type 0
 IsTaken v es e own step old new ledger true = (s : Step) × (step ≡ Some s) × (new ≡ old ++ s ∷ []) × IsKept v (e ∷ es) (s ∷ own) new ledger
 IsTaken v es e own step old new ledger false = step ≡ None
+
+-- a record is a Return that is late, by the table of questions whose results were given back
+abbrev pub late_in : Ledger → Event → Bool
+late_in ledger (Wire sent k c references (Return q release outcome)) = released_at ledger.released (id k (not sent) q)
+late_in ledger _ = false
+
+-- the step of a received record, by this message
+abbrev pub received_step : ℕ → Past → List Step → Event → Message → Option Step
+received_step v es own (Wire false k c references m) message = step_received v es own (Wire false k c references m) k references message
+received_step v es own e message = None
+
+-- a step that receives, with these bound
+abbrev pub with_bound : List Cap → Step → Step
+with_bound bound (step.Receive v k m old) = step.Receive v k m bound
+with_bound bound s = s

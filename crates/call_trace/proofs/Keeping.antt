@@ -40,12 +40,12 @@ got_some [] i = refl
 got_some (x ∷ xs) zero = refl
 got_some (x ∷ xs) (suc i) = got_some xs i
 
-get_longer : {A : Type 0} (xs : List A) (x : A) (i : ℕ) (y : A) → slice_get xs i ≡ Some y → slice_get (xs ++ x ∷ []) i ≡ Some y
+pub get_longer : {A : Type 0} (xs : List A) (x : A) (i : ℕ) (y : A) → slice_get xs i ≡ Some y → slice_get (xs ++ x ∷ []) i ≡ Some y
 get_longer [] x i y h = absurd (let no : ⊥ = cc in no)
 get_longer (z ∷ xs) x zero y h = h
 get_longer (z ∷ xs) x (suc i) y h = get_longer xs x i y h
 
-get_last : {A : Type 0} (xs : List A) (x : A) → slice_get (xs ++ x ∷ []) (length xs) ≡ Some x
+pub get_last : {A : Type 0} (xs : List A) (x : A) → slice_get (xs ++ x ∷ []) (length xs) ≡ Some x
 get_last [] x = refl
 get_last (z ∷ xs) x = get_last xs x
 

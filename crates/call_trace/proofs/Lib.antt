@@ -24,3 +24,4 @@ pub mod Resulting
 pub mod Gathering
 pub mod Seeing
 pub mod Keeping
+pub mod Storied

@@ -14,7 +14,9 @@ use Rattle.call_trace.specs.Types.{Descriptor, NoCap, Results, RpcMessage, Boots
 use Rattle.run_model.specs.Has.{called}
 use Rattle.run_model.specs.Legal.{brought}
 use Rattle.run_model.specs.Steps.{call}
-use Rattle.vat_rules.specs.Told.{Sight}
+use Rattle.vat_rules.specs.Told.{Sight, Told}
+use Rattle.vat_rules.specs.declared.outcome.Outcome.{Outcome}
+use Rattle.vat_rules.specs.declared.outcome.Outcome.TheVariants as outcome
 use Rattle.vat_view.specs.Lives.{descriptors_of}
 use Rattle.vat_view.specs.Past.{Past, id, names}
 use Rattle.vat_view.specs.Questions.{opened, released, is_released}
@@ -217,3 +219,8 @@ received_step v es own e message = None
 abbrev pub with_bound : List Cap → Step → Step
 with_bound bound (step.Receive v k m old) = step.Receive v k m bound
 with_bound bound s = s
+
+-- what a good log tells
+abbrev pub story_in : Outcome → Option Told
+story_in (outcome.Good story) = Some story
+story_in _ = None

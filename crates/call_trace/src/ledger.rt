@@ -1,9 +1,9 @@
 //! What is kept of a vat while its records take their steps. Nothing calls it yet: the run of a row of records is to come.
 
-ghost use Rattle.std.specs.Prelude.{◌≡◌, IfOk};
+ghost use Rattle.std.specs.Prelude.{◌≡◌, [], IfOk};
 ghost use Rattle.std.specs.Option.{option_copied};
 ghost use Rattle.call_trace.specs.Naming.{message_of, cap_at};
-ghost use Rattle.call_trace.specs.Glue.{message_in, call_in, cap_in, view_in};
+ghost use Rattle.call_trace.specs.Glue.{message_in, call_in, cap_in, view_in, IsKept};
 ghost use Rattle.run_model.specs.Legal.{brought};
 
 use crate::calls::Calls;
@@ -52,7 +52,9 @@ fn brought_at(message: &Message, place: usize) -> Result<Option<Cap>, AllocError
 
 impl Ledger {
     /// Before any record.
-    pub(crate) fn new(alloc: Global, vat: u32) -> Ledger {
+    pub(crate) fn new(alloc: Global, vat: u32) -> Ledger
+        ensures { IsKept vat [] [] [] result }
+    {
         Ledger {
             vat,
             numbers: Vec::new(alloc),

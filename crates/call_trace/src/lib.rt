@@ -20,6 +20,7 @@ mod ledger;
 mod released;
 mod saying;
 mod stepping;
+mod stories;
 
 pub use laws::{
     calls_are_settled_once, calls_are_where_logs_have_them, calls_go_where_they_lead,

@@ -25,3 +25,4 @@ pub mod Gathering
 pub mod Seeing
 pub mod Keeping
 pub mod Storied
+pub mod Rowing

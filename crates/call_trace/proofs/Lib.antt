@@ -31,5 +31,10 @@ pub mod Noting
 pub mod Behind
 pub mod Early
 pub mod Passing
+pub mod Gathering
+pub mod Seeing
+pub mod Keeping
+pub mod Storied
+pub mod Rowing
 mod PipelinedCall
 mod UnderWay

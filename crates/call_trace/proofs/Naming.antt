@@ -65,7 +65,7 @@ call_step v es e steps s c name refers h = at (names_call v c e s) refl
     at None n = h
     at (Some x) n = absurd (unbound (is_bound_call es c) (all_at (λ c. not (is_bound_call es c)) (new_calls e) c refers.unused_call (names_new v c e s x n)) (call_bound v es steps c name h))
 
-message_within : (i : ℕ) (steps : List Step) (m : Message) → message_at i steps ≡ Some m → i < length steps
+pub message_within : (i : ℕ) (steps : List Step) (m : Message) → message_at i steps ≡ Some m → i < length steps
 message_within i [] m h = absurd (let no : ⊥ = cc in no)
 message_within i (s ∷ steps) m h = elim (cases_Bool (length steps == i)) [
   | inl here ↦ omega (arith, eqb-true (length steps) i here)

@@ -15,3 +15,4 @@ pub mod Kinds
 pub mod Placed
 pub mod Overtaking
 pub mod Lines
+pub mod Glue

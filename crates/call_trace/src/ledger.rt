@@ -1,0 +1,112 @@
+//! What is kept of a vat while its records take their steps. Nothing calls it yet: the run of a row of records is to come.
+
+ghost use Rattle.std.specs.Prelude.{◌≡◌, [], IfOk};
+ghost use Rattle.std.specs.Option.{option_copied};
+ghost use Rattle.call_trace.specs.Naming.{message_of, cap_at};
+ghost use Rattle.call_trace.specs.Glue.{message_in, call_in, cap_in, view_in, IsKept};
+ghost use Rattle.run_model.specs.Legal.{brought};
+
+use crate::calls::Calls;
+use crate::released::Released;
+use run_model::{Cap, Message, Name, Step};
+use std::alloc::{AllocError, Global};
+use vat_view::View;
+
+/// What is kept of a vat, by its records that took a step.
+#[derive(Debug, Drop)]
+pub(crate) struct Ledger {
+    /// The vat.
+    pub(crate) vat: u32,
+    /// For each record the number of its step among the steps of all vats.
+    pub(crate) numbers: Vec<usize>,
+    /// The names of its calls.
+    pub(crate) calls: Calls,
+    /// The questions whose results were given back.
+    pub(crate) released: Released,
+}
+
+/// The message that a step sends or receives.
+fn message_of(step: &Step) -> Option<&Message>
+    ensures { option_copied result ≡ message_of step.now }
+{
+    match step {
+        Step::Send { message, .. } | Step::Receive { message, .. } => Some(message),
+        _ => None,
+    }
+}
+
+/// The capability at a place of a message, if it brings one there.
+fn brought_at(message: &Message, place: usize) -> Result<Option<Cap>, AllocError>
+    ensures { IfOk result (λ cap. cap ≡ cap_at place (brought message.now)) }
+{
+    let cap = match message {
+        Message::Call { caps, .. } | Message::Return { caps, .. } => caps.as_slice().get(place),
+        Message::Resolve(_, cap) if place == 0 => Some(cap),
+        _ => None,
+    };
+    match cap {
+        None | Some(Cap::Nothing) => Ok(None),
+        Some(cap) => Ok(Some(cap.copy()?)),
+    }
+}
+
+impl Ledger {
+    /// Before any record.
+    pub(crate) fn new(alloc: Global, vat: u32) -> Ledger
+        ensures { IsKept vat [] [] [] result }
+    {
+        Ledger {
+            vat,
+            numbers: Vec::new(alloc),
+            calls: Calls::new(alloc),
+            released: Released::new(alloc),
+        }
+    }
+
+    /// The message of the step of the record of this number.
+    fn message<'a>(&self, steps: &'a [Step], number: usize) -> Option<&'a Message>
+        ensures { option_copied result ≡ message_in steps.now self.now.numbers.items number }
+    {
+        let at = self.numbers.get(number)?;
+        message_of(steps.get(*at)?)
+    }
+
+    /// The name of a call.
+    pub(crate) fn call(&self, call: u64) -> Option<Name>
+        ensures { result ≡ call_in self.now call }
+    {
+        self.calls.of(call)
+    }
+
+    /// The name of a view.
+    pub(crate) fn cap(&self, steps: &[Step], view: &View) -> Result<Option<Cap>, AllocError>
+        ensures { IfOk result (λ cap. cap ≡ cap_in steps.now self.now view.now) }
+    {
+        match view {
+            View::Object(object) => Ok(Some(Cap::Object(self.vat, *object))),
+            View::Promise(reference) => Ok(Some(Cap::Promise(self.vat, *reference))),
+            View::Field(call, path) => match self.call(*call) {
+                Some(name) => Ok(Some(Cap::Field(name, path.copy()?))),
+                None => Ok(None),
+            },
+            View::Import(number, place) => match self.message(steps, *number) {
+                Some(message) => brought_at(message, *place),
+                None => Ok(None),
+            },
+        }
+    }
+
+    /// The name of a view, where there is one.
+    pub(crate) fn named(
+        &self,
+        steps: &[Step],
+        view: Option<&View>,
+    ) -> Result<Option<Cap>, AllocError>
+        ensures { IfOk result (λ cap. cap ≡ view_in steps.now self.now (option_copied view.entry)) }
+    {
+        match view {
+            Some(view) => self.cap(steps, view),
+            None => Ok(None),
+        }
+    }
+}

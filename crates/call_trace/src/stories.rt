@@ -1,0 +1,54 @@
+//! What good findings tell, record by record. Nothing calls it yet: the run of a row of records is to come.
+
+ghost use Rattle.std.specs.Prelude.{◌≡◌, true, option_map, slice_get};
+ghost use Rattle.std.specs.Option.{option_copied};
+ghost use Rattle.call_trace.specs.Findings.{is_good};
+ghost use Rattle.call_trace.specs.Named.{past_before};
+ghost use Rattle.call_trace.specs.Taking.{record_in};
+ghost use Rattle.call_trace.specs.Glue.{story_in};
+ghost use Rattle.vat_rules.specs.Audit.{IsTrueOf};
+ghost use Rattle.vat_rules.specs.Telling.{seen_of};
+
+use vat_rules::{Outcome, Seen, Story, VatFinding};
+use vat_view::Event;
+
+/// What a finding's log tells, where it is good.
+fn story(finding: &VatFinding) -> Option<&Story>
+    ensures story { option_copied result ≡ story_in finding.now.outcome }
+    ensures of_the_log { IsTrueOf finding.now.log finding.now.limits finding.now.outcome }
+{
+    match finding.outcome() {
+        Outcome::Good(story) => Some(story),
+        _ => None,
+    }
+}
+
+/// The record of this number, of these.
+fn event_of(events: &[Event], number: usize) -> Option<&Event>
+    ensures { option_copied result ≡ slice_get events.now number }
+{
+    events.get(number)
+}
+
+/// What was seen of the record of this number, of these.
+fn seen_of(seen: &[Seen], number: usize) -> Option<&Seen>
+    ensures { option_copied result ≡ slice_get seen.now number }
+{
+    seen.get(number)
+}
+
+/// The record of this number of a good finding's log.
+pub(crate) fn event_at(finding: &VatFinding, number: usize) -> Option<&Event>
+    requires { is_good finding.now.outcome ≡ true }
+    ensures { option_copied result ≡ record_in finding.now number }
+{
+    event_of(story(finding)?.events(), number)
+}
+
+/// What the numbers of the record of this number stand for.
+pub(crate) fn seen_at(finding: &VatFinding, number: usize) -> Option<&Seen>
+    requires { is_good finding.now.outcome ≡ true }
+    ensures { option_copied result ≡ option_map (λ e. seen_of (past_before finding.now number) e) (record_in finding.now number) }
+{
+    seen_of(story(finding)?.seen(), number)
+}

@@ -15,4 +15,5 @@ mod pointers;
 mod rules;
 mod runs;
 mod states;
+mod tables;
 mod taps;

@@ -16,4 +16,5 @@ mod pointers;
 mod rules;
 mod runs;
 mod states;
+mod tables;
 mod taps;

@@ -62,7 +62,7 @@ module _ {R : Type 0} (now : R → View) (events : List Event) (table : Turns) (
   -- a walk that goes on after as many turns as references are bound has no end
   pub goes_for_ever : (a v u : View) (t : ℕ) → bound_len bound ≤ t → reached turnings t (Some a) ≡ Some v → Some u ≡ turnings v → (w : View) → EndsBy goings a w → ⊥
   goes_for_ever a v u t long there on w ends =
-      endless turnings (place_of events table bound) (view_there bound.entries.entries) (bound_len bound) (few events table bound) a u w (suc t) (omega (arith, long))
+      endless turnings (place_of events table bound) (view_there bound.entries) (bound_len bound) (few events table bound) a u w (suc t) (omega (arith, long))
       (reached_more turnings t (Some a) ∙ ap (λ o. option_and_then turnings o) there ∙ sym on) ends.0.0 ends.0.1 (ap (λ x. turned_to x) ends.1)
 
 -- ---- walks by the table are walks by looking back

@@ -1,8 +1,7 @@
 -- Hops to references ahead.
 use Rattle.std.proofs.Common.{◌≡◌, ◌⊎◌, ◌≤◌, refl, sym, ◌∙◌, ap, ℕ, zero, suc, ◌+◌, ◌-◌, inl, inr, List, Option, Some, None, option_map, option_and_then, arith}
 use Rattle.std.proofs.lemmas.Bool.{cases_lt}
-use Rattle.std.specs.Ordering.{nat_cmp}
-use Rattle.std.specs.BTreeMap.{get}
+use Rattle.rising_table.specs.Entries.{entry_at}
 use Rattle.vat_view.specs.declared.turns.Turns.{Turns}
 use Rattle.vat_view.specs.declared.bound.Bound.{Bound}
 use Rattle.vat_view.specs.declared.bound.Binding.{Binding}
@@ -15,7 +14,7 @@ use Rattle.vat_view.proofs.Settled.{turn_landing}
 -- ---- what is bound has a reference ahead, and no other
 
 pub ahead_bound : (table : Bound) (r q : ℕ) → ahead_at table r ≡ Some q → (a : View) × (bound_at table r ≡ Some a)
-ahead_bound table r q some = inner (get nat_cmp table.entries r) some
+ahead_bound table r q some = inner (entry_at table.entries r) some
   where
     inner : (o : Option Binding) → option_map (λ binding. ahead_in table.dropped r binding) o ≡ Some q → (a : View) × (option_map (λ binding. binding.view) o ≡ Some a)
     inner None e = absurd (none_some q e)

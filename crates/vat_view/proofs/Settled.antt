@@ -211,13 +211,13 @@ turn_landing named path None = refl
 module _ (events : List Event) (table : Turns) (bound : Bound) where
   -- the place in the table of references of the one where a view lands
   abbrev pub place_of : View → ℕ
-  place_of v = unwrap_or (option_map (λ r. spot r bound.entries.entries) (option_and_then (landing (path_of v)) (settler_by table events v))) 0
+  place_of v = unwrap_or (option_map (λ r. spot r bound.entries) (option_and_then (landing (path_of v)) (settler_by table events v))) 0
 
-  pub few : Lands (turn_by events table (bound_at bound)) place_of (view_there bound.entries.entries) (bound_len bound)
+  pub few : Lands (turn_by events table (bound_at bound)) place_of (view_there bound.entries) (bound_len bound)
   few v w h = inner (option_and_then (landing (path_of v)) (settler_by table events v)) (sym (turn_landing (bound_at bound) (path_of v) (settler_by table events v)) ∙ h)
     where
       inner : (o : Option ℕ) → option_and_then (bound_at bound) o ≡ Some w →
-          (unwrap_or (option_map (λ r. spot r bound.entries.entries) o) 0 < bound_len bound)
-          × (view_there bound.entries.entries (unwrap_or (option_map (λ r. spot r bound.entries.entries) o) 0) ≡ Some w)
-      inner (Some r) g = spot_found r bound.entries.entries w g
+          (unwrap_or (option_map (λ r. spot r bound.entries) o) 0 < bound_len bound)
+          × (view_there bound.entries (unwrap_or (option_map (λ r. spot r bound.entries) o) 0) ≡ Some w)
+      inner (Some r) g = spot_found r bound.entries w g
       inner None g = absurd (none_some w g)

@@ -1,8 +1,7 @@
 -- For the code's contracts, and no part of the meaning: the table of calls, and what looking back finds for each of
 -- them.
 use Rattle.std.specs.Prelude.{◌≡◌, ℕ, ◌==◌, Bool, true, false, Option, Some, None, if◌then◌else◌, option_map, option_and_then}
-use Rattle.std.specs.Ordering.{nat_cmp}
-use Rattle.std.specs.BTreeMap.{get}
+use Rattle.rising_table.specs.Entries.{entry_at}
 use Rattle.vat_view.specs.declared.question.Question.{Question}
 use Rattle.vat_view.specs.declared.lives.Lives.{Lives}
 use Rattle.vat_view.specs.declared.calls.Calls.{Calls}
@@ -22,7 +21,7 @@ use Rattle.vat_view.specs.Asking.{opening_call_in, targeted_by}
 
 -- what the table has of a call
 abbrev pub progress_at : Calls → ℕ → Option Progress
-progress_at table c = get nat_cmp table.entries c
+progress_at table c = entry_at table.entries c
 
 -- what looking back finds of a call that is bound
 abbrev pub progress_of : ℕ → Past → Option Progress

@@ -2,6 +2,7 @@
 use Rattle.std.specs.Prelude.{◌≡◌, ℕ, ◌==◌, List, Bool, true, false, ◌||◌, Option, Some, None, if◌then◌else◌, option_and_then, unwrap_or, is_some, slice_get, IsTrue}
 use Rattle.std.specs.Ordering.{nat_cmp}
 use Rattle.std.specs.BTreeMap.{get}
+use Rattle.rising_table.specs.Entries.{entry_at}
 use Rattle.vat_view.specs.declared.connections.Connections.{Connections}
 use Rattle.vat_view.specs.declared.sought.Sought.{Sought}
 use Rattle.vat_view.specs.declared.sought.Sought.TheVariants.{Over, Elsewhere}
@@ -23,7 +24,7 @@ on_for call None = None
 
 -- the connection that the table has for a call
 abbrev pub asked_at : Connections → ℕ → Option ℕ
-asked_at table c = option_and_then (λ connection. connection) (get nat_cmp table.asked c)
+asked_at table c = option_and_then (λ connection. connection) (entry_at table.asked c)
 
 -- the table has a connection as aborted
 abbrev pub aborted_at : Connections → ℕ → Bool
@@ -31,7 +32,7 @@ aborted_at table k = unwrap_or (get nat_cmp table.aborted k) false
 
 -- the table has room for a call that is asked
 abbrev pub has_asked : Connections → Option (ℕ × ℕ) → Bool
-has_asked table (Some a) = is_some (get nat_cmp table.asked a.0)
+has_asked table (Some a) = is_some (entry_at table.asked a.0)
 has_asked table None = true
 
 -- the table has room for a connection that is aborted

@@ -1,11 +1,11 @@
 -- For the code's contracts, and no part of the meaning: the tables, and what looking back finds for each of their
 -- keys.
 use Rattle.std.specs.Prelude.{◌≡◌, ℕ, ◌+◌, ◌≤◌, ◌==◌, ◌&&◌, length, List, [], ◌∷◌, Bool, true, false, not, Option, Some, None, if◌then◌else◌, option_map, option_and_then, unwrap_or, find, slice_get}
-use Rattle.std.specs.Ordering.{nat_cmp}
 use Rattle.std.specs.List.{cons_option}
 use Rattle.std.specs.Option.{option_or}
 use Rattle.std.specs.declared.cmp.Ordering.{Ordering}
 use Rattle.std.specs.BTreeMap.{get}
+use Rattle.rising_table.specs.Entries.{entry_at}
 use Rattle.vat_view.specs.declared.question.Question.{Question}
 use Rattle.vat_view.specs.declared.questions.Questions.{Questions}
 use Rattle.vat_view.specs.declared.lives.Lives.{Lives}
@@ -168,7 +168,7 @@ noted_by e introduced q known =
 
 -- the view that the table has of a reference
 abbrev pub bound_at : Bound → ℕ → Option View
-bound_at table r = option_map (λ binding. binding.view) (get nat_cmp table.entries r)
+bound_at table r = option_map (λ binding. binding.view) (entry_at table.entries r)
 
 -- the view of a reference after these are bound in turn
 abbrev pub bound_by : ℕ → List (ℕ × View) → Option View → Option View

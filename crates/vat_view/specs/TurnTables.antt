@@ -1,10 +1,10 @@
 -- For the code's contracts, and no part of the meaning: the table of turns, what looking back finds for its keys, and
 -- walks by so many turns.
-use Rattle.std.specs.Prelude.{◌≡◌, ◌⊎◌, ℕ, zero, suc, ◌==◌, ◌&&◌, List, ◌∷◌, [], Bool, true, false, Option, Some, None, option_map, option_and_then, find, slice_get, is_some}
+use Rattle.std.specs.Prelude.{◌≡◌, ◌⊎◌, ℕ, zero, suc, ◌==◌, ◌&&◌, List, ◌∷◌, [], Bool, true, false, Option, Some, None, option_map, option_and_then, find, slice_get, is_some, length}
 use Rattle.std.specs.declared.cmp.Ordering.{Ordering}
-use Rattle.std.specs.BTreeMap.{get, btree_map_len}
-use Rattle.std.specs.Ordering.{nat_cmp}
+use Rattle.std.specs.BTreeMap.{get}
 use Rattle.std.specs.Str.{bytes_eq as same_path}
+use Rattle.rising_table.specs.Entries.{entry_at}
 use Rattle.vat_view.specs.declared.question.Question.{Question}
 use Rattle.vat_view.specs.declared.lives.Lives.{Lives}
 use Rattle.vat_view.specs.declared.bound.Bound.{Bound}
@@ -124,13 +124,21 @@ LandsBound before e = (path : List ℕ) (r : ℕ) → landing path e ≡ Some r 
 abbrev pub pending_cmp : Pending → Pending → Ordering
 pending_cmp = (pending_order.ghosts).cmp
 
+-- the number of the record that a row of the table has under a key
+abbrev pub number_in : List (ℕ × Option ℕ) → ℕ → Option ℕ
+number_in entries k = option_and_then (λ number. number) (entry_at entries k)
+
 -- the number of the record that the table has for this
 abbrev pub settler_at : Turns → Pending → Option ℕ
-settler_at table p = option_and_then (λ number. number) (get pending_cmp table.entries p)
+settler_at table (PromiseToKeep p) = number_in table.promises p
+settler_at table (ResultsOf c) = number_in table.results c
+settler_at table (ImportToResolve i place) = option_and_then (λ number. number) (get pending_cmp table.imports (ImportToResolve i place))
 
 -- the table has room for what is settled
 abbrev pub has_room : Turns → Option Pending → Bool
-has_room table (Some p) = is_some (get pending_cmp table.entries p)
+has_room table (Some (PromiseToKeep p)) = is_some (entry_at table.promises p)
+has_room table (Some (ResultsOf c)) = is_some (entry_at table.results c)
+has_room table (Some (ImportToResolve i place)) = is_some (get pending_cmp table.imports (ImportToResolve i place))
 has_room table None = true
 
 -- the table of turns at a point of a log: for each thing it has the last record that settled it; each view goes where
@@ -154,7 +162,7 @@ landed_by events table v = option_and_then (landing (path_of v)) (settler_by tab
 
 -- how many references are bound
 abbrev pub bound_len : Bound → ℕ
-bound_len table = btree_map_len table.entries
+bound_len table = length table.entries
 
 -- the reference that is ahead of this one, by what is kept of it: itself, where the references ahead are dropped
 abbrev pub ahead_in : Bool → ℕ → Binding → ℕ
@@ -163,7 +171,7 @@ ahead_in false r binding = binding.ahead
 
 -- the reference that is ahead of a bound one
 abbrev pub ahead_at : Bound → ℕ → Option ℕ
-ahead_at table r = option_map (λ binding. ahead_in table.dropped r binding) (get nat_cmp table.entries r)
+ahead_at table r = option_map (λ binding. ahead_in table.dropped r binding) (entry_at table.entries r)
 
 -- what is ahead of a reference was so before, or is itself
 abbrev pub IsOwnOrOld : Bound → Bound → Type 0

@@ -7,8 +7,8 @@ ghost use Rattle.vat_view.specs.Tables.{bound_at, bound_by};
 ghost use Rattle.vat_view.specs.TurnTables.{bound_len, ahead_at, IsOwnOrOld};
 
 use crate::view::View;
+use rising_table::RisingTable;
 use std::alloc::{AllocError, Global};
-use std::collections::BTreeMap;
 
 /// What is kept of a reference.
 #[derive(Debug, Drop)]
@@ -23,7 +23,7 @@ pub(crate) struct Binding {
 /// turn anew. At first each is ahead of itself; and again once the references ahead are dropped.
 #[derive(Debug, Drop)]
 pub(crate) struct Bound {
-    entries: BTreeMap<u64, Binding>,
+    entries: RisingTable<Binding>,
     dropped: bool,
 }
 
@@ -33,7 +33,7 @@ impl Bound {
         ensures { (r : ℕ) → bound_at result r ≡ None }
     {
         Bound {
-            entries: BTreeMap::new(alloc),
+            entries: RisingTable::new(alloc),
             dropped: false,
         }
     }
@@ -42,7 +42,7 @@ impl Bound {
     pub(crate) fn of(&self, reference: u64) -> Option<&View>
         ensures { option_copied result ≡ bound_at self.now reference }
     {
-        match self.entries.get(&reference) {
+        match self.entries.get(reference) {
             Some(binding) => Some(&binding.view),
             None => None,
         }
@@ -52,7 +52,7 @@ impl Bound {
     pub(crate) fn ahead(&self, reference: u64) -> Option<u64>
         ensures { result ≡ ahead_at self.now reference }
     {
-        match self.entries.get(&reference) {
+        match self.entries.get(reference) {
             Some(_) if self.dropped => Some(reference),
             Some(binding) => Some(binding.ahead),
             None => None,
@@ -68,8 +68,12 @@ impl Bound {
         if self.dropped {
             return;
         }
-        if let Some(binding) = self.entries.get_mut(&reference) {
-            binding.ahead = ahead;
+        let held = Binding {
+            view: View::Object(reference),
+            ahead,
+        };
+        if let Some(Binding { view, .. }) = self.entries.replace(reference, held) {
+            let _ = self.entries.replace(reference, Binding { view, ahead });
         }
     }
 
@@ -88,7 +92,7 @@ impl Bound {
     pub(crate) fn has(&self, reference: u64) -> bool
         ensures { result ≡ is_some (bound_at self.now reference) }
     {
-        self.entries.contains_key(&reference)
+        self.entries.has(reference)
     }
 
     /// How many references are bound.
@@ -108,8 +112,7 @@ impl Bound {
             view,
             ahead: reference,
         };
-        self.entries.insert(reference, binding)?;
-        Ok(())
+        self.entries.put(reference, binding)
     }
 
     /// These references have these views. Where memory is refused, some of them may.
@@ -129,7 +132,7 @@ impl Bound {
         ensures views { (q : ℕ) → bound_at self.new q ≡ (if reference == q then None else bound_at self.old q) }
         ensures ahead { IsOwnOrOld self.old self.new }
     {
-        let _ = self.entries.remove(&reference);
+        self.entries.remove(reference);
     }
 
     /// These references have no view.

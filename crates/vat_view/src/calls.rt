@@ -9,13 +9,13 @@ use crate::asked::Asked;
 use crate::progress::{Progress, Step};
 use crate::view::View;
 use crate::walk::same;
+use rising_table::RisingTable;
 use std::alloc::{AllocError, Global};
-use std::collections::BTreeMap;
 
 /// How far each call that is bound has come.
 #[derive(Debug, Drop)]
 pub(crate) struct Calls {
-    entries: BTreeMap<u64, Progress>,
+    entries: RisingTable<Progress>,
 }
 
 impl Calls {
@@ -24,7 +24,7 @@ impl Calls {
         ensures { (c : ℕ) → progress_at result c ≡ None }
     {
         Calls {
-            entries: BTreeMap::new(alloc),
+            entries: RisingTable::new(alloc),
         }
     }
 
@@ -32,14 +32,14 @@ impl Calls {
     pub(crate) fn of(&self, call: u64) -> Option<&Progress>
         ensures { option_copied result ≡ progress_at self.now call }
     {
-        self.entries.get(&call)
+        self.entries.get(call)
     }
 
     /// Whether this call is bound.
     pub(crate) fn has(&self, call: u64) -> bool
         ensures { result ≡ is_some (progress_at self.now call) }
     {
-        self.entries.contains_key(&call)
+        self.entries.has(call)
     }
 
     /// What this call asked for when it came to the vat, if it came.
@@ -143,38 +143,29 @@ impl Calls {
         ensures ok { OnOk result ((c : ℕ) → progress_at self.new c ≡ (if call == c then Some progress else progress_at self.old c)) }
         ensures err { OnErr result ((c : ℕ) → progress_at self.new c ≡ progress_at self.old c) }
     {
-        self.entries.insert(call, progress)?;
-        Ok(())
+        self.entries.put(call, progress)
     }
 
     /// This call isn't bound.
     pub(crate) fn forget(&mut self, call: u64)
         ensures { (c : ℕ) → progress_at self.new c ≡ (if call == c then None else progress_at self.old c) }
     {
-        let _ = self.entries.remove(&call);
+        self.entries.remove(call);
     }
 
     /// This happens to a call, if it is bound.
     pub(crate) fn note(&mut self, call: u64, step: Step)
         ensures { (c : ℕ) → progress_at self.new c ≡ (if call == c then option_map (stepped step) (progress_at self.old c) else progress_at self.old c) }
     {
-        if let Some(progress) = self.entries.get_mut(&call) {
-            match step {
-                Step::Left => progress.at_vat = false,
-                Step::Delivered => {
-                    progress.at_vat = false;
-                    progress.served = true;
-                }
-                Step::Faulted => {
-                    progress.at_vat = false;
-                    progress.settled = true;
-                }
-                Step::Answered => {
-                    progress.settled = true;
-                    progress.known = true;
-                }
-                Step::Known => progress.known = true,
-            }
+        let held = Progress {
+            asked: None,
+            at_vat: false,
+            served: false,
+            settled: false,
+            known: false,
+        };
+        if let Some(progress) = self.entries.replace(call, held) {
+            let _ = self.entries.replace(call, progress.after(step));
         }
     }
 }

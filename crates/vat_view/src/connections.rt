@@ -7,6 +7,7 @@ ghost use Rattle.vat_view.specs.Connections.{aborted_by};
 ghost use Rattle.vat_view.specs.ConnectionTables.{asked_at, aborted_at, asking, on_for, has_asked, has_aborted};
 
 use crate::event::Event;
+use rising_table::RisingTable;
 use rpc_view::RpcMessage;
 use std::alloc::{AllocError, Global};
 use std::collections::BTreeMap;
@@ -15,7 +16,7 @@ use std::collections::BTreeMap;
 /// entry without a connection says nothing, and neither does a connection's false: they hold room.
 #[derive(Debug, Drop)]
 pub(crate) struct Connections {
-    asked: BTreeMap<u64, Option<u32>>,
+    asked: RisingTable<Option<u32>>,
     aborted: BTreeMap<u32, bool>,
 }
 
@@ -56,7 +57,7 @@ impl Connections {
         ensures aborted { (k : ℕ) → aborted_at result k ≡ false }
     {
         Connections {
-            asked: BTreeMap::new(alloc),
+            asked: RisingTable::new(alloc),
             aborted: BTreeMap::new(alloc),
         }
     }
@@ -65,7 +66,7 @@ impl Connections {
     pub(crate) fn asked_on(&self, call: u64) -> Option<u32>
         ensures { result ≡ asked_at self.now call }
     {
-        match self.asked.get(&call) {
+        match self.asked.get(call) {
             Some(connection) => *connection,
             None => None,
         }
@@ -90,11 +91,10 @@ impl Connections {
         let Some((call, _)) = asked else {
             return Ok(());
         };
-        if self.asked.contains_key(&call) {
+        if self.asked.has(call) {
             return Ok(());
         }
-        self.asked.insert(call, None)?;
-        Ok(())
+        self.asked.put(call, None)
     }
 
     /// Makes room for a connection that is aborted. What the table says stays as it is, where memory is refused too.
@@ -144,9 +144,7 @@ impl Connections {
         let Some((call, connection)) = asked else {
             return;
         };
-        if let Some(last) = self.asked.get_mut(&call) {
-            *last = Some(connection);
-        }
+        let _ = self.asked.replace(call, Some(connection));
     }
 
     /// A connection is aborted, for which there is room.

@@ -1,5 +1,8 @@
 //! How far calls have come.
 
+ghost use Rattle.std.specs.Prelude.{◌≡◌};
+ghost use Rattle.vat_view.specs.CallTables.{stepped};
+
 use crate::asked::Asked;
 
 /// What is known of a call that is bound.
@@ -15,6 +18,31 @@ pub(crate) struct Progress {
     pub(crate) settled: bool,
     /// Whether its results are known.
     pub(crate) known: bool,
+}
+
+impl Progress {
+    /// How far a call is once this has happened to it.
+    pub(crate) fn after(mut self, step: Step) -> Progress
+        ensures { result ≡ stepped step self }
+    {
+        match step {
+            Step::Left => self.at_vat = false,
+            Step::Delivered => {
+                self.at_vat = false;
+                self.served = true;
+            }
+            Step::Faulted => {
+                self.at_vat = false;
+                self.settled = true;
+            }
+            Step::Answered => {
+                self.settled = true;
+                self.known = true;
+            }
+            Step::Known => self.known = true,
+        }
+        self
+    }
 }
 
 /// What happens to a call that is bound.

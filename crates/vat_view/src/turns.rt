@@ -1,10 +1,13 @@
 //! The table of turns.
 
-ghost use Rattle.std.specs.Prelude.{◌≡◌, None, Some, OnOk, IsTrue, is_some, option_and_then, if◌then◌else◌};
+ghost use Rattle.std.specs.Prelude.{◌≡◌, ◌==◌, ℕ, None, Some, OnOk, IsTrue, is_some, option_and_then, if◌then◌else◌};
+ghost use Rattle.rising_table.specs.Entries.{entry_at};
 ghost use Rattle.vat_view.specs.declared.pending.Pending.{Pending};
-ghost use Rattle.vat_view.specs.TurnTables.{settler_at, has_room, is_this};
+ghost use Rattle.vat_view.specs.declared.pending.Pending.TheVariants.{Import as ImportToResolve};
+ghost use Rattle.vat_view.specs.TurnTables.{settler_at, number_in, has_room, is_this};
 
 use crate::pending::Pending;
+use rising_table::RisingTable;
 use std::alloc::{AllocError, Global};
 use std::collections::BTreeMap;
 
@@ -12,7 +15,28 @@ use std::collections::BTreeMap;
 /// says nothing: it holds room.
 #[derive(Debug, Drop)]
 pub(crate) struct Turns {
-    entries: BTreeMap<Pending, Option<usize>>,
+    promises: RisingTable<Option<usize>>,
+    results: RisingTable<Option<usize>>,
+    imports: BTreeMap<Pending, Option<usize>>,
+}
+
+/// Makes room for what is settled under this key.
+fn make_room_in(table: &mut RisingTable<Option<usize>>, key: u64) -> Result<(), AllocError>
+    ensures same { (k : ℕ) → number_in table.new k ≡ number_in table.old k }
+    ensures room { OnOk result (IsTrue (is_some (entry_at table.new key))) }
+{
+    if table.has(key) {
+        return Ok(());
+    }
+    table.put(key, None)
+}
+
+/// The record of this number settled what stands under this key, for which there is room.
+fn note_in(table: &mut RisingTable<Option<usize>>, key: u64, number: usize)
+    requires { IsTrue (is_some (entry_at table.old key)) }
+    ensures { (k : ℕ) → number_in table.new k ≡ (if key == k then Some number else number_in table.old k) }
+{
+    let _ = table.replace(key, Some(number));
 }
 
 impl Turns {
@@ -21,7 +45,9 @@ impl Turns {
         ensures { (p : Pending) → settler_at result p ≡ None }
     {
         Turns {
-            entries: BTreeMap::new(alloc),
+            promises: RisingTable::new(alloc),
+            results: RisingTable::new(alloc),
+            imports: BTreeMap::new(alloc),
         }
     }
 
@@ -29,7 +55,12 @@ impl Turns {
     pub(crate) fn of(&self, pending: Pending) -> Option<usize>
         ensures { result ≡ settler_at self.now pending }
     {
-        match self.entries.get(&pending) {
+        let settler = match pending {
+            Pending::Promise(promise) => self.promises.get(promise),
+            Pending::Results(call) => self.results.get(call),
+            Pending::Import(..) => self.imports.get(&pending),
+        };
+        match settler {
             Some(number) => *number,
             None => None,
         }
@@ -45,19 +76,41 @@ impl Turns {
         }
     }
 
+    /// Makes room for an import that is resolved. What the table says stays as it is, where memory is refused too.
+    fn make_room_for_import(&mut self, number: usize, place: usize) -> Result<(), AllocError>
+        ensures same { (p : Pending) → settler_at self.new p ≡ settler_at self.old p }
+        ensures room { OnOk result (IsTrue (has_room self.new (Some (ImportToResolve number place)))) }
+    {
+        let import = Pending::Import(number, place);
+        if self.imports.contains_key(&import) {
+            return Ok(());
+        }
+        self.imports.insert(import, None)?;
+        Ok(())
+    }
+
     /// Makes room for what a record settles. What the table says stays as it is, where memory is refused too.
     pub(crate) fn make_room(&mut self, settled: Option<Pending>) -> Result<(), AllocError>
         ensures same { (p : Pending) → settler_at self.new p ≡ settler_at self.old p }
         ensures room { OnOk result (IsTrue (has_room self.new settled)) }
     {
-        let Some(pending) = settled else {
-            return Ok(());
-        };
-        if self.entries.contains_key(&pending) {
-            return Ok(());
+        match settled {
+            Some(Pending::Promise(promise)) => make_room_in(&mut self.promises, promise),
+            Some(Pending::Results(call)) => make_room_in(&mut self.results, call),
+            Some(Pending::Import(number, place)) => self.make_room_for_import(number, place),
+            None => Ok(()),
         }
-        self.entries.insert(pending, None)?;
-        Ok(())
+    }
+
+    /// The record of this number resolved an import, for which there is room.
+    fn note_import(&mut self, brought: usize, place: usize, number: usize)
+        requires { IsTrue (has_room self.old (Some (ImportToResolve brought place))) }
+        ensures { (p : Pending) → settler_at self.new p ≡ (if is_this p (Some (ImportToResolve brought place)) then Some number else settler_at self.old p) }
+    {
+        let import = Pending::Import(brought, place);
+        if let Some(settler) = self.imports.get_mut(&import) {
+            *settler = Some(number);
+        }
     }
 
     /// The record of this number settled this, for which there is room.
@@ -65,11 +118,11 @@ impl Turns {
         requires { IsTrue (has_room self.old settled) }
         ensures { (p : Pending) → settler_at self.new p ≡ (if is_this p settled then Some number else settler_at self.old p) }
     {
-        let Some(pending) = settled else {
-            return;
-        };
-        if let Some(settler) = self.entries.get_mut(&pending) {
-            *settler = Some(number);
+        match settled {
+            Some(Pending::Promise(promise)) => note_in(&mut self.promises, promise, number),
+            Some(Pending::Results(call)) => note_in(&mut self.results, call, number),
+            Some(Pending::Import(brought, place)) => self.note_import(brought, place, number),
+            None => {}
         }
     }
 }

@@ -37,7 +37,7 @@ returns c =
     let test : View → Bool = λ v. sought_by c.args.events.now c.args.connections.now c.args.sought v in (
       (λ h. (c.loop-made._made, c.loop-made.view.now, c.loop-made.invariant.here, sym c.is_sought-2.ensures ∙ h)),
       λ l. c.is_sought-2.ensures ∙ ap (λ v. test v)
-          (met f (place_of c.args.events.now c.args.turns.now c.args.bound.now) (view_there c.args.bound.now.entries.entries) _
+          (met f (place_of c.args.events.now c.args.turns.now c.args.bound.now) (view_there c.args.bound.now.entries) _
           (few c.args.events.now c.args.turns.now c.args.bound.now) c.args.from.now c.loop-made.view.now l.1 c.loop-made._made
           (omega (arith, c.loop-made-test.false, c.len-made-end.ensures)) (omega (arith, c.loop-made.auto._made-end, c.len-made-end.ensures)) c.loop-made.invariant.here
           (λ m lt e. c.loop-made.invariant.before m lt l.1 e l.3) l.0 l.2) ∙ l.3,

@@ -30,7 +30,7 @@ returns c =
     let f = turn_by c.args.events.now c.args.turns.now (bound_at c.args.bound.now) in (
       (λ h. (c.loop-made._made, c.loop-made.invariant.here ∙ ap (λ v. Some v) (c.same-2.ensures.0 h))),
       λ l. c.same-2.ensures.1
-          (met f (place_of c.args.events.now c.args.turns.now c.args.bound.now) (view_there c.args.bound.now.entries.entries) _
+          (met f (place_of c.args.events.now c.args.turns.now c.args.bound.now) (view_there c.args.bound.now.entries) _
           (few c.args.events.now c.args.turns.now c.args.bound.now) c.args.from.now c.loop-made.view.now c.args.to.now c.loop-made._made
           (omega (arith, c.loop-made-test.false, c.len-made-end.ensures)) (omega (arith, c.loop-made.auto._made-end, c.len-made-end.ensures)) c.loop-made.invariant.here c.loop-made.invariant.before l.0 l.1),
     )

@@ -1,0 +1,122 @@
+//! Values by numbers, most of which come in rising order.
+
+ghost use Rattle.std.specs.Prelude.{◌≡◌, ◌==◌, ℕ, [], None, Some, OnOk, OnErr, IfOk, IfErr, length, is_some, MatchOption, if◌then◌else◌};
+ghost use Rattle.std.specs.Option.{option_copied};
+ghost use Rattle.rising_table.specs.Entries.{entry_at, AreRising, IsAt, IsGapFor};
+
+use std::alloc::{AllocError, Global};
+use std::collections::BTreeMap;
+use std::marker::Model;
+use std::mem;
+
+/// Values by numbers. Those whose number is above all before it lie in one row, which is filled up; a tree's nodes stay
+/// half empty where numbers rise. Contracts see it as the list of its entries.
+#[derive(Debug, Drop)]
+pub struct RisingTable<V> {
+    row: Vec<(u64, V)>,
+    rest: BTreeMap<u64, V>,
+}
+
+impl<V> Model for RisingTable<V> {
+    ghost use Rattle.std.specs.Prelude.{List, ℕ, ◌++◌};
+    ghost use Rattle.rising_table.specs.Entries.{AreRising};
+
+    ghost Value = { List (ℕ × V) };
+
+    ghost view = { λ table. table.row.items ++ table.rest.entries };
+
+    ghost invariant = { λ table. AreRising table.row.items };
+}
+
+/// Where a number is in a row, or where it would go.
+fn search<V>(row: &[(u64, V)], key: u64) -> Result<usize, usize>
+    requires { AreRising row.now }
+    ensures found { IfOk result (IsAt row.now key) }
+    ensures absent { IfErr result (IsGapFor row.now key) }
+{
+    row.binary_search_by_key(&key, |entry| entry.0)
+}
+
+impl<V: Drop> RisingTable<V> {
+    /// Before there is any. It takes no memory.
+    pub fn new(alloc: Global) -> RisingTable<V>
+        ensures { result ≡ [] }
+    {
+        RisingTable {
+            row: Vec::new(alloc),
+            rest: BTreeMap::new(alloc),
+        }
+    }
+
+    /// How many entries there are.
+    pub fn len(&self) -> usize
+        ensures { result ≡ length self.now }
+    {
+        self.row.len() + self.rest.len()
+    }
+
+    /// The value of this number, if it has one.
+    pub fn get(&self, key: u64) -> Option<&V>
+        ensures { option_copied result ≡ entry_at self.now key }
+    {
+        match search(&self.row, key) {
+            Ok(place) => Some(&self.row[place].1),
+            Err(_) => self.rest.get(&key),
+        }
+    }
+
+    /// Whether this number has a value.
+    pub fn has(&self, key: u64) -> bool
+        ensures { result ≡ is_some (entry_at self.now key) }
+    {
+        self.get(key).is_some()
+    }
+
+    /// This number has this value from now on.
+    ///
+    /// # Errors
+    ///
+    /// Want of memory, and then nothing changes.
+    pub fn put(&mut self, key: u64, value: V) -> Result<(), AllocError>
+        ensures ok { OnOk result ((q : ℕ) → entry_at self.new q ≡ (if key == q then Some value else entry_at self.old q)) }
+        ensures err { OnErr result (self.new ≡ self.old) }
+    {
+        match search(&self.row, key) {
+            Ok(place) => self.row[place] = (key, value),
+            Err(place) if place == self.row.len() => self.row.push((key, value))?,
+            Err(_) => {
+                self.rest.insert(key, value)?;
+            }
+        }
+        Ok(())
+    }
+
+    /// This number has this value from now on in the place of its last one, which is handed back. Where it has none,
+    /// nothing changes. It takes no memory.
+    pub fn replace(&mut self, key: u64, value: V) -> Option<V>
+        ensures last { result ≡ entry_at self.old key }
+        ensures values { MatchOption result (self.new ≡ self.old) (λ _. (q : ℕ) → entry_at self.new q ≡ (if key == q then Some value else entry_at self.old q)) }
+        ensures len { length self.new ≡ length self.old }
+    {
+        match search(&self.row, key) {
+            Ok(place) => {
+                let (_, last) = mem::replace(&mut self.row[place], (key, value));
+                Some(last)
+            }
+            Err(_) => match self.rest.get_mut(&key) {
+                Some(last) => Some(mem::replace(last, value)),
+                None => None,
+            },
+        }
+    }
+
+    /// This number has no value from now on.
+    pub fn remove(&mut self, key: u64)
+        ensures { (q : ℕ) → entry_at self.new q ≡ (if key == q then None else entry_at self.old q) }
+    {
+        if let Ok(place) = search(&self.row, key) {
+            let _ = self.row.remove(place);
+        }
+        let _ = self.rest.remove(&key);
+    }
+}

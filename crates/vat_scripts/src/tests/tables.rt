@@ -1,0 +1,55 @@
+//! What a table has of its numbers, in whatever order they came.
+
+use super::given::Refused;
+use rising_table::RisingTable;
+use std::alloc::Global;
+
+/// Numbers in the order in which they come.
+const COME: [&[u64]; 5] = [
+    &[],
+    &[1, 2, 3],
+    &[3, 2, 1],
+    &[2, 9, 4, 9, 3, 10],
+    &[0, u64::MAX, 5],
+];
+
+/// A table in which each number has its place among these, counted from 1, with the last place where it comes twice.
+fn table(alloc: Global, come: &[u64]) -> Result<RisingTable<u64>, Refused> {
+    let mut table = RisingTable::new(alloc);
+    let mut place = 0;
+    for number in come {
+        place += 1;
+        table.put(*number, place)?;
+    }
+    Ok(table)
+}
+
+/// Whether each of these numbers is there, with another value once it is replaced, and gone once it is taken out.
+fn keeps(alloc: Global, come: &[u64]) -> Result<bool, Refused> {
+    let mut table = table(alloc, come)?;
+    let mut kept = !table.has(7) && table.replace(7, 1).is_none() && table.get(7).is_none();
+    for number in come {
+        let had = table.get(*number).copied();
+        kept = kept
+            && had.is_some()
+            && table.replace(*number, 70) == had
+            && table.get(*number).copied() == Some(70);
+    }
+    kept = kept && table.len() <= come.len();
+    for number in come {
+        table.remove(*number);
+        kept = kept && !table.has(*number);
+    }
+    Ok(kept && table.len() == 0)
+}
+
+#[test]
+fn a_table_has_what_was_put(rt: HostRuntime) {
+    for come in &COME {
+        let is_so = match keeps(rt.alloc(), *come) {
+            Ok(is_so) => is_so,
+            Err(_) => keeps(rt.alloc(), *come).unwrap_or(false),
+        };
+        assert!(rt; is_so, "{come:?}");
+    }
+}

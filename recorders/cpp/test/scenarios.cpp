@@ -460,6 +460,17 @@ void server(World& world) {
   server.drain().wait(world.io.waitScope);
 }
 
+// Calls of a streaming method, whose results nobody sees, and one behind them.
+void streaming(World& world) {
+  Two two(world);
+  for (uint32_t by = 1; by < 4; by++) {
+    auto request = two.counter.pushRequest();
+    request.setBy(by);
+    request.send().wait(two.io.waitScope);
+  }
+  KJ_ASSERT(nextBy(two.counter, 1).send().wait(two.io.waitScope).getValue() == 7);
+}
+
 // What a recorder refuses: it says so once, and the program goes on. Vat 1 gives away an object that no recorder
 // knows, vat 2's log has no room on its disk, and vat 3's can't be made.
 void refused(World& world) {
@@ -490,6 +501,7 @@ const std::map<std::string, std::function<void(World&)>> scenarios = {
   { "number_taken_over", numberTakenOver }, { "gone", gone }, { "two_connections", twoConnections },
   { "refused", refused }, { "handed_on", handedOn }, { "handed_on_early", handedOnEarly },
   { "queued", queued }, { "canceled_waiting", canceledWaiting }, { "server", server },
+  { "streaming", streaming },
 };
 
 }  // namespace

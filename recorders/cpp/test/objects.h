@@ -84,6 +84,10 @@ protected:
     context.getResults().setCounter(thisCap().castAs<Counter>());
     return kj::READY_NOW;
   }
+  kj::Promise<void> push(PushContext context) override {
+    value += context.getParams().getBy();
+    return kj::READY_NOW;
+  }
   kj::Promise<void> nothing(NothingContext) override { return kj::READY_NOW; }
 
 private:

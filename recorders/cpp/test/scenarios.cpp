@@ -437,6 +437,40 @@ void canceledWaiting(World& world) {
   KJ_ASSERT(nextBy(promise, 1).send().wait(two.io.waitScope).getValue() == 1002);
 }
 
+// A server with two clients at once, the one of which gives it an object that the other calls; then both go.
+void server(World& world) {
+  vataudit::Recorder first(world.log(1).c_str(), 1), second(world.log(2).c_str(), 2), third(world.log(3).c_str(), 3);
+  vataudit::TwoPartyServer server(second, second.host<CounterObject>(second));
+  kj::TwoWayPipe near = world.io.provider->newTwoWayPipe();
+  kj::TwoWayPipe far = world.io.provider->newTwoWayPipe();
+  server.accept(kj::mv(near.ends[1]), 0);
+  server.accept(kj::mv(far.ends[1]), 1);
+  {
+    vataudit::TwoPartyClient client(first, *near.ends[0], 0);
+    vataudit::TwoPartyClient other(third, *far.ends[0], 1);
+    auto counter = client.bootstrap().castAs<Counter>();
+    KJ_ASSERT(nextBy(counter, 1).send().wait(world.io.waitScope).getValue() == 1);
+    auto same = other.bootstrap().castAs<Counter>();
+    holdOf(same, third.host<CounterObject>(third, 30)).send().wait(world.io.waitScope);
+    auto held = counter.heldRequest().send().wait(world.io.waitScope);
+    KJ_ASSERT(nextBy(held.getCounter(), 1).send().wait(world.io.waitScope).getValue() == 31);
+  }
+  near.ends[0] = nullptr;
+  far.ends[0] = nullptr;
+  server.drain().wait(world.io.waitScope);
+}
+
+// Calls of a streaming method, whose results nobody sees, and one behind them.
+void streaming(World& world) {
+  Two two(world);
+  for (uint32_t by = 1; by < 4; by++) {
+    auto request = two.counter.pushRequest();
+    request.setBy(by);
+    request.send().wait(two.io.waitScope);
+  }
+  KJ_ASSERT(nextBy(two.counter, 1).send().wait(two.io.waitScope).getValue() == 7);
+}
+
 // What a recorder refuses: it says so once, and the program goes on. Vat 1 gives away an object that no recorder
 // knows, vat 2's log has no room on its disk, and vat 3's can't be made.
 void refused(World& world) {
@@ -466,7 +500,8 @@ const std::map<std::string, std::function<void(World&)>> scenarios = {
   { "promise_twice", promiseTwice }, { "promise_of_promise", promiseOfPromise },
   { "number_taken_over", numberTakenOver }, { "gone", gone }, { "two_connections", twoConnections },
   { "refused", refused }, { "handed_on", handedOn }, { "handed_on_early", handedOnEarly },
-  { "queued", queued }, { "canceled_waiting", canceledWaiting },
+  { "queued", queued }, { "canceled_waiting", canceledWaiting }, { "server", server },
+  { "streaming", streaming },
 };
 
 }  // namespace

@@ -15,4 +15,5 @@ interface Counter {
   pass @10 (counters :List(Counter)) -> (counters :List(Counter));
   nothing @11 () -> ();
   handOn @12 () -> (counter :Counter);
+  push @13 (by :UInt32) -> stream;
 }

@@ -476,13 +476,25 @@ public:
 
   std::shared_ptr<Call> building;   // the call whose request is being made
   std::shared_ptr<Call> sending;    // the call whose request is being sent
-  std::deque<std::shared_ptr<Call>> waiting;  // calls made and sent through a promise: neither sent nor delivered
   // The runtime's hooks of objects. An entry goes with its object, for addresses are used again.
   std::unordered_map<const ClientHook*, Reference> hosted;
   Outgoing* unsent = nullptr;       // the messages that are being made, the latest first
   uint64_t records = 0;
   bool isFlushedEachTime = false;
   bool hasNoAbortsInAnswer = false;
+
+  // A call was made, and is neither sent nor delivered. Those that are gone are dropped now and then.
+  void wait(const std::shared_ptr<Call>& call) {
+    if (waiting.size() >= mostWaiting) {
+      std::deque<std::shared_ptr<Call>> left;
+      for (auto& one: waiting) {
+        if (!one->isGone) left.push_back(one);
+      }
+      waiting = kj::mv(left);
+      mostWaiting = 2 * waiting.size() + 64;
+    }
+    waiting.push_back(call);
+  }
 
   // The oldest waiting call with this method and these parameters, where the runtime copied it. Two such calls that
   // are alike in all this are told apart by their order alone.
@@ -504,6 +516,8 @@ private:
   uint64_t lastReference = 0, lastCall = 0, lastObject = 0;
   std::unordered_map<const void*, std::shared_ptr<Call>> callAt;
   std::deque<std::shared_ptr<Call>> withoutParams;
+  std::deque<std::shared_ptr<Call>> waiting;
+  size_t mostWaiting = 64;
 
   template <typename Fields>
   void begin(uint8_t kind, Fields&& fields) {
@@ -779,9 +793,10 @@ public:
     return promise;
   }
 
+  // The runtime never sees this request, only the one inside.
   const void* getBrand() override { return nullptr; }
 
-  // For `tailCall`: the runtime looks at its own request, as it would unrecorded.
+  // Records MAKE, and what is needed to know the call again: where its parameters lie, and what they give away.
   bool begin() {
     if (!vat->isRecording()) return false;
     auto reader = builder.asReader();
@@ -795,9 +810,9 @@ public:
     vat->keep(call, reader);
     return vat->isRecording();
   }
+  // A call that wasn't sent at once waits for a promise, or to be delivered.
   void end() {
-    if (call->isGone) return;
-    vat->waiting.push_back(call);
+    if (!call->isGone) vat->wait(call);
   }
 
   SharedVat vat;

@@ -49,10 +49,10 @@ pairs_as_long v [] (s ∷ steps) part = absurd part
 pairs_as_long v (e ∷ es) [] part = absurd part
 pairs_as_long v (e ∷ es) (s ∷ steps) part = ap suc (pairs_as_long v es steps part.1)
 
-message_there : (i : ℕ) (s : Step) (earlier : List Step) (m : Message) → length earlier ≡ i → message_of s ≡ Some m → message_at i (s ∷ earlier) ≡ Some m
+pub message_there : (i : ℕ) (s : Step) (earlier : List Step) (m : Message) → length earlier ≡ i → message_of s ≡ Some m → message_at i (s ∷ earlier) ≡ Some m
 message_there i s earlier m same is = ap (λ b. if b then message_of s else message_at i earlier) (eq-eqb (length earlier) i same) ∙ is
 
-message_later : (i : ℕ) (added steps : List Step) (m : Message) → message_at i steps ≡ Some m → message_at i (added ++ steps) ≡ Some m
+pub message_later : (i : ℕ) (added steps : List Step) (m : Message) → message_at i steps ≡ Some m → message_at i (added ++ steps) ≡ Some m
 message_later i [] steps m h = h
 message_later i (s ∷ added) steps m h = message_step i (added ++ steps) s m (message_later i added steps m h)
 
@@ -204,7 +204,7 @@ not_late false c h e = refl
 not_late true c h e = sym (h refl) ∙ e
 
 -- of a record that is sent, its step
-send_is : (v : ℕ) (es : Past) (steps : List Step) (k c : ℕ) (rs : List ℕ) (m : RpcMessage) (e : Event) (s : Step) → e ≡ Wire true k c rs m → Says v es steps e s →
+pub send_is : (v : ℕ) (es : Past) (steps : List Step) (k c : ℕ) (rs : List ℕ) (m : RpcMessage) (e : Event) (s : Step) → e ≡ Wire true k c rs m → Says v es steps e s →
     (M : Message) × (said (naming v (e ∷ es) (s ∷ steps)) es e ≡ Some M) × (message_of s ≡ Some M)
 send_is v es steps k c rs m e s is says =
     let e' = Wire true k c rs m in

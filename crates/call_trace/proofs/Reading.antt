@@ -202,7 +202,7 @@ back_one : {A : Type 0} (o : Option A) (xs : List A) → reverse (cons_option o 
 back_one None xs = sym (append-nil (reverse xs))
 back_one (Some x) xs = reverse-append (x ∷ []) xs
 
-kept_back : {A B : Type 0} (f : A → Option B) (xs : List A) → filter_map f (reverse xs) ≡ reverse (filter_map f xs)
+pub kept_back : {A B : Type 0} (f : A → Option B) (xs : List A) → filter_map f (reverse xs) ≡ reverse (filter_map f xs)
 kept_back f [] = refl
 kept_back f (x ∷ xs) =
     ap (filter_map f) (reverse-append (x ∷ []) xs) ∙ filter_map-append f (reverse xs) (x ∷ []) ∙ ap (λ l. l ++ cons_option (f x) []) (kept_back f xs) ∙ sym (back_one (f x) (filter_map f xs))

@@ -42,13 +42,13 @@ all_test p [] h = tt
 all_test p (x ∷ xs) h = let both = test_more p x xs (p x) refl h in (both.0, all_test p xs both.1)
 
 -- what is found is there
-abbrev IsFoundIn : ℕ → List Found → Found → Type 0
+abbrev pub IsFoundIn : ℕ → List Found → Found → Type 0
 IsFoundIn v findings f = (f.log.vat ≡ v) × Contains findings f × Contains (logs_of findings) f.log
 
 found_later : (v : ℕ) (g : Found) (gs : List Found) (f : Found) → IsFoundIn v gs f → IsFoundIn v (g ∷ gs) f
 found_later v g gs f r = (r.0, (suc r.1.0, omega (arith, r.1.1), r.1.2), (suc r.2.0, omega (arith, r.2.1), r.2.2))
 
-found_in : (v : ℕ) (findings : List Found) (f : Found) → finding_of v findings ≡ Some f → IsFoundIn v findings f
+pub found_in : (v : ℕ) (findings : List Found) (f : Found) → finding_of v findings ≡ Some f → IsFoundIn v findings f
 found_in v [] f h = absurd (let no : ⊥ = cc in no)
 found_in v (g ∷ gs) f h = elim (cases_Bool (g.log.vat == v)) [
   | inl here ↦
@@ -75,7 +75,7 @@ own_found (g ∷ gs) f up (suc k, lt, e) =
     let apart : (g.log.vat == f.log.vat) ≡ false = eqb_apart g.log.vat f.log.vat (λ same. omega (arith, less, same)) in
     ap (λ b. if b then Some g else finding_of f.log.vat gs) apart ∙ own_found gs f up.1 there
 
-part_found : (v : ℕ) (steps : List ℕ) (findings : List Found) → part_of v (parts_after (logs_of findings) steps) ≡ option_map (λ f. part_after steps f.log) (finding_of v findings)
+pub part_found : (v : ℕ) (steps : List ℕ) (findings : List Found) → part_of v (parts_after (logs_of findings) steps) ≡ option_map (λ f. part_after steps f.log) (finding_of v findings)
 part_found v steps [] = refl
 part_found v steps (g ∷ gs) = at (g.log.vat == v) (part_found v steps gs)
   where
@@ -86,7 +86,7 @@ part_found v steps (g ∷ gs) = at (g.log.vat == v) (part_found v steps gs)
 
 -- ---- a record of the row, and the step that takes it
 
-record IsTaken (findings : List Found) (steps : List ℕ) (r : ℕ × Event) (rest : Row) : Type 0 where
+pub record IsTaken (findings : List Found) (steps : List ℕ) (r : ℕ × Event) (rest : Row) : Type 0 where
   pub vat : ℕ
   pub before : List ℕ
   pub there : GoesOn steps (vat ∷ before)
@@ -98,7 +98,7 @@ taken_later : (findings : List Found) (u : ℕ) (steps : List ℕ) (r : ℕ × E
 taken_later findings u steps r rest t =
     record { vat = t.vat; before = t.before; there = (u ∷ t.there.0, ap (λ l. u ∷ l) t.there.1); own = t.own; next = t.next; earlier = t.earlier }
 
-taken_at : (findings : List Found) (steps : List ℕ) (r : ℕ × Event) (rest : Row) → GoesOn (taken_by findings steps) (r ∷ rest) → IsTaken findings steps r rest
+pub taken_at : (findings : List Found) (steps : List ℕ) (r : ℕ × Event) (rest : Row) → GoesOn (taken_by findings steps) (r ∷ rest) → IsTaken findings steps r rest
 taken_at findings [] r rest ([], e) = absurd (let no : ⊥ = cc in no)
 taken_at findings [] r rest (x ∷ l, e) = absurd (let no : ⊥ = cc in no)
 taken_at findings (u ∷ steps) r rest p = at (next_record findings steps u) refl p (taken_at findings steps r rest)
@@ -120,14 +120,14 @@ event_is (Ok x) e h = let same : x ≡ e = cc in ap (λ e. Ok e) same
 event_is (Err why) e h = absurd (let no : ⊥ = cc in no)
 
 -- the finding of the step's vat, and the stored record
-record IsStored (findings : List Found) (v : ℕ) (before : List ℕ) (e : Event) : Type 0 where
+pub record IsStored (findings : List Found) (v : ℕ) (before : List ℕ) (e : Event) : Type 0 where
   pub finding : Found
   pub stored : Body
   pub found : finding_of v findings ≡ Some finding
   pub there : slice_get finding.log.records (steps_by v before) ≡ Some stored
   pub reads : event_of (reads_within finding.limits) stored ≡ Ok e
 
-stored_at : (findings : List Found) (v : ℕ) (before : List ℕ) (e : Event) → next_record findings before v ≡ Some e → IsStored findings v before e
+pub stored_at : (findings : List Found) (v : ℕ) (before : List ℕ) (e : Event) → next_record findings before v ≡ Some e → IsStored findings v before e
 stored_at findings v before e h =
     let f = and_then_is (λ f. record_in f (steps_by v before)) (finding_of v findings) e h in
     let b = and_then_is (event_in f.0) (slice_get f.0.log.records (steps_by v before)) e f.2 in
@@ -138,10 +138,10 @@ counts_one true o m e h = refl
 counts_one false None m e h = absurd (let no : ⊥ = cc in no)
 counts_one false (Some n) m e h = absurd (omega (arith, e))
 
-sends_it : (k : ℕ) (read : Reader) (b : Body) (e : Event) (m : RpcMessage) → event_of read b ≡ Ok e → passing k true e ≡ Some m → sends k b ≡ true
+pub sends_it : (k : ℕ) (read : Reader) (b : Body) (e : Event) (m : RpcMessage) → event_of read b ≡ Ok e → passing k true e ≡ Some m → sends k b ≡ true
 sends_it k read b e m h p = counts_one (sends k b) (passing k true e) m (read_sends k read b e h []) p
 
-receives_it : (k : ℕ) (read : Reader) (b : Body) (e : Event) (m : RpcMessage) → event_of read b ≡ Ok e → passing k false e ≡ Some m → receives k b ≡ true
+pub receives_it : (k : ℕ) (read : Reader) (b : Body) (e : Event) (m : RpcMessage) → event_of read b ≡ Ok e → passing k false e ≡ Some m → receives k b ≡ true
 receives_it k read b e m h p = counts_one (receives k b) (passing k false e) m (read_receives k read b e h []) p
 
 -- ---- a RECV comes after its frame was sent
@@ -246,7 +246,7 @@ module _ (findings : List Found) (order : List ℕ) (true_all : AreTrue findings
   received_same k steps f there = sym (received_any k f (all_good f there) (steps_by f.log.vat steps)) ∙ ap (λ p. length (stream k false p)) (sym (log_by f there steps))
 
   -- a record that is received comes where the others sent more
-  fits : (k : ℕ) → AtEach (FitsAt k) (row_of findings order)
+  pub fits : (k : ℕ) → AtEach (FitsAt k) (row_of findings order)
   fits k before r p m h =
       let t = taken_at findings (reverse order) r before p in
       let s = stored_at findings t.vat t.before r.1 t.next in

@@ -138,7 +138,7 @@ answer_tells v call path es steps c results s b says same there =
 -- ---- received messages
 
 -- what is read as such a Return or Resolve is one
-read_return : (es : Past) (e : Event) (m : Message) (name : Name) (results : List (List ℕ × Cap)) (caps : List Cap) → read es e m ≡ message.Return name results caps → m ≡ message.Return name results caps
+pub read_return : (es : Past) (e : Event) (m : Message) (name : Name) (results : List (List ℕ × Cap)) (caps : List Cap) → read es e m ≡ message.Return name results caps → m ≡ message.Return name results caps
 read_return es e (message.Return c r cs) name results caps h = at (is_late es e) h
   where
     at : (b : Bool) → (if b then message.Late c else message.Return c r cs) ≡ message.Return name results caps → message.Return c r cs ≡ message.Return name results caps
@@ -174,7 +174,7 @@ read_resolve es e (message.Broken promise) x y is h = absurd (at (resolves_relea
     at false h = cc
 read_resolve es e m x y is h = h
 
-return_said : (late : Bool) (fields : List (List ℕ × ℕ)) (name : Name) (caps : Option (List Cap)) (m : Message) → late ≡ false → say_return late fields name caps ≡ Some m →
+pub return_said : (late : Bool) (fields : List (List ℕ × ℕ)) (name : Name) (caps : Option (List Cap)) (m : Message) → late ≡ false → say_return late fields name caps ≡ Some m →
     (cs : List Cap) × (caps ≡ Some cs) × (m ≡ message.Return name (given cs fields) cs)
 return_said true fields name caps m late h = absurd (let no : ⊥ = cc in no)
 return_said false fields name None m late h = absurd (let no : ⊥ = cc in no)
@@ -201,7 +201,7 @@ given_made names es e path fields cs b name caps all there =
     let made = ap (λ o. option_map (λ c. (field.0.0, c)) o) (cap_there field.0.1 cs y.0 y.2 (caps b y.0 y.1)) in
     (y.0, y.1, results_so name field.0.0 path y.0 (given cs fields) at (found_kept test (λ field. option_map (λ c. (field.0, c)) (cap_at field.1 cs)) fields field.0 (field.0.0, y.0) field.1 made))
 
-call_is : (free : Bool) (o : Option ℕ) (call c : ℕ) → is call o ≡ true → (if free then None else o) ≡ Some c → c ≡ call
+pub call_is : (free : Bool) (o : Option ℕ) (call c : ℕ) → is call o ≡ true → (if free then None else o) ≡ Some c → c ≡ call
 call_is true o call c own h = absurd (let no : ⊥ = cc in no)
 call_is false (Some d) call c own h = let same : d ≡ c = cc in sym same ∙ eqb-true d call own
 call_is false None call c own h = absurd (let no : ⊥ = cc in no)

@@ -53,7 +53,7 @@ next_is a b es h = turned_at a b es (at (last_answer (turn a) es) h)
 
 -- ---- an import's name stands since its message
 
-message_back : (i : ℕ) (added steps : List Step) → i < length steps → message_at i (added ++ steps) ≡ message_at i steps
+pub message_back : (i : ℕ) (added steps : List Step) → i < length steps → message_at i (added ++ steps) ≡ message_at i steps
 message_back i [] steps lt = refl
 message_back i (s ∷ added) steps lt = elim (cases_Bool (length (added ++ steps) == i)) [
   | inl same ↦ absurd (let e = eqb-true (length (added ++ steps)) i same in omega (arith, e, length-append added steps, lt))
@@ -103,10 +103,10 @@ import_before i place before e n h = absurd (let no : ⊥ = cc in no)
 abbrev pub StandsIn : List Step → Step → Type 0
 StandsIn before s = (later earlier : List Step) × (before ≡ later ++ s ∷ earlier)
 
-heads : {x y : Step} {xs ys : List Step} → (x ∷ xs) ≡ (y ∷ ys) → x ≡ y
+pub heads : {x y : Step} {xs ys : List Step} → (x ∷ xs) ≡ (y ∷ ys) → x ≡ y
 heads e = cc
 
-tails : {x y : Step} {xs ys : List Step} → (x ∷ xs) ≡ (y ∷ ys) → xs ≡ ys
+pub tails : {x y : Step} {xs ys : List Step} → (x ∷ xs) ≡ (y ∷ ys) → xs ≡ ys
 tails e = cc
 
 pub stands_in : (p : Step → Bool) (before added rest : List Step) (s : Step) → filter p before ≡ added ++ s ∷ rest → StandsIn before s
@@ -124,7 +124,7 @@ stands_in p (x ∷ before) added rest s h = elim (cases_Bool (p x)) [
     at [] h rest_is = ([], before, ap (λ y. y ∷ before) (heads h))
     at (y ∷ added) h rest_is = later (rest_is added (tails h))
 
-each_earlier : (P : List Step → Step → Type 0) (later rest : List Step) → EachStep P (later ++ rest) → EachStep P rest
+pub each_earlier : (P : List Step → Step → Type 0) (later rest : List Step) → EachStep P (later ++ rest) → EachStep P rest
 each_earlier P [] rest h = h
 each_earlier P (s ∷ later) rest h = each_earlier P later rest h.1
 

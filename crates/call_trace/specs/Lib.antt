@@ -11,4 +11,6 @@ pub mod Findings
 pub mod Taking
 pub mod Named
 pub mod Running
+pub mod Kinds
+pub mod Placed
 pub mod Overtaking

@@ -1,11 +1,13 @@
 -- The run of a row of records: each record takes a step, after the steps of those before it.
-use Rattle.std.specs.Prelude.{ℕ, List, [], ◌∷◌, false, Option, Some, reverse, filter, filter_map, map, slice_get, option_and_then, option_map, ◌≡◌, ◌==◌}
-use Rattle.agree.specs.Rows.{Row, log_of}
+use Rattle.std.specs.Prelude.{ℕ, List, [], ◌∷◌, Bool, false, Option, Some, reverse, filter, filter_map, map, slice_get, option_and_then, option_map, ◌≡◌, ◌≢◌, ◌==◌}
+use Rattle.agree.specs.Points.{GoesOn, AtEach}
+use Rattle.agree.specs.Rows.{Row, log_of, received_by, sent_by, FitsAt}
+use Rattle.agree.specs.Streams.{passing}
 use Rattle.call_trace.specs.Carried.{IsCarried}
 use Rattle.call_trace.specs.Naming.{naming}
 use Rattle.call_trace.specs.Part.{reference_named, step_said, PairsOff}
 use Rattle.call_trace.specs.Said.{together}
-use Rattle.call_trace.specs.Types.{Event, Wire, Message, Step}
+use Rattle.call_trace.specs.Types.{RpcMessage, Event, Wire, Message, Step}
 use Rattle.run_model.specs.Legal.{IsLegal}
 use Rattle.run_model.specs.Links.{IsLinked, sent_to, receives}
 use Rattle.run_model.specs.Steps.{count, vat_of}
@@ -56,3 +58,23 @@ pub record IsNamedRow (row : Row) (before : List Step) : Type 0 where
   pub paired : (v : ℕ) → PairsOff v (log_of v row) (steps_by v before)
   pub legal : EachStep IsLegal before
   pub linked : EachStep IsLinked before
+
+-- a record is sent or received on a connection
+abbrev pub Passes : ℕ → Event → Type 0
+Passes k e = (sent : Bool) × (m : RpcMessage) × (passing k sent e ≡ Some m)
+
+-- a vat uses a connection in a row: it sent or received there
+abbrev pub IsUser : ℕ → ℕ → Row → Type 0
+IsUser k v row = (before : Row) × (e : Event) × GoesOn row ((v, e) ∷ before) × Passes k e
+
+-- a record is good after those of its vat
+abbrev pub IsGoodAt : Row → ℕ × Event → Type 0
+IsGoodAt before r = IsGood (log_of r.0 before) r.1
+
+-- a row of records that has a run: each record is good; what is received comes where the others sent more; a connection has
+-- two users at most, and what either received there is the beginning of what the other sent
+pub record MayRun (row : Row) : Type 0 where
+  pub good : AtEach IsGoodAt row
+  pub fits : (k : ℕ) → AtEach (FitsAt k) row
+  pub two_ends : (k v w u : ℕ) → IsUser k v row → IsUser k w row → IsUser k u row → v ≢ w → v ≢ u → w ≡ u
+  pub linked : (k v w : ℕ) → IsUser k v row → IsUser k w row → v ≢ w → GoesOn (sent_by k w row) (received_by k v row)

@@ -19,6 +19,11 @@ module _ {X : Type 0} where
   get_within (y ∷ ys) zero x e = omega arith
   get_within (y ∷ ys) (suc i) x e = let h = get_within ys i x e in omega (arith, h)
 
+  pub get_of_map : {Y : Type 0} (f : X → Y) (xs : List X) (i : ℕ) (x : X) → i < length xs → get_or xs i x ≡ x → slice_get (map f xs) i ≡ Some (f x)
+  get_of_map f [] i x lt e = absurd (omega arith)
+  get_of_map f (y ∷ ys) zero x lt e = ap (λ z. Some (f z)) e
+  get_of_map f (y ∷ ys) (suc i) x lt e = get_of_map f ys i x (omega (arith, lt)) e
+
   -- what a function gives of the element at a place
   pub got_of : {Y : Type 0} (f : X → Y) (xs : List X) (i : ℕ) (d : X) (y : Y) → slice_get (map f xs) i ≡ Some y → f (get_or xs i d) ≡ y
   got_of f [] i d y e = absurd cc

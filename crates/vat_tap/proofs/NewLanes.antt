@@ -4,7 +4,7 @@ use Rattle.std.specs.Prelude.{slice_get}
 use Rattle.std.proofs.lemmas.Bool.{cases_lt}
 use Rattle.std.proofs.lemmas.List.{get_or_append_left, get_or_push}
 use Rattle.std.specs.declared.alloc.Global.{Global}
-use Rattle.rtrb.specs.Ring.{IsPair}
+use Rattle.rtrb.specs.Ring.{IsPair, producer_capacity, consumer_capacity}
 use Rattle.rtrb.specs.declared.producer.Producer.{Producer}
 use Rattle.rtrb.specs.declared.consumer.Consumer.{Consumer}
 use Rattle.atomic_table.specs.Seated.{TableId}
@@ -20,8 +20,8 @@ enough number lanes lt =
     omega (arith, more, more_times number s, mul_comm lanes s, div-add-mod' 1048576 lanes)
 
 module _ {P : Type 0} where
-  pub same_ring : (p : Producer Ticketed Global P) (c : Consumer Ticketed Global P) → IsPair p c → sending p ≡ ring_of c
-  same_ring p c pair = λ i. record { words = sym pair.0 i; slots = sym pair.1 i; names = sym pair.2 i; heap = sym pair.3 i }
+  pub same_ring : (p : Producer Ticketed Global P) (c : Consumer Ticketed Global P) → IsPair p c → consumer_capacity c ≡ producer_capacity p → sending p ≡ ring_of c
+  same_ring p c pair room = λ i. record { words = sym pair.0 i; slots = sym pair.1 i; names = sym pair.2 i; heap = sym pair.3 i; room = sym room i }
 
 module _ {X : Type 0} where
   get_front : (xs ys : List X) (k : ℕ) (x : X) → slice_get xs k ≡ Some x → slice_get (xs ++ ys) k ≡ Some x
@@ -34,10 +34,10 @@ module _ {X : Type 0} where
   get_last (y ∷ xs) x = get_last xs x
 
 pub new_more : (word : TableId) (share slots : ℕ) (rings : List Ring) (lanes : List LaneView) (ring : Ring) (lane : LaneView) → AreNew word share slots rings lanes → lane.word ≡ word
-    → lane.share ≡ share → lane.slots ≡ slots → lane.recorded ≡ [] → lane.number ≡ length rings → lane.ring ≡ ring → AreNew word share slots (rings ++ ring ∷ []) (lanes ++ lane ∷ [])
+    → lane.share ≡ share → lane.ring.room ≡ slots → lane.recorded ≡ [] → lane.number ≡ length rings → lane.ring ≡ ring → AreNew word share slots (rings ++ ring ∷ []) (lanes ++ lane ∷ [])
 new_more word share slots rings lanes ring lane new at mine room empty number its =
     let long = length-append lanes (lane ∷ []) in
-    let E = λ (l : LaneView). (l.word ≡ word) × (l.share ≡ share) × (l.slots ≡ slots) × (l.recorded ≡ []) × (slice_get (rings ++ ring ∷ []) l.number ≡ Some l.ring) in
+    let E = λ (l : LaneView). (l.word ≡ word) × (l.share ≡ share) × (l.ring.room ≡ slots) × (l.recorded ≡ []) × (slice_get (rings ++ ring ∷ []) l.number ≡ Some l.ring) in
     let last : slice_get (rings ++ ring ∷ []) lane.number ≡ Some lane.ring = ap (slice_get (rings ++ ring ∷ [])) number ∙ get_last rings ring ∙ ap Some (sym its) in
     record {
       count = omega (arith, long, length-append rings (ring ∷ []), new.count);

@@ -4,7 +4,7 @@ use Rattle.std.specs.List.Sorted.{IsStrictlyIncreasing}
 use Rattle.std.specs.declared.alloc.Global.{Global}
 use Rattle.atomic_table.specs.Seated.{TableId}
 use Rattle.atomic_table.specs.Table.{Me}
-use Rattle.rtrb.specs.Ring.{sent, producer_capacity}
+use Rattle.rtrb.specs.Ring.{sent, producer_capacity, consumer_capacity}
 use Rattle.rtrb.specs.declared.producer.Producer.{Producer}
 use Rattle.rtrb.specs.declared.consumer.Consumer.{Consumer}
 use Rattle.vat_tap.specs.declared.view.View.{View}
@@ -13,17 +13,16 @@ use Rattle.vat_tap.specs.Tickets.{Ticketed, Ring, LaneView, tickets_of, share_of
 
 module _ {P : Type 0} where
   abbrev pub ring_of : Consumer Ticketed Global P → Ring
-  ring_of ring = record { words = ring.end.words; slots = ring.end.slots; names = ring.end.names; heap = ring.end.heap }
+  ring_of ring = record { words = ring.end.words; slots = ring.end.slots; names = ring.end.names; heap = ring.end.heap; room = consumer_capacity ring }
 
   abbrev pub sending : Producer Ticketed Global P → Ring
-  sending ring = record { words = ring.end.words; slots = ring.end.slots; names = ring.end.names; heap = ring.end.heap }
+  sending ring = record { words = ring.end.words; slots = ring.end.slots; names = ring.end.names; heap = ring.end.heap; room = producer_capacity ring }
 
   abbrev pub lane_view : TableId → ℕ → ℕ → Producer Ticketed Global P → LaneView
   lane_view word number share ring = record {
     word = word;
     number = number;
     share = share;
-    slots = producer_capacity ring;
     ring = sending ring;
     recorded = sent ring;
   }
@@ -63,5 +62,11 @@ AreTaken taken lanes = All (λ lane. slice_get taken lane.number ≡ Some lane.r
 -- lanes of one ticket word that are new, each with its ring at its number
 pub record AreNew (word : TableId) (share slots : ℕ) (rings : List Ring) (lanes : List LaneView) : Type 0 where
   pub count : length lanes ≡ length rings
-  pub each : All (λ lane. (lane.word ≡ word) × (lane.share ≡ share) × (lane.slots ≡ slots) × (lane.recorded ≡ []) × (slice_get rings lane.number ≡ Some lane.ring)) lanes
+  pub each : All (λ lane. (lane.word ≡ word) × (lane.share ≡ share) × (lane.ring.room ≡ slots) × (lane.recorded ≡ []) × (slice_get rings lane.number ≡ Some lane.ring)) lanes
   pub numbers : (k : ℕ) (d : LaneView) → k < length lanes → (slice_index_or lanes k d).number ≡ k
+
+-- Of each lane before this one at most so many records more were taken as its ring has slots, and of the others none.
+abbrev pub TakesUpTo : ℕ → List Ring → List (List Ticketed) → List (List Ticketed) → Type 0
+TakesUpTo index rings before after = (lane : ℕ) (ring : Ring) → slice_get rings lane ≡ Some ring →
+    (length (slice_index_or after lane []) ≤ length (slice_index_or before lane []) + ring.room)
+    × (index ≤ lane → slice_index_or after lane [] ≡ slice_index_or before lane [])

@@ -1,5 +1,5 @@
 -- Tickets and lanes: what threads recorded through a tap, and the log that comes of it.
-use Rattle.std.specs.Prelude.{◌≡◌, ℕ, ◌<◌, ◌/◌, List, [], length, map, slice_get, slice_index_or, Some, All}
+use Rattle.std.specs.Prelude.{◌≡◌, ℕ, ◌+◌, ◌<◌, ◌≤◌, ◌/◌, List, [], length, map, slice_get, slice_index_or, Some, All}
 use Rattle.std.specs.List.{sum_by}
 use mathlib.Core.List.{IsPrefix}
 use Rattle.std.specs.List.Sorted.{IsStrictlyIncreasing}
@@ -18,20 +18,20 @@ Ticketed = ℕ × Body
 abbrev pub tickets_of : List Ticketed → List ℕ
 tickets_of recorded = map (λ item. item.0) recorded
 
--- which ring it is
+-- which ring it is, and how many slots it has
 pub record Ring : Type 0 where
   pub words : Ptr
   pub slots : Ptr
   pub names : Names
   pub heap : Global
+  pub room : ℕ
 
 -- a lane: the ticket word that it draws from, its number among the lanes of its tap, counted from 0, how many records it may
--- record, how many slots its ring has, its ring, and what it recorded, in the order in which it did
+-- record, its ring, and what it recorded, in the order in which it did
 pub record LaneView : Type 0 where
   pub word : TableId
   pub number : ℕ
   pub share : ℕ
-  pub slots : ℕ
   pub ring : Ring
   pub recorded : List Ticketed
 
@@ -59,8 +59,10 @@ pub record IsOpened (number lanes ring : ℕ) (tap : TapView) (opened : List Lan
   pub count : length opened ≡ lanes
   pub mine : All (IsLaneOf tap) opened
   pub numbers : (k : ℕ) (d : LaneView) → k < length opened → (slice_index_or opened k d).number ≡ k
-  pub slots : All (λ lane. lane.slots ≡ ring) opened
+  pub room : All (λ lane. lane.ring.room ≡ ring) opened
   pub empty : All (λ lane. lane.recorded ≡ []) opened
+  pub intakes : length tap.taken ≡ lanes
+  pub nothing : All (λ taken. taken ≡ []) tap.taken
 
 -- The log has the vat of this number. Of as many tickets as it has records, counted from 0, each was given once in all lanes
 -- together, and no other was. The record of each stands in the log at its ticket. Each lane's tickets rise in the order in
@@ -80,7 +82,6 @@ pub record SameLane (old new : LaneView) : Type 0 where
   pub word : new.word ≡ old.word
   pub number : new.number ≡ old.number
   pub share : new.share ≡ old.share
-  pub slots : new.slots ≡ old.slots
   pub ring : new.ring ≡ old.ring
 
 -- the same tap, whatever it took
@@ -93,3 +94,7 @@ pub record SameTap (old new : TapView) : Type 0 where
 pub record TakesOn (before after : List (List Ticketed)) : Type 0 where
   pub lanes : length after ≡ length before
   pub each : (lane : ℕ) → lane < length before → IsPrefix (slice_index_or before lane []) (slice_index_or after lane [])
+
+-- Of each lane at most so many records more were taken as its ring has slots.
+abbrev pub TakesAtMost : List Ring → List (List Ticketed) → List (List Ticketed) → Type 0
+TakesAtMost rings before after = (lane : ℕ) (ring : Ring) → slice_get rings lane ≡ Some ring → length (slice_index_or after lane []) ≤ length (slice_index_or before lane []) + ring.room

@@ -1,6 +1,7 @@
 //! What a tap takes in from one lane.
 
 ghost use Rattle.std.specs.Prelude.{◌≡◌, ◌+◌, ◌≤◌, ◌++◌, length, slice_get, Some, IfOk, OnOk, OnErr};
+ghost use mathlib.Core.List.{IsPrefix};
 ghost use Rattle.rtrb.specs.Ring.{received, known_items, consumer_capacity, SameConsumer};
 ghost use Rattle.vat_tap.specs.Held.{ring_of, Goes};
 
@@ -23,7 +24,7 @@ impl Intake {
     fn take_known(&mut self) -> Result<u64, AllocError>
         ensures ring { ring_of self.new.ring ≡ ring_of self.old.ring }
         ensures ok { IfOk result (λ count. (self.new.taken.items ≡ self.old.taken.items ++ known_items self.old.ring)
-            × (count ≡ length (known_items self.old.ring)) × (count ≤ 65536)) }
+            × (count ≡ length (known_items self.old.ring)) × (count ≤ (ring_of self.old.ring).room) × (count ≤ 65536)) }
         ensures err { OnErr result (self.new.taken.items ≡ self.old.taken.items) }
     {
         let Intake { ring, taken, .. } = self;
@@ -38,7 +39,7 @@ impl Intake {
     /// Takes what is found in the ring now, one ring's length at most, and answers how many records that is.
     pub(crate) fn take(&mut self) -> Result<u64, AllocError>
         ensures ring { ring_of self.new.ring ≡ ring_of self.old.ring }
-        ensures ok { IfOk result (λ count. Goes self.old.taken.items self.new.taken.items count × (count ≤ 65536)) }
+        ensures ok { IfOk result (λ count. Goes self.old.taken.items self.new.taken.items count × (count ≤ (ring_of self.old.ring).room) × (count ≤ 65536)) }
         ensures err { OnErr result (self.new.taken.items ≡ self.old.taken.items) }
     {
         self.ring.slots();
@@ -50,6 +51,7 @@ impl Intake {
         requires { lane.old.ring ≡ ring_of self.old.ring }
         ensures ring { ring_of self.new.ring ≡ ring_of self.old.ring }
         ensures lane { lane.new ≡ lane.old }
+        ensures longer { IsPrefix self.old.taken.items self.new.taken.items }
         ensures ok { OnOk result (self.new.taken.items ≡ lane.old.recorded) }
     {
         self.ring.slots_beside(&mut lane.ring);

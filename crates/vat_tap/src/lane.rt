@@ -49,7 +49,7 @@ impl Lane {
         ensures back { IfErr result (λ refused. (refused.0 ≡ event) × (self.new ≡ self.old)) }
         // The lane has recorded its share, or as many records as its ring has slots, or more.
         ensures full { IfErr result (λ refused.
-            (length self.old.recorded ≡ self.old.share) ⊎ (self.old.slots ≤ length self.old.recorded)) }
+            (length self.old.recorded ≡ self.old.share) ⊎ (self.old.ring.room ≤ length self.old.recorded)) }
         // A lane never records more than its share.
         ensures share { length self.new.recorded ≤ self.new.share }
     {

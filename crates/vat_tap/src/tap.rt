@@ -7,7 +7,7 @@ ghost use Rattle.std.specs.Arc.{arc_value};
 ghost use Rattle.vat_tap.specs.Rule.{times, once_below};
 ghost use Rattle.vat_tap.specs.Held.{ring_of, HaveRings, AreTaken, IsTap};
 ghost use Rattle.vat_tap.specs.Arranged.{arranged};
-ghost use Rattle.vat_tap.specs.Tickets.{IsLaneOf, AreDifferent, IsOpened, IsTaped, SameTap, TakesOn, tickets_of, share_of};
+ghost use Rattle.vat_tap.specs.Tickets.{IsLaneOf, AreDifferent, IsOpened, IsTaped, SameTap, TakesOn, TakesAtMost, tickets_of, share_of};
 
 use crate::error::CloseError;
 use crate::intake::Intake;
@@ -109,6 +109,8 @@ impl Tap {
         ensures same { SameTap self.old self.new }
         // What was taken of each lane goes on from what was taken before.
         ensures taken { TakesOn self.old.taken self.new.taken }
+        // One ring's length of each at most.
+        ensures most { TakesAtMost self.old.rings self.old.taken self.new.taken }
         ensures count { IfOk result (λ count. sum_by length self.new.taken ≡ sum_by length self.old.taken + count) }
     {
         drain_all(&mut self.intakes)
@@ -125,11 +127,11 @@ impl Tap {
         requires different { AreDifferent lanes.items }
         // With all lanes, what was recorded.
         ensures ok { IfOk result (λ log. (length lanes.items ≡ length self.rings) × IsTaped self.vat lanes.items log) }
-        // Without, they are missing.
-        ensures missing { length lanes.items ≢ length self.rings → IfErr result (λ refused. refused.0 ≡ CloseError.Missing) }
+        // Without, they are missing, and the tap is as it was.
+        ensures missing { length lanes.items ≢ length self.rings → IfErr result (λ refused. (refused.0 ≡ CloseError.Missing) × (refused.1 ≡ self)) }
         ensures all { length lanes.items ≡ length self.rings → IfErr result (λ refused. refused.0 ≡ CloseError.OutOfMemory) }
         // What is handed back.
-        ensures back { IfErr result (λ refused. SameTap self refused.1 × (refused.2.items ≡ lanes.items)) }
+        ensures back { IfErr result (λ refused. SameTap self refused.1 × TakesOn self.taken refused.1.taken × (refused.2.items ≡ lanes.items)) }
     {
         let mut tap = self;
         let mut lanes = lanes;
@@ -162,6 +164,7 @@ fn take_one(intakes: &mut Vec<Intake>, lane: &mut Lane) -> Result<(), AllocError
     requires { slice_get (map (λ intake. ring_of intake.ring) intakes.old.items) lane.old.number ≡ Some lane.old.ring }
     ensures rings { map (λ intake. ring_of intake.ring) intakes.new.items ≡ map (λ intake. ring_of intake.ring) intakes.old.items }
     ensures lane { lane.new ≡ lane.old }
+    ensures longer { TakesOn (map (λ intake. intake.taken.items) intakes.old.items) (map (λ intake. intake.taken.items) intakes.new.items) }
     ensures ok { OnOk result (map (λ intake. intake.taken.items) intakes.new.items
         ≡ slice_set (map (λ intake. intake.taken.items) intakes.old.items) lane.old.number lane.old.recorded) }
 {
@@ -175,6 +178,7 @@ fn gather(intakes: &mut Vec<Intake>, lanes: &mut Vec<Lane>) -> Result<(), AllocE
     requires different { AreDifferent lanes.old.items }
     ensures rings { map (λ intake. ring_of intake.ring) intakes.new.items ≡ map (λ intake. ring_of intake.ring) intakes.old.items }
     ensures lanes { lanes.new.items ≡ lanes.old.items }
+    ensures longer { TakesOn (map (λ intake. intake.taken.items) intakes.old.items) (map (λ intake. intake.taken.items) intakes.new.items) }
     ensures ok { OnOk result (AreTaken (map (λ intake. intake.taken.items) intakes.new.items) lanes.old.items) }
 {
     for index in 0..lanes.len() {
@@ -208,6 +212,7 @@ fn taken_log(
     requires different { AreDifferent lanes.old.items }
     ensures rings { map (λ intake. ring_of intake.ring) intakes.new.items ≡ map (λ intake. ring_of intake.ring) intakes.old.items }
     ensures lanes { lanes.new.items ≡ lanes.old.items }
+    ensures longer { TakesOn (map (λ intake. intake.taken.items) intakes.old.items) (map (λ intake. intake.taken.items) intakes.new.items) }
     ensures log { IfOk result (λ log. log ≡ record { vat = vat; records = arranged (flat_map (λ lane. lane.recorded) lanes.old.items) }) }
     ensures rising { IfOk result (λ log. All (λ lane. IsStrictlyIncreasing (tickets_of lane.recorded)) lanes.old.items) }
 {
@@ -220,6 +225,7 @@ fn drain_all(intakes: &mut Vec<Intake>) -> Result<u64, AllocError>
     requires { length intakes.old.items ≤ 64 }
     ensures rings { map (λ intake. ring_of intake.ring) intakes.new.items ≡ map (λ intake. ring_of intake.ring) intakes.old.items }
     ensures longer { TakesOn (map (λ intake. intake.taken.items) intakes.old.items) (map (λ intake. intake.taken.items) intakes.new.items) }
+    ensures most { TakesAtMost (map (λ intake. ring_of intake.ring) intakes.old.items) (map (λ intake. intake.taken.items) intakes.old.items) (map (λ intake. intake.taken.items) intakes.new.items) }
     ensures count { IfOk result (λ count. sum_by length (map (λ intake. intake.taken.items) intakes.new.items)
         ≡ sum_by length (map (λ intake. intake.taken.items) intakes.old.items) + count) }
 {

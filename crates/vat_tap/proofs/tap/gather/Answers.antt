@@ -2,6 +2,7 @@ use Rattle.std.proofs.Common.{◌≡◌, ◌+◌, List, map, take, set, length, 
 use Rattle.std.proofs.lemmas.List.{length-map, set-get_or, take_all}
 use Rattle.vat_tap.specs.Held.{ring_of, AreTaken}
 use Rattle.vat_tap.specs.Tickets.{Ticketed, LaneView}
+use Rattle.vat_tap.proofs.Draining.{takes_on}
 use Rattle.vat_tap.proofs.Gathering.{gather_more}
 use Rattle.vat_tap.proofs.tap.gather.Goals as goal
 
@@ -19,9 +20,13 @@ loop-index-preserved c =
     record {
       rings = c.take_one.ensures.rings ∙ i.rings;
       lanes = ap (λ l. set c.loop-index.lanes.items k l) (c.take_one.ensures.lane ∙ c.index_mut.ensures.value) ∙ set-get_or c.loop-index.lanes.items k lane ∙ i.lanes;
+      longer = takes_on _ _ _ i.longer c.take_one.ensures.longer;
       taken = subst (λ (ts : List (List Ticketed)). AreTaken ts (take (k + 1) lanes)) (sym c.in_ok-take_one.ensures.ok)
           (gather_more taken rings lanes k lane c.requires.different c.requires.rings long (omega (arith, lt, c.len-index-end.ensures)) at i.taken);
     }
+
+pub returns-in_err-take_one-clause-longer : goal.returns-in_err-take_one-clause-longer
+returns-in_err-take_one-clause-longer c = takes_on _ _ _ c.loop-index.invariant.longer c.take_one.ensures.longer
 
 pub returns-clause-ok : goal.returns-clause-ok
 returns-clause-ok c =

@@ -1,6 +1,7 @@
-use Rattle.std.proofs.Common.{◌≡◌, ◌-◌, ◌/◌, List, [], ◌∷◌, ◌++◌, length, map, arith, refl, sym, ap, ◌∙◌, subst, length-append}
+use Rattle.std.proofs.Common.{All, ◌≡◌, ◌-◌, ◌/◌, List, [], ◌∷◌, ◌++◌, length, map, arith, refl, sym, ap, ◌∙◌, subst, length-append}
 use Rattle.std.proofs.lemmas.List.{map-append, length-map}
-use Rattle.vat_tap.specs.Tickets.{Ring, LaneView}
+use Rattle.std.proofs.lemmas.List.Elements.{All-push}
+use Rattle.vat_tap.specs.Tickets.{Ticketed, Ring, LaneView}
 use Rattle.vat_tap.specs.Held.{ring_of, lane_view, AreNew}
 use Rattle.vat_tap.proofs.Moves.{splits}
 use Rattle.vat_tap.proofs.Gathering.{more_times}
@@ -29,7 +30,7 @@ loop-number-preserved c =
     let made = c.in_ok-sending.ensures in
     let room : c.split_seat-theirs.new.seat.me.0.room ≡ c.loop-number.seat.me.0.room - c.loop-number.seat.me.0.share = ap (λ m. m.0.room) t.2 in
     let long : length rings ≡ c.loop-number.number = length-map c.loop-number.intakes.items (λ intake. ring_of intake.ring) ∙ i.count in
-    let new = new_more c.loop-number.seat.table_id s c.args.ring rings c.loop-number.opened.items ring lane i.new t.3 refl made.producer.2 made.producer.0 (sym long) (same_ring c.in_ok-sending.sending c.in_ok-sending.receiving made.pair) in
+    let new = new_more c.loop-number.seat.table_id s c.args.ring rings c.loop-number.opened.items ring lane i.new t.3 refl made.producer.2 made.producer.0 (sym long) (same_ring c.in_ok-sending.sending c.in_ok-sending.receiving made.pair (made.consumer.2 ∙ sym made.producer.2)) in
     let grown : map (λ intake. ring_of intake.ring) c.push-in-loop-number.new.self.items ≡ rings ++ ring ∷ [] =
     ap (map (λ intake. ring_of intake.ring)) pushed ∙ map-append (λ intake. ring_of intake.ring) c.loop-number.intakes.items _ in
     record {
@@ -39,6 +40,8 @@ loop-number-preserved c =
       tickets = ap (λ m. m.0.tickets) t.2 ∙ i.tickets;
       slots = ap (λ m. m.1) t.2 ∙ i.slots;
       count = omega (arith, length-map c.push-in-loop-number.new.self.items (λ intake. ring_of intake.ring), ap length grown, length-append rings (ring ∷ []), long);
+      nothing = subst (All (λ (taken : List Ticketed). taken ≡ [])) (sym (ap (map (λ intake. intake.taken.items)) pushed ∙ map-append (λ intake. intake.taken.items) c.loop-number.intakes.items _))
+          (All-push (λ (taken : List Ticketed). taken ≡ []) (map (λ intake. intake.taken.items) c.loop-number.intakes.items) c.new-in-loop-number-2.result.items i.nothing c.new-in-loop-number-2.ensures.items);
       new = subst (λ word. AreNew word s c.args.ring (map (λ intake. ring_of intake.ring) c.push-in-loop-number.new.self.items) c.push.new.self.items) (sym t.0)
           (subst (λ (rs : List Ring). AreNew c.loop-number.seat.table_id s c.args.ring rs c.push.new.self.items) (sym grown)
           (subst (λ (ls : List LaneView). AreNew c.loop-number.seat.table_id s c.args.ring (rings ++ ring ∷ []) ls) (sym c.in_ok-push.ensures.items) new));

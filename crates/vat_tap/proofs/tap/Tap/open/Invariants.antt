@@ -1,4 +1,4 @@
-use Rattle.std.proofs.Common.{◌≡◌, ◌+◌, ◌*◌, [], length, map}
+use Rattle.std.proofs.Common.{◌≡◌, ◌+◌, ◌*◌, [], length, map, All}
 use Rattle.std.specs.Arc.{arc_value}
 use Rattle.vat_tap.specs.Held.{ring_of, AreNew}
 use Rattle.vat_tap.proofs.tap.Tap.open.Given as goal
@@ -11,5 +11,6 @@ invariant-loop-number l = record {
   tickets : l.seat.me.0.tickets ≡ [];
   slots : l.seat.me.1 ≡ [];
   count : length l.intakes.items ≡ l.number;
+  nothing : All (λ taken. taken ≡ []) (map (λ intake. intake.taken.items) l.intakes.items);
   new : AreNew l.seat.table_id l.share l.ring (map (λ intake. ring_of intake.ring) l.intakes.items) l.opened.items;
 }

@@ -3,6 +3,7 @@
 
 mod books;
 mod cases;
+mod edges;
 mod faults;
 mod frames;
 mod given;

@@ -44,8 +44,13 @@ impl Write for Narrow {
 }
 
 /// The commands that read what a source has under the name `given`.
-const READERS: [Command<'static>; 3] = [
+const READERS: [Command<'static>; 4] = [
     Command::Vat { file: "given" },
+    Command::Records {
+        file: "given",
+        from: None,
+        count: None,
+    },
     Command::Frames { file: "given" },
     Command::Order {
         case: "given",
@@ -109,7 +114,7 @@ fn is_unwritten(alloc: Global, order: &Command<'_>) -> Result<bool, Refused> {
 
 #[test]
 fn prints_nothing_of_an_order_that_is_not_written(rt: HostRuntime) {
-    let [_, _, order] = &READERS;
+    let [_, _, _, order] = &READERS;
     let is_so = match is_unwritten(rt.alloc(), order) {
         Ok(is_so) => is_so,
         Err(_) => is_unwritten(rt.alloc(), order).unwrap_or(false),
@@ -118,7 +123,7 @@ fn prints_nothing_of_an_order_that_is_not_written(rt: HostRuntime) {
 }
 
 /// Words, and what they spell, or the kind of `clap`'s error.
-const WORDS: [(&[&str], Result<Command<'static>, ErrorKind>); 4] = [
+const WORDS: [(&[&str], Result<Command<'static>, ErrorKind>); 6] = [
     (&["vataudit", "vat", "-"], Ok(Command::Vat { file: "-" })),
     (
         &["vataudit", "order", "a", "--out=-x"],
@@ -126,6 +131,18 @@ const WORDS: [(&[&str], Result<Command<'static>, ErrorKind>); 4] = [
             case: "a",
             out: "-x",
         }),
+    ),
+    (
+        &["vataudit", "records", "--count=007", "a", "--from", "+3"],
+        Ok(Command::Records {
+            file: "a",
+            from: Some(3),
+            count: Some(7),
+        }),
+    ),
+    (
+        &["vataudit", "records", "a", "--from", "x"],
+        Err(ErrorKind::ValueValidation),
     ),
     (&["vataudit", "--help"], Err(ErrorKind::DisplayHelp)),
     (
@@ -168,11 +185,12 @@ fn an_order_has_a_file(rt: HostRuntime) {
 }
 
 /// Commands, and a line of their help.
-const HELP: [(&str, &str); 5] = [
+const HELP: [(&str, &str); 6] = [
     ("vat", "good vat 2 records 8 delivered 1"),
     ("frame", "abort"),
     ("frames", "bootstrap question 0"),
     ("order", "order steps 14"),
+    ("records", "4 deliver call 2 object 7"),
     ("--help", "good vat 2 records 8 delivered 1"),
 ];
 

@@ -338,7 +338,7 @@ nth_there f n xs l b x p q lt = elim (cases_lt (length b) (length l)) [
   | inr more ↦ absurd (omega (arith, no_longer _ _ (kept f b l (shorter xs l b q (before_it xs x b p.there) more)), p.number, lt))
 ]
 
-steps_on : (v : ℕ) (added before whole : List Step) → whole ≡ added ++ before → steps_by v whole ≡ steps_by v added ++ steps_by v before
+pub steps_on : (v : ℕ) (added before whole : List Step) → whole ≡ added ++ before → steps_by v whole ≡ steps_by v added ++ steps_by v before
 steps_on v added before whole all = ap (steps_by v) all ∙ filter-append (λ s. vat_of s == v) added before
 
 -- a received record's step: what comes next, on its connection

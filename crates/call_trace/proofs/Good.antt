@@ -14,7 +14,7 @@ use Rattle.call_trace.specs.Types.{Bootstrap, Call, Return, Finish, Resolve, Rel
 use Rattle.call_trace.specs.Within.{IsWithin}
 use Rattle.call_trace.proofs.Binding.{receipts_bind}
 use Rattle.call_trace.proofs.Making.{own_may_come}
-use Rattle.call_trace.proofs.Placing.{is_here, delivery_may_come, sent_call_may_come}
+use Rattle.call_trace.proofs.Placing.{delivery_may_come, sent_call_may_come}
 use Rattle.call_trace.proofs.Receipts.{message_read}
 use Rattle.call_trace.proofs.Resulting.{return_comes, resolve_comes}
 use Rattle.call_trace.proofs.Running.{TakesStep, findings_run}
@@ -32,8 +32,8 @@ step_may_come v es steps before (Break r) s w goods good own says = own_may_come
 step_may_come v es steps before (Make c r interface method) s w goods good own says = own_may_come v es steps before (Make c r interface method) s w good refl says
 step_may_come v es steps before (Field r c path) s w goods good own says = own_may_come v es steps before (Field r c path) s w good refl says
 step_may_come v es steps before (Deliver c object) s w goods good own says = delivery_may_come v es steps before c object s w goods good says
-step_may_come v es steps before (Answer c results) s w goods good own says = answer_may_come is_here v es steps before c results s w goods good says
-step_may_come v es steps before (Fault c) s w goods good own says = fault_may_come is_here v es steps before c s w goods good says
+step_may_come v es steps before (Answer c results) s w goods good own says = answer_may_come v es steps before c results s w goods good says
+step_may_come v es steps before (Fault c) s w goods good own says = fault_may_come v es steps before c s w goods good says
 step_may_come v es steps before (Wire true k c rs (Bootstrap q)) s w goods good own says = own_may_come v es steps before (Wire true k c rs (Bootstrap q)) s w good refl says
 step_may_come v es steps before (Wire true k c rs (Call q target interface method params)) s w goods good own says =
     sent_call_may_come v es steps before k c rs q target interface method params s w goods good says

@@ -10,22 +10,26 @@ pub mod Tells
 pub mod Within
 pub mod Having
 pub mod Making
-pub mod Settling
 pub mod Placing
-pub mod Carrying
-pub mod Whole
-pub mod Next
-pub mod Running
-pub mod Noting
-pub mod Behind
-pub mod Early
-mod PipelinedCall
-mod UnderWay
+pub mod Settling
 pub mod Using
 pub mod Sayable
 pub mod Resulting
+pub mod Asking
 pub mod Describing
 pub mod Binding
-pub mod Asking
 pub mod Receipts
+pub mod Carrying
+pub mod Next
+pub mod Running
+pub mod Whole
 pub mod Good
+pub mod Reordering
+pub mod Orders
+pub mod Single
+pub mod Noting
+pub mod Behind
+pub mod Early
+pub mod Passing
+mod PipelinedCall
+mod UnderWay

@@ -282,6 +282,7 @@ sent_by_one k v row (m ∷ rest) same lt =
 -- a record that receives, and what was sent to it
 pub record IsComing (k c v : ℕ) (rs : List ℕ) (m : RpcMessage) (row : Row) (before : List Step) : Type 0 where
   pub other : ℕ
+  pub apart : v ≢ other
   pub from : Past
   pub sent : Event
   pub message : Message
@@ -315,6 +316,7 @@ module _ (k c v : ℕ) (rs : List ℕ) (m : RpcMessage) (row : Row) (before : Li
       let back : IsShared k w v whole = turned k v w whole shared in
       record {
         other = w;
+        apart = shared.apart;
         from = l.1;
         sent = l.0;
         message = comes.0;

@@ -7,7 +7,7 @@ use Rattle.std.proofs.lemmas.Bool.Decides.{nat_tests}
 use Rattle.call_trace.specs.Overtaking.{key_cmp}
 
 -- keys are one where both parts are
-at_key : (vat number v n : ℕ) → is_eq (key_cmp (vat, number) (v, n)) ≡ ((vat == v) && (number == n))
+pub at_key : (vat number v n : ℕ) → is_eq (key_cmp (vat, number) (v, n)) ≡ ((vat == v) && (number == n))
 at_key vat number v n = grind (arith, nat_tests)
 
 raised_at : (b : Bool) (o : Option ℕ) (place : ℕ) → (b ≡ true → unwrap_or o 0 < place) → unwrap_or (cond b (Some place) o) 0 ≡ (if b then max place (unwrap_or o 0) else unwrap_or o 0)

@@ -74,7 +74,7 @@ module _ (v k c : ℕ) (rs : List ℕ) (m : RpcMessage) (message : Message) (a b
   views_alike None = refl
   views_alike (Some view) = caps_alike view
 
-  references_alike : (past : Past) (references : List ℕ) →
+  pub references_alike : (past : Past) (references : List ℕ) →
       map (reference_named (naming v (Wire false k c rs m ∷ es) (step.Receive v k message a ∷ steps)) past) references
       ≡ map (reference_named (naming v (Wire false k c rs m ∷ es) (step.Receive v k message b ∷ steps)) past) references
   references_alike past [] = refl
@@ -86,10 +86,10 @@ abbrev HasStep : ℕ → Event → Row → List Step → Type 0
 HasStep v e row before =
     (s : Step) × (step_of v (log_of v row) (steps_by v before) before e ≡ Some s) × Says v (log_of v row) (steps_by v before) e s × IsLegal before s × IsLinked before s
 
-refers_all : (es : Past) → Each IsGood es → Each Refers es
+pub refers_all : (es : Past) → Each IsGood es → Each Refers es
 refers_all es good = each_so IsGood Refers (λ b e g. g rule.Ref) es good
 
-good_now : (v : ℕ) (e : Event) (row : Row) → MayRun ((v, e) ∷ row) → Each IsGood (log_of v row) × IsGood (log_of v row) e
+pub good_now : (v : ℕ) (e : Event) (row : Row) → MayRun ((v, e) ∷ row) → Each IsGood (log_of v row) × IsGood (log_of v row) e
 good_now v e row run = (logs_good v row (at_each_before IsGoodAt ((v, e) ∷ row) row ((v, e) ∷ [], refl) run.good), run.good row (v, e) ([], refl))
 
 own_step : TakesStep → (v : ℕ) (e : Event) (row : Row) (before : List Step) → MayRun ((v, e) ∷ row) → IsNamedRow row before → is_received e ≡ false → HasStep v e row before

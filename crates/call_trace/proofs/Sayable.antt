@@ -395,3 +395,10 @@ said_had v es steps before e s t h = subst (HasUsed before) (some_same (sym (t.s
 pub used_had : (v : ℕ) (es : Past) (steps before : List Step) (e : Event) (s : Step) → IsWithin v es steps before → Each IsGood es → IsGood es e → Says v es steps e s → HasUsed before s
 used_had v es steps before (Wire false k c rs m) s w good g says = subst (HasUsed before) (sym says.step) tt
 used_had v es steps before e s w good g says = said_had v es steps before e s (says_had v es steps before w good e g refl) says
+
+-- a record takes the step that it says
+pub says_taken : (v : ℕ) (es : Past) (steps before : List Step) (e : Event) (s : Step) → IsWithin v es steps before → Each IsGood es → IsGood es e → is_received e ≡ false → Says v es steps e s →
+    step_of v es steps before e ≡ Some s
+says_taken v es steps before (Wire false k c rs m) s w good g out says = absurd (false≢true (sym out))
+says_taken v es steps before e s w good g out says =
+    let t = says_had v es steps before w good e g out in stepped v es steps before e t.step out (t.said (step.Host v 0)) ∙ sym (t.said s) ∙ says

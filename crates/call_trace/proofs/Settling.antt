@@ -18,7 +18,7 @@ use Rattle.call_trace.specs.Said.{together}
 use Rattle.call_trace.specs.Part.{reference_named, result_named, read, Says, PairsOff}
 use Rattle.call_trace.specs.Within.{IsWithin}
 use Rattle.call_trace.proofs.Naming.{mapped_is, call_keeps}
-use Rattle.call_trace.proofs.Within.{heads, tails, each_earlier}
+use Rattle.call_trace.proofs.Placing.{is_here, step_back}
 use Rattle.call_trace.proofs.Making.{form, only, some_in_run}
 use Rattle.run_model.specs.Legal.{IsLegal, MayCome, arrives, distinct_paths, settles}
 use Rattle.run_model.specs.Links.{IsLinked}
@@ -241,43 +241,7 @@ module _ (v : ℕ) (final : ℕ → Option Name) where
             (served_there es steps e s part.0 grows c name is other h) (served_there es steps e s part.0 grows d name so other g)
       ]
 
--- ---- each record's step after what stood before it
-
-stands_at : (p : Step → Bool) (before rest : List Step) (s : Step) → filter p before ≡ s ∷ rest → (later : List Step) × (earlier : List Step) × (before ≡ later ++ s ∷ earlier) × (filter p earlier ≡ rest)
-stands_at p [] rest s h = absurd (let no : ⊥ = cc in no)
-stands_at p (x ∷ before) rest s h = elim (cases_Bool (p x)) [
-  | inl kept ↦
-      let is = sym (ap (λ b. if b then x ∷ filter p before else filter p before) kept) ∙ h in
-      ([], before, ap (λ y. y ∷ before) (heads is), tails is)
-  | inr other ↦
-      let r = stands_at p before rest s (sym (ap (λ b. if b then x ∷ filter p before else filter p before) other) ∙ h) in
-      (x ∷ r.0, r.1, ap (λ l. x ∷ l) r.2, r.3)
-]
-
-abbrev IsWithinBefore : ℕ → Past → List Step → Step → List Step → Type 0
-IsWithinBefore v es steps s before = (later : List Step) × (earlier : List Step) × (before ≡ later ++ s ∷ earlier) × IsWithin v es steps earlier
-
-within_before : (v : ℕ) (es : Past) (steps before : List Step) (e : Event) (s : Step) → IsWithin v (e ∷ es) (s ∷ steps) before → IsWithinBefore v es steps s before
-within_before v es steps before e s w =
-    let at = stands_at (λ s. vat_of s == v) before steps s w.own in (
-      at.0,
-      at.1,
-      at.2,
-      record {
-        paired = w.paired.1;
-        refers = w.refers.1;
-        own = at.3;
-        legal = (each_earlier IsLegal at.0 (s ∷ at.1) (subst (EachStep IsLegal) at.2 w.legal)).1;
-        linked = (each_earlier IsLinked at.0 (s ∷ at.1) (subst (EachStep IsLinked) at.2 w.linked)).1;
-      },
-    )
-
 -- ---- in a log, calls that are settled
-
--- a call that is at the vat by its log is there in the run
-abbrev pub IsHereInRun : Type 0
-IsHereInRun = (v : ℕ) (es : Past) (steps before : List Step) → IsWithin v es steps before → Each IsGood es → (c : ℕ) → is_at_vat c es ≡ true → (name : Name) →
-    call_named v es steps c ≡ Some name → IsSome (at_vat before name v)
 
 -- no step of these settles a call of this name that is at this vat
 abbrev SettlesGone : Name → ℕ → List Step → Type 0
@@ -286,7 +250,7 @@ SettlesGone name v before = (later : List Step) (s : Step) (earlier : List Step)
 earlier_gone : (name : Name) (v : ℕ) (before later : List Step) (s : Step) (earlier : List Step) → before ≡ later ++ s ∷ earlier → SettlesGone name v before → SettlesGone name v earlier
 earlier_gone name v before later s earlier whole all more x rest is = all (later ++ s ∷ more) x rest (whole ∙ ap (λ l. later ++ s ∷ l) is ∙ sym (append_assoc later (s ∷ more) (x ∷ rest)))
 
-module _ (here : IsHereInRun) (v : ℕ) (final : ℕ → Option Name) (c : ℕ) (name : Name) where
+module _ (v : ℕ) (final : ℕ → Option Name) (c : ℕ) (name : Name) where
   -- only this call of the name is served
   abbrev IsSole : Past → Type 0
   IsSole es = (d : ℕ) → final d ≡ Some name → is_served d es ≡ true → d ≡ c
@@ -304,7 +268,7 @@ module _ (here : IsHereInRun) (v : ℕ) (final : ℕ → Option Name) (c : ℕ) 
       let f = form v es steps (Fault d) s says in
       let same = names_same f.0 name (subst (λ s. settles name s ≡ true) (sym f.2) h) in
       elim (or_either (is_at_vat d es) (is_served d es) (and_parts (is_at_vat d es || is_served d es) _ may).0) [
-        | inl there ↦ left (subst (λ n. IsSome (at_vat before n v)) same (here v es steps before w all d there f.0 f.1))
+        | inl there ↦ left (subst (λ n. IsSome (at_vat before n v)) same (is_here v es steps before w all d there f.0 f.1))
         | inr served ↦ clash (eq-eqb d c (sole d (grows d f.0 f.1 ∙ ap (λ n. Some n) same) served)) none
       ]
   settles_said es steps before (Host r object) s w all good says grows sole left none h = false≢true (subst (λ s. settles name s ≡ true) (sym (form v es steps (Host r object) s says)) h)
@@ -322,17 +286,17 @@ module _ (here : IsHereInRun) (v : ℕ) (final : ℕ → Option Name) (c : ℕ) 
   unsettled [] (s ∷ steps) before w all grows sole left none = absurd w.paired
   unsettled (e ∷ es) [] before w all grows sole left none = absurd w.paired
   unsettled (e ∷ es) (s ∷ steps) before w all grows sole left none =
-      let at = within_before v es steps before e s w in
+      let at = step_back v e es s steps before w in
       let parts = not_passed (settles_call c es e) (point es e) (last_where (settles_call c) es) none in
       let back = grows_back v final es steps e s w.refers.0 grows in
       let alone : IsSole es = λ d is served. sole d is (served_later d es e served) in
       or_from (settles name s) (list_any (settles name) steps)
-      (false_from_ne_true (settles name s) (λ h. settles_said es steps at.1 e s at.3 all.1 all.0 w.paired.0 back alone (left at.0 s at.1 at.2 h) parts.0 h))
-      (unsettled es steps at.1 at.3 all.1 back alone (earlier_gone name v before at.0 s at.1 at.2 left) parts.1)
+      (false_from_ne_true (settles name s) (λ h. settles_said es steps at.earlier e s at.within all.1 all.0 w.paired.0 back alone (left at.later s at.earlier at.whole h) parts.0 h))
+      (unsettled es steps at.earlier at.within all.1 back alone (earlier_gone name v before at.later s at.earlier at.whole left) parts.1)
 
 -- ---- together
 
-module _ (here : IsHereInRun) (v : ℕ) (es : Past) (steps before : List Step) (w : IsWithin v es steps before) (all : Each IsGood es) (c : ℕ) (name : Name) (is : call_named v es steps c ≡ Some name) where
+module _ (v : ℕ) (es : Past) (steps before : List Step) (w : IsWithin v es steps before) (all : Each IsGood es) (c : ℕ) (name : Name) (is : call_named v es steps c ≡ Some name) where
   call_arrived : is_served c es ≡ true → list_any (arrives name v) before ≡ true
   call_arrived served =
       some_in_run (λ s. vat_of s == v) (arrives name v) before
@@ -350,7 +314,7 @@ module _ (here : IsHereInRun) (v : ℕ) (es : Past) (steps before : List Step) (
       let arrived = call_arrived served in
       settled_own before w.legal w.linked name v arrived
       (ap (list_any (settles name)) w.own
-      ∙ unsettled here v final c name es steps before w all (λ d n h. h) (λ d so served_too. same_served v final es steps w.paired w.refers (λ d n h. h) d c name so is few_arrive served_too served)
+      ∙ unsettled v final c name es steps before w all (λ d n h. h) (λ d so served_too. same_served v final es steps w.paired w.refers (λ d n h. h) d c name so is few_arrive served_too served)
       (λ later s earlier whole e at.
       settled_gone name v v s earlier later (subst (EachStep IsLegal) whole w.legal) (subst (EachStep IsLinked) whole w.linked) (subst (λ l. list_any (arrives name v) l ≡ true) whole arrived) e at)
       none)
@@ -392,31 +356,31 @@ paths_kept f kept (a ∷ results) caps h all = at (f a) refl h (paths_kept f kep
 result_path : (names : Naming) (es : Past) (a : ℕ × List ℕ) (b : List ℕ × Cap) → result_named names es a ≡ Some b → a.1 ≡ b.0
 result_path names es a b h = let c = mapped_is (λ c. (a.1, c)) (reference_named names es a.0) b h in ap (λ w. w.0) c.2
 
-pub answer_may_come : IsHereInRun → (v : ℕ) (es : Past) (steps before : List Step) (c : ℕ) (results : List (ℕ × List ℕ)) (s : Step) → IsWithin v es steps before → Each IsGood es → IsGood es (Answer c results) →
+pub answer_may_come : (v : ℕ) (es : Past) (steps before : List Step) (c : ℕ) (results : List (ℕ × List ℕ)) (s : Step) → IsWithin v es steps before → Each IsGood es → IsGood es (Answer c results) →
     Says v es steps (Answer c results) s → MayCome before s
-answer_may_come here v es steps before c results s w all good says =
+answer_may_come v es steps before c results s w all good says =
     let may : MayAnswer es (Answer c results) = good rule.Answer in
     let f = form v es steps (Answer c results) s says in
     let parts = and_parts (is_served c es && not (is_settled c es)) (are_distinct results) may in
     let served = and_parts (is_served c es) (not (is_settled c es)) parts.0 in
     let names = naming v (Answer c results ∷ es) (s ∷ steps) in
     subst (MayCome before) f.4 (
-      call_arrived here v es steps before w all c f.0 f.2 served.0,
-      served_unsettled here v es steps before w all c f.0 f.2 served.0 (is_not (is_settled c es) served.1),
+      call_arrived v es steps before w all c f.0 f.2 served.0,
+      served_unsettled v es steps before w all c f.0 f.2 served.0 (is_not (is_settled c es) served.1),
       paths_kept (result_named names es) (result_path names es) results f.1 f.3 parts.1,
     )
 
-pub fault_may_come : IsHereInRun → (v : ℕ) (es : Past) (steps before : List Step) (c : ℕ) (s : Step) → IsWithin v es steps before → Each IsGood es → IsGood es (Fault c) → Says v es steps (Fault c) s → MayCome before s
-fault_may_come here v es steps before c s w all good says =
+pub fault_may_come : (v : ℕ) (es : Past) (steps before : List Step) (c : ℕ) (s : Step) → IsWithin v es steps before → Each IsGood es → IsGood es (Fault c) → Says v es steps (Fault c) s → MayCome before s
+fault_may_come v es steps before c s w all good says =
     let may : MayAnswer es (Fault c) = good rule.Answer in
     let f = form v es steps (Fault c) s says in
     let parts = and_parts (is_at_vat c es || is_served c es) (not (is_settled c es)) may in
     subst (MayCome before) f.2 (elim (or_either (is_at_vat c es) (is_served c es) parts.0) [
       | inl there ↦
-          let at = here v es steps before w all c there f.0 f.1 in
+          let at = is_here v es steps before w all c there f.0 f.1 in
           (or_right (list_any (arrives f.0 v) before) (is_some (at_vat before f.0 v)) at, unsettled_here before w.legal w.linked f.0 v at)
       | inr served ↦ (
-        or_left (list_any (arrives f.0 v) before) (is_some (at_vat before f.0 v)) (call_arrived here v es steps before w all c f.0 f.1 served),
-        served_unsettled here v es steps before w all c f.0 f.1 served (is_not (is_settled c es) parts.1),
+        or_left (list_any (arrives f.0 v) before) (is_some (at_vat before f.0 v)) (call_arrived v es steps before w all c f.0 f.1 served),
+        served_unsettled v es steps before w all c f.0 f.1 served (is_not (is_settled c es) parts.1),
       )
     ])

@@ -1,9 +1,9 @@
 -- What an order takes of each log: so many of its records, in their order.
-use Rattle.std.proofs.Common.{◌≡◌, refl, sym, ◌∙◌, ap, ap₂, ℕ, zero, suc, ◌+◌, ◌==◌, List, [], ◌∷◌, ◌++◌, take, reverse, Bool, true, false, cond, Option, Some, None, if◌then◌else◌, option_and_then, option_map, slice_get, arith, eqb-true}
+use Rattle.std.proofs.Common.{◌≡◌, refl, sym, ◌∙◌, ap, ap₂, ℕ, zero, suc, ◌+◌, ◌==◌, List, [], ◌∷◌, ◌++◌, take, reverse, Bool, true, false, cond, Option, Some, None, if◌then◌else◌, option_and_then, option_map, slice_get, arith, eqb-true, inl, inr}
 use Rattle.std.specs.List.{cons_option, filter_map}
 use Rattle.std.proofs.lemmas.List.{reverse-append}
 use Rattle.std.proofs.lemmas.List.Sums.{sum_by-cons}
-use Rattle.std.proofs.lemmas.Bool.{eq-eqb}
+use Rattle.std.proofs.lemmas.Bool.{eq-eqb, cases_Bool}
 use Rattle.agree.specs.Rows.{Row, log_of}
 use Rattle.call_trace.specs.Types.{Event}
 use Rattle.call_trace.specs.Named.{past_before}
@@ -73,3 +73,14 @@ taken_at findings v f u before false found e so_far =
 pub log_taken : (findings : List Found) (v : ℕ) (f : Found) → finding_of v findings ≡ Some f → (steps : List ℕ) → log_of v (taken_by findings steps) ≡ past_before f (steps_by v steps)
 log_taken findings v f found [] = refl
 log_taken findings v f found (u ∷ before) = taken_at findings v f u before (u == v) found refl (log_taken findings v f found before)
+
+-- of a vat without a finding nothing is taken
+pub no_log : (findings : List Found) (v : ℕ) → finding_of v findings ≡ None → (turns : List ℕ) → log_of v (taken_by findings turns) ≡ []
+no_log findings v none [] = refl
+no_log findings v none (u ∷ turns) = elim (cases_Bool (u == v)) [
+  | inl own ↦
+      let next : next_record findings turns u ≡ None =
+      ap (λ w. next_record findings turns w) (eqb-true u v own) ∙ ap (λ o. option_and_then (λ f. record_in f (steps_by v turns)) o) none in
+      log_at v u (next_record findings turns u) (taken_by findings turns) true own ∙ ap (λ o. cons_option o (log_of v (taken_by findings turns))) next ∙ no_log findings v none turns
+  | inr apart ↦ log_at v u (next_record findings turns u) (taken_by findings turns) false apart ∙ no_log findings v none turns
+]

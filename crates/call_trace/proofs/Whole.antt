@@ -41,7 +41,7 @@ all_with : {A : Type 0} (P : A → Type 0) (xs ys : List A) → AllByRecursion P
 all_with P [] ys h g = g
 all_with P (x ∷ xs) ys h g = (h.0, all_with P xs ys h.1 g)
 
-all_turned : {A : Type 0} (P : A → Type 0) (xs : List A) → AllByRecursion P xs → AllByRecursion P (reverse xs)
+pub all_turned : {A : Type 0} (P : A → Type 0) (xs : List A) → AllByRecursion P xs → AllByRecursion P (reverse xs)
 all_turned P [] h = tt
 all_turned P (x ∷ xs) h = subst (AllByRecursion P) (sym (reverse-append (x ∷ []) xs)) (all_with P (reverse xs) (x ∷ []) (all_turned P xs h.1) (h.0, tt))
 
@@ -53,7 +53,7 @@ map_with : {A B : Type 0} (f : A → B) (xs ys : List A) → map f (xs ++ ys) �
 map_with f [] ys = refl
 map_with f (x ∷ xs) ys = ap (λ l. f x ∷ l) (map_with f xs ys)
 
-map_turned : {A B : Type 0} (f : A → B) (xs : List A) → map f (reverse xs) ≡ reverse (map f xs)
+pub map_turned : {A B : Type 0} (f : A → B) (xs : List A) → map f (reverse xs) ≡ reverse (map f xs)
 map_turned f [] = refl
 map_turned f (x ∷ xs) =
     ap (map f) (reverse-append (x ∷ []) xs) ∙ map_with f (reverse xs) (x ∷ []) ∙ ap (λ l. l ++ f x ∷ []) (map_turned f xs) ∙ sym (reverse-append (f x ∷ []) (map f xs))
@@ -138,7 +138,7 @@ module _ (findings : List Found) (order : List ℕ) (true_all : AreTrue findings
         ap (λ o. option_and_then (λ g. record_in g (turns_of v before)) o) found.1 ∙ ap (λ u. record_in f (turns_of u before)) (sym at.0) ∙ reads_record f (turns_of f.log.vat before) r,
       )
 
-  vats_taken : (steps : List ℕ) → GoesOn (reverse order) steps → map (λ r. r.0) (taken_by findings steps) ≡ steps
+  pub vats_taken : (steps : List ℕ) → GoesOn (reverse order) steps → map (λ r. r.0) (taken_by findings steps) ≡ steps
   vats_taken [] there = refl
   vats_taken (v ∷ before) there =
       let t = takes v before there in

@@ -14,3 +14,4 @@ pub mod Running
 pub mod Kinds
 pub mod Placed
 pub mod Overtaking
+pub mod Lines

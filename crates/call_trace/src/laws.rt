@@ -1,6 +1,6 @@
 //! Laws of runs and their logs.
 
-ghost use Rattle.std.specs.Prelude.{◌≡◌, ◌∷◌, ◌++◌, ℕ, List, [], length, take, true, false, Some, IsSome, IsTrue, Contains, Bool, map, reverse};
+ghost use Rattle.std.specs.Prelude.{◌≡◌, ◌∷◌, ◌++◌, ℕ, List, [], length, take, true, false, Option, Some, IsSome, IsTrue, Contains, Bool, map, reverse};
 ghost use Rattle.rpc_view.specs.declared.message.Payload.{Payload};
 ghost use Rattle.vat_rules.specs.Audit.{Found};
 ghost use Rattle.vat_rules.specs.Judged.{IsGood};
@@ -17,7 +17,10 @@ ghost use Rattle.agree.specs.Agreeing.{AreLinked};
 ghost use Rattle.agree.specs.Streams.{IsCut, IsPassed};
 ghost use Rattle.agree.specs.Standing.{AgreeOneWay, Agree};
 ghost use Rattle.run_model.specs.Legal.{is_cap, MayCome, HasUsed, MayBind};
+ghost use Rattle.run_model.specs.Early.{IsOrderFault};
+ghost use Rattle.run_model.specs.Edges.{Edge, AreEdges};
 ghost use Rattle.run_model.specs.Has.{Has};
+ghost use Rattle.run_model.specs.Reordered.{HaveSameSteps, KeepsReferences};
 ghost use Rattle.run_model.specs.declared.cap.Cap.TheVariants.{Field as FieldCap};
 ghost use Rattle.run_model.specs.Leads.{Leads as RunLeads, LeadsByTurns as RunLeadsByTurns};
 ghost use Rattle.call_trace.specs.Types.{Outcome, Return, Resolution, Resolve, Event, Wire, View, Name, Cap, Step, Target, Call, Deliver, Answer, Fault, RpcMessage, Message};
@@ -217,4 +220,32 @@ pub fn messages_are_read_as_sent()
 pub fn good_findings_have_a_run()
     ensures { (findings : List Found) (order : List ℕ) → AreTrue findings → MayBeNamed findings order
         → (before : List Step) × (steps_of_row (row_of findings order) ≡ Some before) × IsRunOf findings order (reverse before) }
+{}
+
+/// Findings have one run by an order (`one`): in it each record of the row that the order takes has its step (`row`).
+pub fn findings_have_one_run()
+    ensures row { (findings : List Found) (order : List ℕ) → AreTrue findings → MayBeNamed findings order → (run : List Step)
+        → IsRunOf findings order run → steps_of_row (row_of findings order) ≡ Some (reverse run) }
+    ensures one { (findings : List Found) (order : List ℕ) → AreTrue findings → MayBeNamed findings order → (run other_run : List Step)
+        → IsRunOf findings order run → IsRunOf findings order other_run → run ≡ other_run }
+{}
+
+/// In the runs of the same findings by two orders each vat has the same steps (`steps`). In such a run each reference of a vat
+/// stands for one cap (`references`).
+pub fn orders_give_the_same_steps()
+    ensures steps { (findings : List Found) (order other : List ℕ) → AreTrue findings → MayBeNamed findings order → MayBeNamed findings other
+        → (run other_run : List Step) → IsRunOf findings order run → IsRunOf findings other other_run → HaveSameSteps run other_run }
+    ensures references { (findings : List Found) (order : List ℕ) → AreTrue findings → MayBeNamed findings order → (run : List Step)
+        → IsRunOf findings order run → KeepsReferences run }
+{}
+
+/// Which order it is doesn't matter: the runs of the same findings by two orders have the same order fault, or none
+/// (`fault`), and the same edges (`edges`).
+pub fn orders_give_one_fault()
+    ensures fault { (findings : List Found) (order other : List ℕ) → AreTrue findings → MayBeNamed findings order → MayBeNamed findings other
+        → (run other_run : List Step) → IsRunOf findings order run → IsRunOf findings other other_run
+        → (place other_place : Option (ℕ × ℕ)) → IsOrderFault run place → IsOrderFault other_run other_place → place ≡ other_place }
+    ensures edges { (findings : List Found) (order other : List ℕ) → AreTrue findings → MayBeNamed findings order → MayBeNamed findings other
+        → (run other_run : List Step) → IsRunOf findings order run → IsRunOf findings other other_run
+        → (edges other_edges : List Edge) → AreEdges run edges → AreEdges other_run other_edges → edges ≡ other_edges }
 {}

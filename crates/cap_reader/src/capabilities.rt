@@ -1,6 +1,6 @@
 //! The capabilities at and below a pointer.
 
-ghost use Rattle.std.specs.Prelude.{◌≡◌, ◌<◌, ◌≤◌, ◌+◌, ◌-◌, ◌^◌, ◌↔◌, List, ℕ, [], Some, OnOk, IfOk};
+ghost use Rattle.std.specs.Prelude.{◌≡◌, ◌<◌, ◌≤◌, ◌+◌, ◌-◌, ◌++◌, ◌∷◌, ◌^◌, ◌↔◌, List, ℕ, [], Some, OnOk, IfOk};
 ghost use Rattle.std.specs.Ordering.{nat_cmp};
 ghost use Rattle.std.specs.Cmp.Lexicographic.{slice_cmp};
 ghost use Rattle.std.specs.List.{Contains};
@@ -73,6 +73,18 @@ fn path_of(numbers: &Vec<u16>) -> Result<Path, AllocError>
     Ok(Path::new(numbers.clone()?))
 }
 
+/// Puts a capability behind those found. Room is made for one, and then for as many again as there are: most frames have
+/// one at most, and so no room is left over.
+fn put(found: &mut Vec<(Path, u32)>, path: Path, index: u32) -> Result<(), AllocError>
+    ensures { OnOk result (found.new.items ≡ found.old.items ++ (path, index) ∷ []) }
+{
+    if found.len() == found.capacity() {
+        found.reserve_exact(found.len().max(1))?;
+    }
+    found.push((path, index))?;
+    Ok(())
+}
+
 /// Adds the capabilities at and below the pointer at a place, to which the path leads. A path that was lengthened is as
 /// it was again.
 fn add_fields(
@@ -94,7 +106,7 @@ fn add_fields(
     match follow(frame, segment, at)? {
         Pointee::Null => Ok(()),
         Pointee::Capability { index } => {
-            found.push((path_of(path)?, index))?;
+            put(found, path_of(path)?, index)?;
             Ok(())
         }
         Pointee::List {

@@ -18,8 +18,8 @@ use Rattle.clap.specs.declared.ArgMatches.{ArgMatches}
 use Rattle.clap.proofs.WalkLemmas.{first_value-rows}
 use Rattle.clap.proofs.OnLiterals.{clap_on_literals}
 use Rattle.command_line.proofs.Faultless.{first_none, never, then_none}
-use Rattle.command_line.proofs.Filled.{AllBring, Brings, given_value, level_full, replaced_full}
-use Rattle.command_line.specs.Parser.{input, input_rule, order, path, path_rule, program, reader}
+use Rattle.command_line.proofs.Filled.{AllBring, AreFull, Brings, given_value, level_full, replaced_full}
+use Rattle.command_line.specs.Parser.{count, input, input_rule, number_rule, order, path, path_rule, program, reader, records, start}
 use Rattle.command_line.specs.Spelled.{IsReader, SpellsOne, is_flag, SpellsOrder}
 
 abbrev dashes : Text
@@ -201,31 +201,46 @@ word_of of_vat = codes "vat"
 word_of of_frame = codes "frame"
 word_of of_frames = codes "frames"
 
--- the command that isn't one of them
+-- the commands that read more
+data Wide : Type 0 where
+  of_order : Wide
+  of_records : Wide
+
 abbrev ordering : Text
 ordering = codes "order"
 
--- the subcommand of a word that is `vat`, or `frame`, or `frames`, or `order`, or `help`, or none of them
-abbrev met_by : Bool → Bool → Bool → Bool → Bool → Option Text
-met_by is_vat is_frame is_frames is_order is_help = option_map (λ (s : Text × List Text). s.0) (if is_vat || false then Some (codes "vat", [])
-    else (if is_frame || false then Some (codes "frame", []) else (if is_frames || false then Some (codes "frames", []) else (if is_order || false then Some (ordering, []) else (if is_help || false then Some (codes "help", []) else None)))))
+abbrev listing : Text
+listing = codes "records"
 
-abbrev turn_by : Text → Bool → Bool → Bool → Bool → Bool → Kinds
-turn_by w is_vat is_frame is_frames is_order is_help =
-    let met = subcommand_or_other main.rules (met_by is_vat is_frame is_frames is_order is_help) idle 1 w (holding None) in
-    or_else (other_fault main (met_by is_vat is_frame is_frames is_order is_help) w (holding None)) (step_fault main 1 met.0 met.1)
+abbrev wide_word : Wide → Text
+wide_word of_order = ordering
+wide_word of_records = listing
 
-first_main : (w : Text) → turn_fault main names (at None 1 false) w ≡ [] → ((r : Reader) × (w ≡ word_of r)) ⊎ ((w ≡ ordering) ⊎ (w ≡ dashes))
-first_main w e = go (bytes_eq (codes "vat") w) (bytes_eq (codes "frame") w) (bytes_eq (codes "frames") w) (bytes_eq ordering w) (bytes_eq (codes "help") w) refl refl refl refl e
+-- the subcommand of a word that is `vat`, or `frame`, or `frames`, or `order`, or `records`, or `help`, or none of them
+abbrev met_by : Bool → Bool → Bool → Bool → Bool → Bool → Option Text
+met_by is_vat is_frame is_frames is_order is_records is_help = option_map (λ (s : Text × List Text). s.0) (if is_vat || false then Some (codes "vat", [])
+    else (if is_frame || false then Some (codes "frame", []) else (if is_frames || false then Some (codes "frames", []) else (if is_order || false then Some (ordering, [])
+    else (if is_records || false then Some (listing, []) else (if is_help || false then Some (codes "help", []) else None))))))
+
+abbrev turn_by : Text → Bool → Bool → Bool → Bool → Bool → Bool → Kinds
+turn_by w is_vat is_frame is_frames is_order is_records is_help =
+    let met = subcommand_or_other main.rules (met_by is_vat is_frame is_frames is_order is_records is_help) idle 1 w (holding None) in
+    or_else (other_fault main (met_by is_vat is_frame is_frames is_order is_records is_help) w (holding None)) (step_fault main 1 met.0 met.1)
+
+first_main : (w : Text) → turn_fault main names (at None 1 false) w ≡ [] → ((r : Reader) × (w ≡ word_of r)) ⊎ (((o : Wide) × (w ≡ wide_word o)) ⊎ (w ≡ dashes))
+first_main w e = go (bytes_eq (codes "vat") w) (bytes_eq (codes "frame") w) (bytes_eq (codes "frames") w) (bytes_eq ordering w) (bytes_eq listing w) (bytes_eq (codes "help") w)
+    refl refl refl refl refl e
   where
-    go : (is_vat is_frame is_frames is_order is_help : Bool) → bytes_eq (codes "vat") w ≡ is_vat → bytes_eq (codes "frame") w ≡ is_frame → bytes_eq (codes "frames") w ≡ is_frames
-        → bytes_eq ordering w ≡ is_order → turn_by w is_vat is_frame is_frames is_order is_help ≡ [] → ((r : Reader) × (w ≡ word_of r)) ⊎ ((w ≡ ordering) ⊎ (w ≡ dashes))
-    go true is_frame is_frames is_order is_help is framed many ordered e = inl (of_vat, sym ((bytes_eq-Decides (codes "vat") w).0 is))
-    go false true is_frames is_order is_help vatted is many ordered e = inl (of_frame, sym ((bytes_eq-Decides (codes "frame") w).0 is))
-    go false false true is_order is_help vatted framed is ordered e = inl (of_frames, sym ((bytes_eq-Decides (codes "frames") w).0 is))
-    go false false false true is_help vatted framed many is e = inr (inl (sym ((bytes_eq-Decides ordering w).0 is)))
-    go false false false false true vatted framed many ordered e = absurd (never e)
-    go false false false false false vatted framed many ordered e =
+    go : (is_vat is_frame is_frames is_order is_records is_help : Bool) → bytes_eq (codes "vat") w ≡ is_vat → bytes_eq (codes "frame") w ≡ is_frame → bytes_eq (codes "frames") w ≡ is_frames
+        → bytes_eq ordering w ≡ is_order → bytes_eq listing w ≡ is_records → turn_by w is_vat is_frame is_frames is_order is_records is_help ≡ []
+        → ((r : Reader) × (w ≡ word_of r)) ⊎ (((o : Wide) × (w ≡ wide_word o)) ⊎ (w ≡ dashes))
+    go true is_frame is_frames is_order is_records is_help is framed many ordered listed e = inl (of_vat, sym ((bytes_eq-Decides (codes "vat") w).0 is))
+    go false true is_frames is_order is_records is_help vatted is many ordered listed e = inl (of_frame, sym ((bytes_eq-Decides (codes "frame") w).0 is))
+    go false false true is_order is_records is_help vatted framed is ordered listed e = inl (of_frames, sym ((bytes_eq-Decides (codes "frames") w).0 is))
+    go false false false true is_records is_help vatted framed many is listed e = inr (inl (of_order, sym ((bytes_eq-Decides ordering w).0 is)))
+    go false false false false true is_help vatted framed many ordered is e = inr (inl (of_records, sym ((bytes_eq-Decides listing w).0 is)))
+    go false false false false false true vatted framed many ordered listed e = absurd (never e)
+    go false false false false false false vatted framed many ordered listed e =
         let met = word_met main.rules [] false idle 1 w (holding None) in
         let stray : step_fault main 1 met.0 met.1 ≡ [] = then_none (other_fault main None w (holding None)) (step_fault main 1 met.0 met.1) e in
         elim (word_plain main.rules main_longs main_shorts None 1 w (first_none (other_fault main None w (holding None)) _ e)) [
@@ -236,6 +251,14 @@ first_main w e = go (bytes_eq (codes "vat") w) (bytes_eq (codes "frame") w) (byt
 -- `order CASE --out FILE`
 abbrev order_sub : Shape
 order_sub = unwrap_or (slice_get (built program).subs 3) order.top
+
+-- `records FILE`, with its two options
+abbrev records_sub : Shape
+records_sub = unwrap_or (slice_get (built program).subs 4) records.top
+
+abbrev wide_sub : Wide → Shape
+wide_sub of_order = order_sub
+wide_sub of_records = records_sub
 
 -- past the name of a command the walk keeps the words
 stops : (h : Held) (waiting : Waiting) (n : ℕ) (ended : Bool) (name : Text) (seen words : List Text)
@@ -251,9 +274,10 @@ stop_at of_vat words = stops (holding None) idle 1 false (codes "vat") [] words
 stop_at of_frame words = stops (holding None) idle 1 false (codes "frame") [] words
 stop_at of_frames words = stops (holding None) idle 1 false (codes "frames") [] words
 
-stop_order : (words : List Text) → (walk main.rules names nothing_held (ordering ∷ words)).stopped ≡ Some (ordering, words)
+stop_wide : (o : Wide) (words : List Text) → (walk main.rules names nothing_held (wide_word o ∷ words)).stopped ≡ Some (wide_word o, words)
 unfolding walked
-stop_order words = stops (holding None) idle 1 false ordering [] words
+stop_wide of_order words = stops (holding None) idle 1 false ordering [] words
+stop_wide of_records words = stops (holding None) idle 1 false listing [] words
 
 -- the command that is entered reads the words that are left
 entered_level : (r : Reader) (words : List Text) → entered_fault (built program) (Some (word_of r, words)) ≡ level_fault (sub (word_of r)) [] nothing_held words false []
@@ -266,11 +290,13 @@ entered_rows of_vat words = refl
 entered_rows of_frame words = refl
 entered_rows of_frames words = refl
 
-order_level : (words : List Text) → entered_fault (built program) (Some (ordering, words)) ≡ level_fault order_sub [] nothing_held words false []
-order_level words = refl
+wide_level : (o : Wide) (words : List Text) → entered_fault (built program) (Some (wide_word o, words)) ≡ level_fault (wide_sub o) [] nothing_held words false []
+wide_level of_order words = refl
+wide_level of_records words = refl
 
-order_rows : (words : List Text) → entered (built program) (Some (ordering, words)) ≡ Some (ordering, rows_after order_sub.rules [] words)
-order_rows words = refl
+wide_rows : (o : Wide) (words : List Text) → entered (built program) (Some (wide_word o, words)) ≡ Some (wide_word o, rows_after (wide_sub o).rules [] words)
+wide_rows of_order words = refl
+wide_rows of_records words = refl
 
 no_command : (rest : List Text) → built_fault (built program) nothing_held (dashes ∷ rest) ≡ [] → ⊥
 unfolding clap_on_literals
@@ -281,11 +307,11 @@ no_command (v ∷ vs) e = never e
 abbrev IsOne : List Text → Type 0
 IsOne words = (r : Reader) × ((rest : List Text) × (words ≡ word_of r ∷ rest) × (level_fault (sub (word_of r)) [] nothing_held rest false [] ≡ []))
 
--- they begin with `order`, and it reads the others
-abbrev IsOrdering : List Text → Type 0
-IsOrdering words = (rest : List Text) × (words ≡ ordering ∷ rest) × (level_fault order_sub [] nothing_held rest false [] ≡ [])
+-- they begin with the name of a command that reads more, and it reads the others
+abbrev IsWide : List Text → Type 0
+IsWide words = (o : Wide) × ((rest : List Text) × (words ≡ wide_word o ∷ rest) × (level_fault (wide_sub o) [] nothing_held rest false [] ≡ []))
 
-main_read : (words : List Text) → built_fault (built program) nothing_held words ≡ [] → IsOne words ⊎ IsOrdering words
+main_read : (words : List Text) → built_fault (built program) nothing_held words ≡ [] → IsOne words ⊎ IsWide words
 unfolding clap_on_literals
 main_read [] e = absurd (never e)
 main_read (w ∷ rest) e =
@@ -305,13 +331,17 @@ main_read (w ∷ rest) e =
             ),
           )
       | inr (inl o) ↦
-          let whole : built_fault (built program) nothing_held (ordering ∷ rest) ≡ [] = subst (λ (x : Text). built_fault (built program) nothing_held (x ∷ rest) ≡ []) o e in
-          let stop = (walk main.rules names nothing_held (ordering ∷ rest)).stopped in
-          let below : entered_fault (built program) stop ≡ [] = first_none (entered_fault (built program) stop) _ (then_none (walk_fault main names (at None 1 false) (ordering ∷ rest)) _ whole) in
+          let name = wide_word o.0 in
+          let whole : built_fault (built program) nothing_held (name ∷ rest) ≡ [] = subst (λ (x : Text). built_fault (built program) nothing_held (x ∷ rest) ≡ []) o.1 e in
+          let stop = (walk main.rules names nothing_held (name ∷ rest)).stopped in
+          let below : entered_fault (built program) stop ≡ [] = first_none (entered_fault (built program) stop) _ (then_none (walk_fault main names (at None 1 false) (name ∷ rest)) _ whole) in
           inr (
-            rest,
-            ap (λ x. x ∷ rest) o,
-            sym (order_level rest) ∙ subst (λ (s : Option (Text × List Text)). entered_fault (built program) s ≡ []) (stop_order rest) below,
+            o.0,
+            (
+              rest,
+              ap (λ x. x ∷ rest) o.1,
+              sym (wide_level o.0 rest) ∙ subst (λ (s : Option (Text × List Text)). entered_fault (built program) s ≡ []) (stop_wide o.0 rest) below,
+            ),
           )
       | inr (inr d) ↦ absurd (no_command rest (subst (λ (x : Text). built_fault (built program) nothing_held (x ∷ rest) ≡ []) d e))
     ]
@@ -346,7 +376,7 @@ reads_one first words m =
       ),
     )
 
--- CASE, --out and --help
+-- the one thing, --out, --from, --count and --help
 brings_case : Brings false (with_index 1 (filled input_rule))
 brings_case [] rows e full = absurd (never e)
 brings_case (v ∷ vs) rows e full = replaced_full input _ CommandLine (v ∷ vs) rows tt full
@@ -358,8 +388,13 @@ brings_path (v ∷ vs) rows e full = replaced_full path _ CommandLine (v ∷ vs)
 brings_help : Brings false help
 brings_help values rows e full = absurd (never (then_none (range_kinds 0 0 (length values)) (DisplayHelp ∷ []) e))
 
-order_brings : AllBring order_sub.args_override_self order_sub.rules
-order_brings = (brings_case, (brings_path, (brings_help, tt)))
+brings_number : (name : Text) → Brings false (filled (number_rule name))
+brings_number name [] rows e full = absurd (never e)
+brings_number name (v ∷ vs) rows e full = replaced_full name _ CommandLine (v ∷ vs) rows tt full
+
+wide_brings : (o : Wide) → AllBring (wide_sub o).args_override_self (wide_sub o).rules
+wide_brings of_order = (brings_case, (brings_path, (brings_help, tt)))
+wide_brings of_records = (brings_case, (brings_number start, (brings_number count, (brings_help, tt))))
 
 -- both are required
 both_given : (rows : List Row) → check_fault order_sub rows false ≡ [] → (is_given input rows ≡ true) × (is_given path rows ≡ true)
@@ -370,27 +405,45 @@ both_given rows e = go (is_given input rows) (is_given path rows) e
     go true false e = absurd (never e)
     go false b e = absurd (never e)
 
--- so clap finds them
-abbrev ReadsOrder : List Text → Type 0
-ReadsOrder words = (file : Text) × ((out : Text) × SpellsOrder words file out)
+-- FILE of `records` is required
+file_given : (rows : List Row) → check_fault records_sub rows false ≡ [] → is_given input rows ≡ true
+file_given rows e = go (is_given input rows) e
+  where
+    go : (a : Bool) → check_kinds false false (not a || false) ≡ [] → a ≡ true
+    go true e = refl
+    go false e = absurd (never e)
 
-reads_order : (first : Text) (words : List Text) → IsOrdering words → ReadsOrder (first ∷ words)
+-- so clap finds them
+abbrev Finds : Wide → List Row → Type 0
+Finds of_order rows = (file : Text) × ((out : Text) × (first_of input rows ≡ Some file) × (first_of path rows ≡ Some out))
+Finds of_records rows = (file : Text) × (first_of input rows ≡ Some file)
+
+finds : (o : Wide) (rows : List Row) → AreFull rows → check_fault (wide_sub o) rows false ≡ [] → Finds o rows
+finds of_order rows full none =
+    let given = both_given rows none in
+    let file = given_value input rows given.0 full in
+    let out = given_value path rows given.1 full in
+    (file.0, (out.0, file.1, out.1))
+finds of_records rows full none = given_value input rows (file_given rows none) full
+
+abbrev ReadsWide : List Text → Type 0
+ReadsWide words = (o : Wide) × ((rows : List Row) × (subcommand_of program words ≡ Some (wide_word o, rows)) × Finds o rows)
+
+reads_wide : (first : Text) (words : List Text) → IsWide words → ReadsWide (first ∷ words)
 unfolding clap_on_literals
-reads_order first words m =
-    let rest = m.0 in
-    let rows = rows_after order_sub.rules [] rest in
-    let full = level_full order_sub order_brings [] rest m.2 in
-    let given = both_given rows full.1 in
-    let file = given_value input rows given.0 full.0 in
-    let out = given_value path rows given.1 full.0 in
-    let read = ap (λ (ws : List Text). entered (built program) (stop_after main.rules names ws)) m.1 ∙ ap (entered (built program)) (stop_order rest) ∙ order_rows rest in
-    (file.0, (out.0, (rows, (read, file.1, out.1))))
+reads_wide first words m =
+    let o = m.0 in
+    let rest = m.1.0 in
+    let rows = rows_after (wide_sub o).rules [] rest in
+    let full = level_full (wide_sub o) (wide_brings o) [] rest m.1.2 in
+    let read = ap (λ (ws : List Text). entered (built program) (stop_after main.rules names ws)) m.1.1 ∙ ap (entered (built program)) (stop_wide o rest) ∙ wide_rows o rest in
+    (o, (rows, read, finds o rows full.0 full.1))
 
 -- where clap finds no fault in the words, they spell a command and what it reads
-reads : (words : List Text) → fault_of program words ≡ [] → ReadsOne words ⊎ ReadsOrder words
+reads : (words : List Text) → fault_of program words ≡ [] → ReadsOne words ⊎ ReadsWide words
 unfolding clap_on_literals
 reads [] e = absurd (never e)
-reads (first ∷ words) e = elim (main_read words e) [ inl m ↦ inl (reads_one first words m) | inr m ↦ inr (reads_order first words m) ]
+reads (first ∷ words) e = elim (main_read words e) [ inl m ↦ inl (reads_one first words m) | inr m ↦ inr (reads_wide first words m) ]
 
 -- ---- a word that is no flag
 
@@ -458,6 +511,14 @@ pub takes_order : (first file out : Text) → is_flag file ≡ false → is_flag
 unfolding clap_on_literals
 takes_order first file out e h = ap (λ (k : Kinds). or_else k []) (order_words file out e h)
 
+-- `records FILE` has no fault, where FILE is no flag
+pub takes_records : (first file : Text) → is_flag file ≡ false → fault_of program (first ∷ listing ∷ file ∷ []) ≡ []
+unfolding clap_on_literals
+takes_records first file e =
+    let is = plain_word_is file e in
+    let level : level_fault records_sub [] nothing_held (file ∷ []) false [] ≡ [] = rw (is.0, is.1, is.2) refl in
+    ap (λ (k : Kinds). or_else k []) level
+
 -- ---- the matches
 
 pub some_same : {A : Type 0} {x y : A} → Some x ≡ Some y → x ≡ y
@@ -496,11 +557,25 @@ abbrev pub MatchesOrder : List Text → Text → ArgMatches → Type 0
 MatchesOrder words name given = (file : Text) × ((out : Text) × SpellsOrder words file out × (name ≡ ordering)
     × (first_value (found_of given) input ≡ Some file) × (first_value (found_of given) path ≡ Some out))
 
+-- the words name a command that reads more, and what clap finds was matched
+abbrev MatchesBy : Wide → List Text → Text → ArgMatches → Type 0
+MatchesBy o words name given = (rows : List Row) × (fault_of program words ≡ []) × (subcommand_of program words ≡ Some (wide_word o, rows)) × Finds o rows
+    × (name ≡ wide_word o) × (rows_of (found_of given) ≡ rows)
+
+abbrev MatchesWide : List Text → Text → ArgMatches → Type 0
+MatchesWide words name given = (o : Wide) × MatchesBy o words name given
+
+-- they spell `records` and its file, which was matched, and its options are what clap finds
+abbrev pub MatchesRecords : List Text → Text → ArgMatches → Type 0
+MatchesRecords words name given = (file : Text) × ((rows : List Row) × (fault_of program words ≡ []) × (subcommand_of program words ≡ Some (listing, rows))
+    × (first_of input rows ≡ Some file) × (first_value (found_of given) input ≡ Some file)
+    × ((id : Text) → first_value (found_of given) id ≡ first_of id rows))
+
 -- a parse that succeeds has a command and what it reads, and the words spell them
-pub has_command : (app : App) (words : List Text) (m given : ArgMatches) (name : Text) → app ≡ program
+has_command : (app : App) (words : List Text) (m given : ArgMatches) (name : Text) → app ≡ program
     → (is_simple_and_free app ≡ true → fault_of app words ≡ []) → HasMatchesOf app words m
     → Some name ≡ subcommand_name_of m → Some (rows_of (found_of given)) ≡ option_map (λ p. p.1) (subcommand_rows_of m)
-    → MatchesOne words name given ⊎ MatchesOrder words name given
+    → MatchesOne words name given ⊎ MatchesWide words name given
 unfolding clap_on_literals
 has_command app words m given name is faults matches named rows =
     let free : is_simple_and_free app ≡ true = ap is_simple_and_free is in
@@ -513,30 +588,23 @@ has_command app words m given name is faults matches named rows =
           let at = thing_at (subcommand_rows_of m) name (word_of r.0) r.1.0 (rows_of (found_of given)) (named ∙ name_in_rows m) rows read in
           inl (r.0, (r.1.0, r.1.1, at.0, first_value-rows (found_of given) input ∙ at.1))
       | inr o ↦
-          let spelled = o.1.1 in
-          let read : Some (name, rows_of (found_of given)) ≡ Some (ordering, spelled.0) =
-          sym (rows_read (subcommand_rows_of m) name (rows_of (found_of given)) (named ∙ name_in_rows m) rows) ∙ same ∙ spelled.1.0 in
-          let pair : (name, rows_of (found_of given)) ≡ (ordering, spelled.0) = some_same read in
-          let these = ap (λ (q : Text × List Row). q.1) pair in
-          inr (
-            o.0,
-            (
-              o.1.0,
-              spelled,
-              ap (λ (q : Text × List Row). q.0) pair,
-              first_value-rows (found_of given) input ∙ ap (first_of input) these ∙ spelled.1.1,
-              first_value-rows (found_of given) path ∙ ap (first_of path) these ∙ spelled.1.2,
-            ),
-          )
+          let read : Some (name, rows_of (found_of given)) ≡ Some (wide_word o.0, o.1.0) =
+          sym (rows_read (subcommand_rows_of m) name (rows_of (found_of given)) (named ∙ name_in_rows m) rows) ∙ same ∙ o.1.1 in
+          let pair : (name, rows_of (found_of given)) ≡ (wide_word o.0, o.1.0) = some_same read in
+          inr (o.0, (o.1.0, fault, o.1.1, o.1.2, ap (λ (q : Text × List Row). q.0) pair, ap (λ (q : Text × List Row). q.1) pair))
     ]
 
--- where it isn't `order`
+other_wide : {X : Type 0} (o : Wide) (name : Text) → name ≡ wide_word o → (name ≡ ordering → ⊥) → (name ≡ listing → ⊥) → X
+other_wide of_order name is no_order no_records = absurd (no_order is)
+other_wide of_records name is no_order no_records = absurd (no_records is)
+
+-- where it is neither `order` nor `records`
 pub has_thing : (app : App) (words : List Text) (m given : ArgMatches) (name : Text) → app ≡ program
     → (is_simple_and_free app ≡ true → fault_of app words ≡ []) → HasMatchesOf app words m
     → Some name ≡ subcommand_name_of m → Some (rows_of (found_of given)) ≡ option_map (λ p. p.1) (subcommand_rows_of m)
-    → (name ≡ ordering → ⊥) → MatchesOne words name given
-has_thing app words m given name is faults matches named rows other =
-    elim (has_command app words m given name is faults matches named rows) [ inl r ↦ r | inr o ↦ absurd (other o.1.2) ]
+    → (name ≡ ordering → ⊥) → (name ≡ listing → ⊥) → MatchesOne words name given
+has_thing app words m given name is faults matches named rows no_order no_records =
+    elim (has_command app words m given name is faults matches named rows) [ inl r ↦ r | inr o ↦ other_wide o.0 name o.1.4 no_order no_records ]
 
 -- their names differ in the first letter
 not_order : (r : Reader) → word_of r ≡ ordering → ⊥
@@ -544,13 +612,53 @@ not_order of_vat e = let differs : 118 ≡ 111 = ap (λ (t : Text). slice_index 
 not_order of_frame e = let differs : 102 ≡ 111 = ap (λ (t : Text). slice_index t 0) e in absurd (omega (arith, differs))
 not_order of_frames e = let differs : 102 ≡ 111 = ap (λ (t : Text). slice_index t 0) e in absurd (omega (arith, differs))
 
+not_records : (r : Reader) → word_of r ≡ listing → ⊥
+not_records of_vat e = let differs : 118 ≡ 114 = ap (λ (t : Text). slice_index t 0) e in absurd (omega (arith, differs))
+not_records of_frame e = let differs : 102 ≡ 114 = ap (λ (t : Text). slice_index t 0) e in absurd (omega (arith, differs))
+not_records of_frames e = let differs : 102 ≡ 114 = ap (λ (t : Text). slice_index t 0) e in absurd (omega (arith, differs))
+
+records_differ : ordering ≡ listing → ⊥
+records_differ e = let differs : 111 ≡ 114 = ap (λ (t : Text). slice_index t 0) e in absurd (omega (arith, differs))
+
+as_order : (o : Wide) (words : List Text) (name : Text) (given : ArgMatches) → name ≡ ordering → MatchesBy o words name given → MatchesOrder words name given
+as_order of_order words name given this m =
+    let these = m.5 in (
+      m.3.0,
+      (
+        m.3.1.0,
+        (m.0, (m.2, m.3.1.1, m.3.1.2)),
+        m.4,
+        first_value-rows (found_of given) input ∙ ap (first_of input) these ∙ m.3.1.1,
+        first_value-rows (found_of given) path ∙ ap (first_of path) these ∙ m.3.1.2,
+      ),
+    )
+as_order of_records words name given this m = absurd (records_differ (sym this ∙ m.4))
+
+as_records : (o : Wide) (words : List Text) (name : Text) (given : ArgMatches) → name ≡ listing → MatchesBy o words name given → MatchesRecords words name given
+as_records of_order words name given this m = absurd (records_differ (sym m.4 ∙ this))
+as_records of_records words name given this m =
+    let these = m.5 in
+    let each : (id : Text) → first_value (found_of given) id ≡ first_of id m.0 = λ id. first_value-rows (found_of given) id ∙ ap (first_of id) these in
+    (m.3.0, (m.0, m.1, m.2, m.3.1, each input ∙ m.3.1, each))
+
 -- where it is
 pub has_order : (app : App) (words : List Text) (m given : ArgMatches) (name : Text) → app ≡ program
     → (is_simple_and_free app ≡ true → fault_of app words ≡ []) → HasMatchesOf app words m
     → Some name ≡ subcommand_name_of m → Some (rows_of (found_of given)) ≡ option_map (λ p. p.1) (subcommand_rows_of m)
     → name ≡ ordering → MatchesOrder words name given
 has_order app words m given name is faults matches named rows this =
-    elim (has_command app words m given name is faults matches named rows) [ inl r ↦ absurd (not_order r.0 (sym r.1.2 ∙ this)) | inr o ↦ o ]
+    elim (has_command app words m given name is faults matches named rows) [ inl r ↦ absurd (not_order r.0 (sym r.1.2 ∙ this)) | inr o ↦ as_order o.0 words name given this o.1 ]
+
+pub has_records : (app : App) (words : List Text) (m given : ArgMatches) (name : Text) → app ≡ program
+    → (is_simple_and_free app ≡ true → fault_of app words ≡ []) → HasMatchesOf app words m
+    → Some name ≡ subcommand_name_of m → Some (rows_of (found_of given)) ≡ option_map (λ p. p.1) (subcommand_rows_of m)
+    → name ≡ listing → MatchesRecords words name given
+has_records app words m given name is faults matches named rows this =
+    elim (has_command app words m given name is faults matches named rows) [ inl r ↦ absurd (not_records r.0 (sym r.1.2 ∙ this)) | inr o ↦ as_records o.0 words name given this o.1 ]
+
+wide_input : (o : Wide) (words : List Text) (name : Text) (given : ArgMatches) → MatchesBy o words name given → (file : Text) × (first_value (found_of given) input ≡ Some file)
+wide_input of_order words name given m = (m.3.0, first_value-rows (found_of given) input ∙ ap (first_of input) m.5 ∙ m.3.1.1)
+wide_input of_records words name given m = (m.3.0, first_value-rows (found_of given) input ∙ ap (first_of input) m.5 ∙ m.3.1)
 
 -- in either case the one thing is there
 pub has_input : (app : App) (words : List Text) (m given : ArgMatches) (name : Text) → app ≡ program
@@ -558,7 +666,7 @@ pub has_input : (app : App) (words : List Text) (m given : ArgMatches) (name : T
     → Some name ≡ subcommand_name_of m → Some (rows_of (found_of given)) ≡ option_map (λ p. p.1) (subcommand_rows_of m)
     → (file : Text) × (first_value (found_of given) input ≡ Some file)
 has_input app words m given name is faults matches named rows =
-    elim (has_command app words m given name is faults matches named rows) [ inl r ↦ (r.1.0, r.1.3) | inr o ↦ (o.0, o.1.3) ]
+    elim (has_command app words m given name is faults matches named rows) [ inl r ↦ (r.1.0, r.1.3) | inr o ↦ wide_input o.0 words name given o.1 ]
 
 -- and only want of memory fails where clap finds no fault in the words
 pub fails_by_memory : (app : App) (words others : List Text) (e : Error) → app ≡ program

@@ -2,6 +2,7 @@
 use Rattle.std.specs.Prelude.{ℕ, List, Some, codes, true}
 use Rattle.clap.specs.Words.{App, Rule, new_app, new_rule, with_rule, with_subcommand}
 use Rattle.clap.specs.Simple.{on_top}
+use Rattle.clap.specs.declared.builder.value_parser.ValueParser.TheVariants as parser
 
 -- by what clap knows the one thing that a command reads
 abbrev pub input : List ℕ
@@ -26,6 +27,21 @@ path_rule = record (new_rule path) { long = Some (codes "out"); value_names = 1;
 abbrev pub order : App
 order = with_rule (with_rule (new_app (codes "order")) input_rule) path_rule
 
+-- by what clap knows the options of `records`, which are given as `--from I` and `--count N`
+abbrev pub start : List ℕ
+start = codes "from"
+
+abbrev pub count : List ℕ
+count = codes "count"
+
+-- an option whose value is a number of 64 bits
+abbrev pub number_rule : List ℕ → Rule
+number_rule name = record (new_rule name) { long = Some name; value_names = 1; parser = Some (parser.Unsigned 0 18446744073709551615) }
+
+-- `records FILE`, with `--from I` and `--count N` if wanted
+abbrev pub records : App
+records = with_rule (with_rule (with_rule (new_app (codes "records")) input_rule) (number_rule start)) (number_rule count)
+
 -- the program, of which a command has to be given
 abbrev pub top : App
 top = on_top (λ s. record s { subcommand_required = true; arg_required_else_help = true }) (new_app (codes "vataudit"))
@@ -33,5 +49,5 @@ top = on_top (λ s. record s { subcommand_required = true; arg_required_else_hel
 -- the program with its commands
 abbrev pub program : App
 program =
-    with_subcommand (with_subcommand (with_subcommand (with_subcommand top (reader (codes "vat")).top) (reader (codes "frame")).top) (reader (codes "frames")).top)
-    order.top
+    with_subcommand (with_subcommand (with_subcommand (with_subcommand (with_subcommand top (reader (codes "vat")).top) (reader (codes "frame")).top)
+    (reader (codes "frames")).top) order.top) records.top

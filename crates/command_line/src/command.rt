@@ -1,13 +1,13 @@
 //! Commands, and the words that spell them.
 
 ghost use Rattle.std.specs.Prelude.{◌≡◌, ℕ, List, [], ◌∷◌, codes, IfOk, IfErr, map, option_map, false};
-ghost use Rattle.clap.specs.Words.{app_of, kind_of, with_subcommand};
-ghost use Rattle.command_line.specs.Parser.{order, program, reader};
-ghost use Rattle.command_line.specs.Spelled.{IsReader, Spells, is_flag, out_of};
+ghost use Rattle.clap.specs.Words.{app_of, first_value, found_of, kind_of, rule_of, with_subcommand};
+ghost use Rattle.command_line.specs.Parser.{input_rule, number_rule, order, program, reader, records};
+ghost use Rattle.command_line.specs.Spelled.{IsNumber, IsReader, Spells, is_flag, out_of};
 
 use crate::help;
 use clap::error::ErrorKind;
-use clap::{Arg, Error};
+use clap::{Arg, ArgMatches, Error};
 use std::alloc::{AllocError, Global};
 use std::convert::AsStr;
 
@@ -17,17 +17,39 @@ const INPUT: &str = "input";
 /// By what `clap` knows the file that is written.
 const OUT: &str = "out";
 
+/// By what `clap` knows the number of the first record.
+const FROM: &str = "from";
+
+/// By what `clap` knows how many records are wanted.
+const COUNT: &str = "count";
+
 /// What the program is asked to do.
 #[derive(Clone, Copy, Debug, PartialEq, Eq)]
 pub enum Command<'a> {
     /// Audit one vat's log, which the source has under this name.
-    Vat { file: &'a str },
+    Vat {
+        file: &'a str,
+    },
     /// Print the message of a frame, which is given in hexadecimal.
-    Frame { hex: &'a str },
+    Frame {
+        hex: &'a str,
+    },
     /// Print the messages of a file of frames, one after another, which the source has under this name.
-    Frames { file: &'a str },
+    Frames {
+        file: &'a str,
+    },
     /// Make the order of the case that the source has under this name, and write it to a file.
-    Order { case: &'a str, out: &'a str },
+    Order {
+        case: &'a str,
+        out: &'a str,
+    },
+    /// Print the records of the log that the source has under this name: from this one on, counted from 0, or from the
+    /// first; and as many, or all.
+    Records {
+        file: &'a str,
+        from: Option<u64>,
+        count: Option<u64>,
+    },
 }
 
 impl<'a> Command<'a> {
@@ -38,6 +60,7 @@ impl<'a> Command<'a> {
         match self {
             Command::Order { out, .. } => Some(out),
             Command::Vat { .. } | Command::Frame { .. } | Command::Frames { .. } => None,
+            Command::Records { .. } => None,
         }
     }
 }
@@ -148,6 +171,52 @@ fn with_order<'a>(
     program.subcommand(order)
 }
 
+/// An option whose value is a number of 64 bits.
+fn number_option<'a>(alloc: Global, name: &'a str, thing: &'a str, help: &'a str) -> Arg<'a>
+    ensures rule { rule_of result ≡ number_rule name.entry.now }
+    ensures local { result.global ≡ false }
+{
+    Arg::new(alloc, name)
+        .long(name)
+        .value_name(thing)
+        .value_parser(clap::value_parser!(u64))
+        .help(help)
+}
+
+/// A log that has to be given.
+fn log_argument<'a>(alloc: Global) -> Arg<'a>
+    ensures rule { rule_of result ≡ input_rule }
+    ensures local { result.global ≡ false }
+{
+    Arg::new(alloc, INPUT)
+        .value_name("FILE")
+        .required(true)
+        .help(help::FILE)
+}
+
+/// The program with its command `records FILE`, which has the options `--from I` and `--count N`.
+///
+/// # Errors
+///
+/// Want of memory.
+fn with_records<'a>(
+    alloc: Global,
+    program: clap::Command<'a>,
+) -> Result<clap::Command<'a>, AllocError>
+    ensures { IfOk result (λ c. app_of c ≡ with_subcommand (app_of program.entry) records.top) }
+{
+    let from = number_option(alloc, FROM, "I", help::FROM);
+    let count = number_option(alloc, COUNT, "N", help::COUNT);
+    let records = clap::Command::new(alloc, "records")
+        .about(help::RECORDS)
+        .long_about(help::RECORDS_LONG)
+        .after_help(help::RECORDS_END)
+        .arg(log_argument(alloc))?
+        .arg(from)?
+        .arg(count)?;
+    program.subcommand(records)
+}
+
 /// The program's command line, with its help.
 ///
 /// # Errors
@@ -161,12 +230,23 @@ fn parser<'a>(alloc: Global) -> Result<clap::Command<'a>, AllocError>
         .after_help(help::PROGRAM_END)
         .subcommand_required(true)
         .arg_required_else_help(true);
-    with_order(alloc, with_readers(alloc, top)?)
+    with_records(alloc, with_order(alloc, with_readers(alloc, top)?)?)
+}
+
+/// The number that was given under a name, if one was.
+fn number_of(given: &ArgMatches<'_>, name: &str) -> Option<u64>
+    ensures { IsNumber (first_value (found_of given.now) name.now) result }
+{
+    match given.get_str(name) {
+        Some(text) => text.parse::<u64>().ok(),
+        None => None,
+    }
 }
 
 /// The command that the words spell, of which the first is the program's name: `vat FILE`, `frame HEX` or `frames
 /// FILE`, where before or after the last of these may stand `--`, and it may begin with a hyphen only after that or
-/// where it is `-`; or `order CASE --out FILE`, as `clap` reads it.
+/// where it is `-`; or `order CASE --out FILE`, or `records FILE` with `--from I` and `--count N` if wanted, as `clap`
+/// reads them.
 ///
 /// # Errors
 ///
@@ -179,6 +259,8 @@ pub fn command_of<'a, S: AsStr>(alloc: Global, words: &'a [S]) -> Result<Command
         → IfErr result (λ e. kind_of e ≡ ErrorKind.OutOfMemory) }
     ensures taken_order { (first case out : List ℕ) → map S.text words.entry.now ≡ first ∷ codes "order" ∷ case ∷ codes "--out" ∷ out ∷ []
         → is_flag case ≡ false → is_flag out ≡ false → IfErr result (λ e. kind_of e ≡ ErrorKind.OutOfMemory) }
+    ensures taken_records { (first file : List ℕ) → map S.text words.entry.now ≡ first ∷ codes "records" ∷ file ∷ []
+        → is_flag file ≡ false → IfErr result (λ e. kind_of e ≡ ErrorKind.OutOfMemory) }
 {
     let matches = parser(alloc)?.try_get_matches_from(words)?;
     let Some((name, given)) = matches.subcommand() else {
@@ -192,6 +274,13 @@ pub fn command_of<'a, S: AsStr>(alloc: Global, words: &'a [S]) -> Result<Command
             unreachable!()
         };
         return Ok(Command::Order { case: input, out });
+    }
+    if name == "records" {
+        return Ok(Command::Records {
+            file: input,
+            from: number_of(given, FROM),
+            count: number_of(given, COUNT),
+        });
     }
     if name == "vat" {
         Ok(Command::Vat { file: input })

@@ -16,7 +16,7 @@ Examples:
   abort
 
 Exit status:
-  0  good, the message, or an order
+  0  good, the message, an order, or the records
   1  no
   2  outside of what is judged, bad input, a failed write, or a wrong command line
   3  memory ran out";
@@ -176,6 +176,54 @@ Exit status:
   2  the case or a file of it is bad or can't be read, a write failed, or the
      command line is wrong
   3  memory ran out";
+
+/// `records`, in the list of commands.
+pub const RECORDS: &str = "Prints the records of a log";
+
+pub const RECORDS_LONG: &str = "\
+Reads the log of one vat, in the format VATLOG01, and prints a line for each
+record, in order, with its number, counted from 0:
+
+  I host reference R object O
+  I vow reference R
+  I fulfil reference R to R
+  I break reference R
+  I make call C reference R interface H method M
+  I field reference R call C path PATH
+  I deliver call C object O
+  I answer call C results [PATH=R;PATH=R]
+  I fault call C
+  I send connection N [call C] [references [R,R]] MESSAGE
+  I receive connection N [call C] [references [R,R]] MESSAGE
+
+MESSAGE is the line that frame prints of the record's frame, also where it can't
+be read (vataudit frame --help has the lines). A call of 0 and a list of no
+references are left out. A file that is no log, or can't be read, has one line:
+
+  bad log NAME [OFFSET]   as vat prints it
+  cannot read
+
+and where memory runs out, the last line is
+
+  out of memory";
+
+pub const RECORDS_END: &str = "\
+Example:
+  $ vataudit records samples/pipelined_call.vat2.log --from 3 --count 2
+  3 answer call 1 results [[]=1]
+  4 deliver call 2 object 7
+
+Exit status:
+  0  the records are printed, whatever their frames are
+  2  the log is bad or can't be read, a line can't be written, or the command
+     line is wrong
+  3  memory ran out";
+
+/// I of `records`.
+pub const FROM: &str = "The first record that is printed, counted from 0";
+
+/// N of `records`.
+pub const COUNT: &str = "How many records are printed at most";
 
 /// CASE of `order`.
 pub const CASE: &str = "The case, a path from the working directory; - is standard input";

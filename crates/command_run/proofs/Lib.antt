@@ -1,3 +1,4 @@
 mod Falling
+mod Listing
 mod Mapped
 mod Told

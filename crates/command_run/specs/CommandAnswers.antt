@@ -1,5 +1,6 @@
 -- The lines and the exit status that answer a command, where memory may run out.
 use Rattle.std.specs.Prelude.{◌≡◌, ◌≢◌, ◌⊎◌, ℕ, List, [], ◌++◌, Option, None, Result, Ok, Err}
+use Rattle.vat_log.specs.Reading.{log_of}
 use Rattle.case_files.specs.CaseReading.{ComesOfCase, Read, Reads}
 use Rattle.case_files.specs.declared.case_fault.CaseFault.{CaseFault}
 use Rattle.case_files.specs.declared.case_reading.ReadCase.{ReadCase}
@@ -10,6 +11,7 @@ use Rattle.report_lines.specs.Lines.{Says}
 use Rattle.command_run.specs.Answers.{AnswersHex, AnswersLog}
 use Rattle.command_run.specs.OrderAnswers.{AnswersCase}
 use Rattle.command_run.specs.Pieces.{AnswersFrames, Falls, lines}
+use Rattle.command_run.specs.RecordAnswers.{AnswersRecords}
 
 -- the line and the status for want of memory
 abbrev pub IsOutOfMemory : List ℕ → ℕ → Type 0
@@ -38,6 +40,11 @@ AnswersBytes bytes text status = AnswersFrames bytes text status ⊎ StopsShort 
 abbrev pub AnswersFile : Read → List ℕ → ℕ → Type 0
 AnswersFile (Ok bytes) text status = AnswersBytes bytes text status
 AnswersFile (Err fault) text status = Says (Fault (of_source fault)) text status
+
+-- lines and a status answer what a source gave as a log whose records are asked for, from this one on and as many
+abbrev pub AnswersLogRecords : Option ℕ → Option ℕ → Read → List ℕ → ℕ → Type 0
+AnswersLogRecords first many (Ok bytes) text status = AnswersRecords first many (log_of bytes) text status
+AnswersLogRecords first many (Err fault) text status = Says (Fault (of_source fault)) text status
 
 -- a line, a status and the bytes for the file answer the case that a source has under a name, or memory ran out
 abbrev pub AnswersOrder : {S : Type 0} → Reads S → S → List ℕ → List ℕ → ℕ → Option (List ℕ) → S → Type 0

@@ -1,10 +1,18 @@
 -- This file serves the contracts of private functions alone, and is no part of the meaning.
-use Rattle.std.specs.Prelude.{ℕ, List, Result, Ok, Err}
+use Rattle.std.specs.Prelude.{◌≡◌, ◌⊎◌, ℕ, ◌-◌, List, length, take, drop, Option, Result, Ok, Err}
 use Rattle.report_lines.specs.declared.answer.Answer.{Answer}
 use Rattle.report_lines.specs.declared.answer.Answer.TheVariants.{Finding}
 use Rattle.report_lines.specs.declared.answer.Answer.TheVariants as answer
 use Rattle.report_lines.specs.declared.fault.Fault.{Fault}
+use Rattle.report_lines.specs.declared.fault.Fault.TheVariants.{OutOfMemory}
+use Rattle.report_lines.specs.Faults.{of_log, of_source}
+use Rattle.case_files.specs.CaseReading.{Read}
+use Rattle.vat_log.specs.declared.body.Body.{Body}
+use Rattle.vat_log.specs.declared.error.LogError.{LogError}
+use Rattle.vat_log.specs.Log.{Log}
+use Rattle.vat_log.specs.Reading.{log_of}
 use Rattle.vat_rules.specs.declared.finding.VatFinding.{VatFinding}
+use Rattle.command_run.specs.RecordAnswers.{first_ones}
 use Rattle.command_run.specs.Runs.{Writing}
 
 -- a finding, or why there is none, as an answer
@@ -12,7 +20,18 @@ abbrev pub answer_of : Result VatFinding Fault → Answer
 answer_of (Ok found) = Finding found
 answer_of (Err fault) = answer.Fault fault
 
+-- what came of a log that was read: it, or its fault, or memory ran out
+abbrev pub CameOf : Read → Result Log Fault → Type 0
+CameOf (Ok bytes) (Ok log) = log_of bytes ≡ Ok log
+CameOf (Ok bytes) (Err fault) = (fault ≡ OutOfMemory) ⊎ ((found : LogError) × (log_of bytes ≡ Err found) × (fault ≡ of_log found))
+CameOf (Err found) (Ok log) = ⊥
+CameOf (Err found) (Err fault) = fault ≡ of_source found
+
 -- An answer's lines were written whole, and its status is the run's; or there is an answer, and a write failed.
 abbrev pub Prints : {W E : Type 0} → (List ℕ → ℕ → Type 0) → Writing W → W → W → Result ℕ E → Type 0
 Prints answers wrote old new (Ok status) = (text : List ℕ) × answers text status × wrote old text new
 Prints answers wrote old new (Err fault) = (text : List ℕ) × ((status : ℕ) × answers text status)
+
+-- of so many records, those from the first one on up to an end are those that are asked for
+abbrev pub Ends : ℕ → Option ℕ → ℕ → ℕ → Type 0
+Ends first many count end = (events : List Body) → length events ≡ count → take (end - first) (drop first events) ≡ first_ones many (drop first events)

@@ -3,4 +3,5 @@ pub mod CommandAnswers
 pub mod Glue
 pub mod OrderAnswers
 pub mod Pieces
+pub mod RecordAnswers
 pub mod Runs

@@ -1,10 +1,10 @@
 //! The answer to a frame.
 
-ghost use Rattle.std.specs.Prelude.{IfOk};
+ghost use Rattle.std.specs.Prelude.{◌≡◌, IfOk};
 ghost use Rattle.cap_reader.specs.Defaults.{default_limits};
 ghost use Rattle.rpc_view.specs.Message.{message_of_bytes};
 ghost use Rattle.report_lines.specs.Lines.{answer_status, answer_text, line};
-ghost use Rattle.command_run.specs.Answers.{AnswersHex, AnswersView};
+ghost use Rattle.command_run.specs.Answers.{AnswersHex, AnswersView, view_answer};
 ghost use Rattle.command_run.specs.CommandAnswers.{AnswersFrame};
 ghost use Rattle.command_run.specs.Glue.{Prints};
 ghost use Rattle.command_run.specs.Runs.{Wrote};
@@ -23,7 +23,8 @@ use std::alloc::{AllocError, Global};
 ///
 /// Want of memory.
 pub fn answer_of_bytes(alloc: Global, bytes: Bytes) -> Result<Answer, AllocError>
-    ensures { IfOk result (λ answer. AnswersView (message_of_bytes bytes default_limits) (line (answer_text answer)) (answer_status answer)) }
+    ensures view { IfOk result (λ answer. AnswersView (message_of_bytes bytes default_limits) (line (answer_text answer)) (answer_status answer)) }
+    ensures answer { IfOk result (λ answer. answer ≡ view_answer (message_of_bytes bytes default_limits)) }
 {
     match read_bytes(alloc, bytes, Limits::default()) {
         Ok(message) => Ok(Answer::Message(message)),

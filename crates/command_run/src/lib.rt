@@ -4,7 +4,7 @@
 //! that read logs, frames and cases; `report_lines` shows what it answers. It opens no file: a source gives bytes by
 //! name, and an [`Output`] takes lines and bytes. The answer of each command stands in `specs/CommandAnswers.antt`,
 //! over that of a log and of a frame (`specs/Answers.antt`), of a file of frames (`specs/Pieces.antt`) and of a case
-//! (`specs/OrderAnswers.antt`); what a run asks for and writes in `specs/Runs.antt`. [`answer_command`] does just
+//! (`specs/OrderAnswers.antt`) and of the records of a log (`specs/RecordAnswers.antt`); what a run asks for and writes in `specs/Runs.antt`. [`answer_command`] does just
 //! that, or answers the error of a write; [`run_on`] does it over std's writers and ends with 2 where a write failed.
 #![tactic(auto)]
 
@@ -13,6 +13,7 @@ mod frames;
 mod order;
 mod output;
 mod piece;
+mod records;
 mod run;
 mod say;
 mod vat;

@@ -7,6 +7,7 @@ use crate::frame::say_frame;
 use crate::frames::say_frames;
 use crate::order::say_order;
 use crate::output::{Failed, Output};
+use crate::records::say_records;
 use crate::vat::say_vat;
 use case_files::Source;
 use command_line::Command;
@@ -17,7 +18,7 @@ use std::io::Write;
 pub const FAILED: u8 = 2;
 
 /// Runs a command: writes its line, or its lines, to `out`, and answers the exit status. It is 0 where the log is
-/// good, the message of each frame is said or an order is made, 1 where a record breaks a rule or no order exists, 2
+/// good, the message of each frame is said, the records are or an order is made, 1 where a record breaks a rule or no order exists, 2
 /// where a record isn't judged, a message isn't read, or the input is bad or can't be read, and 3 where memory ran
 /// out. To `file` go the bytes of an order alone, before the line.
 ///
@@ -39,6 +40,11 @@ pub fn answer_command<S: Source, O: Output, F: Output>(
         Command::Vat { file: name } => say_vat(alloc, name, source, out),
         Command::Frame { hex } => say_frame(alloc, hex, out),
         Command::Frames { file: name } => say_frames(alloc, name, source, out),
+        Command::Records {
+            file: name,
+            from,
+            count,
+        } => say_records(alloc, name, *from, *count, source, out),
         Command::Order { case, .. } => return say_order(alloc, case, source, out, file),
     };
     match said {

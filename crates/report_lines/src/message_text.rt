@@ -133,7 +133,7 @@ fn loopback_text(loopback: Loopback) -> &'static str
 
 /// The id of an interface, in sixteen hexadecimal digits.
 #[derive(Clone, Copy)]
-struct Interface(u64);
+pub struct Interface(pub u64);
 
 impl Display for Interface {
     ghost output = { λ interface. Some (hexadecimal interface.0) };

@@ -1,6 +1,6 @@
 //! Descriptors of capabilities, and tables of them.
 
-ghost use Rattle.std.specs.Prelude.{◌<◌};
+ghost use Rattle.std.specs.Prelude.{◌≡◌, ◌<◌, ◌++◌, ◌∷◌, [], OnOk};
 ghost use Rattle.cap_reader.specs.Places.{elements_at, list_len};
 ghost use Rattle.rpc_view.specs.Reading.{run};
 ghost use Rattle.rpc_view.specs.Glue.{RunsInMemory, sections_of, elements_of};
@@ -13,7 +13,7 @@ use crate::structs::{element_in, struct_in, u16_of, u32_of};
 use crate::view_error::{Outside, ViewError};
 use cap_frame::Frame;
 use cap_reader::{Limits, ListAt, StructAt};
-use std::alloc::Global;
+use std::alloc::{AllocError, Global};
 
 /// What a descriptor says.
 #[tactic(auto, using(crate::proofs::Running::run_then), unfolding(crate::specs::Message::described_in, cap_reader::specs::Reading::pay_for, cap_reader::specs::Reading::and_then))]
@@ -71,6 +71,18 @@ fn entry(
     described(alloc, frame, &descriptor, limits)
 }
 
+/// Puts a descriptor behind those read. Room is made for one, and then for as many again as there are: most tables have
+/// one, and what a frame claims to have is no reason to make room.
+fn put(items: &mut Vec<Descriptor>, descriptor: Descriptor) -> Result<(), AllocError>
+    ensures { OnOk result (items.new.items ≡ items.old.items ++ descriptor ∷ []) }
+{
+    if items.len() == items.capacity() {
+        items.reserve_exact(items.len().max(1))?;
+    }
+    items.push(descriptor)?;
+    Ok(())
+}
+
 /// The descriptors of a table, one after another, each with what it holds.
 #[tactic(auto, using(crate::proofs::Loops::no_front), unfolding(crate::specs::Message::descriptors_in))]
 fn entries(
@@ -83,7 +95,7 @@ fn entries(
 {
     let mut items = Vec::new(alloc);
     for i in 0..table.len() {
-        items.push(entry(alloc, frame, table, i, limits)?)?;
+        put(&mut items, entry(alloc, frame, table, i, limits)?)?;
     }
     Ok(Descriptors::new(items))
 }

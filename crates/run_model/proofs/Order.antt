@@ -24,7 +24,7 @@ or_either : (a b : Bool) → (a || b) ≡ true → (a ≡ true) ⊎ (b ≡ true)
 or_either true b e = inl refl
 or_either false b e = inr e
 
-overtaken : (whole : Past) (c d : Name) (later : List Step) → is_made_before d c whole ≡ true → list_any (delivers d) later ≡ true → list_any (overtakes whole c) later ≡ true
+pub overtaken : (whole : Past) (c d : Name) (later : List Step) → is_made_before d c whole ≡ true → list_any (delivers d) later ≡ true → list_any (overtakes whole c) later ≡ true
 overtaken whole c d [] made e = absurd (false≢true e)
 overtaken whole c d (t ∷ later) made e = elim (or_either (delivers d t) (list_any (delivers d) later) e) [
   | inl here ↦ or_left _ _ (overtaken_at whole c d t made here)
@@ -71,7 +71,7 @@ overtaker_at whole c (Deliver w n o) e = (n, e, same_to_itself n)
 overtaker_at whole c (Host w o) e = absurd (false≢true e)
 overtaker_at whole c _ e = absurd (false≢true e)
 
-overtaker : (whole : Past) (c : Name) (later : List Step) → list_any (overtakes whole c) later ≡ true → (d : Name) × (is_made_before d c whole ≡ true) × (list_any (delivers d) later ≡ true)
+pub overtaker : (whole : Past) (c : Name) (later : List Step) → list_any (overtakes whole c) later ≡ true → (d : Name) × (is_made_before d c whole ≡ true) × (list_any (delivers d) later ≡ true)
 overtaker whole c [] e = absurd (false≢true e)
 overtaker whole c (t ∷ later) e = elim (or_either (overtakes whole c t) (list_any (overtakes whole c) later) e) [
   | inl here ↦ let r = overtaker_at whole c t here in (r.0, r.1, or_left _ _ r.2)

@@ -9,3 +9,4 @@ pub mod UnderWay
 pub mod Right
 pub mod Early
 pub mod Edges
+pub mod Reordered

@@ -1,18 +1,19 @@
 //! Laws of runs, which hold of every run and not of one call. Each speaks of the steps before a point, the newest first.
 
-ghost use Rattle.std.specs.Prelude.{◌≡◌, ◌≢◌, ◌↔◌, ◌≤◌, ◌++◌, ◌∷◌, [], ◌⊎◌, ℕ, List, Some, None, IsTrue, IsFalse, IsSome, IsSomeAnd};
+ghost use Rattle.std.specs.Prelude.{◌≡◌, ◌≢◌, ◌↔◌, ◌≤◌, ◌++◌, ◌∷◌, [], ◌⊎◌, ℕ, List, Option, Some, None, IsTrue, IsFalse, IsSome, IsSomeAnd};
 ghost use Rattle.std.specs.List.{list_any, AllByRecursion};
 ghost use Rattle.run_model.specs.Types.{Name, Cap, Object, FieldOf, Message, Boot, Call, Return, Resolve, Step, Send, Receive};
 ghost use Rattle.run_model.specs.Steps.{Past, OneOf, Each, last_answer, count};
 ghost use Rattle.run_model.specs.Leads.{Turns, Leads, LeadsByTurns};
 ghost use Rattle.run_model.specs.Has.{Brings, Has};
 ghost use Rattle.run_model.specs.Places.{Asked, at_vat};
-ghost use Rattle.run_model.specs.Legal.{IsLegal, begins, ends, answers, arrives, settles, delivers};
-ghost use Rattle.run_model.specs.Links.{IsLinked};
+ghost use Rattle.run_model.specs.Legal.{IsLegal, IsLegalRun, begins, ends, answers, arrives, settles, delivers};
+ghost use Rattle.run_model.specs.Links.{IsLinked, IsLinkedRun};
 ghost use Rattle.run_model.specs.UnderWay.{IsUnderWay, IsSomewhere};
 ghost use Rattle.run_model.specs.Right.{made, ReachesObject, IsOrdered};
-ghost use Rattle.run_model.specs.Early.{early};
-ghost use Rattle.run_model.specs.Edges.{IsForeign};
+ghost use Rattle.run_model.specs.Early.{early, IsOrderFault};
+ghost use Rattle.run_model.specs.Edges.{IsForeign, Edge, AreEdges};
+ghost use Rattle.run_model.specs.Reordered.{HaveSameSteps, KeepsReferences};
 
 /// Turns only grow: once a cap turns to another, it does so from then on, and what it leads to it leads to from then on,
 /// by 1 or more turns too.
@@ -132,4 +133,22 @@ pub fn calls_reach_their_objects()
 /// A run is ordered exactly where no step of it is early.
 pub fn runs_are_ordered_unless_early()
     ensures { (run : List Step) → (early run ≡ []) ↔ IsOrdered run }
+{}
+
+/// A run has one order fault, or none, and one list of edges.
+pub fn a_run_has_one_fault()
+    ensures fault { (run : List Step) (place other : Option (ℕ × ℕ)) → IsOrderFault run place → IsOrderFault run other → place ≡ other }
+    ensures edges { (run : List Step) (edges others : List Edge) → AreEdges run edges → AreEdges run others → edges ≡ others }
+{}
+
+/// Another order of the same steps breaks the order of calls where this one does: of two runs over links in which each vat
+/// has the same steps, and each reference stands for one cap, the same steps are early (`early`), so the order fault of the
+/// one is that of the other (`fault`). The edges of the one are those of the other, since each is of one vat's steps
+/// (`edges`).
+pub fn orders_break_alike()
+    ensures early { (run other : List Step) → IsLegalRun run → IsLinkedRun run → KeepsReferences run → HaveSameSteps run other → (place : ℕ × ℕ)
+        → OneOf (λ p. p ≡ place) (early run) → OneOf (λ p. p ≡ place) (early other) }
+    ensures fault { (run other : List Step) → IsLegalRun run → IsLinkedRun run → IsLegalRun other → IsLinkedRun other → KeepsReferences run
+        → HaveSameSteps run other → (place : Option (ℕ × ℕ)) → IsOrderFault run place → IsOrderFault other place }
+    ensures edges { (run other : List Step) → HaveSameSteps run other → (edges : List Edge) → AreEdges run edges → AreEdges other edges }
 {}

@@ -6,7 +6,8 @@
 //! the newest first (`specs/Steps.antt`): where capabilities lead (`specs/Leads.antt`), which of them a vat has
 //! (`specs/Has.antt`), where a call is (`specs/Places.antt`), when a step is legal (`specs/Legal.antt`), what links carry
 //! and when a call is under way (`specs/Links.antt`, `specs/UnderWay.antt`), what is promised of a run
-//! (`specs/Right.antt`, `specs/Early.antt`), and which capabilities of others a vat came to have (`specs/Edges.antt`).
+//! (`specs/Right.antt`, `specs/Early.antt`), which capabilities of others a vat came to have (`specs/Edges.antt`), and when
+//! two runs are of the same steps (`specs/Reordered.antt`).
 //! What holds of all runs by these definitions is promised by the functions of `src/laws.rt`, which do nothing.
 #![tactic(auto)]
 
@@ -23,10 +24,11 @@ mod step;
 pub use cap::Cap;
 pub use caps::Caps;
 pub use laws::{
-    a_call_arrives_once, a_call_has_one_place, a_call_is_somewhere, calls_come_from_their_makers,
-    calls_reach_their_objects, leads_are_transitive, objects_stay, runs_are_ordered_unless_early,
-    turns_go_one_way, turns_only_grow, what_comes_once, what_is_foreign_was_brought,
-    what_is_had_stays_had, what_is_received_is_led_to, what_is_received_was_sent,
+    a_call_arrives_once, a_call_has_one_place, a_call_is_somewhere, a_run_has_one_fault,
+    calls_come_from_their_makers, calls_reach_their_objects, leads_are_transitive, objects_stay,
+    orders_break_alike, runs_are_ordered_unless_early, turns_go_one_way, turns_only_grow,
+    what_comes_once, what_is_foreign_was_brought, what_is_had_stays_had,
+    what_is_received_is_led_to, what_is_received_was_sent,
 };
 pub use message::Message;
 pub use name::Name;

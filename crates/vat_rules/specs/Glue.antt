@@ -46,9 +46,13 @@ no_sight = record { references = []; question = None; promise = None; target = N
 abbrev pub sight_of : Kept → Sight
 sight_of kept.Nothing = no_sight
 sight_of (kept.Reference v) = record { references = v ∷ []; question = None; promise = None; target = None; caps = [] }
+sight_of (kept.Both v) = record { references = v ∷ []; question = None; promise = None; target = None; caps = v ∷ [] }
 sight_of (kept.Question v) = record { references = []; question = Some v; promise = None; target = None; caps = [] }
 sight_of (kept.Target v) = record { references = []; question = None; promise = None; target = Some v; caps = [] }
 sight_of (kept.Listed lists) = record { references = lists.value.references; question = None; promise = None; target = None; caps = lists.value.caps }
 sight_of (kept.QuestionWith v lists) = record { references = lists.value.references; question = Some v; promise = None; target = None; caps = lists.value.caps }
+sight_of (kept.QuestionBoth v both) = record { references = both.value ∷ []; question = Some v; promise = None; target = None; caps = both.value ∷ [] }
+sight_of (kept.PromiseBoth v both) = record { references = both.value ∷ []; question = None; promise = Some v; target = None; caps = both.value ∷ [] }
+sight_of (kept.TargetBoth v both) = record { references = both.value ∷ []; question = None; promise = None; target = Some v; caps = both.value ∷ [] }
 sight_of (kept.TargetWith v lists) = record { references = lists.value.references; question = None; promise = None; target = Some v; caps = lists.value.caps }
 sight_of (kept.Several parts) = sight_with parts.value.references parts.value.standing

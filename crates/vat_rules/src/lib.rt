@@ -8,6 +8,7 @@
 //! answers just that.
 #![tactic(auto)]
 
+mod alike;
 mod audit;
 mod finding;
 mod judge;

@@ -4,6 +4,7 @@ ghost use Rattle.std.specs.Prelude.{◌≡◌, ◌↔◌, ◌∷◌, [], IsTrue,
 ghost use Rattle.std.specs.Option.{option_copied};
 ghost use Rattle.vat_rules.specs.Glue.{entries_with, sight_of, sight_with};
 
+use crate::alike::are_one;
 use crate::standing::Standing;
 use std::alloc::{AllocError, Global};
 use std::marker::Model;
@@ -76,13 +77,16 @@ struct Parts {
     standing: Standing,
 }
 
-/// What the numbers of a record stand for, kept in little room: most records have one number at most.
+/// What the numbers of a record stand for, kept in little room: most records have one number at most, or a reference and
+/// a descriptor that stand for the same.
 #[derive(Debug, Drop)]
 enum Kept {
     /// It has none.
     Nothing,
     /// One reference alone.
     Reference(Option<View>),
+    /// One reference and one descriptor, which stand for the same.
+    Both(Option<View>),
     /// A question alone.
     Question(View),
     /// A target alone.
@@ -91,6 +95,12 @@ enum Kept {
     Listed(Box<Lists>),
     /// A question, with references and descriptors.
     QuestionWith(View, Box<Lists>),
+    /// A question, with one reference and one descriptor, which stand for the same.
+    QuestionBoth(View, Box<Option<View>>),
+    /// A promise, with one reference and one descriptor, which stand for the same.
+    PromiseBoth(View, Box<Option<View>>),
+    /// A target, with one reference and one descriptor, which stand for the same.
+    TargetBoth(View, Box<Option<View>>),
     /// A target, with references and descriptors.
     TargetWith(View, Box<Lists>),
     /// Others.
@@ -184,6 +194,60 @@ fn kept_listed(alloc: Global, references: Views, standing: Standing) -> Result<K
     }
 }
 
+/// What one number stands for, as a list.
+fn listed(alloc: Global, view: Option<View>) -> Result<Views, AllocError>
+    ensures { IfOk result (λ views. views ≡ view ∷ []) }
+{
+    let mut items = Vec::with_capacity(alloc, 1)?;
+    items.push(view)?;
+    Ok(Views::new(items))
+}
+
+/// What is kept of a record with one reference and one descriptor that stand for the same.
+fn kept_both(alloc: Global, both: Option<View>, standing: Standing) -> Result<Kept, AllocError>
+    requires { standing.caps ≡ both ∷ [] }
+    ensures { IfOk result (λ kept. sight_of kept ≡ sight_with (both ∷ []) standing) }
+{
+    let Standing {
+        question,
+        promise,
+        target,
+        caps,
+    } = standing;
+    match (question, promise, target) {
+        (None, None, None) => Ok(Kept::Both(both)),
+        (Some(view), None, None) => Ok(Kept::QuestionBoth(view, Box::new(alloc, both)?)),
+        (None, Some(view), None) => Ok(Kept::PromiseBoth(view, Box::new(alloc, both)?)),
+        (None, None, Some(view)) => Ok(Kept::TargetBoth(view, Box::new(alloc, both)?)),
+        (question, promise, target) => {
+            let standing = Standing {
+                question,
+                promise,
+                target,
+                caps,
+            };
+            let parts = Parts {
+                references: listed(alloc, both)?,
+                standing,
+            };
+            Ok(Kept::Several(Box::new(alloc, parts)?))
+        }
+    }
+}
+
+/// What is kept of a record with descriptors.
+fn kept_described(alloc: Global, references: Views, standing: Standing) -> Result<Kept, AllocError>
+    ensures { IfOk result (λ kept. sight_of kept ≡ sight_with references standing) }
+{
+    if !are_one(references.as_slice(), standing.caps.as_slice()) {
+        return kept_listed(alloc, references, standing);
+    }
+    match references.alone() {
+        Ok(view) => kept_both(alloc, view, standing),
+        Err(references) => kept_listed(alloc, references, standing),
+    }
+}
+
 impl Seen {
     /// What the references of a record and its other numbers stand for.
     pub(crate) fn new(
@@ -194,7 +258,7 @@ impl Seen {
         ensures { IfOk result (λ seen. seen ≡ sight_with references standing) }
     {
         if !standing.caps.is_empty() {
-            let kept = kept_listed(alloc, references, standing)?;
+            let kept = kept_described(alloc, references, standing)?;
             return Ok(Seen { kept });
         }
         if references.is_empty() {
@@ -218,6 +282,9 @@ impl Seen {
     {
         match &self.kept {
             Kept::Reference(view) => slice::from_ref(view),
+            Kept::Both(view) => slice::from_ref(view),
+            Kept::QuestionBoth(_, both) | Kept::PromiseBoth(_, both) | Kept::TargetBoth(_, both) =>
+                slice::from_ref(&**both),
             Kept::Listed(lists) | Kept::QuestionWith(_, lists) | Kept::TargetWith(_, lists) => lists
                 .references
                 .as_slice(),
@@ -232,6 +299,7 @@ impl Seen {
     {
         match &self.kept {
             Kept::Question(view) | Kept::QuestionWith(view, _) => Some(view),
+            Kept::QuestionBoth(view, _) => Some(view),
             Kept::Several(parts) => parts.standing.question.as_ref(),
             _ => None,
         }
@@ -242,6 +310,7 @@ impl Seen {
         ensures { option_copied result ≡ self.now.promise }
     {
         match &self.kept {
+            Kept::PromiseBoth(view, _) => Some(view),
             Kept::Several(parts) => parts.standing.promise.as_ref(),
             _ => None,
         }
@@ -253,6 +322,7 @@ impl Seen {
     {
         match &self.kept {
             Kept::Target(view) | Kept::TargetWith(view, _) => Some(view),
+            Kept::TargetBoth(view, _) => Some(view),
             Kept::Several(parts) => parts.standing.target.as_ref(),
             _ => None,
         }
@@ -264,6 +334,9 @@ impl Seen {
         ensures { result.now ≡ self.now.caps }
     {
         match &self.kept {
+            Kept::Both(view) => slice::from_ref(view),
+            Kept::QuestionBoth(_, both) | Kept::PromiseBoth(_, both) | Kept::TargetBoth(_, both) =>
+                slice::from_ref(&**both),
             Kept::Listed(lists) | Kept::QuestionWith(_, lists) | Kept::TargetWith(_, lists) => lists
                 .caps
                 .as_slice(),

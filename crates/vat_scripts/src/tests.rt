@@ -3,6 +3,7 @@
 
 mod books;
 mod cases;
+mod faults;
 mod frames;
 mod given;
 mod links;

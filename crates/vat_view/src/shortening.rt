@@ -10,9 +10,11 @@ use crate::id::Id;
 use crate::landing::landing;
 use crate::lives::Lives;
 use crate::pending::Pending;
+use crate::questions::Questions;
 use crate::turns::Turns;
 use crate::view::View;
 use crate::walk::{event_at, landed};
+use rpc_view::Target;
 
 /// Where the reference ahead of this one lands, and behind it the one that is ahead of that, which so is further ahead
 /// of this one; none where it isn't further.
@@ -46,6 +48,12 @@ pub(crate) fn shorten(events: &[Event], turns: &Turns, bound: &mut Bound, from: 
     }
 }
 
+/// Where the field at a path of a call lands.
+fn field_lands(events: &[Event], turns: &Turns, call: u64, path: &[u16]) -> Option<u64> {
+    let number = turns.of(Pending::Results(call))?;
+    landing(path, event_at(events, number)?)
+}
+
 /// Where the walk goes on from the field at a path of a call, after its first turn: where the view lands to which the
 /// field turns. A walk by 1 or more turns hops from there on.
 pub(crate) fn field_landed(
@@ -55,8 +63,7 @@ pub(crate) fn field_landed(
     call: u64,
     path: &[u16],
 ) -> Option<u64> {
-    let number = turns.of(Pending::Results(call))?;
-    let first = landing(path, event_at(events, number)?)?;
+    let first = field_lands(events, turns, call, path)?;
     reference_landed(events, turns, bound, first)
 }
 
@@ -70,6 +77,22 @@ pub(crate) fn reference_landed(
     landed(events, turns, bound.of(reference)?)
 }
 
+/// Where what an export or import number stands for lands.
+fn number_lands(
+    events: &[Event],
+    turns: &Turns,
+    bound: &Bound,
+    lives: &Lives,
+    number: Id,
+) -> Option<u64> {
+    let origin = lives.origin_of(number)?;
+    if number.ours {
+        reference_landed(events, turns, bound, origin.reference?)
+    } else {
+        landed(events, turns, &View::Import(origin.number, origin.place))
+    }
+}
+
 /// Where the walk goes on from what an export or import number stands for, after its first turn: where the view lands to
 /// which that turns. A walk by 1 or more turns hops from there on.
 pub(crate) fn number_landed(
@@ -79,11 +102,38 @@ pub(crate) fn number_landed(
     lives: &Lives,
     number: Id,
 ) -> Option<u64> {
-    let origin = lives.origin_of(number)?;
-    let first = if number.ours {
-        reference_landed(events, turns, bound, origin.reference?)
-    } else {
-        landed(events, turns, &View::Import(origin.number, origin.place))
-    };
-    reference_landed(events, turns, bound, first?)
+    let first = number_lands(events, turns, bound, lives, number)?;
+    reference_landed(events, turns, bound, first)
+}
+
+/// Where what a target stands for lands that was sent, or else received, on a connection.
+pub(crate) fn target_lands(
+    events: &[Event],
+    turns: &Turns,
+    bound: &Bound,
+    lives: &Lives,
+    questions: &Questions,
+    sent: bool,
+    connection: u32,
+    target: &Target,
+) -> Option<u64> {
+    match target {
+        Target::Imported(n) => {
+            let number = Id {
+                connection,
+                ours: !sent,
+                number: *n,
+            };
+            number_lands(events, turns, bound, lives, number)
+        }
+        Target::Promised(q, path) => {
+            let question = Id {
+                connection,
+                ours: sent,
+                number: *q,
+            };
+            let known = questions.of(question)?;
+            field_lands(events, turns, known.call, path.as_slice())
+        }
+    }
 }

@@ -27,14 +27,14 @@ use crate::number::Number;
 use crate::questions::Questions;
 use crate::resolves::Resolves;
 use crate::settling::settled;
-use crate::shortening::{field_landed, number_landed, reference_landed, shorten};
+use crate::shortening::{field_landed, number_landed, reference_landed, shorten, target_lands};
 use crate::sought::{Sought, leads_to};
 use crate::turns::Turns;
 use crate::view::View;
 use crate::waits::Waits;
 use crate::{arrivals, asking, kinds, records, standing, telling, walk};
 use cap_frame::Path;
-use rpc_view::{Outcome, RpcMessage};
+use rpc_view::{Loopback, Outcome, RpcMessage, Target};
 use std::alloc::{AllocError, Global};
 use std::marker::Model;
 
@@ -241,7 +241,7 @@ impl VatState {
         self.resolves.note_resolve(promise, number);
         self.connections.note_event(&event);
         self.waits.change(change);
-        self.events.push(event)?;
+        self.events.push_reserved(event);
         Ok(())
     }
 
@@ -305,6 +305,60 @@ impl VatState {
         }
     }
 
+    /// Makes the walk shorter from what the target of a Disembargo stands for that was sent, or else received.
+    fn shorten_target(&mut self, sent: bool, connection: u32, target: &Target)
+        ensures { self.new ≡ self.old }
+    {
+        if let Some(first) = target_lands(
+            self.events.as_slice(),
+            &self.turns,
+            &self.bound,
+            &self.lives,
+            &self.questions,
+            sent,
+            connection,
+            target,
+        ) {
+            self.shorten_from(first);
+        }
+    }
+
+    /// Makes the walk shorter from what the target of the senderLoopback stood for that waits under this number.
+    fn shorten_waiting(&mut self, number: Id)
+        ensures { self.new ≡ self.old }
+    {
+        let Some(view) = self.waits.loopbacks.waiting(number) else {
+            return;
+        };
+        if let Some(first) = walk::landed(self.events.as_slice(), &self.turns, view) {
+            self.shorten_from(first);
+        }
+    }
+
+    /// Makes the walk shorter that the rules ask for on a Disembargo: of one that asks for an echo from its target, and
+    /// of a sent echo from the target of the one that it echoes.
+    fn shorten_embargo(&mut self, sent: bool, connection: u32, message: &RpcMessage)
+        ensures { self.new ≡ self.old }
+    {
+        match message {
+            RpcMessage::Disembargo {
+                loopback: Loopback::Sender,
+                target,
+                ..
+            } => self.shorten_target(sent, connection, target),
+            RpcMessage::Disembargo {
+                number,
+                loopback: Loopback::Receiver,
+                ..
+            } if sent => self.shorten_waiting(Id {
+                connection,
+                ours: false,
+                number: *number,
+            }),
+            _ => {}
+        }
+    }
+
     /// Makes the walks shorter that the rules ask for on a sent message: from what its number or question stands for.
     fn shorten_message(&mut self, connection: u32, call: u64, message: &RpcMessage)
         ensures { self.new ≡ self.old }
@@ -329,7 +383,8 @@ impl VatState {
     }
 
     /// Makes the walks shorter that the rules ask for on a record: from the goal of its call, from the references noted
-    /// beside a sent message, and from what this message speaks of. It takes no memory.
+    /// beside a sent message, from what this message speaks of, and from the target of a Disembargo either way. It takes
+    /// no memory.
     fn shorten(&mut self, event: &Event)
         ensures { self.new ≡ self.old }
     {
@@ -344,7 +399,14 @@ impl VatState {
             } => {
                 self.shorten_references(references.as_slice());
                 self.shorten_message(*connection, *call, message);
+                self.shorten_embargo(true, *connection, message);
             }
+            Event::Wire {
+                sent: false,
+                connection,
+                message,
+                ..
+            } => self.shorten_embargo(false, *connection, message),
             _ => {}
         }
     }

@@ -1,6 +1,6 @@
 //! Audits what the vats of Cap'n Proto RPC recorded: `vataudit vat FILE` prints one line for the log of one vat,
-//! `vataudit frame HEX` the message of a frame, `vataudit frames FILE` that of each frame of a file, and
-//! `vataudit order CASE --out FILE` makes an order of the records of a case.
+//! `vataudit records FILE` a line for each record of a log, `vataudit frame HEX` the message of a frame, `vataudit frames
+//! FILE` that of each frame of a file, and `vataudit order CASE --out FILE` makes an order of the records of a case.
 //!
 //! It stands on `command_line`, which reads the words, and on `command_run`, which runs the command that they spell
 //! and says in its specs/Runs.antt what a run prints. Here are the files: those that are read are a `Source` of

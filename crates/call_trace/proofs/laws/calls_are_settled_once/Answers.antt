@@ -1,9 +1,8 @@
-use Rattle.call_trace.proofs.Placing.{is_here}
 use Rattle.call_trace.proofs.Settling.{answer_may_come, fault_may_come}
 use Rattle.call_trace.proofs.laws.calls_are_settled_once.Goals as goal
 
 pub returns-clause-answered : goal.returns-clause-answered
-returns-clause-answered c = answer_may_come is_here
+returns-clause-answered c = answer_may_come
 
 pub returns-clause-faulted : goal.returns-clause-faulted
-returns-clause-faulted c = fault_may_come is_here
+returns-clause-faulted c = fault_may_come

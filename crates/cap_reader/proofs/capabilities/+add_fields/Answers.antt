@@ -35,9 +35,9 @@ loop-number-init t c =
 pub returns-in_err-add_fields-in-Struct-clause-value : goal.returns-in_err-add_fields-in-Struct-clause-value
 returns-in_err-add_fields-in-Struct-clause-value t c =
     let p = err_from_is_err_and c.from_residual-in_err-add_fields-in-Struct.result c.from_residual-in_err-add_fields-in-Struct.ensures.1 in
-    let same : c.push-in-loop-number.new.self.items ≡ c.args.path.now.items ++ c.loop-number.number ∷ [] = rw (c.in_ok-push-in-Struct.ensures.items, c.loop-number.invariant.same_path) refl in
+    let same : c.push.new.self.items ≡ c.args.path.now.items ++ c.loop-number.number ∷ [] = rw (c.in_ok-push-in-Struct.ensures.items, c.loop-number.invariant.same_path) refl in
     let there : c.from.result + c.from-in-Struct.result + c.from-in-loop-number.result ≡ c.in_ok-content-in-Struct.content.start + c.in_ok-content-in-Struct.content.data_words + c.loop-number.number = rw (c.from.ensures, c.from-in-Struct.ensures, c.from-in-loop-number.ensures) refl in
-    rw (p.1, p.2) (field_ends c.args.path.now.items c.args.frame.now c.in_ok-content-in-Struct.content c.in_err-add_fields-in-Struct.field-0.0 c.loop-number.found.items c.push-in-loop-number.new.self.items c.loop-number.number (c.from.result + c.from-in-Struct.result + c.from-in-loop-number.result) c.loop-number.limits.words c.add_fields.new.limits.words _ c.loop-number-test.true same there c.in_err-add_fields-in-Struct.ensures.value c.loop-number.invariant.so_far)
+    rw (p.1, p.2) (field_ends c.args.path.now.items c.args.frame.now c.in_ok-content-in-Struct.content c.in_err-add_fields-in-Struct.field-0.0 c.loop-number.found.items c.push.new.self.items c.loop-number.number (c.from.result + c.from-in-Struct.result + c.from-in-loop-number.result) c.loop-number.limits.words c.add_fields.new.limits.words _ c.loop-number-test.true same there c.in_err-add_fields-in-Struct.ensures.value c.loop-number.invariant.so_far)
 
 pub returns-in_err-content-in-Struct-clause-kept : goal.returns-in_err-content-in-Struct-clause-kept
 returns-in_err-content-in-Struct-clause-kept t c =
@@ -46,19 +46,19 @@ returns-in_err-content-in-Struct-clause-kept t c =
 
 pub returns-in_err-add_fields-in-Struct-clause-kept : goal.returns-in_err-add_fields-in-Struct-clause-kept
 returns-in_err-add_fields-in-Struct-clause-kept t c =
-    let same : c.push-in-loop-number.new.self.items ≡ c.args.path.now.items ++ c.loop-number.number ∷ [] = rw (c.in_ok-push-in-Struct.ensures.items, c.loop-number.invariant.same_path) refl in
+    let same : c.push.new.self.items ≡ c.args.path.now.items ++ c.loop-number.number ∷ [] = rw (c.in_ok-push-in-Struct.ensures.items, c.loop-number.invariant.same_path) refl in
     let there : c.from.result + c.from-in-Struct.result + c.from-in-loop-number.result ≡ c.in_ok-content-in-Struct.content.start + c.in_ok-content-in-Struct.content.data_words + c.loop-number.number = rw (c.from.ensures, c.from-in-Struct.ensures, c.from-in-loop-number.ensures) refl in
-    let first = field_costs c.args.path.now.items c.args.frame.now c.in_ok-content-in-Struct.content c.push-in-loop-number.new.self.items c.loop-number.number (c.from.result + c.from-in-Struct.result + c.from-in-loop-number.result) c.loop-number-test.true same there in
+    let first = field_costs c.args.path.now.items c.args.frame.now c.in_ok-content-in-Struct.content c.push.new.self.items c.loop-number.number (c.from.result + c.from-in-Struct.result + c.from-in-loop-number.result) c.loop-number-test.true same there in
     omega (arith, first, c.in_err-add_fields-in-Struct.ensures.kept, c.loop-number.invariant.paid)
 
 pub loop-number-preserved : goal.loop-number-preserved
 loop-number-preserved t c =
-    let same : c.push-in-loop-number.new.self.items ≡ c.args.path.now.items ++ c.loop-number.number ∷ [] = rw (c.in_ok-push-in-Struct.ensures.items, c.loop-number.invariant.same_path) refl in
+    let same : c.push.new.self.items ≡ c.args.path.now.items ++ c.loop-number.number ∷ [] = rw (c.in_ok-push-in-Struct.ensures.items, c.loop-number.invariant.same_path) refl in
     let there : c.from.result + c.from-in-Struct.result + c.from-in-loop-number.result ≡ c.in_ok-content-in-Struct.content.start + c.in_ok-content-in-Struct.content.data_words + c.loop-number.number = rw (c.from.ensures, c.from-in-Struct.ensures, c.from-in-loop-number.ensures) refl in
     record {
-      so_far = field_goes_on c.args.path.now.items c.args.frame.now c.in_ok-content-in-Struct.content c.loop-number.found.items c.add_fields.new.found.items c.push-in-loop-number.new.self.items c.loop-number.number (c.from.result + c.from-in-Struct.result + c.from-in-loop-number.result) c.loop-number.limits.words c.add_fields.new.limits.words _ c.loop-number-test.true same there c.in_ok-add_fields-in-Struct.ensures.value c.loop-number.invariant.so_far;
+      so_far = field_goes_on c.args.path.now.items c.args.frame.now c.in_ok-content-in-Struct.content c.loop-number.found.items c.add_fields.new.found.items c.push.new.self.items c.loop-number.number (c.from.result + c.from-in-Struct.result + c.from-in-loop-number.result) c.loop-number.limits.words c.add_fields.new.limits.words _ c.loop-number-test.true same there c.in_ok-add_fields-in-Struct.ensures.value c.loop-number.invariant.so_far;
       paid =
-          let more = field_paid c.args.path.now.items c.args.frame.now c.in_ok-content-in-Struct.content c.loop-number.found.items c.add_fields.new.found.items c.push-in-loop-number.new.self.items c.loop-number.number (c.from.result + c.from-in-Struct.result + c.from-in-loop-number.result) c.loop-number.limits.words c.add_fields.new.limits.words c.loop-number-test.true same there c.in_ok-add_fields-in-Struct.ensures.value in
+          let more = field_paid c.args.path.now.items c.args.frame.now c.in_ok-content-in-Struct.content c.loop-number.found.items c.add_fields.new.found.items c.push.new.self.items c.loop-number.number (c.from.result + c.from-in-Struct.result + c.from-in-loop-number.result) c.loop-number.limits.words c.add_fields.new.limits.words c.loop-number-test.true same there c.in_ok-add_fields-in-Struct.ensures.value in
           omega (arith, more, c.loop-number.invariant.paid);
       fewer_words = omega (arith, c.in_ok-add_fields-in-Struct.ensures.words, c.loop-number.invariant.fewer_words);
       same_path = popped c.args.path.now.items c.add_fields.new.path.items c.pop.new.self.items c.loop-number.number (vec_len c.add_fields.new.path) (c.in_ok-add_fields-in-Struct.ensures.path ∙ same) c.pop.ensures.rest c.add_fields.new.path.ok.0;
@@ -70,10 +70,10 @@ returns-in-Null-clause-value t c =
     let e : followed c.args.frame.now c.args.segment c.args.at ≡ Ok leads.Null = sym c.in_ok-follow.ensures ∙ ap (λ (p : Pointee). Ok p) c.in-Null.is in
     null_adds c.args.found.now.items c.args.path.now.items c.args.depth c.args.frame.now c.args.segment c.args.at c.args.limits.now.words e
 
-pub returns-in_ok-push-in-Capability-clause-value : goal.returns-in_ok-push-in-Capability-clause-value
-returns-in_ok-push-in-Capability-clause-value t c =
+pub returns-in_ok-put-in-Capability-clause-value : goal.returns-in_ok-put-in-Capability-clause-value
+returns-in_ok-put-in-Capability-clause-value t c =
     let e : followed c.args.frame.now c.args.segment c.args.at ≡ Ok (leads.Capability c.in-Capability.index) = sym c.in_ok-follow.ensures ∙ ap (λ (p : Pointee). Ok p) c.in-Capability.is in
-    let added : c.args.found.now.items ++ (c.args.path.now.items, c.in-Capability.index) ∷ [] ≡ c.push.new.self.items = rw (c.in_ok-push-in-Capability.ensures.items, c.in_ok-path_of-in-Capability.ensures) refl in
+    let added : c.args.found.now.items ++ (c.args.path.now.items, c.in-Capability.index) ∷ [] ≡ c.put.new.found.items = rw (c.in_ok-put-in-Capability.ensures, c.in_ok-path_of-in-Capability.ensures) refl in
     capability_adds c.args.found.now.items c.args.path.now.items c.args.depth c.args.frame.now c.args.segment c.args.at c.args.limits.now.words c.in-Capability.index e ∙ ap (λ (all : List (List ℕ × ℕ)). (Ok all, c.args.limits.now.words)) added
 
 pub returns-in-List-clause-value : goal.returns-in-List-clause-value

@@ -17,7 +17,7 @@ pub loop-i-preserved : goal.loop-i-preserved
 loop-i-preserved c =
     let lt : c.loop-i.i < c.args.table.now.count = omega arith in
     let f = λ (i : ℕ). descriptor_in (element_at c.args.frame.now c.args.table.now i) in
-    rw c.in_ok-push.ensures.items (goes_on (alone f) c.loop-i.items.items (c.in_ok-entry.field-0 ∷ []) c.args.table.now.count c.loop-i.i c.loop-i.limits.words c.entry.new.limits.words _ lt (one f c.loop-i.i c.loop-i.limits.words c.entry.new.limits.words c.in_ok-entry.field-0 c.in_ok-entry.ensures) c.loop-i.invariant)
+    rw c.in_ok-put.ensures (goes_on (alone f) c.loop-i.items.items (c.in_ok-entry.field-0 ∷ []) c.args.table.now.count c.loop-i.i c.loop-i.limits.words c.entry.new.limits.words _ lt (one f c.loop-i.i c.loop-i.limits.words c.entry.new.limits.words c.in_ok-entry.field-0 c.in_ok-entry.ensures) c.loop-i.invariant)
 
 pub returns : goal.returns
 returns c =

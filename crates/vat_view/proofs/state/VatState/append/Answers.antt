@@ -90,29 +90,29 @@ invariant_of-self-2 c =
       notes_each = c.requires.notes;
     } in
     let fit : IsFit c.args.self.now c.args.event = fits c.args.self.now c.args.event sound in
-    let kept : AreKept (reverse c.push.new.self.items) c.learn_all.new.questions c.learn_all.new.lives c.learn_all.new.bound c.learn_all.new.calls =
+    let kept : AreKept (reverse c.push_reserved.new.self.items) c.learn_all.new.questions c.learn_all.new.lives c.learn_all.new.bound c.learn_all.new.calls =
     state_applied c.self.inside.events.items c.reserve.new.self.items c.args.self.now c.args.event c.len-number.result
     (λ p. AreKept p c.self.inside.questions c.self.inside.lives c.self.inside.bound c.self.inside.calls) (λ p. AreKept p c.learn_all.new.questions c.learn_all.new.lives c.learn_all.new.bound c.learn_all.new.calls)
-    c.self.view_is c.in_ok-reserve.ensures.items place c.self.invariant.0 sound c.push.new.self.items c.in_ok-push.ensures.items c.in_ok-learn_all.ensures.ok in (
-      kept_views (reverse c.push.new.self.items) c.learn_all.new.questions c.learn_all.new.lives c.learn_all.new.bound c.drop_ahead.new.self c.learn_all.new.calls c.drop_ahead.ensures.views kept,
+    c.self.view_is c.in_ok-reserve.ensures.items place c.self.invariant.0 sound c.push_reserved.new.self.items c.push_reserved.ensures.items c.in_ok-learn_all.ensures.ok in (
+      kept_views (reverse c.push_reserved.new.self.items) c.learn_all.new.questions c.learn_all.new.lives c.learn_all.new.bound c.drop_ahead.new.self c.learn_all.new.calls c.drop_ahead.ensures.views kept,
       state_applied c.self.inside.events.items c.reserve.new.self.items c.args.self.now c.args.event c.len-number.result
           (λ p. AreResolved p c.self.inside.resolves) (λ p. AreResolved p c.note_resolve.new.self) c.self.view_is c.in_ok-reserve.ensures.items place c.self.invariant.1 sound
-          c.push.new.self.items c.in_ok-push.ensures.items
+          c.push_reserved.new.self.items c.push_reserved.ensures.items
           (λ before at kept good. resolves_after before c.args.event c.room_for.new.self c.note_resolve.new.self (λ i. c.room_for.ensures.same i ∙ kept i) c.resolved-promise.result
           c.resolved-promise.ensures c.len-number.result at c.note_resolve.ensures),
-      turns_applied c.self.inside.events.items c.reserve.new.self.items c.push.new.self.items c.args.event c.len-number.result c.settled-pending.result c.self.inside.questions c.self.inside.lives
-          c.self.inside.bound c.self.inside.turns c.make_room.new.self c.note.new.self c.in_ok-reserve.ensures.items place c.in_ok-push.ensures.items
+      turns_applied c.self.inside.events.items c.reserve.new.self.items c.push_reserved.new.self.items c.args.event c.len-number.result c.settled-pending.result c.self.inside.questions c.self.inside.lives
+          c.self.inside.bound c.self.inside.turns c.make_room.new.self c.note.new.self c.in_ok-reserve.ensures.items place c.push_reserved.ensures.items
           (subst (λ p. IsFit p c.args.event) (sym c.self.view_is) fit) c.self.invariant.0.tabled c.self.invariant.2 c.settled-pending.ensures c.make_room.ensures.same c.note.ensures,
-      connected_applied c.self.inside.events.items c.reserve.new.self.items c.push.new.self.items c.args.event c.self.inside.connections c.grow_for.new.self c.note_event.new.self
-          c.in_ok-reserve.ensures.items c.in_ok-push.ensures.items c.grow_for.ensures.asked c.grow_for.ensures.aborted c.note_event.ensures.asked c.note_event.ensures.aborted c.self.invariant.3,
+      connected_applied c.self.inside.events.items c.reserve.new.self.items c.push_reserved.new.self.items c.args.event c.self.inside.connections c.grow_for.new.self c.note_event.new.self
+          c.in_ok-reserve.ensures.items c.push_reserved.ensures.items c.grow_for.ensures.asked c.grow_for.ensures.aborted c.note_event.ensures.asked c.note_event.ensures.aborted c.self.invariant.3,
       state_applied c.self.inside.events.items c.reserve.new.self.items c.args.self.now c.args.event c.len-number.result
           (λ p. AreKept p c.self.inside.questions c.self.inside.lives c.self.inside.bound c.self.inside.calls × AreWaiting p c.self.inside.waits) (λ p. AreWaiting p c.change.new.self)
-          c.self.view_is c.in_ok-reserve.ensures.items place (c.self.invariant.0, c.self.invariant.4) sound c.push.new.self.items c.in_ok-push.ensures.items
+          c.self.view_is c.in_ok-reserve.ensures.items place (c.self.invariant.0, c.self.invariant.4) sound c.push_reserved.new.self.items c.push_reserved.ensures.items
           (λ before at kept good. waits_after before c.self.inside.questions c.self.inside.lives c.self.inside.bound c.self.inside.calls kept.0 c.args.event good.refers c.len-number.result at
           c.in_ok-change.change c.in_ok-change.ensures.change c.prepare.new.self c.change.new.self
           (waits_same before c.self.inside.waits c.prepare.new.self c.prepare.ensures.same kept.1) c.change.ensures),
-      ahead_applied c.self.inside.events.items c.reserve.new.self.items c.push.new.self.items c.args.event c.len-number.result c.settled-pending.result c.self.inside.turns c.make_room.new.self
-          c.note.new.self c.in_ok-reserve.ensures.items c.in_ok-push.ensures.items c.make_room.ensures.same c.note.ensures c.self.inside.bound c.learn_all.new.bound c.drop_ahead.new.self c.has.result
+      ahead_applied c.self.inside.events.items c.reserve.new.self.items c.push_reserved.new.self.items c.args.event c.len-number.result c.settled-pending.result c.self.inside.turns c.make_room.new.self
+          c.note.new.self c.in_ok-reserve.ensures.items c.push_reserved.ensures.items c.make_room.ensures.same c.note.ensures c.self.inside.bound c.learn_all.new.bound c.drop_ahead.new.self c.has.result
           c.has.ensures (subst (λ p. IsFit p c.args.event) (sym c.self.view_is) fit).refers c.self.invariant.0.tabled.bounds kept.tabled.bounds c.drop_ahead.ensures.views c.learn_all.ensures.ahead
           c.drop_ahead.ensures.ahead c.drop_ahead.ensures.own c.self.invariant.5,
     )

@@ -1,0 +1,6 @@
+use Rattle.authority.specs.Tables.{IsFoundBefore}
+use Rattle.authority.proofs.Stepping.{IsNumbered}
+use Rattle.authority.proofs.finding.find.Given as goal
+
+abbrev pub invariant-loop-index : goal.invariant-loop-index
+invariant-loop-index l = IsNumbered l.steps l.index l.numbers × IsFoundBefore l.steps l.index l.found

@@ -1,0 +1,19 @@
+//! Who came to have which capabilities of others.
+//!
+//! It stands on `run_model`, whose definition of edges (`specs/Edges.antt`) [`graph`] meets: where each vat first bound each
+//! capability of another vat, by vat, then by record, then by place. That what a vat uses of others has such an edge, or is a
+//! field of a call that it received, is the law of `src/laws.rt`.
+#![tactic(auto)]
+
+mod edge;
+mod edges;
+mod finding;
+mod key;
+mod laws;
+mod numbers;
+mod witnesses;
+
+pub use edge::Edge;
+pub use edges::Graph;
+pub use finding::graph;
+pub use laws::what_is_used_is_explained;

@@ -1,0 +1,97 @@
+// What recording costs: the time of a ping over a local socket, without a recorder and with both ends recorded, in
+// one run. `bench [PINGS [ROUNDS]]`; each number is the least of the rounds, which take turns.
+
+#include "test.capnp.h"
+#include "vataudit/recorder.h"
+
+#include <capnp/rpc-twoparty.h>
+#include <kj/async-io.h>
+#include <kj/debug.h>
+#include <kj/thread.h>
+
+#include <algorithm>
+#include <chrono>
+#include <cstdio>
+#include <cstdlib>
+#include <sys/socket.h>
+#include <unistd.h>
+
+namespace {
+
+using capnp::rpc::twoparty::Side;
+
+class CounterObject: public Counter::Server {
+protected:
+  kj::Promise<void> next(NextContext context) override {
+    value += context.getParams().getBy();
+    context.getResults().setValue(value);
+    return kj::READY_NOW;
+  }
+
+private:
+  uint32_t value = 0;
+};
+
+kj::Own<kj::AsyncIoStream> opened(kj::AsyncIoContext& io, int socket) {
+  return io.lowLevelProvider->wrapSocketFd(socket, kj::LowLevelAsyncIoProvider::TAKE_OWNERSHIP);
+}
+
+double ping(Counter::Client counter, kj::WaitScope& scope, uint32_t pings) {
+  auto start = std::chrono::steady_clock::now();
+  for (uint32_t count = 0; count < pings; count++) {
+    auto request = counter.nextRequest();
+    request.setBy(1);
+    request.send().wait(scope);
+  }
+  std::chrono::duration<double, std::micro> taken = std::chrono::steady_clock::now() - start;
+  return taken.count() / pings;
+}
+
+// Microseconds a ping, the server in a thread of its own.
+double unrecorded(uint32_t pings) {
+  int sockets[2];
+  KJ_SYSCALL(socketpair(AF_UNIX, SOCK_STREAM, 0, sockets));
+  kj::Thread server([&]() {
+    auto io = kj::setupAsyncIo();
+    auto stream = opened(io, sockets[1]);
+    capnp::TwoPartyClient peer(*stream, kj::heap<CounterObject>(), Side::SERVER);
+    peer.onDisconnect().wait(io.waitScope);
+  });
+  auto io = kj::setupAsyncIo();
+  auto stream = opened(io, sockets[0]);
+  capnp::TwoPartyClient client(*stream);
+  return ping(client.bootstrap().castAs<Counter>(), io.waitScope, pings);
+}
+
+double recorded(uint32_t pings) {
+  int sockets[2];
+  KJ_SYSCALL(socketpair(AF_UNIX, SOCK_STREAM, 0, sockets));
+  kj::Thread server([&]() {
+    auto io = kj::setupAsyncIo();
+    vataudit::Recorder recorder("bench.vat2.log", 2);
+    auto stream = opened(io, sockets[1]);
+    vataudit::TwoPartyClient peer(recorder, *stream, 0, recorder.host<CounterObject>(), Side::SERVER);
+    peer.onDisconnect().wait(io.waitScope);
+  });
+  auto io = kj::setupAsyncIo();
+  vataudit::Recorder recorder("bench.vat1.log", 1);
+  auto stream = opened(io, sockets[0]);
+  vataudit::TwoPartyClient client(recorder, *stream, 0);
+  return ping(client.bootstrap().castAs<Counter>(), io.waitScope, pings);
+}
+
+}  // namespace
+
+int main(int count, char** words) {
+  uint32_t pings = count > 1 ? atoi(words[1]) : 20000;
+  int rounds = count > 2 ? atoi(words[2]) : 7;
+  double without = 1e9, with = 1e9;
+  for (int round = 0; round < rounds; round++) {
+    without = std::min(without, unrecorded(pings));
+    with = std::min(with, recorded(pings));
+  }
+  printf("ping unrecorded %.2f us recorded %.2f us ratio %.2f\n", without, with, with / without);
+  unlink("bench.vat1.log");
+  unlink("bench.vat2.log");
+  return 0;
+}

@@ -1,0 +1,394 @@
+// Vats whose runtime has a planted fault: `faults FOLDER NAME` writes FOLDER/NAME.vatN.log. Without a name it writes
+// all. What the audit has to say of each stands in expected.txt, with the reason.
+//
+// The fault sits between capnp's RpcSystem and the recorder's network, so RpcSystem and fault together are the
+// runtime that is recorded: a message is changed, held back, doubled or left out before it is handed over, or is
+// understood as another one after it was looked at.
+
+#include "objects.h"
+
+#include <cstdio>
+#include <functional>
+#include <map>
+
+namespace {
+
+using capnp::rpc::twoparty::Side;
+namespace rpc = capnp::rpc;
+using Base = capnp::TwoPartyVatNetworkBase;
+
+// What a planted fault does with messages.
+struct Fault {
+  virtual ~Fault() {}
+  // Whether a message goes out; it may be changed, and others may be sent before it.
+  virtual bool sends(rpc::Message::Builder, Base::Connection&) { return true; }
+  // A message has gone out; others may be sent behind it.
+  virtual void sent(rpc::Message::Reader, Base::Connection&) {}
+  // Whether a message is held back until the next one has gone out.
+  virtual bool holds(rpc::Message::Reader) { return false; }
+  // Whether a message stays in a queue for good once it was looked at.
+  virtual bool keeps(rpc::Message::Reader) { return false; }
+  // Changes in memory what the runtime makes of a message, after it was recorded.
+  virtual void understands(rpc::Message::Reader) {}
+};
+
+void sendAgain(rpc::Message::Reader message, Base::Connection& connection) {
+  auto again = connection.newOutgoingMessage(0);
+  again->getBody().setAs<rpc::Message>(message);
+  again->send();
+}
+
+class FaultyConnection final: public Base::Connection {
+public:
+  FaultyConnection(kj::Own<Base::Connection> inner, Fault& fault): inner(kj::mv(inner)), fault(fault) {}
+
+  kj::Own<capnp::RpcFlowController> newStream() override { return inner->newStream(); }
+  rpc::twoparty::VatId::Reader getPeerVatId() override { return inner->getPeerVatId(); }
+  kj::Own<capnp::OutgoingRpcMessage> newOutgoingMessage(uint firstSegmentWordSize) override {
+    return kj::heap<Outgoing>(*this, inner->newOutgoingMessage(firstSegmentWordSize));
+  }
+  kj::Promise<kj::Maybe<kj::Own<capnp::IncomingRpcMessage>>> receiveIncomingMessage() override {
+    using Received = kj::Maybe<kj::Own<capnp::IncomingRpcMessage>>;
+    return inner->receiveIncomingMessage().then([this](Received&& message) -> kj::Promise<Received> {
+      KJ_IF_MAYBE(read, message) {
+        if (fault.keeps((*read)->getBody().getAs<rpc::Message>())) {
+          kept.push_back(kj::mv(*read));
+          return receiveIncomingMessage();
+        }
+        return Received(kj::Own<capnp::IncomingRpcMessage>(kj::heap<Incoming>(fault, kj::mv(*read))));
+      } else {
+        return Received(nullptr);
+      }
+    });
+  }
+  kj::Promise<void> shutdown() override { return inner->shutdown(); }
+
+private:
+  kj::Own<Base::Connection> inner;
+  Fault& fault;
+  kj::Maybe<kj::Own<capnp::OutgoingRpcMessage>> held;
+  std::vector<kj::Own<capnp::IncomingRpcMessage>> kept;
+
+  struct Outgoing final: capnp::OutgoingRpcMessage {
+    Outgoing(FaultyConnection& line, kj::Own<capnp::OutgoingRpcMessage> inner): line(line), inner(kj::mv(inner)) {}
+    capnp::AnyPointer::Builder getBody() override { return inner->getBody(); }
+    size_t sizeInWords() override { return inner->sizeInWords(); }
+    void send() override {
+      auto message = inner->getBody().getAs<rpc::Message>();
+      if (line.held == nullptr && line.fault.holds(message.asReader())) {
+        line.held = kj::mv(inner);
+        inner = line.inner->newOutgoingMessage(0);
+        return;
+      }
+      if (!line.fault.sends(message, *line.inner)) return;
+      inner->send();
+      line.fault.sent(message.asReader(), *line.inner);
+      KJ_IF_MAYBE(before, line.held) {
+        auto message = kj::mv(*before);
+        line.held = nullptr;
+        message->send();
+      }
+    }
+    FaultyConnection& line;
+    kj::Own<capnp::OutgoingRpcMessage> inner;
+  };
+
+  struct Incoming final: capnp::IncomingRpcMessage {
+    Incoming(Fault& fault, kj::Own<capnp::IncomingRpcMessage> inner): fault(fault), inner(kj::mv(inner)) {}
+    capnp::AnyPointer::Reader getBody() override {
+      auto body = inner->getBody();
+      if (!isSeen) fault.understands(body.getAs<rpc::Message>());
+      isSeen = true;
+      return body;
+    }
+    size_t sizeInWords() override { return inner->sizeInWords(); }
+    Fault& fault;
+    kj::Own<capnp::IncomingRpcMessage> inner;
+    bool isSeen = false;
+  };
+};
+
+class FaultyNetwork final: public Base {
+public:
+  FaultyNetwork(vataudit::Network& inner, Fault& fault): inner(inner), fault(fault) {}
+
+  kj::Maybe<kj::Own<Connection>> connect(rpc::twoparty::VatId::Reader id) override {
+    auto connected = inner.connect(id);
+    KJ_IF_MAYBE(connection, connected) {
+      return kj::Own<Connection>(kj::heap<FaultyConnection>(kj::mv(*connection), fault));
+    } else {
+      return nullptr;
+    }
+  }
+  kj::Promise<kj::Own<Connection>> accept() override {
+    return inner.accept().then([this](kj::Own<Connection>&& connection) -> kj::Own<Connection> {
+      return kj::heap<FaultyConnection>(kj::mv(connection), fault);
+    });
+  }
+
+private:
+  vataudit::Network& inner;
+  Fault& fault;
+};
+
+// Vat 1 asks vat 2 over connection 0, each with a runtime that may have a fault.
+struct Two {
+  Two(kj::AsyncIoContext& io, const std::string& prefix, Fault& firstFault, Fault& secondFault)
+      : io(io), first((prefix + ".vat1.log").c_str(), 1), second((prefix + ".vat2.log").c_str(), 2),
+        pipe(io.provider->newTwoWayPipe()), network(first, *pipe.ends[0], 0, Side::CLIENT),
+        peer(second, *pipe.ends[1], 0, Side::SERVER), faulty(network, firstFault), faultyPeer(peer, secondFault),
+        server(capnp::makeRpcServer(faultyPeer, peer.asBootstrap(second.host<CounterObject>(second)))),
+        client(capnp::makeRpcClient(faulty)), counter(network.bootstrap(client).castAs<Counter>()) {}
+
+  void settle() {
+    for (int turn = 0; turn < 20; turn++) {
+      io.provider->getTimer().afterDelay(1 * kj::MILLISECONDS).wait(io.waitScope);
+    }
+  }
+
+  kj::AsyncIoContext& io;
+  vataudit::Recorder first, second;
+  kj::TwoWayPipe pipe;
+  vataudit::Network network, peer;
+  FaultyNetwork faulty, faultyPeer;
+  capnp::RpcSystem<rpc::twoparty::VatId> server, client;
+  Counter::Client counter;
+};
+
+const uint16_t NEXT = 0, SAME = 1;
+
+bool isCallOf(rpc::Message::Reader message, uint16_t method) {
+  return message.isCall() && message.getCall().getMethodId() == method;
+}
+
+Fault sound;
+
+// The runtime of vat 2 looks a call's target up wrongly: number 1 in the place of 0.
+struct WrongObject: Fault {
+  void understands(rpc::Message::Reader message) override {
+    if (!isCallOf(message, NEXT) || !message.getCall().getTarget().isImportedCap()) return;
+    auto data = capnp::AnyStruct::Reader(message.getCall().getTarget()).getDataSection();
+    const_cast<kj::byte&>(data[0]) = 1;
+  }
+};
+
+// The queue of vat 1 lets a call overtake the one on whose result it is made.
+struct Overtaken: Fault {
+  bool holds(rpc::Message::Reader message) override { return isCallOf(message, SAME); }
+};
+
+// Vat 1 gives a capability back, and calls it afterwards.
+struct ReleasedEarly: Fault {
+  bool sends(rpc::Message::Builder message, Base::Connection& connection) override {
+    if (!isCallOf(message.asReader(), NEXT)) return true;
+    auto release = connection.newOutgoingMessage(0);
+    release->getBody().initAs<rpc::Message>().initRelease().setReferenceCount(1);
+    release->send();
+    return true;
+  }
+};
+
+// Vat 1 gives back one more than it has.
+struct ReleasedTooOften: Fault {
+  bool sends(rpc::Message::Builder message, Base::Connection&) override {
+    if (message.isRelease()) message.getRelease().setReferenceCount(message.getRelease().getReferenceCount() + 1);
+    return true;
+  }
+};
+
+// Vat 1 sends another method than the program called.
+struct WrongMethod: Fault {
+  bool sends(rpc::Message::Builder message, Base::Connection&) override {
+    if (isCallOf(message.asReader(), NEXT)) message.getCall().setMethodId(11);
+    return true;
+  }
+};
+
+// Vat 1 sends a call to another number than that of its capability.
+struct WrongTarget: Fault {
+  bool sends(rpc::Message::Builder message, Base::Connection&) override {
+    if (isCallOf(message.asReader(), NEXT)) message.getCall().getTarget().setImportedCap(1);
+    return true;
+  }
+};
+
+// Vat 1 uses the number of a question that is still open.
+struct QuestionReused: Fault {
+  bool sends(rpc::Message::Builder message, Base::Connection&) override {
+    if (isCallOf(message.asReader(), NEXT)) message.getCall().setQuestionId(0);
+    return true;
+  }
+};
+
+struct FinishedTwice: Fault {
+  void sent(rpc::Message::Reader message, Base::Connection& connection) override {
+    if (message.isFinish()) sendAgain(message, connection);
+  }
+};
+
+// Not the Return with the bootstrap object: a copy of that would need its capabilities.
+struct ReturnedTwice: Fault {
+  void sent(rpc::Message::Reader message, Base::Connection& connection) override {
+    if (!message.isReturn() || message.getReturn().getResults().getCapTable().size() > 0) return;
+    sendAgain(message, connection);
+  }
+};
+
+struct ResolvedTwice: Fault {
+  void sent(rpc::Message::Reader message, Base::Connection& connection) override {
+    if (message.isResolve()) sendAgain(message, connection);
+  }
+};
+
+// Vat 2 answers an embargo twice: the second time there is none.
+struct EchoedTwice: Fault {
+  void sent(rpc::Message::Reader message, Base::Connection& connection) override {
+    if (message.isDisembargo()) sendAgain(message, connection);
+  }
+};
+
+// A call stays in a queue of vat 2, and the echo goes round it.
+struct EchoOvertakes: Fault {
+  bool keeps(rpc::Message::Reader message) override { return isCallOf(message, NEXT); }
+};
+
+// Vat 2 returns the results of one call as those of another, which is still at work.
+struct WrongQuestion: Fault {
+  bool sends(rpc::Message::Builder message, Base::Connection&) override {
+    if (message.isReturn() && message.getReturn().getAnswerId() == 1) message.getReturn().setAnswerId(0);
+    return true;
+  }
+};
+
+// Vat 2 returns another object than the program gave as the result.
+struct WrongResult: Fault {
+  bool sends(rpc::Message::Builder message, Base::Connection&) override {
+    if (!message.isReturn() || !message.getReturn().isResults()) return true;
+    auto table = message.getReturn().getResults().getCapTable();
+    if (isArmed && table.size() == 1 && table[0].isSenderHosted()) table[0].setSenderHosted(1);
+    return true;
+  }
+  bool isArmed = false;
+};
+
+template <typename Result>
+void rest(Two& two, kj::Promise<Result>&& promise) {
+  auto kept = promise.then([](Result&&) {}, [](kj::Exception&&) {}).eagerlyEvaluate(nullptr);
+  two.settle();
+}
+
+// One call at a time, so that it goes to the number that vat 2 gave out.
+void callNext(Two& two) {
+  two.settle();
+  rest(two, kj::Promise<capnp::Response<Counter::NextResults>>(nextBy(two.counter, 1).send()));
+}
+
+void callNextOfTwo(Two& two) {
+  two.settle();
+  auto made = two.counter.makeRequest().send().wait(two.io.waitScope);
+  callNext(two);
+}
+
+void callOnResult(Two& two) {
+  two.settle();
+  auto same = two.counter.sameRequest().send();
+  auto next = nextBy(same.getCounter(), 1).send();
+  rest(two, kj::Promise<capnp::Response<Counter::NextResults>>(kj::mv(next)));
+}
+
+void callWhileWaiting(Two& two) {
+  two.settle();
+  auto never = two.counter.neverRequest().send();
+  two.settle();
+  callNext(two);
+}
+
+void dropAll(Two& two) {
+  two.settle();
+  two.counter = nullptr;
+  two.settle();
+}
+
+void resolvePromise(Two& two) {
+  Counter::Client promise = two.counter.laterRequest().send().wait(two.io.waitScope).getCounter();
+  settleAs(two.counter, 0).send().wait(two.io.waitScope);
+  two.settle();
+}
+
+void liftEmbargoAfterCall(Two& two) {
+  holdOf(two.counter, two.first.host<CounterObject>(two.first, 10)).send().wait(two.io.waitScope);
+  Counter::Client promise = two.counter.laterRequest().send().wait(two.io.waitScope).getCounter();
+  auto early = nextBy(promise, 1).send();
+  settleAs(two.counter, 2).send().wait(two.io.waitScope);
+  auto late = nextBy(promise, 2).send();
+  two.settle();
+}
+
+void liftEmbargo(Two& two) {
+  holdOf(two.counter, two.first.host<CounterObject>(two.first, 10)).send().wait(two.io.waitScope);
+  Counter::Client promise = two.counter.laterRequest().send().wait(two.io.waitScope).getCounter();
+  auto request = two.counter.passRequest();
+  request.initCounters(1).set(0, promise);
+  request.send().wait(two.io.waitScope);
+  settleAs(two.counter, 2).send().wait(two.io.waitScope);
+  two.settle();
+}
+
+void wrongResult(kj::AsyncIoContext& io, const std::string& prefix) {
+  WrongResult fault;
+  Two two(io, prefix, sound, fault);
+  two.settle();
+  auto made = two.counter.makeRequest().send().wait(two.io.waitScope);
+  fault.isArmed = true;
+  rest(two, kj::Promise<capnp::Response<Counter::SameResults>>(two.counter.sameRequest().send()));
+}
+
+template <typename Planted>
+std::function<void(kj::AsyncIoContext&, const std::string&)> inFirst(void (*conversation)(Two&)) {
+  return [conversation](kj::AsyncIoContext& io, const std::string& prefix) {
+    Planted fault;
+    Two two(io, prefix, fault, sound);
+    conversation(two);
+  };
+}
+
+template <typename Planted>
+std::function<void(kj::AsyncIoContext&, const std::string&)> inSecond(void (*conversation)(Two&)) {
+  return [conversation](kj::AsyncIoContext& io, const std::string& prefix) {
+    Planted fault;
+    Two two(io, prefix, sound, fault);
+    conversation(two);
+  };
+}
+
+const std::map<std::string, std::function<void(kj::AsyncIoContext&, const std::string&)>> faults = {
+  { "fault_wrong_object", inSecond<WrongObject>(callNextOfTwo) },
+  { "fault_overtaken", inFirst<Overtaken>(callOnResult) },
+  { "fault_released_early", inFirst<ReleasedEarly>(callNext) },
+  { "fault_released_too_often", inFirst<ReleasedTooOften>(dropAll) },
+  { "fault_wrong_method", inFirst<WrongMethod>(callNext) },
+  { "fault_wrong_target", inFirst<WrongTarget>(callNextOfTwo) },
+  { "fault_question_reused", inFirst<QuestionReused>(callWhileWaiting) },
+  { "fault_finished_twice", inFirst<FinishedTwice>(callNext) },
+  { "fault_returned_twice", inSecond<ReturnedTwice>(callNext) },
+  { "fault_resolved_twice", inSecond<ResolvedTwice>(resolvePromise) },
+  { "fault_echoed_twice", inSecond<EchoedTwice>(liftEmbargo) },
+  { "fault_echo_overtakes", inSecond<EchoOvertakes>(liftEmbargoAfterCall) },
+  { "fault_wrong_question", inSecond<WrongQuestion>(callWhileWaiting) },
+  { "fault_wrong_result", wrongResult },
+};
+
+}  // namespace
+
+int main(int count, char** words) {
+  if (count < 2) {
+    fprintf(stderr, "usage: faults FOLDER [NAME]\n");
+    return 2;
+  }
+  for (auto& fault: faults) {
+    if (count > 2 && fault.first != words[2]) continue;
+    auto io = kj::setupAsyncIo();
+    fault.second(io, std::string(words[1]) + "/" + fault.first);
+  }
+  return 0;
+}

@@ -1,0 +1,112 @@
+// The object that the scenarios call, and two or three vats in one process.
+#pragma once
+
+#include "test.capnp.h"
+#include "vataudit/recorder.h"
+
+#include <kj/async-io.h>
+#include <kj/debug.h>
+#include <memory>
+#include <string>
+#include <vector>
+
+// Does as its methods' names say. It keeps its recorder, for the objects and promises that it makes.
+class CounterObject: public Counter::Server {
+public:
+  explicit CounterObject(vataudit::Recorder& recorder, uint32_t value = 0): recorder(recorder), value(value) {}
+
+protected:
+  kj::Promise<void> next(NextContext context) override {
+    value += context.getParams().getBy();
+    context.getResults().setValue(value);
+    return kj::READY_NOW;
+  }
+  kj::Promise<void> same(SameContext context) override {
+    context.getResults().setCounter(thisCap().castAs<Counter>());
+    return kj::READY_NOW;
+  }
+  kj::Promise<void> call(CallContext context) override {
+    auto back = context.getParams().getBack();
+    auto request = back.nextRequest();
+    request.setBy(5);
+    return request.send().then([context, back](capnp::Response<Counter::NextResults>&& response) mutable {
+      context.getResults().setValue(response.getValue());
+      context.getResults().setBack(back);
+    });
+  }
+  kj::Promise<void> make(MakeContext context) override {
+    auto results = context.getResults();
+    results.setCounter(recorder.host<CounterObject>(recorder, 100));
+    auto list = results.initList(2);
+    list.set(0, recorder.host<CounterObject>(recorder, 200));
+    list.set(1, recorder.host<CounterObject>(recorder, 300));
+    return kj::READY_NOW;
+  }
+  kj::Promise<void> fail(FailContext) override {
+    return KJ_EXCEPTION(FAILED, "as asked for");
+  }
+  kj::Promise<void> never(NeverContext context) override {
+    context.allowCancellation();
+    return kj::Promise<void>(kj::NEVER_DONE);
+  }
+  kj::Promise<void> hold(HoldContext context) override {
+    kept = context.getParams().getCounter();
+    return kj::READY_NOW;
+  }
+  kj::Promise<void> held(HeldContext context) override {
+    context.getResults().setCounter(KJ_ASSERT_NONNULL(kept));
+    return kj::READY_NOW;
+  }
+  kj::Promise<void> later(LaterContext context) override {
+    auto paf = kj::newPromiseAndFulfiller<Counter::Client>();
+    fulfiller = kj::mv(paf.fulfiller);
+    context.getResults().setCounter(recorder.promise(kj::mv(paf.promise)));
+    return kj::READY_NOW;
+  }
+  kj::Promise<void> settle(SettleContext context) override {
+    switch (context.getParams().getHow()) {
+      case 0: fulfiller->fulfill(recorder.host<CounterObject>(recorder, 1000)); break;
+      case 1: fulfiller->reject(KJ_EXCEPTION(FAILED, "broken as asked for")); break;
+      case 2: fulfiller->fulfill(Counter::Client(KJ_ASSERT_NONNULL(kept))); break;
+    }
+    return kj::READY_NOW;
+  }
+  kj::Promise<void> pass(PassContext context) override {
+    auto given = context.getParams().getCounters();
+    auto results = context.getResults().initCounters(given.size());
+    for (uint at = 0; at < given.size(); at++) results.set(at, given[given.size() - 1 - at]);
+    return kj::READY_NOW;
+  }
+  kj::Promise<void> handOn(HandOnContext context) override {
+    KJ_IF_MAYBE(counter, kept) {
+      return context.tailCall(counter->handOnRequest());
+    }
+    context.getResults().setCounter(thisCap().castAs<Counter>());
+    return kj::READY_NOW;
+  }
+  kj::Promise<void> nothing(NothingContext) override { return kj::READY_NOW; }
+
+private:
+  vataudit::Recorder& recorder;
+  uint32_t value;
+  kj::Maybe<Counter::Client> kept;
+  kj::Own<kj::PromiseFulfiller<Counter::Client>> fulfiller;
+};
+
+inline capnp::Request<Counter::NextParams, Counter::NextResults> nextBy(Counter::Client counter, uint32_t by) {
+  auto request = counter.nextRequest();
+  request.setBy(by);
+  return request;
+}
+
+inline capnp::Request<Counter::HoldParams, Counter::HoldResults> holdOf(Counter::Client at, Counter::Client counter) {
+  auto request = at.holdRequest();
+  request.setCounter(counter);
+  return request;
+}
+
+inline capnp::Request<Counter::SettleParams, Counter::SettleResults> settleAs(Counter::Client at, uint32_t how) {
+  auto request = at.settleRequest();
+  request.setHow(how);
+  return request;
+}

@@ -1,0 +1,1677 @@
+// Records what a vat of Cap'n Proto's C++ runtime does, for `vataudit` to audit.
+//
+// One header, C++14 or later, for capnp 0.9 (Debian's libcapnp-dev 0.9.2). Nothing else is linked. The log is
+// docs/FORMATS.md's; docs/RECORDING.md says which record stands where, and why. RECV, SEND, FULFIL and so on are
+// the records' names there; Call, Return and so on are messages of rpc.capnp.
+//
+// How a program is recorded:
+//
+//     vataudit::Recorder recorder("client.log", 1);               // vat 1: a number that no other vat has
+//     vataudit::TwoPartyClient client(recorder, *stream, 0);      // connection 0, at both of its ends
+//     auto foo = client.bootstrap().castAs<Foo>();
+//     Bar::Client bar = recorder.host<BarImpl>(..);               // in the place of kj::heap<BarImpl>(..)
+//     Baz::Client baz = recorder.promise(kj::mv(promisedBaz));    // in the place of Baz::Client(kj::mv(promisedBaz))
+//
+// Calls, results, pipelined calls and capabilities in parameters are then recorded without a word of yours.
+// What is left to say: each object that goes out or is called has to come from `host`, each promise for a
+// capability from `promise`, each connection from `TwoPartyClient`, `TwoPartyServer` or `Network`.
+//
+// Recording never changes what the program does. The runtime gets the hooks that it would get without a recorder;
+// only the program holds wrapped ones. Where a record would make a bad log, or the log can't be written,
+// the recorder says so once on standard error, with the place, and records no more; the program goes on.
+// The log that is there then ends before that place.
+//
+// One recorder belongs to one event loop, as all of capnp's objects do.
+//
+// What it can't do:
+// - EzRpcClient and EzRpcServer let no recorder in, and file descriptors aren't passed along.
+// - A bootstrap object that is made anew for each client (BootstrapFactory) has to be given by `asBootstrap`.
+// - Where a method ends by `tailCall` or names its results beforehand by `setPipeline`, a log has no record for "the
+//   results of this call are those of that one" before they are there. A call that goes on to such a result before
+//   is told `no .. rule GOAL`. The runtime's own tail calls, back over the connection by which a call came, are
+//   `outside .. TailCall`.
+// - Where a call waits in a queue of the runtime for a promise and then goes out, or is delivered, as a copy, its
+//   MAKE is found by interface, method and parameters, the oldest first. If the runtime exchanged two such calls
+//   that are alike in all of this, the log couldn't tell. All other calls are found by where their parameters lie.
+
+#pragma once
+
+#include <capnp/any.h>
+#include <capnp/capability.h>
+#include <capnp/message.h>
+#include <capnp/rpc-twoparty.h>
+#include <capnp/rpc.capnp.h>
+#include <capnp/rpc.h>
+#include <capnp/serialize-async.h>
+#include <capnp/serialize.h>
+#include <kj/async-io.h>
+#include <kj/debug.h>
+
+#include <cstdint>
+#include <cstdio>
+#include <cstring>
+#include <deque>
+#include <memory>
+#include <string>
+#include <unordered_map>
+#include <utility>
+#include <vector>
+
+namespace vataudit {
+
+class Network;
+
+namespace inside {
+class Outgoing;
+class Vat;
+}  // namespace inside
+
+// =========================================================================== What a program uses
+
+// The log of one vat. Make one at the start of the program, before all that it records.
+class Recorder {
+public:
+  // Begins the log `path` of vat `vat`; what the file held is lost. Where it can't be made, the recorder
+  // says so and records nothing.
+  Recorder(const char* path, uint32_t vat);
+
+  // Writes what is left, and ends the log. What happens afterwards isn't recorded.
+  ~Recorder();
+  KJ_DISALLOW_COPY(Recorder);
+
+  // Makes an object of this vat and records HOST. Its calls are recorded as they are delivered (DELIVER) and
+  // as they end (ANSWER or FAULT). `Implementation` is a server class that isn't final.
+  template <typename Implementation, typename... Arguments>
+  typename Implementation::Serves::Client host(Arguments&&... arguments);
+
+  // A client for a capability that isn't there yet: records VOW now, and FULFIL or BREAK when the promise is
+  // settled, before each call that waits for it goes on.
+  template <typename Client>
+  Client promise(kj::Promise<Client>&& promised);
+
+  // Writes what is buffered. A program that may be killed calls this now and then.
+  void flush();
+
+  // From now on each record is written at once: slower, but a killed program leaves its log.
+  void flushEachRecord();
+
+  // The runtime answers a received abort with an abort of its own, which the audit's rule CLOSED refuses, though
+  // rpc.capnp binds the sender of the first abort alone. From now on such an answer is left out of the log: the one
+  // thing that a recorder leaves out, and only if you ask for it. A server whose clients come and go does.
+  void leaveOutAbortsInAnswer();
+
+  // Whether it still records, and how many records there are.
+  bool isRecording() const;
+  uint64_t records() const;
+
+private:
+  std::shared_ptr<inside::Vat> vat;
+  friend class Network;
+};
+
+// =========================================================================== The log
+
+namespace inside {
+
+using capnp::AnyList;
+using capnp::AnyPointer;
+using capnp::AnyStruct;
+using capnp::ClientHook;
+
+// The bytes of a log, little-endian, as docs/FORMATS.md has them.
+class Log {
+public:
+  Log(const char* path, uint32_t vat): file(fopen(path, "wb")) {
+    add("VATLOG01", 8);
+    number<uint32_t>(vat);
+  }
+  ~Log() { close(); }
+  KJ_DISALLOW_COPY(Log);
+
+  bool isOpen() const { return file != nullptr; }
+  void kind(uint8_t kind) { number<uint8_t>(kind); }
+
+  template <typename Number>
+  void number(Number value) {
+    char bytes[sizeof(Number)];
+    for (size_t place = 0; place < sizeof(Number); place++) {
+      bytes[place] = static_cast<char>(static_cast<uint64_t>(value) >> (8 * place));
+    }
+    buffer.append(bytes, sizeof(Number));
+  }
+
+  void add(const void* bytes, size_t length) {
+    buffer.append(static_cast<const char*>(bytes), length);
+  }
+
+  // Whether all could be written.
+  bool flush() {
+    bool isWritten = file != nullptr && fwrite(buffer.data(), 1, buffer.size(), file) == buffer.size() &&
+        fflush(file) == 0;
+    buffer.clear();
+    return isWritten;
+  }
+  bool endRecord() { return buffer.size() < 65536 || flush(); }
+
+  void close() {
+    if (file != nullptr) {
+      flush();
+      fclose(file);
+      file = nullptr;
+    }
+  }
+
+private:
+  FILE* file;
+  std::string buffer;
+};
+
+// =========================================================================== What is known
+
+struct Call;
+struct View;
+using Path = std::vector<uint16_t>;
+
+// A number of a capability in the log, and what it stands for. Number 0 is none.
+struct Reference {
+  uint64_t number = 0;
+  std::shared_ptr<View> view;
+};
+
+// What a reference stands for, as far as a Resolve asks: what it became (`turn`), or which field of a call's results.
+struct View {
+  Reference turn;
+  std::shared_ptr<Call> call;
+  Path path;
+};
+
+// A capability met in a message's content: its index in the capability table, and its path of pointer fields.
+// A capability in a list has no path.
+struct Met {
+  uint32_t index;
+  bool hasPath;
+  Path path;
+};
+
+// A call that was made or received here. Lists "by index" go by the index in the capability table of the message
+// in which they were written or came; lists "as met" by their order in the content, which every copy keeps.
+struct Call {
+  uint64_t number = 0;
+  uint64_t interfaceId = 0;
+  uint16_t methodId = 0;
+  std::vector<Reference> paramsByIndex, paramsAsMet;
+  std::vector<Reference> resultsByIndex, resultsAsMet;
+  std::vector<std::pair<Path, Reference>> fields;
+  std::shared_ptr<Call> answeredBy;  // the call that another was handed on to by `tailCall`
+  const void* params = nullptr;      // where its parameters lie, until it is delivered
+  bool hasContent = false;           // whether `content` is known
+  uint64_t content = 0;              // a hash of its parameters
+  bool isGone = false;               // sent, or delivered
+  bool isLocallyAnswered = false;    // by ANSWER
+};
+
+// Notes which capability was asked for, and gives none out.
+class Spy final: public capnp::_::CapTableReader {
+public:
+  kj::Maybe<kj::Own<ClientHook>> extractCap(uint index) override {
+    last = index;
+    if (nothing.get() == nullptr) nothing = capnp::newBrokenCap("looked at by a recorder");
+    return nothing->addRef();
+  }
+  uint32_t last = 0;
+
+private:
+  kj::Own<ClientHook> nothing;
+};
+
+// The capabilities in a content, depth first by pointer number, and a hash of the rest.
+class Content {
+public:
+  explicit Content(AnyPointer::Reader content) {
+    auto reader = capnp::_::PointerHelpers<AnyPointer>::getInternalReader(content);
+    Path path;
+    visit(AnyPointer::Reader(reader.imbue(&spy)), path, true);
+  }
+
+  std::vector<Met> met;
+  uint64_t hash = 14695981039346656037u;
+
+private:
+  Spy spy;
+
+  void mix(kj::ArrayPtr<const kj::byte> bytes) {
+    for (auto byte: bytes) hash = (hash ^ byte) * 1099511628211u;
+    hash = (hash ^ bytes.size()) * 1099511628211u;
+  }
+
+  void visit(AnyPointer::Reader pointer, Path& path, bool hasPath) {
+    switch (pointer.getPointerType()) {
+      case capnp::PointerType::NULL_:
+        break;
+      case capnp::PointerType::STRUCT:
+        visitStruct(pointer.getAs<AnyStruct>(), path, hasPath);
+        break;
+      case capnp::PointerType::LIST:
+        visitList(pointer.getAs<AnyList>(), path);
+        break;
+      case capnp::PointerType::CAPABILITY:
+        pointer.getAs<capnp::Capability>();
+        met.push_back(Met { spy.last, hasPath, hasPath ? path : Path() });
+        break;
+    }
+  }
+
+  void visitStruct(AnyStruct::Reader structure, Path& path, bool hasPath) {
+    mix(structure.getDataSection());
+    uint16_t field = 0;
+    for (auto pointer: structure.getPointerSection()) {
+      path.push_back(field++);
+      visit(pointer, path, hasPath);
+      path.pop_back();
+    }
+  }
+
+  void visitList(AnyList::Reader list, Path& path) {
+    switch (list.getElementSize()) {
+      case capnp::ElementSize::POINTER:
+        for (auto pointer: list.as<capnp::List<AnyPointer>>()) visit(pointer, path, false);
+        break;
+      case capnp::ElementSize::INLINE_COMPOSITE:
+        for (auto element: list.as<capnp::List<AnyStruct>>()) visitStruct(element, path, false);
+        break;
+      default:
+        mix(list.getRawBytes());
+    }
+  }
+};
+
+// Where parameters lie in memory: DELIVER finds its call by this. Null for no parameters at all.
+inline const void* placeOf(AnyPointer::Reader params) {
+  if (params.isNull()) return nullptr;
+  return params.getAs<AnyStruct>().getDataSection().begin();
+}
+
+// The references of capabilities met, in their order.
+inline std::vector<Reference> asMet(const std::vector<Met>& met, const std::vector<Reference>& byIndex) {
+  std::vector<Reference> list;
+  for (auto& one: met) list.push_back(one.index < byIndex.size() ? byIndex[one.index] : Reference());
+  return list;
+}
+
+// =========================================================================== The vat
+
+// What the vat has recorded, and what later records need of it. The numbers of references and calls rise from 1,
+// each used once.
+class Vat {
+public:
+  Vat(const char* path, uint32_t number): log(path, number), number(number) {
+    if (!log.isOpen()) stop("the log can't be made");
+  }
+
+  bool isRecording() const { return recording; }
+
+  // Says once why recording ends here. Nothing of the record that was begun is in the log.
+  void stop(const char* reason) {
+    if (!recording) return;
+    recording = false;
+    fprintf(stderr, "vataudit: vat %u is recorded no further than record %llu: %s\n", number,
+            static_cast<unsigned long long>(records), reason);
+    log.close();
+  }
+
+  void end() {
+    flush();
+    recording = false;
+    log.close();
+  }
+
+  void flush() {
+    if (recording && !log.flush()) stop("the log can't be written");
+  }
+
+  // ------------------------------------------------------------------------- records, but SEND and RECV
+
+  Reference host(uint64_t object) {
+    Reference reference = newReference();
+    begin(0x01, [&] { log.number(reference.number), log.number(object); });
+    return reference;
+  }
+
+  Reference vow() {
+    Reference reference = newReference();
+    begin(0x02, [&] { log.number(reference.number); });
+    return reference;
+  }
+
+  // FULFIL stands before all that uses what the promise became.
+  void fulfil(const Reference& promise, const Reference& became) {
+    if (became.number == 0) return stop("a promise became a capability that isn't known here");
+    promise.view->turn = became;
+    begin(0x03, [&] { log.number(promise.number), log.number(became.number); });
+  }
+
+  // A promise that is settled without a capability: it isn't hosted, so it must not go out as if it were.
+  void breakPromise(const Reference& promise) {
+    begin(0x04, [&] { log.number(promise.number); });
+  }
+
+  // MAKE is what the program calls, not what a frame says: else the audit would compare frames with themselves.
+  void make(Call& call, const Reference& target) {
+    if (target.number == 0) return stop("a call is made through a capability that isn't known here");
+    call.number = ++lastCall;
+    begin(0x05, [&] {
+      log.number(call.number), log.number(target.number), log.number(call.interfaceId), log.number(call.methodId);
+    });
+  }
+
+  Reference field(const std::shared_ptr<Call>& call, const Path& path) {
+    Reference reference = newReference();
+    reference.view->call = call;
+    reference.view->path = path;
+    begin(0x06, [&] { log.number(reference.number), log.number(call->number), addPath(path); });
+    return reference;
+  }
+
+  // Each call that is delivered is delivered once, to the object that was really entered.
+  void deliver(Call& call, uint64_t object) {
+    call.isGone = true;
+    begin(0x07, [&] { log.number(call.number), log.number(object); });
+  }
+
+  // ANSWER stands before the Return, and before each call that goes on to one of the results.
+  void answer(Call& call) {
+    call.isLocallyAnswered = true;
+    begin(0x08, [&] {
+      log.number(call.number), log.number(static_cast<uint16_t>(call.fields.size()));
+      for (auto& field: call.fields) log.number(field.second.number), addPath(field.first);
+    });
+  }
+
+  // Of a call that was delivered and failed: where it came from another vat its Return says so as well, where it is
+  // the vat's own no frame does. A call that was sent on has left, and gets none; nor does one that was canceled.
+  void fault(Call& call) {
+    begin(0x09, [&] { log.number(call.number); });
+  }
+
+  void frame(bool isSent, uint32_t connection, uint64_t call, const std::vector<Reference>& references,
+             kj::ArrayPtr<const kj::ArrayPtr<const capnp::word>> segments) {
+    begin(isSent ? 0x0a : 0x0b, [&] {
+      log.number(connection), log.number(call), log.number(static_cast<uint16_t>(references.size()));
+      for (auto& reference: references) log.number(reference.number);
+      addFrame(segments);
+    });
+  }
+
+  // ------------------------------------------------------------------------- numbers and capabilities
+
+  Reference newReference() {
+    Reference reference;
+    reference.number = ++lastReference;
+    reference.view = std::make_shared<View>();
+    return reference;
+  }
+
+  std::shared_ptr<Call> newCall(uint64_t interfaceId, uint16_t methodId) {
+    auto call = std::make_shared<Call>();
+    call->interfaceId = interfaceId;
+    call->methodId = methodId;
+    return call;
+  }
+
+  void bind(Call& call) { call.number = ++lastCall; }
+  uint64_t newObject() { return ++lastObject; }
+
+  // What a capability has become, as far as it is known here: the last reference on its way. None where it turned
+  // to nothing yet.
+  static Reference became(const Reference& from) {
+    Reference last;
+    const View* view = from.view.get();
+    for (int steps = 0; view != nullptr && steps < 1000; steps++) {
+      Reference next = nextOf(*view);
+      if (next.number == 0) break;
+      last = next;
+      view = next.view.get();
+    }
+    return last;
+  }
+
+  // A call whose parameters lie at this place, until it is delivered. Null parameters lie nowhere: the calls that
+  // have them are kept in their order.
+  void keep(const std::shared_ptr<Call>& call, AnyPointer::Reader params) {
+    call->params = placeOf(params);
+    if (call->params == nullptr) {
+      withoutParams.push_back(call);
+    } else {
+      callAt[call->params] = call;
+    }
+  }
+
+  std::shared_ptr<Call> callOf(AnyPointer::Reader params, uint64_t interfaceId, uint16_t methodId) {
+    const void* place = placeOf(params);
+    if (place == nullptr) {
+      for (auto& call: withoutParams) {
+        if (call->interfaceId == interfaceId && call->methodId == methodId) return call;
+      }
+      return nullptr;
+    }
+    auto found = callAt.find(place);
+    if (found == callAt.end()) return nullptr;
+    auto call = found->second;
+    return call->interfaceId == interfaceId && call->methodId == methodId ? call : nullptr;
+  }
+
+  void forget(Call& call) {
+    if (call.params == nullptr) {
+      for (auto at = withoutParams.begin(); at != withoutParams.end(); ++at) {
+        if (at->get() != &call) continue;
+        withoutParams.erase(at);
+        return;
+      }
+    }
+    auto found = callAt.find(call.params);
+    if (found != callAt.end() && found->second.get() == &call) callAt.erase(found);
+  }
+
+  // ------------------------------------------------------------------------- which call is being sent
+
+  std::shared_ptr<Call> building;   // the call whose request is being made
+  std::shared_ptr<Call> sending;    // the call whose request is being sent
+  std::deque<std::shared_ptr<Call>> waiting;  // calls made and sent through a promise: neither sent nor delivered
+  // The runtime's hooks of objects. An entry goes with its object, for addresses are used again.
+  std::unordered_map<const ClientHook*, Reference> hosted;
+  Outgoing* unsent = nullptr;       // the messages that are being made, the latest first
+  uint64_t records = 0;
+  bool isFlushedEachTime = false;
+  bool hasNoAbortsInAnswer = false;
+
+  // The oldest waiting call with this method and these parameters, where the runtime copied it. Two such calls that
+  // are alike in all this are told apart by their order alone.
+  std::shared_ptr<Call> takeWaiting(uint64_t interfaceId, uint16_t methodId, AnyPointer::Reader params) {
+    while (!waiting.empty() && waiting.front()->isGone) waiting.pop_front();
+    if (waiting.empty()) return nullptr;
+    uint64_t hash = Content(params).hash;
+    for (auto& call: waiting) {
+      bool isLike = call->interfaceId == interfaceId && call->methodId == methodId;
+      if (!call->isGone && isLike && (!call->hasContent || call->content == hash)) return call;
+    }
+    return nullptr;
+  }
+
+private:
+  Log log;
+  uint32_t number;
+  bool recording = true;
+  uint64_t lastReference = 0, lastCall = 0, lastObject = 0;
+  std::unordered_map<const void*, std::shared_ptr<Call>> callAt;
+  std::deque<std::shared_ptr<Call>> withoutParams;
+
+  template <typename Fields>
+  void begin(uint8_t kind, Fields&& fields) {
+    if (!recording) return;
+    if (records == 1048576) return stop("a log has no room for more records");
+    log.kind(kind);
+    fields();
+    records++;
+    if (!log.endRecord() || (isFlushedEachTime && !log.flush())) stop("the log can't be written");
+  }
+
+  void addPath(const Path& path) {
+    log.number(static_cast<uint16_t>(path.size()));
+    for (uint16_t field: path) log.number(field);
+  }
+
+  // A frame in the standard's stream framing, as the bytes pass the wire.
+  void addFrame(kj::ArrayPtr<const kj::ArrayPtr<const capnp::word>> segments) {
+    size_t table = (segments.size() / 2 + 1) * sizeof(capnp::word);
+    size_t length = table;
+    for (auto& segment: segments) length += segment.asBytes().size();
+    log.number(static_cast<uint32_t>(length));
+    log.number(static_cast<uint32_t>(segments.size() - 1));
+    for (auto& segment: segments) log.number(static_cast<uint32_t>(segment.size()));
+    if (segments.size() % 2 == 0) log.number(static_cast<uint32_t>(0));
+    for (auto& segment: segments) log.add(segment.begin(), segment.asBytes().size());
+  }
+
+  static Reference nextOf(const View& view) {
+    if (view.call == nullptr) return view.turn;
+    const Call* call = view.call.get();
+    while (call->answeredBy != nullptr) call = call->answeredBy.get();
+    for (auto& field: call->fields) {
+      if (field.first == view.path) return field.second;
+    }
+    return Reference();
+  }
+};
+
+using SharedVat = std::shared_ptr<Vat>;
+
+// =========================================================================== Capabilities in the program's hands
+
+// A capability that the program holds: the runtime's hook and its reference. The runtime itself never gets one, so
+// that it does what it would do unrecorded.
+class Handle final: public ClientHook, public kj::Refcounted {
+public:
+  Handle(SharedVat vat, Reference reference, kj::Own<ClientHook> inner)
+      : vat(kj::mv(vat)), reference(kj::mv(reference)), inner(kj::mv(inner)) {}
+
+  capnp::Request<AnyPointer, AnyPointer> newCall(
+      uint64_t interfaceId, uint16_t methodId, kj::Maybe<capnp::MessageSize> sizeHint) override;
+  VoidPromiseAndPipeline call(uint64_t interfaceId, uint16_t methodId,
+                              kj::Own<capnp::CallContextHook>&& context) override {
+    return inner->call(interfaceId, methodId, kj::mv(context));
+  }
+  kj::Maybe<ClientHook&> getResolved() override {
+    ClientHook* hook = inner.get();
+    for (;;) {
+      KJ_IF_MAYBE(next, hook->getResolved()) {
+        hook = next;
+      } else {
+        return *hook;
+      }
+    }
+  }
+  kj::Maybe<kj::Promise<kj::Own<ClientHook>>> whenMoreResolved() override { return inner->whenMoreResolved(); }
+  kj::Own<ClientHook> addRef() override { return kj::addRef(*this); }
+  const void* getBrand() override { return inner->isNull() || inner->isError() ? inner->getBrand() : nullptr; }
+  kj::Maybe<int> getFd() override { return inner->getFd(); }
+
+  SharedVat vat;
+  Reference reference;
+  kj::Own<ClientHook> inner;
+};
+
+// The reference of a capability that the program gives away. A broken one gets a VOW and a BREAK, since it goes out
+// as senderHosted and no object stands behind it.
+inline Reference referenceOf(Vat& vat, ClientHook& hook) {
+  ClientHook* at = &hook;
+  for (;;) {
+    if (auto handle = dynamic_cast<Handle*>(at)) return handle->reference;
+    auto found = vat.hosted.find(at);
+    if (found != vat.hosted.end()) return found->second;
+    if (at->isError() && vat.isRecording()) {
+      Reference broken = vat.vow();
+      vat.breakPromise(broken);
+      return broken;
+    }
+    KJ_IF_MAYBE(next, at->getResolved()) {
+      at = next;
+    } else {
+      return Reference();
+    }
+  }
+}
+
+// The runtime's own hook.
+inline kj::Own<ClientHook> unwrapped(kj::Own<ClientHook>&& hook) {
+  if (auto handle = dynamic_cast<Handle*>(hook.get())) return handle->inner->addRef();
+  return kj::mv(hook);
+}
+
+inline kj::Own<ClientHook> wrapped(const SharedVat& vat, const Reference& reference, kj::Own<ClientHook>&& hook) {
+  if (reference.number == 0 || !vat->isRecording()) return kj::mv(hook);
+  return kj::refcounted<Handle>(vat, reference, kj::mv(hook));
+}
+
+// The capability table of a message that came in, by whose indexes the references were noted.
+class ReadTable final: public capnp::_::CapTableReader {
+public:
+  ReadTable(SharedVat vat, std::vector<Reference> byIndex): vat(kj::mv(vat)), byIndex(kj::mv(byIndex)) {}
+
+  AnyPointer::Reader imbue(AnyPointer::Reader reader) {
+    auto pointer = capnp::_::PointerHelpers<AnyPointer>::getInternalReader(reader);
+    inner = pointer.getCapTable();
+    return AnyPointer::Reader(pointer.imbue(this));
+  }
+
+  kj::Maybe<kj::Own<ClientHook>> extractCap(uint index) override {
+    if (inner == nullptr) return nullptr;
+    KJ_IF_MAYBE(hook, inner->extractCap(index)) {
+      return wrapped(vat, index < byIndex.size() ? byIndex[index] : Reference(), kj::mv(*hook));
+    } else {
+      return nullptr;
+    }
+  }
+
+private:
+  SharedVat vat;
+  std::vector<Reference> byIndex;
+  capnp::_::CapTableReader* inner = nullptr;
+};
+
+// The capability table of a message that the program writes: notes the reference of each capability by its index,
+// and hands the runtime's own hook on.
+class WriteTable final: public capnp::_::CapTableBuilder {
+public:
+  explicit WriteTable(SharedVat vat): vat(kj::mv(vat)) {}
+
+  AnyPointer::Builder imbue(AnyPointer::Builder builder) {
+    auto pointer = capnp::_::PointerHelpers<AnyPointer>::getInternalBuilder(kj::mv(builder));
+    inner = pointer.getCapTable();
+    return AnyPointer::Builder(pointer.imbue(this));
+  }
+
+  kj::Maybe<kj::Own<ClientHook>> extractCap(uint index) override {
+    KJ_IF_MAYBE(hook, inner->extractCap(index)) {
+      return wrapped(vat, index < byIndex.size() ? byIndex[index] : Reference(), kj::mv(*hook));
+    } else {
+      return nullptr;
+    }
+  }
+
+  uint injectCap(kj::Own<ClientHook>&& hook) override {
+    Reference reference = referenceOf(*vat, *hook);
+    if (reference.number == 0) {
+      vat->stop("a capability is given away that is none of `host`, `promise`, a parameter or a result");
+    }
+    uint index = inner->injectCap(unwrapped(kj::mv(hook)));
+    if (byIndex.size() <= index) byIndex.resize(index + 1);
+    byIndex[index] = kj::mv(reference);
+    return index;
+  }
+
+  void dropCap(uint index) override { inner->dropCap(index); }
+
+  std::vector<Reference> byIndex;
+
+private:
+  SharedVat vat;
+  capnp::_::CapTableBuilder* inner = nullptr;
+};
+
+// =========================================================================== Calls that the program makes
+
+// Says for a while which call is at work, and then again what was said before.
+class Meanwhile {
+public:
+  Meanwhile(std::shared_ptr<Call>& place, std::shared_ptr<Call> call): place(place), before(kj::mv(place)) {
+    place = kj::mv(call);
+  }
+  ~Meanwhile() { place = kj::mv(before); }
+  KJ_DISALLOW_COPY(Meanwhile);
+
+private:
+  std::shared_ptr<Call>& place;
+  std::shared_ptr<Call> before;
+};
+
+// The results of a call that are still to come. FIELD is recorded where the program first names one.
+class Pipeline final: public capnp::PipelineHook, public kj::Refcounted {
+public:
+  Pipeline(SharedVat vat, std::shared_ptr<Call> call, kj::Own<capnp::PipelineHook> inner)
+      : vat(kj::mv(vat)), call(kj::mv(call)), inner(kj::mv(inner)) {}
+
+  kj::Own<capnp::PipelineHook> addRef() override { return kj::addRef(*this); }
+
+  kj::Own<ClientHook> getPipelinedCap(kj::ArrayPtr<const capnp::PipelineOp> ops) override {
+    Path path;
+    for (auto& op: ops) {
+      if (op.type == capnp::PipelineOp::GET_POINTER_FIELD) path.push_back(op.pointerIndex);
+    }
+    auto hook = inner->getPipelinedCap(ops);
+    if (!vat->isRecording()) return hook;
+    return wrapped(vat, fieldAt(path), kj::mv(hook));
+  }
+
+private:
+  SharedVat vat;
+  std::shared_ptr<Call> call;
+  kj::Own<capnp::PipelineHook> inner;
+  std::vector<std::pair<Path, Reference>> named;
+
+  Reference fieldAt(const Path& path) {
+    for (auto& one: named) {
+      if (one.first == path) return one.second;
+    }
+    named.push_back({ path, vat->field(call, path) });
+    return named.back().second;
+  }
+};
+
+// Results that came, in which each capability has the reference that its Return noted.
+class Results final: public capnp::ResponseHook {
+public:
+  Results(SharedVat vat, std::vector<Reference> byIndex, kj::Own<capnp::ResponseHook> inner)
+      : inner(kj::mv(inner)), table(kj::mv(vat), kj::mv(byIndex)) {}
+
+private:
+  kj::Own<capnp::ResponseHook> inner;
+
+public:
+  ReadTable table;
+};
+
+// A request of the program. MAKE is recorded as it is sent, so before the runtime's SEND.
+class Request final: public capnp::RequestHook {
+public:
+  Request(SharedVat vat, Reference target, std::shared_ptr<Call> call,
+          capnp::Request<AnyPointer, AnyPointer>&& request)
+      : vat(vat), target(kj::mv(target)), call(kj::mv(call)), builder(request), table(kj::mv(vat)),
+        inner(capnp::RequestHook::from(kj::mv(request))) {}
+
+  AnyPointer::Builder params() { return table.imbue(builder); }
+
+  capnp::RemotePromise<AnyPointer> send() override {
+    if (!begin()) return inner->send();
+    auto promise = [&] {
+      Meanwhile meanwhile(vat->sending, call);
+      return inner->send();
+    }();
+    end();
+    auto pipeline = kj::refcounted<Pipeline>(vat, call, capnp::PipelineHook::from(kj::mv(promise)));
+    auto results = promise.then([vat = vat, call = call](capnp::Response<AnyPointer>&& response) {
+      const Call* answered = call.get();
+      while (answered->answeredBy != nullptr) answered = answered->answeredBy.get();
+      AnyPointer::Reader reader = response;
+      auto hook = kj::heap<Results>(vat, answered->resultsByIndex, capnp::ResponseHook::from(kj::mv(response)));
+      reader = hook->table.imbue(reader);
+      return capnp::Response<AnyPointer>(reader, kj::mv(hook));
+    });
+    return capnp::RemotePromise<AnyPointer>(kj::mv(results), AnyPointer::Pipeline(kj::mv(pipeline)));
+  }
+
+  kj::Promise<void> sendStreaming() override {
+    if (!begin()) return inner->sendStreaming();
+    auto promise = [&] {
+      Meanwhile meanwhile(vat->sending, call);
+      return inner->sendStreaming();
+    }();
+    end();
+    return promise;
+  }
+
+  const void* getBrand() override { return nullptr; }
+
+  // For `tailCall`: the runtime looks at its own request, as it would unrecorded.
+  bool begin() {
+    if (!vat->isRecording()) return false;
+    auto reader = builder.asReader();
+    vat->make(*call, target);
+    call->paramsByIndex = kj::mv(table.byIndex);
+    if (!call->paramsByIndex.empty() || call->hasContent) {
+      Content content(reader);
+      call->paramsAsMet = asMet(content.met, call->paramsByIndex);
+      call->content = content.hash;
+    }
+    vat->keep(call, reader);
+    return vat->isRecording();
+  }
+  void end() {
+    if (call->isGone) return;
+    vat->waiting.push_back(call);
+  }
+
+  SharedVat vat;
+  Reference target;
+  std::shared_ptr<Call> call;
+  AnyPointer::Builder builder;
+  WriteTable table;
+  kj::Own<capnp::RequestHook> inner;
+};
+
+inline capnp::Request<AnyPointer, AnyPointer> Handle::newCall(
+    uint64_t interfaceId, uint16_t methodId, kj::Maybe<capnp::MessageSize> sizeHint) {
+  if (!vat->isRecording()) return inner->newCall(interfaceId, methodId, sizeHint);
+  auto call = vat->newCall(interfaceId, methodId);
+  // What became an object of this vat, or waits for one, is called directly, as ClientHook::getResolved allows: the
+  // runtime would only copy the parameters once more, and DELIVER finds its call by where they lie.
+  ClientHook& end = KJ_ASSERT_NONNULL(getResolved());
+  bool isHere = end.getBrand() == nullptr;
+  call->hasContent = isHere && vat->hosted.count(&end) == 0;
+  auto request = [&] {
+    Meanwhile meanwhile(vat->building, call);
+    return (isHere ? end : *inner).newCall(interfaceId, methodId, sizeHint);
+  }();
+  auto hook = kj::heap<Request>(vat, reference, kj::mv(call), kj::mv(request));
+  auto params = hook->params();
+  return capnp::Request<AnyPointer, AnyPointer>(params, kj::mv(hook));
+}
+
+// =========================================================================== Objects
+
+// Opens the one member of a call's context that a derived server can't reach: the hook. Naming a private member in
+// an explicit instantiation is allowed.
+struct HookOfContext {
+  using Type = capnp::CallContextHook* capnp::CallContext<AnyPointer, AnyPointer>::*;
+  friend Type open(HookOfContext);
+};
+template <typename Tag, typename Tag::Type member>
+struct Opened {
+  friend typename Tag::Type open(Tag) { return member; }
+};
+template struct Opened<HookOfContext, &capnp::CallContext<AnyPointer, AnyPointer>::hook>;
+
+// What the program sees of a call that it serves: parameters and results whose capabilities are known by reference.
+class Context final: public capnp::CallContextHook, public kj::Refcounted {
+public:
+  Context(SharedVat vat, std::shared_ptr<Call> call, kj::Own<capnp::CallContextHook> inner)
+      : vat(vat), call(call), inner(kj::mv(inner)), params(vat, call->paramsByIndex), results(vat) {}
+
+  AnyPointer::Reader getParams() override { return params.imbue(inner->getParams()); }
+  void releaseParams() override { inner->releaseParams(); }
+  AnyPointer::Builder getResults(kj::Maybe<capnp::MessageSize> sizeHint) override {
+    hasResults = true;
+    return results.imbue(inner->getResults(sizeHint));
+  }
+  kj::Promise<void> tailCall(kj::Own<capnp::RequestHook>&& request) override {
+    if (auto made = begin(*request)) {
+      Meanwhile meanwhile(vat->sending, made->call);
+      auto promise = inner->tailCall(kj::mv(made->inner));
+      made->end();
+      return promise;
+    }
+    return inner->tailCall(kj::mv(request));
+  }
+  capnp::ClientHook::VoidPromiseAndPipeline directTailCall(kj::Own<capnp::RequestHook>&& request) override {
+    if (auto made = begin(*request)) {
+      Meanwhile meanwhile(vat->sending, made->call);
+      auto result = inner->directTailCall(kj::mv(made->inner));
+      made->end();
+      return result;
+    }
+    return inner->directTailCall(kj::mv(request));
+  }
+  void allowCancellation() override { inner->allowCancellation(); }
+  void setPipeline(kj::Own<capnp::PipelineHook>&& pipeline) override { inner->setPipeline(kj::mv(pipeline)); }
+  kj::Promise<AnyPointer::Pipeline> onTailCall() override { return inner->onTailCall(); }
+  kj::Own<capnp::CallContextHook> addRef() override { return kj::addRef(*this); }
+
+  // Records ANSWER: each capability in the results with its path. Those of a call that was handed on are the results
+  // of that call.
+  void answer() {
+    if (!vat->isRecording()) return;
+    if (call->answeredBy != nullptr) {
+      call->fields = call->answeredBy->fields;
+      call->resultsAsMet = call->answeredBy->resultsAsMet;
+    } else if (hasResults && !results.byIndex.empty()) {
+      Content content(inner->getResults(capnp::MessageSize { 0, 0 }).asReader());
+      call->resultsByIndex = kj::mv(results.byIndex);
+      call->resultsAsMet = asMet(content.met, call->resultsByIndex);
+      for (size_t at = 0; at < content.met.size(); at++) {
+        if (content.met[at].hasPath) call->fields.push_back({ content.met[at].path, call->resultsAsMet[at] });
+      }
+    }
+    vat->answer(*call);
+  }
+
+private:
+  SharedVat vat;
+  std::shared_ptr<Call> call;
+  kj::Own<capnp::CallContextHook> inner;
+  ReadTable params;
+  WriteTable results;
+  bool hasResults = false;
+
+  Request* begin(capnp::RequestHook& request) {
+    auto made = dynamic_cast<Request*>(&request);
+    if (made == nullptr || !made->begin()) return nullptr;
+    call->answeredBy = made->call;
+    return made;
+  }
+};
+
+// An object of the vat. DELIVER is recorded where its method is entered, with the object that it really is.
+template <typename Implementation>
+class Hosted final: public Implementation {
+public:
+  template <typename... Arguments>
+  explicit Hosted(SharedVat vat, Arguments&&... arguments)
+      : Implementation(kj::fwd<Arguments>(arguments)...), vat(vat), object(vat->newObject()),
+        reference(vat->host(object)) {}
+  ~Hosted() noexcept(false) { vat->hosted.erase(hook); }
+
+  capnp::Capability::Server::DispatchCallResult dispatchCall(
+      uint64_t interfaceId, uint16_t methodId, capnp::CallContext<AnyPointer, AnyPointer> context) override {
+    if (!vat->isRecording()) return Implementation::dispatchCall(interfaceId, methodId, context);
+    capnp::CallContextHook& inner = *(context.*open(HookOfContext()));
+    auto call = delivered(inner.getParams(), interfaceId, methodId);
+    auto seen = kj::refcounted<Context>(vat, call, inner.addRef());
+    try {
+      auto result = Implementation::dispatchCall(
+          interfaceId, methodId, capnp::CallContext<AnyPointer, AnyPointer>(*seen));
+      auto& hook = *seen;
+      auto promise = result.promise.then(
+          [&hook]() { hook.answer(); },
+          [vat = vat, call](kj::Exception&& exception) {
+            vat->fault(*call);
+            kj::throwRecoverableException(kj::mv(exception));
+          });
+      return { promise.attach(kj::mv(seen)), result.isStreaming };
+    } catch (...) {
+      vat->fault(*call);
+      throw;
+    }
+  }
+
+  SharedVat vat;
+  uint64_t object;
+  Reference reference;
+  ClientHook* hook = nullptr;
+
+private:
+  // Finds the call by where its parameters lie. The runtime copies them where a promise was settled between the
+  // making of a request and its sending: then by what they are. What is left are calls through `thisCap()`, which
+  // goes straight to the runtime's hook: they have no MAKE yet.
+  std::shared_ptr<Call> delivered(AnyPointer::Reader params, uint64_t interfaceId, uint16_t methodId) {
+    auto call = vat->callOf(params, interfaceId, methodId);
+    if (call == nullptr) call = vat->takeWaiting(interfaceId, methodId, params);
+    if (call == nullptr) {
+      call = vat->newCall(interfaceId, methodId);
+      vat->make(*call, reference);
+    } else {
+      vat->forget(*call);
+    }
+    vat->deliver(*call, object);
+    return call;
+  }
+};
+
+// =========================================================================== One end of a connection
+
+namespace rpc = capnp::rpc;
+
+// A question that was asked, at the asking or the answering end.
+struct Question {
+  std::shared_ptr<Call> call;
+  bool isBootstrap = false, isReturned = false, isLate = false;
+  std::vector<uint32_t> broughtByCall, broughtByReturn;  // the sender's numbers in their capability tables
+};
+
+// A number of the sender's table: how often it was introduced more than given back, and what it stands for.
+struct Number {
+  uint64_t count = 0;
+  Reference reference;
+};
+
+// What the numbers of one connection stand for at this end. Read from the frames; MAKE, DELIVER and ANSWER aren't.
+class End {
+public:
+  End(SharedVat vat, uint32_t connection): vat(kj::mv(vat)), connection(connection) {}
+
+  SharedVat vat;
+  std::shared_ptr<Call> lastBootstrap;
+  Reference bootstrap;  // of the object that the peer gets as the bootstrap object
+  uint32_t number() const { return connection; }
+
+  // A message that is handed to the transport: the SEND of docs/FORMATS.md. A Call comes with the call whose
+  // request it is, or that it passes on, and says whether the program wrote its parameters right there.
+  void sent(rpc::Message::Reader message, kj::ArrayPtr<const kj::ArrayPtr<const capnp::word>> segments,
+            std::shared_ptr<Call> call, bool isWrittenHere) {
+    std::vector<Reference> references;
+    uint64_t number = 0;
+    switch (message.which()) {
+      case rpc::Message::BOOTSTRAP: {
+        lastBootstrap = vat->newCall(0, 0);
+        vat->bind(*lastBootstrap);
+        number = lastBootstrap->number;
+        asked[message.getBootstrap().getQuestionId()] = question(lastBootstrap, true);
+        break;
+      }
+      case rpc::Message::CALL:
+        if (!sentCall(message.getCall(), kj::mv(call), isWrittenHere, number, references)) return;
+        break;
+      case rpc::Message::RETURN:
+        if (!sentReturn(message.getReturn(), references)) return;
+        break;
+      case rpc::Message::RESOLVE:
+        if (!sentResolve(message.getResolve(), references)) return;
+        break;
+      case rpc::Message::FINISH:
+        finish(asked, imports, message.getFinish());
+        break;
+      case rpc::Message::RELEASE:
+        giveBack(imports, message.getRelease().getId(), message.getRelease().getReferenceCount());
+        break;
+      case rpc::Message::ABORT:
+        if (isAborted && vat->hasNoAbortsInAnswer) return;
+        break;
+      default:
+        break;
+    }
+    vat->frame(true, connection, number, references, segments);
+  }
+
+  // A message that is looked at for the first time: the RECV. Answers the call that a Call brings.
+  std::shared_ptr<Call> received(rpc::Message::Reader message,
+                                 kj::ArrayPtr<const kj::ArrayPtr<const capnp::word>> segments) {
+    std::vector<Reference> references;
+    std::shared_ptr<Call> call;
+    switch (message.which()) {
+      case rpc::Message::BOOTSTRAP:
+        call = vat->newCall(0, 0);
+        vat->bind(*call);
+        answering[message.getBootstrap().getQuestionId()] = question(call, true);
+        break;
+      case rpc::Message::CALL:
+        call = receivedCall(message.getCall(), references);
+        break;
+      case rpc::Message::RETURN:
+        receivedReturn(message.getReturn(), references);
+        break;
+      case rpc::Message::RESOLVE:
+        receivedResolve(message.getResolve(), references);
+        break;
+      case rpc::Message::FINISH:
+        finish(answering, exports, message.getFinish());
+        break;
+      case rpc::Message::RELEASE:
+        giveBack(exports, message.getRelease().getId(), message.getRelease().getReferenceCount());
+        break;
+      case rpc::Message::ABORT:
+        isAborted = true;
+        break;
+      default:
+        break;
+    }
+    vat->frame(false, connection, call == nullptr ? 0 : call->number, references, segments);
+    return message.isCall() ? call : nullptr;
+  }
+
+private:
+  using Questions = std::unordered_map<uint32_t, Question>;
+  using Numbers = std::unordered_map<uint32_t, Number>;
+  using Table = capnp::List<rpc::CapDescriptor>::Reader;
+
+  uint32_t connection;
+  Questions asked, answering;
+  Numbers imports, exports;
+  bool isAborted = false;  // by the peer
+
+  static Question question(std::shared_ptr<Call> call, bool isBootstrap) {
+    Question question;
+    question.call = kj::mv(call);
+    question.isBootstrap = isBootstrap;
+    return question;
+  }
+
+  // ------------------------------------------------------------------------- sent
+
+  bool sentCall(rpc::Call::Reader message, std::shared_ptr<Call> call, bool isWrittenHere, uint64_t& number,
+                std::vector<Reference>& references) {
+    auto payload = message.getParams();
+    if (call == nullptr) {
+      call = vat->takeWaiting(message.getInterfaceId(), message.getMethodId(), payload.getContent());
+    }
+    if (call == nullptr || call->number == 0) {
+      vat->stop("a Call is sent, and no MAKE or received Call stands before it: was it made through a client of a "
+                "promise that isn't from `promise`?");
+      return false;
+    }
+    call->isGone = true;
+    number = call->number;
+    Question opened = question(call, false);
+    auto given = isWrittenHere ? call->paramsByIndex : copied(payload, call->paramsAsMet);
+    if (!give(payload.getCapTable(), given, references, opened.broughtByCall)) return false;
+    asked[message.getQuestionId()] = kj::mv(opened);
+    return true;
+  }
+
+  bool sentReturn(rpc::Return::Reader message, std::vector<Reference>& references) {
+    auto found = answering.find(message.getAnswerId());
+    if (found == answering.end()) return true;  // to no question: the audit says so
+    Question& answered = found->second;
+    if (message.isResults() && !answered.isLate) {
+      auto payload = message.getResults();
+      if (!give(payload.getCapTable(), results(answered, payload), references, answered.broughtByReturn)) return false;
+    }
+    answered.isReturned = true;
+    if (message.getReleaseParamCaps()) giveBack(imports, answered.broughtByCall);
+    if (answered.isLate) answering.erase(found);
+    return true;
+  }
+
+  // What the capabilities of a Return are: the bootstrap object, those that the program wrote there, or a copy of
+  // what another Return brought.
+  std::vector<Reference> results(Question& answered, rpc::Payload::Reader payload) {
+    Call& call = *answered.call;
+    if (answered.isBootstrap) {
+      if (payload.getCapTable().size() > 0) {
+        call.resultsByIndex = { bootstrap };
+        call.fields = { { Path(), bootstrap } };
+      }
+      if (bootstrap.number != 0) vat->answer(call);
+    }
+    bool isWrittenHere = answered.isBootstrap || (call.isLocallyAnswered && call.answeredBy == nullptr);
+    return isWrittenHere ? call.resultsByIndex : copied(payload, call.resultsAsMet);
+  }
+
+  // A Resolve notes what the promise turned out to be, not the promise.
+  bool sentResolve(rpc::Resolve::Reader message, std::vector<Reference>& references) {
+    if (!message.isCap() || message.getCap().isNone()) return true;
+    auto found = exports.find(message.getPromiseId());
+    Reference became = found == exports.end() ? Reference() : Vat::became(found->second.reference);
+    if (became.number == 0) {
+      vat->stop("a Resolve is sent, and it isn't known what the promise became");
+      return false;
+    }
+    std::vector<uint32_t> brought;
+    introduce(message.getCap(), became, brought);
+    references.push_back(became);
+    return true;
+  }
+
+  // The references of a copy, by index: a copy keeps the order in which capabilities are met in the content.
+  std::vector<Reference> copied(rpc::Payload::Reader payload, const std::vector<Reference>& asMet) {
+    std::vector<Reference> byIndex(payload.getCapTable().size());
+    if (byIndex.empty()) return byIndex;
+    Content content(payload.getContent());
+    for (size_t at = 0; at < content.met.size() && at < asMet.size(); at++) {
+      if (content.met[at].index < byIndex.size()) byIndex[content.met[at].index] = asMet[at];
+    }
+    return byIndex;
+  }
+
+  // Notes the reference of each entry that isn't none, in the table's order.
+  bool give(Table table, const std::vector<Reference>& byIndex, std::vector<Reference>& references,
+            std::vector<uint32_t>& brought) {
+    for (uint at = 0; at < table.size(); at++) {
+      if (table[at].isNone()) continue;
+      if (at >= byIndex.size() || byIndex[at].number == 0) {
+        vat->stop("a capability is sent that isn't known here");
+        return false;
+      }
+      introduce(table[at], byIndex[at], brought);
+      references.push_back(byIndex[at]);
+    }
+    return true;
+  }
+
+  void introduce(rpc::CapDescriptor::Reader descriptor, const Reference& reference, std::vector<uint32_t>& brought) {
+    if (!descriptor.isSenderHosted() && !descriptor.isSenderPromise()) return;
+    uint32_t id = descriptor.isSenderHosted() ? descriptor.getSenderHosted() : descriptor.getSenderPromise();
+    Number& number = exports[id];
+    if (number.count++ == 0) number.reference = reference;
+    brought.push_back(id);
+  }
+
+  // ------------------------------------------------------------------------- received
+
+  std::shared_ptr<Call> receivedCall(rpc::Call::Reader message, std::vector<Reference>& references) {
+    auto call = vat->newCall(message.getInterfaceId(), message.getMethodId());
+    vat->bind(*call);
+    Question opened = question(call, false);
+    auto payload = message.getParams();
+    call->paramsByIndex = take(payload.getCapTable(), references, opened.broughtByCall);
+    if (!call->paramsByIndex.empty()) {
+      call->paramsAsMet = asMet(Content(payload.getContent()).met, call->paramsByIndex);
+    }
+    vat->keep(call, payload.getContent());
+    answering[message.getQuestionId()] = kj::mv(opened);
+    return call;
+  }
+
+  // A late Return, one after a Finish with releaseResultCaps, notes no reference.
+  void receivedReturn(rpc::Return::Reader message, std::vector<Reference>& references) {
+    auto found = asked.find(message.getAnswerId());
+    if (found == asked.end()) return;
+    Question& answered = found->second;
+    if (message.isResults() && !answered.isLate) {
+      Call& call = *answered.call;
+      auto payload = message.getResults();
+      call.resultsByIndex = take(payload.getCapTable(), references, answered.broughtByReturn);
+      if (!call.resultsByIndex.empty()) {
+        auto met = Content(payload.getContent()).met;
+        call.resultsAsMet = asMet(met, call.resultsByIndex);
+        for (size_t at = 0; at < met.size(); at++) {
+          if (met[at].hasPath) call.fields.push_back({ met[at].path, call.resultsAsMet[at] });
+        }
+      }
+    }
+    answered.isReturned = true;
+    if (message.getReleaseParamCaps()) giveBack(exports, answered.broughtByCall);
+    if (answered.isLate) asked.erase(found);
+  }
+
+  void receivedResolve(rpc::Resolve::Reader message, std::vector<Reference>& references) {
+    if (!message.isCap() || message.getCap().isNone()) return;
+    std::vector<uint32_t> brought;
+    auto found = imports.find(message.getPromiseId());
+    std::shared_ptr<View> promise = found == imports.end() ? nullptr : found->second.reference.view;
+    Reference became = arrived(message.getCap(), brought);
+    references.push_back(became);
+    if (promise != nullptr) promise->turn = became;
+  }
+
+  // New references for what came in, by index.
+  std::vector<Reference> take(Table table, std::vector<Reference>& references, std::vector<uint32_t>& brought) {
+    std::vector<Reference> byIndex(table.size());
+    for (uint at = 0; at < table.size(); at++) {
+      if (table[at].isNone()) continue;
+      byIndex[at] = arrived(table[at], brought);
+      references.push_back(byIndex[at]);
+    }
+    return byIndex;
+  }
+
+  Reference arrived(rpc::CapDescriptor::Reader descriptor, std::vector<uint32_t>& brought) {
+    Reference reference = vat->newReference();
+    switch (descriptor.which()) {
+      case rpc::CapDescriptor::SENDER_HOSTED:
+      case rpc::CapDescriptor::SENDER_PROMISE: {
+        uint32_t id = descriptor.isSenderHosted() ? descriptor.getSenderHosted() : descriptor.getSenderPromise();
+        Number& number = imports[id];
+        if (number.count++ == 0) number.reference = reference;
+        reference.view = number.reference.view;
+        brought.push_back(id);
+        break;
+      }
+      case rpc::CapDescriptor::RECEIVER_HOSTED: {
+        auto found = exports.find(descriptor.getReceiverHosted());
+        if (found != exports.end()) reference.view = found->second.reference.view;
+        break;
+      }
+      case rpc::CapDescriptor::RECEIVER_ANSWER: {
+        auto found = answering.find(descriptor.getReceiverAnswer().getQuestionId());
+        if (found == answering.end()) break;
+        reference.view->call = found->second.call;
+        for (auto op: descriptor.getReceiverAnswer().getTransform()) {
+          if (op.isGetPointerField()) reference.view->path.push_back(op.getGetPointerField());
+        }
+        break;
+      }
+      default:
+        break;
+    }
+    return reference;
+  }
+
+  // ------------------------------------------------------------------------- given back
+
+  static void giveBack(Numbers& numbers, uint32_t id, uint64_t count) {
+    auto found = numbers.find(id);
+    if (found == numbers.end()) return;
+    if (found->second.count <= count) {
+      numbers.erase(found);
+    } else {
+      found->second.count -= count;
+    }
+  }
+  static void giveBack(Numbers& numbers, const std::vector<uint32_t>& ids) {
+    for (uint32_t id: ids) giveBack(numbers, id, 1);
+  }
+
+  // After a Finish with releaseResultCaps the Return that is still to come is late.
+  static void finish(Questions& questions, Numbers& numbers, rpc::Finish::Reader message) {
+    auto found = questions.find(message.getQuestionId());
+    if (found == questions.end()) return;
+    if (found->second.isReturned) {
+      if (message.getReleaseResultCaps()) giveBack(numbers, found->second.broughtByReturn);
+      questions.erase(found);
+    } else {
+      found->second.isLate = message.getReleaseResultCaps();
+    }
+  }
+};
+
+// =========================================================================== Messages
+
+using Segments = std::vector<kj::ArrayPtr<const capnp::word>>;
+
+// A message of the runtime, until it is handed to the transport.
+class Outgoing final: public capnp::OutgoingRpcMessage, public kj::Refcounted {
+public:
+  Outgoing(Network& network, std::shared_ptr<End> end, uint firstSegmentWordSize)
+      : network(network), end(kj::mv(end)),
+        message(firstSegmentWordSize == 0 ? capnp::SUGGESTED_FIRST_SEGMENT_WORDS : firstSegmentWordSize),
+        call(this->end->vat->building) {
+    if (call == nullptr) {
+      before = this->end->vat->unsent;
+      this->end->vat->unsent = this;
+    }
+  }
+  ~Outgoing() noexcept(false) { leave(); }
+
+  AnyPointer::Builder getBody() override { return message.getRoot<AnyPointer>(); }
+  void send() override;
+  size_t sizeInWords() override {
+    size_t size = 0;
+    for (auto& segment: message.getSegmentsForOutput()) size += segment.size();
+    return size;
+  }
+
+  // A call that was received lets go of its message right after its parameters were copied into this one: it is
+  // passed on.
+  void passesOn(const std::shared_ptr<Call>& received) {
+    if (passedOn == nullptr && !received->isGone) passedOn = received;
+  }
+
+private:
+  Network& network;
+  std::shared_ptr<End> end;
+  capnp::MallocMessageBuilder message;
+  std::shared_ptr<Call> call;      // the call whose request the program writes right here
+  std::shared_ptr<Call> passedOn;
+  Outgoing* before = nullptr;
+
+  void leave() {
+    for (Outgoing** at = &end->vat->unsent; *at != nullptr; at = &(*at)->before) {
+      if (*at != this) continue;
+      *at = before;
+      before = nullptr;
+      return;
+    }
+  }
+
+  void record() {
+    auto& vat = *end->vat;
+    if (!vat.isRecording()) return;
+    auto reader = message.getRoot<rpc::Message>().asReader();
+    auto segments = message.getSegmentsForOutput();
+    bool isWrittenHere = call != nullptr;
+    auto& sender = isWrittenHere ? call : vat.sending != nullptr ? vat.sending : passedOn;
+    end->sent(reader, segments, sender, isWrittenHere);
+  }
+};
+
+// A message that came in. RECV is recorded at the first look at it, before the runtime acts on it: all that the
+// message brings about stands behind it.
+class Incoming final: public capnp::IncomingRpcMessage {
+public:
+  Incoming(std::shared_ptr<End> end, kj::Own<capnp::MessageReader> message)
+      : end(kj::mv(end)), message(kj::mv(message)) {
+    for (uint at = 0;; at++) {
+      auto segment = this->message->getSegment(at);
+      if (segment.begin() == nullptr) break;
+      segments.push_back(segment);
+    }
+  }
+  ~Incoming() noexcept(false) {
+    if (call == nullptr) return;
+    if (end->vat->unsent != nullptr) end->vat->unsent->passesOn(call);
+    end->vat->forget(*call);
+  }
+
+  AnyPointer::Reader getBody() override {
+    if (!isSeen && end->vat->isRecording()) record();
+    isSeen = true;
+    return message->getRoot<AnyPointer>();
+  }
+  size_t sizeInWords() override {
+    size_t size = 0;
+    for (auto& segment: segments) size += segment.size();
+    return size;
+  }
+
+private:
+  std::shared_ptr<End> end;
+  kj::Own<capnp::MessageReader> message;
+  Segments segments;
+  std::shared_ptr<Call> call;
+  bool isSeen = false;
+
+  // Reads with limits of its own, so that the program's aren't used up. A frame that can't be read is recorded
+  // as it is: the audit says so.
+  void record() {
+    kj::ArrayPtr<const kj::ArrayPtr<const capnp::word>> list(segments.data(), segments.size());
+    capnp::ReaderOptions options;
+    options.traversalLimitInWords = ~uint64_t(0) >> 4;
+    capnp::SegmentArrayMessageReader reader(list, options);
+    KJ_IF_MAYBE(exception, kj::runCatchingExceptions([&]() {
+      call = end->received(reader.getRoot<rpc::Message>(), list);
+    })) {
+      (void)exception;
+      end->vat->frame(false, end->number(), 0, {}, list);
+    }
+  }
+};
+
+}  // namespace inside
+
+// =========================================================================== Networks
+
+// One connection between two vats over any stream, in the place of capnp::TwoPartyVatNetwork. Its number is your
+// choice: the same in both vats' logs, and no other connection of the conversation has it. A vat may have several.
+class Network final: public capnp::TwoPartyVatNetworkBase,
+                     private capnp::TwoPartyVatNetworkBase::Connection,
+                     private capnp::RpcFlowController::WindowGetter {
+public:
+  Network(Recorder& recorder, kj::AsyncIoStream& stream, uint32_t connection, capnp::rpc::twoparty::Side side,
+          capnp::ReaderOptions options = capnp::ReaderOptions())
+      : vat(recorder.vat), end(std::make_shared<inside::End>(vat, connection)), stream(stream), side(side),
+        options(options), peer(4), previousWrite(kj::Promise<void>(kj::READY_NOW)) {
+    auto other = side == capnp::rpc::twoparty::Side::CLIENT ? capnp::rpc::twoparty::Side::SERVER
+                                                            : capnp::rpc::twoparty::Side::CLIENT;
+    peer.initRoot<capnp::rpc::twoparty::VatId>().setSide(other);
+    auto paf = kj::newPromiseAndFulfiller<void>();
+    disconnected = paf.promise.fork();
+    disposer.fulfiller = kj::mv(paf.fulfiller);
+  }
+  KJ_DISALLOW_COPY(Network);
+
+  using RpcSystem = capnp::RpcSystem<capnp::rpc::twoparty::VatId>;
+
+  // In the place of capnp::makeRpcServer and capnp::makeRpcClient.
+  RpcSystem serve(capnp::Capability::Client bootstrap) {
+    return capnp::makeRpcServer(*this, asBootstrap(kj::mv(bootstrap)));
+  }
+  RpcSystem client() { return capnp::makeRpcClient(*this); }
+
+  // Notes which object the vat gives to who asks for its bootstrap object, and gives it for an RpcSystem that you
+  // make yourself.
+  capnp::Capability::Client asBootstrap(capnp::Capability::Client bootstrap) {
+    auto hook = capnp::ClientHook::from(kj::mv(bootstrap));
+    end->bootstrap = inside::referenceOf(*vat, *hook);
+    if (end->bootstrap.number == 0 && !hook->isNull()) {
+      vat->stop("the bootstrap object is none of `host`, `promise` or a result");
+    }
+    return capnp::Capability::Client(inside::unwrapped(kj::mv(hook)));
+  }
+
+  // In the place of RpcSystem::bootstrap: the peer's bootstrap object, and its FIELD.
+  capnp::Capability::Client bootstrap(RpcSystem& system) {
+    end->lastBootstrap = nullptr;
+    auto hook = capnp::ClientHook::from(system.bootstrap(getPeerVatId()));
+    if (end->lastBootstrap == nullptr || !vat->isRecording()) return capnp::Capability::Client(kj::mv(hook));
+    auto reference = vat->field(end->lastBootstrap, inside::Path());
+    return capnp::Capability::Client(inside::wrapped(vat, reference, kj::mv(hook)));
+  }
+
+  kj::Promise<void> onDisconnect() { return disconnected.addBranch(); }
+
+  kj::Maybe<kj::Own<capnp::TwoPartyVatNetworkBase::Connection>> connect(
+      capnp::rpc::twoparty::VatId::Reader id) override {
+    if (id.getSide() == side) return nullptr;
+    return asConnection();
+  }
+  kj::Promise<kj::Own<capnp::TwoPartyVatNetworkBase::Connection>> accept() override {
+    if (side == capnp::rpc::twoparty::Side::SERVER && !isAccepted) {
+      isAccepted = true;
+      return asConnection();
+    }
+    auto paf = kj::newPromiseAndFulfiller<kj::Own<capnp::TwoPartyVatNetworkBase::Connection>>();
+    acceptFulfiller = kj::mv(paf.fulfiller);
+    return kj::mv(paf.promise);
+  }
+
+private:
+  // The runtime holds the connection by Owns of one address; when all are gone it has disconnected.
+  class Disposer: public kj::Disposer {
+  public:
+    mutable kj::Own<kj::PromiseFulfiller<void>> fulfiller;
+    mutable uint count = 0;
+    void disposeImpl(void*) const override {
+      if (--count == 0) fulfiller->fulfill();
+    }
+  };
+
+  std::shared_ptr<inside::Vat> vat;
+  std::shared_ptr<inside::End> end;
+  capnp::AsyncIoMessageStream stream;
+  capnp::rpc::twoparty::Side side;
+  capnp::ReaderOptions options;
+  capnp::MallocMessageBuilder peer;
+  bool isAccepted = false;
+  kj::Own<kj::PromiseFulfiller<kj::Own<capnp::TwoPartyVatNetworkBase::Connection>>> acceptFulfiller;
+  kj::Canceler readCanceler;
+  kj::Maybe<kj::Exception> readCancelReason;
+  kj::Maybe<kj::Promise<void>> previousWrite;  // the queue of what is to be written; null after shutdown()
+  kj::ForkedPromise<void> disconnected = nullptr;
+  Disposer disposer;
+  friend class inside::Outgoing;
+
+  kj::Own<capnp::TwoPartyVatNetworkBase::Connection> asConnection() {
+    ++disposer.count;
+    return kj::Own<capnp::TwoPartyVatNetworkBase::Connection>(this, disposer);
+  }
+
+  capnp::rpc::twoparty::VatId::Reader getPeerVatId() override {
+    return peer.getRoot<capnp::rpc::twoparty::VatId>();
+  }
+  kj::Own<capnp::RpcFlowController> newStream() override {
+    return capnp::RpcFlowController::newVariableWindowController(*this);
+  }
+  size_t getWindow() override {
+    KJ_IF_MAYBE(size, stream.getSendBufferSize()) {
+      return *size;
+    } else {
+      return capnp::RpcFlowController::DEFAULT_WINDOW_SIZE;
+    }
+  }
+  kj::Own<capnp::OutgoingRpcMessage> newOutgoingMessage(uint firstSegmentWordSize) override {
+    return kj::refcounted<inside::Outgoing>(*this, end, firstSegmentWordSize);
+  }
+
+  kj::Promise<kj::Maybe<kj::Own<capnp::IncomingRpcMessage>>> receiveIncomingMessage() override {
+    return kj::evalLater([this]() -> kj::Promise<kj::Maybe<kj::Own<capnp::IncomingRpcMessage>>> {
+      KJ_IF_MAYBE(reason, readCancelReason) {
+        return kj::cp(*reason);
+      }
+      return readCanceler.wrap(static_cast<capnp::MessageStream&>(stream).tryReadMessage(options))
+          .then([this](kj::Maybe<kj::Own<capnp::MessageReader>>&& message)
+                    -> kj::Maybe<kj::Own<capnp::IncomingRpcMessage>> {
+        KJ_IF_MAYBE(read, message) {
+          return kj::Own<capnp::IncomingRpcMessage>(kj::heap<inside::Incoming>(end, kj::mv(*read)));
+        } else {
+          return nullptr;
+        }
+      });
+    });
+  }
+
+  kj::Promise<void> shutdown() override {
+    auto result = KJ_ASSERT_NONNULL(previousWrite, "already shut down").then([this]() { return stream.end(); });
+    previousWrite = nullptr;
+    return result;
+  }
+
+  // Nobody looks at failed writes, so they fail the reads.
+  void write(kj::Own<inside::Outgoing> keep, capnp::MallocMessageBuilder& message) {
+    previousWrite = KJ_ASSERT_NONNULL(previousWrite, "already shut down").then([this, &message]() {
+      return kj::evalNow([&]() { return static_cast<capnp::MessageStream&>(stream).writeMessage(message); })
+          .catch_([this](kj::Exception&& exception) {
+        readCancelReason = kj::cp(exception);
+        if (!readCanceler.isEmpty()) readCanceler.cancel(kj::cp(exception));
+        kj::throwRecoverableException(kj::mv(exception));
+      });
+    }).attach(kj::mv(keep)).eagerlyEvaluate(nullptr);
+  }
+};
+
+// SEND is recorded as the frame is handed over, not when its bytes are written: what the program does next may
+// already name what the message brought.
+inline void inside::Outgoing::send() {
+  KJ_REQUIRE(sizeInWords() < network.options.traversalLimitInWords,
+             "Trying to send Cap'n Proto message larger than our single-message size limit.") { return; }
+  record();
+  leave();
+  network.write(kj::addRef(*this), message);
+}
+
+// In the place of capnp::TwoPartyClient.
+class TwoPartyClient {
+public:
+  TwoPartyClient(Recorder& recorder, kj::AsyncIoStream& stream, uint32_t connection)
+      : network(recorder, stream, connection, capnp::rpc::twoparty::Side::CLIENT), system(network.client()) {}
+  TwoPartyClient(Recorder& recorder, kj::AsyncIoStream& stream, uint32_t connection,
+                 capnp::Capability::Client bootstrap,
+                 capnp::rpc::twoparty::Side side = capnp::rpc::twoparty::Side::CLIENT)
+      : network(recorder, stream, connection, side), system(network.serve(kj::mv(bootstrap))) {}
+
+  capnp::Capability::Client bootstrap() { return network.bootstrap(system); }
+  kj::Promise<void> onDisconnect() { return network.onDisconnect(); }
+
+private:
+  Network network;
+  Network::RpcSystem system;
+};
+
+// In the place of capnp::TwoPartyServer. The connections get the numbers that you say.
+class TwoPartyServer final: private kj::TaskSet::ErrorHandler {
+public:
+  TwoPartyServer(Recorder& recorder, capnp::Capability::Client bootstrap)
+      : recorder(recorder), bootstrap(kj::mv(bootstrap)), tasks(*this) {}
+
+  void accept(kj::Own<kj::AsyncIoStream>&& stream, uint32_t connection) {
+    auto accepted = kj::heap<Accepted>(recorder, kj::mv(stream), connection, bootstrap);
+    auto promise = accepted->network.onDisconnect();
+    tasks.add(promise.attach(kj::mv(accepted)));
+  }
+
+  // Serves each client that comes, under the numbers `first`, `first` + 1 and so on.
+  kj::Promise<void> listen(kj::ConnectionReceiver& listener, uint32_t first) {
+    return listener.accept().then([this, &listener, first](kj::Own<kj::AsyncIoStream>&& stream) {
+      accept(kj::mv(stream), first);
+      return listen(listener, first + 1);
+    });
+  }
+
+  kj::Promise<void> drain() { return tasks.onEmpty(); }
+
+private:
+  struct Accepted {
+    Accepted(Recorder& recorder, kj::Own<kj::AsyncIoStream>&& given, uint32_t connection,
+             capnp::Capability::Client bootstrap)
+        : stream(kj::mv(given)), network(recorder, *stream, connection, capnp::rpc::twoparty::Side::SERVER),
+          system(network.serve(kj::mv(bootstrap))) {}
+    kj::Own<kj::AsyncIoStream> stream;
+    Network network;
+    Network::RpcSystem system;
+  };
+
+  Recorder& recorder;
+  capnp::Capability::Client bootstrap;
+  kj::TaskSet tasks;
+
+  void taskFailed(kj::Exception&& exception) override { KJ_LOG(ERROR, exception); }
+};
+
+// =========================================================================== The recorder's own code
+
+inline Recorder::Recorder(const char* path, uint32_t vat): vat(std::make_shared<inside::Vat>(path, vat)) {}
+inline Recorder::~Recorder() { vat->end(); }
+inline void Recorder::flush() { vat->flush(); }
+inline void Recorder::flushEachRecord() { vat->isFlushedEachTime = true; }
+inline void Recorder::leaveOutAbortsInAnswer() { vat->hasNoAbortsInAnswer = true; }
+inline bool Recorder::isRecording() const { return vat->isRecording(); }
+inline uint64_t Recorder::records() const { return vat->records; }
+
+template <typename Implementation, typename... Arguments>
+typename Implementation::Serves::Client Recorder::host(Arguments&&... arguments) {
+  auto object = kj::heap<inside::Hosted<Implementation>>(vat, kj::fwd<Arguments>(arguments)...);
+  auto& hosted = *object;
+  typename Implementation::Serves::Client client(kj::mv(object));
+  auto hook = capnp::ClientHook::from(kj::mv(client));
+  hosted.hook = hook.get();
+  vat->hosted[hosted.hook] = hosted.reference;
+  return capnp::Capability::Client(inside::wrapped(vat, hosted.reference, kj::mv(hook)))
+      .castAs<typename Implementation::Serves>();
+}
+
+template <typename Client>
+Client Recorder::promise(kj::Promise<Client>&& promised) {
+  if (!vat->isRecording()) return Client(kj::mv(promised));
+  auto vow = vat->vow();
+  auto hook = promised.then(
+      [vat = vat, vow](Client&& client) {
+        auto became = capnp::ClientHook::from(kj::mv(client));
+        if (vat->isRecording()) vat->fulfil(vow, inside::referenceOf(*vat, *became));
+        return inside::unwrapped(kj::mv(became));
+      },
+      [vat = vat, vow](kj::Exception&& exception) -> kj::Own<capnp::ClientHook> {
+        vat->breakPromise(vow);
+        kj::throwFatalException(kj::mv(exception));
+      });
+  return capnp::Capability::Client(inside::wrapped(vat, vow, capnp::newLocalPromiseClient(kj::mv(hook))))
+      .template castAs<typename Client::Calls>();
+}
+
+}  // namespace vataudit

@@ -29,7 +29,7 @@ use Rattle.run_model.specs.Early.{IsOrderFault}
 use Rattle.audit_core.proofs.Places.{each_at, each_so, contained}
 use Rattle.audit_core.proofs.Whole.{as_log, vats_len, logs_are, has_finding}
 
-or_later : (a b c : Bool) → (b ≡ true → c ≡ true) → (a || b) ≡ true → (a || c) ≡ true
+pub or_later : (a b c : Bool) → (b ≡ true → c ≡ true) → (a || b) ≡ true → (a || c) ≡ true
 or_later true b c so e = refl
 or_later false b c so e = so e
 

@@ -7,3 +7,4 @@ pub mod Explaining
 pub mod Counting
 pub mod Posting
 pub mod Refusing
+pub mod OneLine

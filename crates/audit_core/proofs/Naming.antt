@@ -12,10 +12,11 @@ use Rattle.case_book.specs.Ties.{tie_fault_of}
 use Rattle.case_book.specs.Pieces.{IsComparisonOf}
 use Rattle.case_book.specs.Books.{AllFound}
 use Rattle.case_book.specs.declared.link.Link.{Link}
-use Rattle.audit_core.specs.Report.{AreGoodEnds}
+use Rattle.audit_core.specs.Report.{AreGoodEnds, AreGoodLinks}
 use Rattle.audit_core.specs.Glue.{HoldsOfEach, IsGoodFinding, AreGoodFindings}
-use Rattle.audit_core.proofs.Places.{one_of_number, one_contained}
-use Rattle.audit_core.proofs.Whole.{logs_are, ends_at}
+use Rattle.audit_core.proofs.Places.{one_of_number, one_contained, contained}
+use Rattle.audit_core.proofs.Whole.{logs_are}
+use Rattle.audit_core.proofs.FirstLine.{links_good}
 use Rattle.audit_core.proofs.Ties.{user_is_end, AreAtEnds, both_ends, one_other, ends_sorted}
 
 all_good : (vats : List Found) → HoldsOfEach IsGoodFinding vats → list_all (λ finding. is_good finding.outcome) vats ≡ true
@@ -79,18 +80,22 @@ module _ (held : Contents) (case : IsCase held) (tied : tie_fault_of held ≡ No
       sorted_prefix k one other ends share.one_there share.other_there own.first_held own.second_held (own.connection ∙ shared.number) good
       (vats_of_ends shared.link ends one.vat other.vat own (ends_sorted shared.link one.vat other.vat shared.ends))
 
-pub may_be_named : (all : AllFound) (order : List ℕ) → AreGoodFindings all → IsFitting (logs_of all.vats) order → MayBeNamed all.vats order
-may_be_named all order good fits =
-    let case = good.whole.holds in
-    let tied = good.whole.tied in
-    let same = sym (logs_are all good.whole) in
+-- so where the findings are of a case's logs and good, and its links are good
+pub named_of : (held : Contents) → IsCase held → tie_fault_of held ≡ None → (vats : List Found) → logs_of vats ≡ held.logs → HoldsOfEach IsGoodFinding vats → AreGoodLinks held
+    → (order : List ℕ) → IsFitting (logs_of vats) order → MayBeNamed vats order
+named_of held case tied vats logs_same each links order fits =
+    let same = sym logs_same in
     record {
-      good = all_good all.vats good.vats_good;
+      good = all_good vats each;
       rising = subst IsRising same case.rising_vats;
       fits = fits;
-      two_ends = subst (λ (logs : List Log). (k : ℕ) (one other third : Log) → Share logs k one other → Share logs k one third → other.vat ≡ third.vat) same (two_ends all.case case tied);
+      two_ends = subst (λ (logs : List Log). (k : ℕ) (one other third : Log) → Share logs k one other → Share logs k one third → other.vat ≡ third.vat) same (two_ends held case tied);
       linked = subst (λ (logs : List Log). (k : ℕ) (one other : Log) → Share logs k one other → IsPrefix (received k one) (sent k other)) same
-          (λ k one other share. (let shared = between all.case case tied k one other share in
-          let own = ends_at all good.whole shared.place shared.link shared.there in
-          prefix_of all.case case tied k one other share own.0 own.2 (good.links_good shared.place own.0 own.1)));
+          (λ k one other share. (let shared = between held case tied k one other share in
+          let good = links shared.link (contained held.links shared.place shared.link shared.there) in
+          prefix_of held case tied k one other share good.ends good.own good.good));
     }
+
+pub may_be_named : (all : AllFound) (order : List ℕ) → AreGoodFindings all → IsFitting (logs_of all.vats) order → MayBeNamed all.vats order
+may_be_named all order good fits =
+    named_of all.case good.whole.holds good.whole.tied all.vats (logs_are all good.whole) good.vats_good (links_good all good.whole good.links_good) order fits

@@ -1,6 +1,6 @@
 -- The report of a case and an order of its records, or of a case alone: the first line that applies. Vats are tried by their
 -- numbers, then links by theirs, then the order, then the order of calls in the run.
-use Rattle.std.specs.Prelude.{◌≡◌, ℕ, ◌-◌, ◌<◌, Bool, true, false, List, length, Contains, count_by, sum_by, Option, Some, None}
+use Rattle.std.specs.Prelude.{◌≡◌, ℕ, ◌-◌, ◌<◌, ⊤, Bool, true, false, List, [], length, Contains, count_by, sum_by, Option, Some, None}
 use Rattle.cap_reader.specs.Defaults.{default_limits}
 use Rattle.vat_log.specs.Log.{Log}
 use Rattle.vat_log.specs.declared.body.Body.{Body}
@@ -137,3 +137,13 @@ IsReport held given (report.OrderStep step) = IsGoodCase held × FailsAt held.lo
 IsReport held given report.NoOrder = IsGoodCase held × HasNoOrder held.logs given
 IsReport held given (report.Vat vat at Order) = IsGoodCase held × IsEarlyAt held.logs given vat at
 IsReport held given (report.Yes vats records delivered under_way run) = IsGoodCase held × IsYes held.logs given vats records delivered under_way run
+
+-- the line of a report: all of it but the run
+abbrev pub line_in : Report → Report
+line_in (report.Yes vats records delivered under_way run) = report.Yes vats records delivered under_way []
+line_in other = other
+
+-- an order that is given fits
+abbrev pub IsFittingIfGiven : List Log → Option (List ℕ) → Type 0
+IsFittingIfGiven logs (Some order) = IsFitting logs order
+IsFittingIfGiven logs None = ⊤

@@ -1,0 +1,157 @@
+-- The run of findings explains the logs of their case, and no vat has too many steps in it.
+use Rattle.std.proofs.Common.{◌≡◌, ℕ, ◌-◌, ◌<◌, ◌≤◌, ◌^◌, Bool, true, false, List, [], ◌∷◌, length, take, Option, Some, None, refl, sym, ap, ◌∙◌, subst, arith}
+use Rattle.std.specs.Prelude.{◌==◌, ◌||◌, Contains, IsTrue, count_by}
+use Rattle.std.specs.List.{list_any, AllByRecursion}
+use Rattle.std.proofs.lemmas.List.{length-map}
+use Rattle.std.proofs.lemmas.List.Sums.{length-filter, count_by-le-length, sum_by-cons}
+use Rattle.cap_reader.specs.declared.limits.Limits.{Limits}
+use Rattle.vat_log.specs.Log.{Log}
+use Rattle.vat_view.specs.Past.{Each}
+use Rattle.vat_rules.specs.Audit.{Found, reads_within}
+use Rattle.vat_rules.specs.Events.{past_at}
+use Rattle.merge_order.specs.Fits.{Part, begin, after, FitsFrom, IsFitting}
+use Rattle.merge_order.proofs.Steps.{left, falls}
+use Rattle.run_model.specs.Steps.{vat_of, steps_of}
+use Rattle.run_model.specs.declared.step.Step.{Step}
+use Rattle.call_trace.specs.Balance.{IsBalanced}
+use Rattle.call_trace.specs.Findings.{AreEnds, logs_of}
+use Rattle.call_trace.specs.Lives.{UsesLives}
+use Rattle.call_trace.specs.Named.{past_of, IsRunOf}
+use Rattle.call_trace.specs.Part.{IsPart}
+use Rattle.case_book.specs.Books.{AllFound, AreAll}
+use Rattle.audit_core.specs.Headline.{records_of, taken_of, IsBalancedThroughout, Explains}
+use Rattle.audit_core.specs.Report.{records_in, count_all, delivers, sends, receives, IsGoodCase, IsOrderFor, IsEarlyAt, IsReport}
+use Rattle.audit_core.specs.Glue.{AreGoodFindings}
+use Rattle.audit_core.specs.declared.report.Report.{Report}
+use Rattle.audit_core.specs.declared.report.Report.TheVariants as report
+use Rattle.audit_core.proofs.FirstLine.{good_case}
+use Rattle.run_model.specs.Early.{IsOrderFault}
+use Rattle.audit_core.proofs.Places.{each_at, each_so, contained}
+use Rattle.audit_core.proofs.Whole.{as_log, vats_len, logs_are, has_finding}
+
+pub or_later : (a b c : Bool) → (b ≡ true → c ≡ true) → (a || b) ≡ true → (a || c) ≡ true
+or_later true b c so e = refl
+or_later false b c so e = so e
+
+any_log : (v : ℕ) (vats : List Found) → list_any (λ finding. finding.log.vat == v) vats ≡ true → list_any (λ log. log.vat == v) (logs_of vats) ≡ true
+any_log v [] e = e
+any_log v (found ∷ vats) e =
+    or_later (found.log.vat == v) (list_any (λ finding. finding.log.vat == v) vats) (list_any (λ log. log.vat == v) (logs_of vats)) (any_log v vats) e
+
+module _ (all : AllFound) (whole : AreAll all) (order : List ℕ) (run : List Step) (is : IsRunOf all.vats order run) where
+  part_is : (log : Log) → Contains all.case.logs log → IsPart run log.vat (records_of log)
+  part_is log held =
+      let own = has_finding all whole log held in
+      as_log (λ (l : Log) (limits : Limits). IsPart run l.vat (past_at (reads_within limits) l.records (length l.records))) own.found log own.same own.within
+      (each_at (λ finding. IsPart run finding.log.vat (past_of finding)) all.vats is.parts.parts own.place own.found own.there)
+
+  lives_are : (log : Log) → Contains all.case.logs log → Each UsesLives (records_of log)
+  lives_are log held =
+      let own = has_finding all whole log held in
+      as_log (λ (l : Log) (limits : Limits). Each UsesLives (past_at (reads_within limits) l.records (length l.records))) own.found log own.same own.within
+      (each_at (λ finding. Each UsesLives (past_of finding)) all.vats is.lives own.place own.found own.there)
+
+  others_are_none : AllByRecursion (λ s. IsTrue (list_any (λ log. log.vat == vat_of s) all.case.logs)) run
+  others_are_none =
+      subst (λ (logs : List Log). AllByRecursion (λ s. IsTrue (list_any (λ log. log.vat == vat_of s) logs)) run) (logs_are all whole)
+      (each_so (λ s. IsTrue (list_any (λ finding. finding.log.vat == vat_of s) all.vats)) (λ s. IsTrue (list_any (λ log. log.vat == vat_of s) (logs_of all.vats)))
+      (λ s. any_log (vat_of s) all.vats) run is.parts.no_others)
+
+  balanced_are : IsBalancedThroughout all.case.logs order
+  balanced_are i k one other one_held other_held ends n =
+      let its = has_finding all whole one one_held in
+      let others = has_finding all whole other other_held in
+      let there = subst (λ (logs : List Log). AreEnds logs k one other) (sym (logs_are all whole)) ends in
+      let here = subst (λ (l : Log). AreEnds (logs_of all.vats) k l other) (sym its.same) there in
+      let both = subst (λ (l : Log). AreEnds (logs_of all.vats) k its.found.log l) (sym others.same) here in
+      let so = is.balanced i k its.found others.found (contained all.vats its.place its.found its.there) (contained all.vats others.place others.found others.there) both n in
+      as_log (λ (l : Log) (limits : Limits). IsBalanced k n (past_at (reads_within limits) l.records (count_by (λ v. v == l.vat) (take i order))) (taken_of order i other)) its.found one its.same its.within
+      (as_log (λ (l : Log) (limits : Limits). IsBalanced k n (past_at (reads_within its.found.limits) its.found.log.records (count_by (λ v. v == its.found.log.vat) (take i order)))
+      (past_at (reads_within limits) l.records (count_by (λ v. v == l.vat) (take i order)))) others.found other others.same others.within so)
+
+  pub explains : Explains all.case.logs order run
+  explains = record {
+    by_order = is.by_order;
+    parts = part_is;
+    no_others = others_are_none;
+    legal = is.legal;
+    linked = is.linked;
+    reached = is.reached;
+    lives = lives_are;
+    connected = is.connected;
+    balanced = balanced_are;
+  }
+
+-- ---- an order that fits is no longer than the logs
+
+no_longer : (parts : List Part) (order : List ℕ) → FitsFrom parts order → length order ≤ left parts
+no_longer parts [] fits = omega arith
+no_longer parts (v ∷ order) fits =
+    let rest = no_longer (after v parts) order fits.1 in
+    let fewer = falls v parts fits.0 in
+    omega (arith, rest, fewer)
+
+left_at_first : (logs : List Log) → left (begin logs) ≡ records_in logs
+left_at_first [] = refl
+left_at_first (log ∷ logs) =
+    let rest = left_at_first logs in
+    let all = sum_by-cons (λ (l : Log). length l.records) log logs in
+    omega (arith, rest, all)
+
+pub few_steps : (vats : List Found) (order : List ℕ) (run : List Step) (total : ℕ) → IsFitting (logs_of vats) order → IsRunOf vats order run → total ≡ records_in (logs_of vats) → total ≤ 67108864
+    → (v : ℕ) → length (steps_of v run) < 2 ^ 32
+few_steps vats order run total fits is count few v =
+    let own = length-filter (λ s. vat_of s == v) run in
+    let fewer = count_by-le-length (λ s. vat_of s == v) run in
+    let long = sym (length-map run vat_of) ∙ ap length is.by_order in
+    let all = no_longer (begin (logs_of vats)) order fits in
+    let first = left_at_first (logs_of vats) in
+    omega (arith, own, fewer, long, all, first, count, few)
+
+-- ---- what is answered of a run
+
+pub few_vats : (all : AllFound) (vats : List Found) → AreGoodFindings all → vats ≡ all.vats → length vats ≤ 64
+few_vats all vats good same =
+    let long = vats_len all good.whole in
+    let few = good.whole.holds.few_vats in
+    omega (arith, ap length same, long, few)
+
+module _ (all : AllFound) (good : AreGoodFindings all) (vats : List Found) (same : vats ≡ all.vats) (order : List ℕ) (run : List Step) (fits : IsFitting (logs_of all.vats) order)
+    (is : IsRunOf vats order run) (given : Option (List ℕ)) (by : IsOrderFor all.case.logs given order) where
+  run_is : IsRunOf all.vats order run
+  run_is = subst (λ (vs : List Found). IsRunOf vs order run) same is
+
+  fits_case : IsFitting all.case.logs order
+  fits_case = subst (λ (logs : List Log). IsFitting logs order) (logs_are all good.whole) fits
+
+  pub early_report : (fault : Option (ℕ × ℕ)) (vat at : ℕ) → IsOrderFault run fault → fault ≡ Some (vat, at) → IsGoodCase all.case × IsEarlyAt all.case.logs given vat at
+  early_report fault vat at early same_fault = (
+    good_case all good,
+    record {
+      order = order;
+      by = by;
+      fits = fits_case;
+      run = run;
+      explained = explains all good.whole order run run_is;
+      early = subst (IsOrderFault run) same_fault early;
+    },
+  )
+
+  pub yes_report : (fault : Option (ℕ × ℕ)) (answer : Report) → IsOrderFault run fault → fault ≡ None
+      → answer ≡ report.Yes (length vats) (records_in (logs_of vats)) (count_all delivers (logs_of vats)) (count_all sends (logs_of vats) - count_all receives (logs_of vats)) run
+      → IsReport all.case given answer
+  yes_report fault answer ordered none is_yes =
+      let logs_same : logs_of vats ≡ all.case.logs = ap logs_of same ∙ logs_are all good.whole in
+      subst (IsReport all.case given) (sym is_yes) (
+        good_case all good,
+        record {
+          order = order;
+          by = by;
+          fits = fits_case;
+          headline = record { explained = explains all good.whole order run run_is; ordered = subst (IsOrderFault run) none ordered };
+          vats_are = ap length same ∙ vats_len all good.whole;
+          records_are = ap records_in logs_same;
+          delivered_are = ap (count_all delivers) logs_same;
+          under_way_are = ap (λ (logs : List Log). count_all sends logs - count_all receives logs) logs_same;
+        },
+      )

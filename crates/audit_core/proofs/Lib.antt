@@ -1,0 +1,10 @@
+pub mod Places
+pub mod Whole
+pub mod FirstLine
+pub mod Ties
+pub mod Naming
+pub mod Explaining
+pub mod Counting
+pub mod Posting
+pub mod Refusing
+pub mod OneLine

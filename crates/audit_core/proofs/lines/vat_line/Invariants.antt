@@ -1,0 +1,5 @@
+use Rattle.audit_core.specs.Glue.{HoldsBefore, IsGoodFinding}
+use Rattle.audit_core.proofs.lines.vat_line.Given as goal
+
+abbrev pub invariant-loop-found : goal.invariant-loop-found
+invariant-loop-found l = HoldsBefore IsGoodFinding l.vats l.found-index

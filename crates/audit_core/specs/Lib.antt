@@ -1,0 +1,4 @@
+pub mod Headline
+pub mod Report
+pub mod Refusals
+pub mod Glue

@@ -1,0 +1,149 @@
+-- The report of a case and an order of its records, or of a case alone: the first line that applies. Vats are tried by their
+-- numbers, then links by theirs, then the order, then the order of calls in the run.
+use Rattle.std.specs.Prelude.{◌≡◌, ℕ, ◌-◌, ◌<◌, ⊤, Bool, true, false, List, [], length, Contains, count_by, sum_by, Option, Some, None}
+use Rattle.cap_reader.specs.Defaults.{default_limits}
+use Rattle.vat_log.specs.Log.{Log}
+use Rattle.vat_log.specs.declared.body.Body.{Body}
+use Rattle.vat_log.specs.declared.body.Body.TheVariants as body
+use Rattle.vat_rules.specs.Audit.{IsTrueOf, reads_within}
+use Rattle.vat_rules.specs.First.{AllGood}
+use Rattle.vat_rules.specs.declared.outcome.Outcome.{Outcome}
+use Rattle.vat_rules.specs.declared.outcome.Outcome.TheVariants.{Broken, Outside}
+use Rattle.link_check.specs.Prefix.{Ends, IsPrefix, IsOutcome, sent, received}
+use Rattle.link_check.specs.declared.outcome.LinkOutcome.TheVariants.{Broken as BrokenAt}
+use Rattle.merge_order.specs.Fits.{IsFitting, TakesLeast, finding_of}
+use Rattle.merge_order.specs.declared.checking.OrderFinding.TheVariants.{Fails}
+use Rattle.run_model.specs.declared.step.Step.{Step}
+use Rattle.run_model.specs.Early.{IsOrderFault}
+use Rattle.case_book.specs.Case.{Contents}
+use Rattle.case_book.specs.Pieces.{IsComparisonOf}
+use Rattle.case_book.specs.declared.link.Link.{Link}
+use Rattle.audit_core.specs.Headline.{Explains, IsHeadline}
+use Rattle.audit_core.specs.declared.report.Breach.TheVariants.{Rule, Order}
+use Rattle.audit_core.specs.declared.report.Report.{Report}
+use Rattle.audit_core.specs.declared.report.Report.TheVariants as report
+
+-- every record of a log is good, within the default limits
+abbrev pub IsGoodLog : Log → Type 0
+IsGoodLog log = AllGood (reads_within default_limits) log.records (length log.records)
+
+-- the log of this vat isn't good, all of smaller numbers are, and its audit finds this
+pub record IsFirstBad (logs : List Log) (vat : ℕ) (outcome : Outcome) : Type 0 where
+  pub log : Log
+  pub there : Contains logs log
+  pub own : log.vat ≡ vat
+  pub found : IsTrueOf log default_limits outcome
+  pub smaller : (other : Log) → Contains logs other → other.vat < vat → IsGoodLog other
+
+-- each of two ends received a prefix of what the other sent
+pub record AreGoodEnds (ends : Ends) : Type 0 where
+  pub at_first : IsPrefix (received ends.connection ends.first) (sent ends.connection ends.second)
+  pub at_second : IsPrefix (received ends.connection ends.second) (sent ends.connection ends.first)
+
+-- the two ends of a link are so
+pub record IsGoodLink (logs : List Log) (link : Link) : Type 0 where
+  pub ends : Ends
+  pub own : IsComparisonOf logs link ends
+  pub good : AreGoodEnds ends
+
+-- the link of this connection isn't good, all of smaller connections are, and the comparison of its ends finds this message
+pub record IsFirstBroken (held : Contents) (connection end message : ℕ) : Type 0 where
+  pub link : Link
+  pub there : Contains held.links link
+  pub number : link.conn ≡ connection
+  pub ends : Ends
+  pub own : IsComparisonOf held.logs link ends
+  pub found : IsOutcome ends (BrokenAt end message)
+  pub smaller : (other : Link) → Contains held.links other → other.conn < connection → IsGoodLink held.logs other
+
+-- all logs are good
+abbrev pub AreGoodLogs : Contents → Type 0
+AreGoodLogs held = (log : Log) → Contains held.logs log → IsGoodLog log
+
+-- so are all links
+abbrev pub AreGoodLinks : Contents → Type 0
+AreGoodLinks held = (link : Link) → Contains held.links link → IsGoodLink held.logs link
+
+-- all logs and links are good
+pub record IsGoodCase (held : Contents) : Type 0 where
+  pub logs_good : AreGoodLogs held
+  pub links_good : AreGoodLinks held
+
+-- the order by which a case is judged: the one that is given, or else the one that takes the smallest vat number that may
+-- come at each step
+abbrev pub IsOrderFor : List Log → Option (List ℕ) → List ℕ → Type 0
+IsOrderFor logs (Some given) order = order ≡ given
+IsOrderFor logs None order = TakesLeast logs order
+
+-- a record delivers a call
+abbrev pub delivers : Body → Bool
+delivers (body.Deliver call object) = true
+delivers _ = false
+
+-- a record sends a frame
+abbrev pub sends : Body → Bool
+sends (body.Send connection call references frame) = true
+sends _ = false
+
+-- a record receives a frame
+abbrev pub receives : Body → Bool
+receives (body.Receive connection call references frame) = true
+receives _ = false
+
+-- how many records of all logs pass a test
+abbrev pub count_all : (Body → Bool) → List Log → ℕ
+count_all test logs = sum_by (λ log. count_by test log.records) logs
+
+-- how many there are
+abbrev pub records_in : List Log → ℕ
+records_in logs = sum_by (λ log. length log.records) logs
+
+-- a run of the case by the order that it is judged by, with the least step that delivers a call too early
+pub record IsEarlyAt (logs : List Log) (given : Option (List ℕ)) (vat at : ℕ) : Type 0 where
+  pub order : List ℕ
+  pub by : IsOrderFor logs given order
+  pub fits : IsFitting logs order
+  pub run : List Step
+  pub explained : Explains logs order run
+  pub early : IsOrderFault run (Some (vat, at))
+
+-- the run of the case by that order, with all that a yes means, and the counts
+pub record IsYes (logs : List Log) (given : Option (List ℕ)) (vats records delivered under_way : ℕ) (run : List Step) : Type 0 where
+  pub order : List ℕ
+  pub by : IsOrderFor logs given order
+  pub fits : IsFitting logs order
+  pub headline : IsHeadline logs order run
+  pub vats_are : vats ≡ length logs
+  pub records_are : records ≡ records_in logs
+  pub delivered_are : delivered ≡ count_all delivers logs
+  pub under_way_are : under_way ≡ count_all sends logs - count_all receives logs
+
+-- the order that was given fails at this step
+abbrev pub FailsAt : List Log → Option (List ℕ) → ℕ → Type 0
+FailsAt logs (Some order) step = finding_of logs order ≡ Fails step
+FailsAt logs None step = ⊥
+
+-- none was given, and none fits
+abbrev pub HasNoOrder : List Log → Option (List ℕ) → Type 0
+HasNoOrder logs (Some order) = ⊥
+HasNoOrder logs None = (order : List ℕ) → ¬ IsFitting logs order
+
+-- the report of a case, and of an order or none
+abbrev pub IsReport : Contents → Option (List ℕ) → Report → Type 0
+IsReport held given (report.Vat vat at (Rule rule)) = IsFirstBad held.logs vat (Broken at rule)
+IsReport held given (report.OutsideVat vat at why) = IsFirstBad held.logs vat (Outside at why)
+IsReport held given (report.Link connection end message) = AreGoodLogs held × IsFirstBroken held connection end message
+IsReport held given (report.OrderStep step) = IsGoodCase held × FailsAt held.logs given step
+IsReport held given report.NoOrder = IsGoodCase held × HasNoOrder held.logs given
+IsReport held given (report.Vat vat at Order) = IsGoodCase held × IsEarlyAt held.logs given vat at
+IsReport held given (report.Yes vats records delivered under_way run) = IsGoodCase held × IsYes held.logs given vats records delivered under_way run
+
+-- the line of a report: all of it but the run
+abbrev pub line_in : Report → Report
+line_in (report.Yes vats records delivered under_way run) = report.Yes vats records delivered under_way []
+line_in other = other
+
+-- an order that is given fits
+abbrev pub IsFittingIfGiven : List Log → Option (List ℕ) → Type 0
+IsFittingIfGiven logs (Some order) = IsFitting logs order
+IsFittingIfGiven logs None = ⊤

@@ -1,0 +1,23 @@
+//! The audit of a case: the logs of several vats and the links between them, judged together.
+//!
+//! It stands on `case_book`, whose book keeps what is found for each piece, on `merge_order` for orders, and on `call_trace`,
+//! which names the run of good logs. Which report a case has, with an order or without one, is said in `specs/Report.antt`;
+//! [`judge`] and [`audit`] answer just that. What a yes means stands in `specs/Headline.antt`, clause by clause; when a case
+//! isn't audited, in `specs/Refusals.antt`. A case has one line, whichever order fits (the law [`a_case_has_one_line`]).
+#![tactic(auto)]
+
+mod auditing;
+mod counts;
+mod error;
+mod gate;
+mod judging;
+mod laws;
+mod lines;
+mod report;
+
+pub use auditing::audit;
+pub use error::AuditError;
+pub use gate::Gate;
+pub use judging::judge;
+pub use laws::a_case_has_one_line;
+pub use report::{Breach, Report};

@@ -16,3 +16,4 @@ pub mod Placed
 pub mod Overtaking
 pub mod Lines
 pub mod Glue
+pub mod Trail

@@ -39,3 +39,4 @@ pub mod Rowing
 pub mod Trailing
 mod PipelinedCall
 mod UnderWay
+pub mod Turning

@@ -17,3 +17,4 @@ pub mod Overtaking
 pub mod Lines
 pub mod Glue
 pub mod Trail
+pub mod Turns

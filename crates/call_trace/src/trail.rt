@@ -1,4 +1,4 @@
-//! The steps that the records of all vats took so far, and what they sent. Nothing calls it yet: the run by an order is to come.
+//! The steps that the records of all vats took so far, and what they sent.
 
 ghost use Rattle.std.specs.Prelude.{◌≡◌, [], List, ℕ, Some, true, IfOk, option_and_then, slice_get};
 ghost use Rattle.std.specs.Option.{option_copied};

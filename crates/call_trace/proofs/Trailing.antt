@@ -1,6 +1,5 @@
 -- The steps so far and what they sent, one record further.
-use Rattle.std.proofs.Common.{◌≡◌, refl, sym, ◌∙◌, ap, subst, ℕ, List, [], ◌∷◌, length, map, reverse, Bool, true, false, Option, Some, None, option_and_then, option_map}
-use Rattle.std.proofs.lemmas.List.{length-reverse}
+use Rattle.std.proofs.Common.{◌≡◌, refl, sym, ◌∙◌, ap, subst, ℕ, List, ◌∷◌, map, reverse, Bool, true, false, Option, Some, None, option_and_then, option_map}
 use Rattle.agree.specs.Rows.{Row, log_of}
 use Rattle.vat_rules.specs.OfCaps.{is_received}
 use Rattle.vat_view.specs.Past.{Past}
@@ -15,7 +14,7 @@ use Rattle.call_trace.specs.Naming.{naming, message_of}
 use Rattle.call_trace.specs.Part.{result_named, promise_in}
 use Rattle.call_trace.specs.Running.{coming_next, step_received, step_of, steps_by, steps_of_row}
 use Rattle.call_trace.specs.Said.{together}
-use Rattle.call_trace.specs.Trail.{IsKeptAt, IsTrail, Comes}
+use Rattle.call_trace.specs.Trail.{IsKeptAt, Comes}
 use Rattle.call_trace.proofs.Passing.{other_more}
 use Rattle.call_trace.proofs.Rowing.{kept_here, row_none}
 use Rattle.run_model.specs.declared.cap.Cap.TheVariants as cap

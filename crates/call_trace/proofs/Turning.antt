@@ -1,15 +1,12 @@
 -- The turns of an order, one further.
-use Rattle.std.proofs.Common.{◌≡◌, refl, sym, ◌∙◌, ap, ap₂, subst, ℕ, zero, suc, ◌+◌, ◌<◌, ◌≤◌, ◌==◌, List, [], ◌∷◌, ◌++◌, length, map, take, reverse, Bool, true, false, Option, Some, None, option_and_then, option_map, slice_get, arith, inl, inr, ◌⊎◌, if◌then◌else◌, eqb-true}
-use Rattle.call_trace.specs.Glue.{IsKept}
+use Rattle.std.proofs.Common.{◌≡◌, refl, sym, ◌∙◌, ap, subst, ℕ, zero, suc, ◌+◌, ◌≤◌, ◌==◌, List, ◌∷◌, length, reverse, Bool, true, false, Option, Some, None, option_and_then, option_map, slice_get, arith, inl, inr, ◌⊎◌}
 use Rattle.std.specs.List.{cons_option, filter_map}
 use Rattle.std.proofs.lemmas.List.{take_all, length-map, length-reverse}
-use Rattle.std.proofs.lemmas.Bool.{cases_Bool, eq-eqb}
 use Rattle.std.proofs.lemmas.Option.{slice_get_past}
 use Rattle.agree.specs.Rows.{Row, log_of}
 use Rattle.vat_log.specs.declared.body.Body.{Body}
 use Rattle.vat_rules.specs.Audit.{Found, IsTrueOf}
 use Rattle.vat_rules.specs.Told.{Sight}
-use Rattle.vat_rules.specs.Telling.{seen_of}
 use Rattle.vat_view.specs.Past.{Past}
 use Rattle.call_trace.specs.declared.ledger.Ledger.{Ledger}
 use Rattle.call_trace.specs.declared.trail.Trail.{Trail}
@@ -17,14 +14,13 @@ use Rattle.call_trace.specs.Findings.{is_good}
 use Rattle.call_trace.specs.Named.{past_before}
 use Rattle.call_trace.specs.Running.{steps_by as steps_of_vat, steps_of_row}
 use Rattle.call_trace.specs.Taking.{finding_of, event_in, record_in, steps_by, next_record, taken_by}
-use Rattle.call_trace.specs.Trail.{IsKeptAt, IsTrail, Comes}
+use Rattle.call_trace.specs.Trail.{IsTrail, Comes}
 use Rattle.call_trace.specs.Turns.{IsKeptOf, Goes}
 use Rattle.call_trace.specs.Types.{Event, Step}
 use Rattle.call_trace.proofs.Carrying.{log_here, log_there, steps_here, steps_there}
 use Rattle.call_trace.proofs.Reading.{AllRecordsGood, records_good, good_more}
-use Rattle.call_trace.proofs.Rowing.{kept_there, row_stuck}
+use Rattle.call_trace.proofs.Rowing.{kept_there}
 use Rattle.call_trace.proofs.Taking.{log_taken}
-use Rattle.run_model.specs.Steps.{vat_of}
 
 -- ---- as many records of a log as are taken of it
 

@@ -1,12 +1,11 @@
 -- For the code's contracts, and no part of the meaning: a turn of an order, and what is kept of each vat after it.
-use Rattle.std.specs.Prelude.{◌≡◌, ◌∷◌, ◌==◌, ℕ, List, Bool, true, false, Some, None, length}
+use Rattle.std.specs.Prelude.{◌≡◌, ◌==◌, ℕ, List, Bool, true, false, Some, None, length}
 use Rattle.agree.specs.Rows.{Row, log_of}
 use Rattle.call_trace.specs.Running.{steps_by, steps_of_row}
 use Rattle.call_trace.specs.Trail.{IsKeptAt, IsTrail}
 use Rattle.call_trace.specs.Types.{Step}
 use Rattle.call_trace.specs.declared.ledger.Ledger.{Ledger}
 use Rattle.call_trace.specs.declared.trail.Trail.{Trail}
-use Rattle.vat_rules.specs.Audit.{Found}
 
 -- what is kept of a vat is that of its records of a row, step for record
 abbrev pub IsKeptOf : ℕ → Row → List Step → Ledger → Type 0

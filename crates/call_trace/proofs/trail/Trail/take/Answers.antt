@@ -1,4 +1,4 @@
-use Rattle.std.proofs.Common.{◌≡◌, ◌∙◌, refl, sym, ap, length, vec_len}
+use Rattle.std.proofs.Common.{◌≡◌, ◌∙◌, refl, sym, ap, length}
 use Rattle.std.proofs.lemmas.List.{length-reverse}
 use Rattle.agree.specs.Rows.{log_of}
 use Rattle.call_trace.specs.Running.{step_of, steps_by}

@@ -1,4 +1,4 @@
-use Rattle.std.proofs.Common.{◌≡◌, ◌∙◌, sym, ap, subst, ◌∷◌, ℕ}
+use Rattle.std.proofs.Common.{◌∙◌, sym, ap, subst, ◌∷◌, ℕ}
 use Rattle.agree.specs.Rows.{log_of}
 use Rattle.run_model.specs.declared.step.Step.TheVariants as step
 use Rattle.call_trace.specs.Glue.{received_step}

@@ -1,6 +1,5 @@
-use Rattle.std.proofs.Common.{◌≡◌, ◌∙◌, sym, ap, length, vec_len, option_map}
+use Rattle.std.proofs.Common.{◌∙◌, sym, ap, option_map}
 use Rattle.std.specs.Option.{option_copied}
-use Rattle.agree.specs.Rows.{log_of}
 use Rattle.call_trace.specs.Named.{past_before}
 use Rattle.call_trace.specs.Taking.{taken_by}
 use Rattle.vat_rules.specs.Telling.{seen_of}

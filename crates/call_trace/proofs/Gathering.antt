@@ -1,5 +1,5 @@
 -- Lists that are gathered item by item, where each is there.
-use Rattle.std.proofs.Common.{◌≡◌, refl, sym, ◌∙◌, ap, ◌+◌, ℕ, List, [], ◌∷◌, ◌++◌, Option, Some, None, option_map, append_assoc, append-nil}
+use Rattle.std.proofs.Common.{◌≡◌, refl, ap, List, [], ◌∷◌, ◌++◌, Option, Some, None, option_map, append_assoc, append-nil}
 use Rattle.call_trace.specs.Said.{together}
 use Rattle.call_trace.specs.Glue.{gathered}
 

@@ -1,5 +1,5 @@
 -- What is kept of a vat is that of its records and their steps, and names its calls and views as they do.
-use Rattle.std.proofs.Common.{◌≡◌, refl, sym, ◌∙◌, ap, ap₂, subst, ℕ, zero, suc, ◌<◌, ◌+◌, ◌==◌, List, [], ◌∷◌, ◌++◌, length, map, reverse, Bool, true, false, not, Option, Some, None, if◌then◌else◌, option_and_then, option_map, slice_get, is_some, append_assoc, append-nil, length-append, arith, eqb-true, inl, inr}
+use Rattle.std.proofs.Common.{◌≡◌, refl, sym, ◌∙◌, ap, ap₂, subst, ℕ, zero, suc, ◌==◌, List, [], ◌∷◌, ◌++◌, length, map, reverse, Bool, true, false, not, Option, Some, None, if◌then◌else◌, option_and_then, option_map, slice_get, is_some, append-nil, arith, eqb-true, inl, inr}
 use Rattle.std.specs.Option.{option_or}
 use Rattle.std.proofs.lemmas.Bool.{cases_Bool, false≢true, eq-eqb}
 use Rattle.std.proofs.lemmas.List.{reverse-append, reverse-reverse, length-reverse}
@@ -16,7 +16,7 @@ use Rattle.call_trace.specs.Naming.{Naming, naming, cap_at, names_call, call_nam
 use Rattle.call_trace.specs.Part.{reference_named, step_said}
 use Rattle.call_trace.specs.Running.{step_received, step_of}
 use Rattle.call_trace.specs.Said.{together}
-use Rattle.call_trace.specs.Glue.{step_in, message_in, call_in, cap_in, names_in, binding, bound_call, released_at, released_after, late_in, named_said, with_bound, received_step, step_by, IsBound, IsNoted, IsKept, IsTaken}
+use Rattle.call_trace.specs.Glue.{message_in, call_in, cap_in, names_in, binding, bound_call, released_at, released_after, late_in, named_said, with_bound, received_step, step_by, IsBound, IsNoted, IsKept, IsTaken}
 use Rattle.call_trace.proofs.Naming.{message_within}
 use Rattle.call_trace.proofs.Seeing.{step_as}
 use Rattle.run_model.specs.Has.{called}

@@ -36,5 +36,7 @@ pub mod Seeing
 pub mod Keeping
 pub mod Storied
 pub mod Rowing
+pub mod Trailing
 mod PipelinedCall
 mod UnderWay
+pub mod Turning

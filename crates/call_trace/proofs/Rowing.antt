@@ -10,6 +10,7 @@ use Rattle.call_trace.specs.Part.{result_named, promise_in}
 use Rattle.call_trace.specs.Said.{together}
 use Rattle.call_trace.specs.Running.{coming_next, step_received, step_of, steps_by, steps_of_row}
 use Rattle.call_trace.specs.Glue.{IsKept, IsTaken}
+use Rattle.call_trace.specs.Trail.{IsKeptAt}
 use Rattle.call_trace.proofs.Carrying.{log_here, log_there, steps_here, steps_there}
 use Rattle.call_trace.proofs.Keeping.{kept_beside}
 use Rattle.run_model.specs.Steps.{vat_of}
@@ -69,14 +70,10 @@ row_stuck (r ∷ later) row none =
 
 -- ---- what is kept of each vat
 
--- what is kept of a vat is that of its records of a row, and of their steps
-abbrev pub IsKeptAt : ℕ → Row → List Step → Ledger → Type 0
-IsKeptAt v row before ledger = IsKept v (log_of v row) (steps_by v before) (reverse before) ledger
-
 -- of the vat whose record took a step
 pub kept_here : (v : ℕ) (e : Event) (row : Row) (before taken : List Step) (new : Ledger) → steps_of_row row ≡ Some before →
     IsTaken v (log_of v row) e (steps_by v before) (step_of v (log_of v row) (steps_by v before) before e) (reverse before) taken new true →
-    (s : Step) × (steps_of_row ((v, e) ∷ row) ≡ Some (s ∷ before)) × (taken ≡ reverse (s ∷ before)) × (vat_of s ≡ v) × IsKeptAt v ((v, e) ∷ row) (s ∷ before) new
+    (s : Step) × (steps_of_row ((v, e) ∷ row) ≡ Some (s ∷ before)) × (step_of v (log_of v row) (steps_by v before) before e ≡ Some s) × (taken ≡ reverse (s ∷ before)) × (vat_of s ≡ v) × IsKeptAt v ((v, e) ∷ row) (s ∷ before) new
 kept_here v e row before taken new so_far t =
     let s = t.0 in
     let whose = own_vat v (log_of v row) (steps_by v before) before e s t.1 in
@@ -85,6 +82,7 @@ kept_here v e row before taken new so_far t =
     let own : s ∷ steps_by v before ≡ steps_by v (s ∷ before) = sym (steps_here v s before whose) in (
       s,
       row_more v e row before s so_far t.1,
+      t.1,
       turned,
       whose,
       subst (λ es. IsKept v es (steps_by v (s ∷ before)) (reverse (s ∷ before)) new) log

@@ -1,12 +1,12 @@
 -- What a record says by what was seen of it is what it says by the records before it.
-use Rattle.std.proofs.Common.{◌≡◌, refl, sym, ◌∙◌, ap, ap₂, ℕ, suc, ◌+◌, List, [], ◌∷◌, ◌++◌, length, map, Bool, true, false, Option, Some, None, option_and_then, option_map, slice_get, append_assoc, length-append}
+use Rattle.std.proofs.Common.{◌≡◌, refl, sym, ◌∙◌, ap, ap₂, ℕ, ◌+◌, List, [], ◌∷◌, ◌++◌, length, map, Bool, true, false, Option, Some, None, option_and_then, option_map, append_assoc, length-append}
 use Rattle.vat_view.specs.Past.{Past, id}
-use Rattle.vat_view.specs.Lives.{descriptors, descriptors_of}
+use Rattle.vat_view.specs.Lives.{descriptors}
 use Rattle.vat_view.specs.Questions.{is_late, call_of}
 use Rattle.vat_view.specs.Views.{view_of_reference, described}
 use Rattle.vat_rules.specs.OfCaps.{is_received}
 use Rattle.vat_rules.specs.Telling.{seen_of, seen_question}
-use Rattle.call_trace.specs.Types.{Descriptor, NoCap, SenderHosted, SenderPromise, ReceiverHosted, ReceiverAnswer, Outcome, Results, Exception, Canceled, RpcMessage, Bootstrap, Call, Return, Finish, Resolve, Release, Disembargo, Abort, Event, Host, Vow, Fulfil, Break, Make, Field, Deliver, Answer, Fault, Wire, View, FieldOf, Name, Cap, Message, Step}
+use Rattle.call_trace.specs.Types.{Descriptor, NoCap, SenderHosted, SenderPromise, ReceiverHosted, ReceiverAnswer, Outcome, Results, Exception, Canceled, RpcMessage, Bootstrap, Call, Return, Finish, Resolve, Release, Disembargo, Abort, Event, Host, Vow, Fulfil, Break, Make, Field, Deliver, Answer, Fault, Wire, View, FieldOf}
 use Rattle.call_trace.specs.Naming.{Naming}
 use Rattle.call_trace.specs.Said.{together, descriptor_named, caps_named, answered, say_call, say_return, say_resolve, said}
 use Rattle.call_trace.specs.Part.{result_named, step_said}

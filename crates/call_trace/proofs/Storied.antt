@@ -1,14 +1,13 @@
 -- What a good finding tells, record by record.
-use Rattle.std.proofs.Common.{◌≡◌, refl, sym, ◌∙◌, ap, ap₂, subst, ℕ, zero, suc, ◌+◌, ◌<◌, ◌≤◌, ◌==◌, List, [], ◌∷◌, ◌++◌, length, map, reverse, true, false, Option, Some, None, option_and_then, option_map, slice_get, arith, inl, inr, ◌⊎◌, length-append}
-use Rattle.std.proofs.lemmas.List.{reverse-append, length-reverse}
+use Rattle.std.proofs.Common.{◌≡◌, refl, sym, ◌∙◌, ap, ap₂, ℕ, zero, suc, ◌+◌, ◌<◌, ◌≤◌, List, [], ◌∷◌, ◌++◌, length, map, reverse, true, Option, Some, None, option_and_then, option_map, slice_get, arith, inl, inr, ◌⊎◌, length-append}
+use Rattle.std.proofs.lemmas.List.{reverse-append}
 use Rattle.std.proofs.lemmas.Option.{slice_get_past, slice_get-map}
 use Rattle.vat_rules.specs.Audit.{Found, IsTrueOf, reads_within}
-use Rattle.vat_rules.specs.Told.{Sight, Entry, Told}
+use Rattle.vat_rules.specs.Told.{Entry, Told}
 use Rattle.vat_rules.specs.Telling.{seen_of, entry_of, entries_back, told_of}
-use Rattle.vat_view.specs.Past.{Past}
 use Rattle.call_trace.specs.Types.{Event}
 use Rattle.call_trace.specs.Findings.{is_good}
-use Rattle.call_trace.specs.Named.{past_before, past_of}
+use Rattle.call_trace.specs.Named.{past_before}
 use Rattle.call_trace.specs.Taking.{event_in, record_in}
 use Rattle.call_trace.specs.Glue.{story_in}
 use Rattle.vat_log.specs.declared.body.Body.{Body}

@@ -1,6 +1,6 @@
 -- For the code's contracts, and no part of the meaning: the tables that are kept of each vat and of all connections, and
 -- how its calls and views are named by them.
-use Rattle.std.specs.Prelude.{◌≡◌, ◌==◌, ◌+◌, ◌++◌, ◌∷◌, ℕ, List, [], Bool, true, false, not, Option, Some, None, if◌then◌else◌, is_some, map, reverse, option_and_then, option_map, slice_get, unwrap_or}
+use Rattle.std.specs.Prelude.{◌≡◌, ◌==◌, ◌+◌, ◌++◌, ◌∷◌, ℕ, List, [], Bool, true, false, not, Option, Some, None, if◌then◌else◌, is_some, map, reverse, option_and_then, option_map, slice_get}
 use Rattle.std.specs.BTreeMap.{get}
 use Rattle.std.specs.Ordering.{nat_cmp}
 use Rattle.call_trace.specs.declared.calls.Calls.{Calls}

@@ -16,3 +16,5 @@ pub mod Placed
 pub mod Overtaking
 pub mod Lines
 pub mod Glue
+pub mod Trail
+pub mod Turns

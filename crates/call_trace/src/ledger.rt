@@ -1,4 +1,4 @@
-//! What is kept of a vat while its records take their steps. Nothing calls it yet: the run of a row of records is to come.
+//! What is kept of a vat while its records take their steps.
 
 ghost use Rattle.std.specs.Prelude.{◌≡◌, [], IfOk};
 ghost use Rattle.std.specs.Option.{option_copied};
@@ -26,7 +26,7 @@ pub(crate) struct Ledger {
 }
 
 /// The message that a step sends or receives.
-fn message_of(step: &Step) -> Option<&Message>
+pub(crate) fn message_of(step: &Step) -> Option<&Message>
     ensures { option_copied result ≡ message_of step.now }
 {
     match step {

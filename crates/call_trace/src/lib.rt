@@ -10,8 +10,8 @@
 //! How the records of several logs take their steps, one after another, is said in `specs/Running.antt`. What the laws say
 //! of names beside that stands in `specs/Carried.antt`, `specs/Tells.antt` and `specs/Within.antt`, of where calls are in
 //! `specs/Placed.antt`, and which records are of what a vat makes by itself in `specs/Kinds.antt`. `specs/Overtaking.antt`,
-//! `specs/Lines.antt` and `specs/Glue.antt` describe the tables of what a run's deliveries overtake, of what its steps sent,
-//! and of what is kept of a vat while its records take their steps; they serve the code's contracts alone.
+//! `specs/Lines.antt`, `specs/Glue.antt`, `specs/Trail.antt` and `specs/Turns.antt` describe the tables of what a run's deliveries overtake, of
+//! what its steps sent, and of what is kept of a vat while its records take their steps; they serve the code's contracts alone.
 //! `proofs/PipelinedCall.antt` and `proofs/UnderWay.antt` are examples. What holds of runs and their logs is promised by
 //! the functions of `src/laws.rt`, which do nothing.
 #![tactic(auto)]
@@ -25,9 +25,11 @@ mod lines;
 mod numbers;
 mod overtaking;
 mod released;
+mod runs;
 mod saying;
 mod stepping;
 mod stories;
+mod trail;
 
 pub use fault::order_fault;
 pub use laws::{

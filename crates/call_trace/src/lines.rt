@@ -1,4 +1,4 @@
-//! What was sent on connections, and what comes next there: for the call that makes the run, which is to come.
+//! What was sent on connections, and what comes next there.
 //!
 //! A send is looked at twice for each vat that uses its connection, so a step takes a look-up or two, however long the run.
 

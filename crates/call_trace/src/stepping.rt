@@ -1,4 +1,4 @@
-//! The step that one record takes. Nothing calls it yet: the run of a row of records is to come.
+//! The step that one record takes.
 
 ghost use Rattle.std.specs.Prelude.{◌≡◌, ℕ, List, None, true, false, IfOk, OnOk};
 ghost use Rattle.std.specs.Option.{option_copied};

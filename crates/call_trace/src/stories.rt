@@ -1,4 +1,4 @@
-//! What good findings tell, record by record. Nothing calls it yet: the run of a row of records is to come.
+//! What good findings tell, record by record.
 
 ghost use Rattle.std.specs.Prelude.{◌≡◌, true, option_map, slice_get};
 ghost use Rattle.std.specs.Option.{option_copied};

@@ -1,0 +1,119 @@
+-- The turns of an order, one further.
+use Rattle.std.proofs.Common.{◌≡◌, refl, sym, ◌∙◌, ap, subst, ℕ, zero, suc, ◌+◌, ◌≤◌, ◌==◌, List, ◌∷◌, length, reverse, Bool, true, false, Option, Some, None, option_and_then, option_map, slice_get, arith, inl, inr, ◌⊎◌}
+use Rattle.std.specs.List.{cons_option, filter_map}
+use Rattle.std.proofs.lemmas.List.{take_all, length-map, length-reverse}
+use Rattle.std.proofs.lemmas.Option.{slice_get_past}
+use Rattle.agree.specs.Rows.{Row, log_of}
+use Rattle.vat_log.specs.declared.body.Body.{Body}
+use Rattle.vat_rules.specs.Audit.{Found, IsTrueOf}
+use Rattle.vat_rules.specs.Told.{Sight}
+use Rattle.vat_view.specs.Past.{Past}
+use Rattle.call_trace.specs.declared.ledger.Ledger.{Ledger}
+use Rattle.call_trace.specs.declared.trail.Trail.{Trail}
+use Rattle.call_trace.specs.Findings.{is_good}
+use Rattle.call_trace.specs.Named.{past_before}
+use Rattle.call_trace.specs.Running.{steps_by as steps_of_vat, steps_of_row}
+use Rattle.call_trace.specs.Taking.{finding_of, event_in, record_in, steps_by, next_record, taken_by}
+use Rattle.call_trace.specs.Trail.{IsTrail, Comes}
+use Rattle.call_trace.specs.Turns.{IsKeptOf, Goes}
+use Rattle.call_trace.specs.Types.{Event, Step}
+use Rattle.call_trace.proofs.Carrying.{log_here, log_there, steps_here, steps_there}
+use Rattle.call_trace.proofs.Reading.{AllRecordsGood, records_good, good_more}
+use Rattle.call_trace.proofs.Rowing.{kept_there}
+use Rattle.call_trace.proofs.Taking.{log_taken}
+
+-- ---- as many records of a log as are taken of it
+
+past_long : (f : Found) → AllRecordsGood f → (n : ℕ) → n ≤ length f.log.records → length (past_before f n) ≡ n
+past_long f all zero le = refl
+past_long f all (suc n) le =
+    let one : n + 1 ≡ suc n = omega arith in
+    ap (λ m. length (past_before f m)) (sym one) ∙ ap length (good_more f n (all n (omega (arith, le)))) ∙ ap suc (past_long f all n (omega (arith, le)))
+
+past_beyond : (f : Found) (n : ℕ) → length f.log.records ≤ n → past_before f n ≡ past_before f (length f.log.records)
+past_beyond f n le = ap (λ bodies. filter_past bodies) (take_all n f.log.records le ∙ sym (take_all (length f.log.records) f.log.records (omega arith)))
+  where
+    filter_past : List Body → Past
+    filter_past bodies = reverse (filter_map (event_in f) bodies)
+
+within_or : (i n : ℕ) → (i ≤ n) ⊎ (n ≤ i)
+within_or zero n = inl (omega arith)
+within_or (suc i) zero = inr (omega arith)
+within_or (suc i) (suc n) = up (within_or i n)
+  where
+    up : (i ≤ n) ⊎ (n ≤ i) → (suc i ≤ suc n) ⊎ (suc n ≤ suc i)
+    up (inl l) = inl (omega (arith, l))
+    up (inr l) = inr (omega (arith, l))
+
+pub record IsCounted (f : Found) (n : ℕ) : Type 0 where
+  pub record_at : record_in f (length (past_before f n)) ≡ record_in f n
+  pub past : past_before f (length (past_before f n)) ≡ past_before f n
+
+none_past : (f : Found) (n : ℕ) → length f.log.records ≤ n → record_in f n ≡ None
+none_past f n le = ap (option_and_then (event_in f)) (slice_get_past f.log.records n le)
+
+counted : (f : Found) → AllRecordsGood f → (n : ℕ) → IsCounted f n
+counted f all n = at (within_or n (length f.log.records))
+  where
+    at : (n ≤ length f.log.records) ⊎ (length f.log.records ≤ n) → IsCounted f n
+    at (inl le) = record { record_at = ap (record_in f) (past_long f all n le); past = ap (past_before f) (past_long f all n le) }
+    at (inr le) =
+        let long : length (past_before f n) ≡ length f.log.records = ap length (past_beyond f n le) ∙ past_long f all (length f.log.records) (omega arith) in
+        record {
+          record_at = ap (record_in f) long ∙ none_past f (length f.log.records) (omega arith) ∙ sym (none_past f n le);
+          past = ap (past_before f) long ∙ sym (past_beyond f n le);
+        }
+
+-- what is kept of a vat knows its next record, and what is seen of it
+pub record IsNextOf (findings : List Found) (turns : List ℕ) (v : ℕ) (f : Found) (number : ℕ) : Type 0 where
+  pub next : next_record findings turns v ≡ record_in f number
+  pub past : past_before f number ≡ log_of v (taken_by findings turns)
+
+pub next_of : (findings : List Found) (turns : List ℕ) (v : ℕ) (f : Found) (number : ℕ) → IsTrueOf f.log f.limits f.outcome → is_good f.outcome ≡ true → finding_of v findings ≡ Some f →
+    number ≡ length (log_of v (taken_by findings turns)) → IsNextOf findings turns v f number
+next_of findings turns v f number true_of good found many =
+    let log = log_taken findings v f found turns in
+    let long : number ≡ length (past_before f (steps_by v turns)) = many ∙ ap length log in
+    let c = counted f (records_good f true_of good) (steps_by v turns) in
+    record {
+      next = ap (λ o. option_and_then (λ (g : Found). record_in g (steps_by v turns)) o) found ∙ sym c.record_at ∙ ap (record_in f) (sym long);
+      past = ap (past_before f) long ∙ c.past ∙ sym log;
+    }
+
+-- ---- a turn
+
+pub skips : (findings : List Found) (turns : List ℕ) (v : ℕ) (before : List Step) (trail : Trail) (ledger : Ledger) → next_record findings turns v ≡ None →
+    steps_of_row (taken_by findings turns) ≡ Some before → IsTrail before trail → IsKeptOf v (taken_by findings turns) before ledger →
+    Goes v (taken_by findings turns) (taken_by findings (v ∷ turns)) before trail ledger true
+skips findings turns v before trail ledger none so_far steps kept =
+    let same : taken_by findings (v ∷ turns) ≡ taken_by findings turns = ap (λ o. cons_option (option_map (λ e. (v, e)) o) (taken_by findings turns)) none in
+    subst (λ row. Goes v (taken_by findings turns) row before trail ledger true) (sym same) (before, so_far, steps, kept, λ w other apart k. k)
+
+pub takes : (findings : List Found) (turns : List ℕ) (v : ℕ) (e : Event) (before : List Step) (trail : Trail) (ledger : Ledger) (taken : Bool) → next_record findings turns v ≡ Some e →
+    length (steps_of_vat v before) ≡ length (log_of v (taken_by findings turns)) → Comes v e (taken_by findings turns) before trail ledger taken →
+    Goes v (taken_by findings turns) (taken_by findings (v ∷ turns)) before trail ledger taken
+takes findings turns v e before trail ledger taken next many c =
+    let row = taken_by findings turns in
+    let longer : taken_by findings (v ∷ turns) ≡ (v, e) ∷ row = ap (λ o. cons_option (option_map (λ e. (v, e)) o) row) next in
+    subst (λ r. Goes v row r before trail ledger taken) (sym longer) (at row many taken c)
+  where
+    at : (row : Row) → length (steps_of_vat v before) ≡ length (log_of v row) → (taken : Bool) → Comes v e row before trail ledger taken → Goes v row ((v, e) ∷ row) before trail ledger taken
+    at row many false c = c
+    at row many true c = (
+      c.0 ∷ before,
+      c.1,
+      c.3,
+      (c.4, ap length (steps_here v c.0 before c.2) ∙ ap suc many ∙ sym (ap length (log_here v v e row refl))),
+      λ w other apart k. (
+        kept_there w v e row before c.0 other apart c.2 k.0,
+        ap length (steps_there w c.0 before (ap (λ u. u == w) c.2 ∙ apart)) ∙ k.1 ∙ ap length (sym (log_there w v e row apart)),
+      ),
+    )
+
+-- so many steps are kept of a vat
+pub so_many : (v : ℕ) (row : Row) (before : List Step) (ledger : Ledger) → IsKeptOf v row before ledger → length ledger.numbers.items ≡ length (log_of v row)
+so_many v row before ledger kept =
+    sym (length-map ledger.numbers.items (slice_get (reverse before))) ∙ ap length kept.0.numbers ∙ length-map (reverse (steps_of_vat v before)) Some ∙ length-reverse (steps_of_vat v before) ∙ kept.1
+
+pub some_seen : {x y : Sight} → ◌≡◌ {A = Option Sight} (Some x) (Some y) → x ≡ y
+some_seen e = cc

@@ -1,9 +1,13 @@
 //! Laws of reports.
 
 ghost use Rattle.std.specs.Prelude.{◌≡◌, List, ℕ, Option, None};
+ghost use Rattle.merge_order.specs.Fits.{IsFitting};
+ghost use Rattle.call_trace.specs.Findings.{logs_of, MayBeNamed};
+ghost use Rattle.case_book.specs.Books.{AllFound};
 ghost use Rattle.case_book.specs.Case.{Contents, IsCase};
 ghost use Rattle.case_book.specs.Ties.{tie_fault_of};
 ghost use Rattle.audit_core.specs.Report.{IsReport, IsFittingIfGiven, line_in};
+ghost use Rattle.audit_core.specs.Glue.{AreGoodFindings};
 ghost use Rattle.audit_core.specs.declared.report.Report.{Report};
 
 /// Which order it is doesn't matter: a case that ties up has one line, by whatever order that fits, and where none is given.
@@ -12,4 +16,10 @@ pub fn a_case_has_one_line()
     ensures { (held : Contents) → IsCase held → tie_fault_of held ≡ None → (given other_given : Option (List ℕ)) → IsFittingIfGiven held.logs given
         → IsFittingIfGiven held.logs other_given → (one other : Report) → IsReport held given one → IsReport held other_given other
         → line_in one ≡ line_in other }
+{}
+
+/// The findings of a case that are good name a run, by any order that fits: two of its logs at most use each connection, and
+/// either received there the beginning of what the other sent.
+pub fn good_findings_name_a_run()
+    ensures { (all : AllFound) (order : List ℕ) → AreGoodFindings all → IsFitting (logs_of all.vats) order → MayBeNamed all.vats order }
 {}

@@ -57,10 +57,7 @@ const RUNS: [(&[Did], &[Told]); 9] = [
     ),
     // What is a vat's own has no edge, and nothing has none.
     (
-        &[Bind(
-            2,
-            &[Object(2, 5), Promise(2, 1), Field(2, 3, 0), Nothing],
-        )],
+        &[Bind(2, &[Object(2, 5), Promise(2, 1), Field(2, 3, 0), Nothing])],
         &[],
     ),
     // By vat, whichever came first.

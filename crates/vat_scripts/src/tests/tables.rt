@@ -13,13 +13,11 @@ const COME: [&[u64]; 5] = [
     &[0, u64::MAX, 5],
 ];
 
-/// A table in which each number has its place among these, counted from 1, with the last place where it comes twice.
+/// A table in which each number has its place among these, counted from 0, with the last place where it comes twice.
 fn table(alloc: Global, come: &[u64]) -> Result<RisingTable<u64>, Refused> {
     let mut table = RisingTable::new(alloc);
-    let mut place = 0;
-    for number in come {
-        place += 1;
-        table.put(*number, place)?;
+    for (place, number) in come.iter().enumerate() {
+        table.put(*number, place as u64)?;
     }
     Ok(table)
 }

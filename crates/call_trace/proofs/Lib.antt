@@ -40,3 +40,5 @@ pub mod Trailing
 mod PipelinedCall
 mod UnderWay
 pub mod Turning
+pub mod Searching
+pub mod Reaching

@@ -40,7 +40,7 @@ steps_back v (u ∷ steps) =
     let rest = steps_back v steps in
     omega (arith, last, first, rest)
 
-rows_on : (findings : List Found) (later steps : List ℕ) → GoesOn (taken_by findings (later ++ steps)) (taken_by findings steps)
+pub rows_on : (findings : List Found) (later steps : List ℕ) → GoesOn (taken_by findings (later ++ steps)) (taken_by findings steps)
 rows_on findings [] steps = ([], refl)
 rows_on findings (u ∷ later) steps = at (next_record findings (later ++ steps) u) (rows_on findings later steps)
   where

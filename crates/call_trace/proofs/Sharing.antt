@@ -37,7 +37,7 @@ test_more : {A : Type 0} (p : A → Bool) (x : A) (xs : List A) (b : Bool) → p
 test_more p x xs true e h = (e, h)
 test_more p x xs false e h = absurd (let no : ⊥ = cc in no)
 
-all_test : {A : Type 0} (p : A → Bool) (xs : List A) → list_all p xs ≡ true → AllByRecursion (λ x. p x ≡ true) xs
+pub all_test : {A : Type 0} (p : A → Bool) (xs : List A) → list_all p xs ≡ true → AllByRecursion (λ x. p x ≡ true) xs
 all_test p [] h = tt
 all_test p (x ∷ xs) h = let both = test_more p x xs (p x) refl h in (both.0, all_test p xs both.1)
 
@@ -64,7 +64,7 @@ below_found u [] f all there = absurd (let lt = there.1 in omega (arith, lt))
 below_found u (g ∷ gs) f all (zero, lt, e) = subst (λ (x : Found). u < x.log.vat) e all.0
 below_found u (g ∷ gs) f all (suc k, lt, e) = below_found u gs f all.1 (k, omega (arith, lt), e)
 
-own_found : (findings : List Found) (f : Found) → Rises (map (λ log. log.vat) (logs_of findings)) → Contains findings f → finding_of f.log.vat findings ≡ Some f
+pub own_found : (findings : List Found) (f : Found) → Rises (map (λ log. log.vat) (logs_of findings)) → Contains findings f → finding_of f.log.vat findings ≡ Some f
 own_found [] f up there = absurd (let lt = there.1 in omega (arith, lt))
 own_found (g ∷ gs) f up (zero, lt, e) =
     let same : g ≡ f = e in

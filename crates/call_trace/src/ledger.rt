@@ -5,11 +5,13 @@ ghost use Rattle.std.specs.Option.{option_copied};
 ghost use Rattle.call_trace.specs.Naming.{message_of, cap_at};
 ghost use Rattle.call_trace.specs.Glue.{message_in, call_in, cap_in, view_in, IsKept};
 ghost use Rattle.run_model.specs.Legal.{brought};
+ghost use Rattle.vat_rules.specs.Audit.{IsTrueOf};
 
 use crate::calls::Calls;
 use crate::released::Released;
 use run_model::{Cap, Message, Name, Step};
 use std::alloc::{AllocError, Global};
+use vat_rules::{Outcome, VatFinding};
 use vat_view::View;
 
 /// What is kept of a vat, by its records that took a step.
@@ -51,16 +53,21 @@ fn brought_at(message: &Message, place: usize) -> Result<Option<Cap>, AllocError
 }
 
 impl Ledger {
-    /// Before any record.
-    pub(crate) fn new(alloc: Global, vat: u32) -> Ledger
-        ensures { IsKept vat [] [] [] result }
+    /// Before any record of a finding's log, with room for all that it tells of.
+    pub(crate) fn new(alloc: Global, finding: &VatFinding) -> Result<Ledger, AllocError>
+        ensures kept { IfOk result (IsKept finding.now.log.vat [] [] []) }
+        ensures of_the_log { IsTrueOf finding.now.log finding.now.limits finding.now.outcome }
     {
-        Ledger {
-            vat,
-            numbers: Vec::new(alloc),
+        let records = match finding.outcome() {
+            Outcome::Good(story) => story.events().len(),
+            _ => 0,
+        };
+        Ok(Ledger {
+            vat: finding.log().vat(),
+            numbers: Vec::with_capacity(alloc, records)?,
             calls: Calls::new(alloc),
             released: Released::new(alloc),
-        }
+        })
     }
 
     /// The message of the step of the record of this number.

@@ -1,5 +1,5 @@
-//! From good logs to one run of the machine. That good logs have a run is a law ([`good_findings_have_a_run`]); the call that
-//! makes it is to come. [`order_fault`] finds where a run breaks the order of calls.
+//! From good logs to one run of the machine: [`name_run`] makes it. That good logs have a run is a law
+//! ([`good_findings_have_a_run`]). [`order_fault`] finds where a run breaks the order of calls.
 //!
 //! It stands on `vat_rules`, which says when a log is good, on `vat_view` for what the numbers of a log stand for, on
 //! `agree` for what passed on a connection, on `merge_order` and `link_check`, and on `run_model` for runs. How a log
@@ -30,6 +30,7 @@ mod saying;
 mod stepping;
 mod stories;
 mod trail;
+mod turns;
 
 pub use fault::order_fault;
 pub use laws::{
@@ -41,3 +42,4 @@ pub use laws::{
     returns_follow_answers, turns_are_told, views_lead_in_the_run, what_is_bound_has_a_name,
     what_is_bound_is_had, what_is_named_has_a_name, what_is_used_is_had,
 };
+pub use runs::name_run;

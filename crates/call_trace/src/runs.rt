@@ -1,39 +1,36 @@
-//! The turns of an order, each of which takes the next record of a finding's log. Nothing calls it yet: the run by an order
-//! is to come.
+//! The run of good logs by an order.
 
-ghost use Rattle.std.specs.Prelude.{◌≡◌, ◌∷◌, ℕ, List, Some, true, IfOk};
-ghost use Rattle.call_trace.specs.Findings.{is_good};
-ghost use Rattle.call_trace.specs.Running.{steps_of_row};
-ghost use Rattle.call_trace.specs.Taking.{finding_of, taken_by};
-ghost use Rattle.call_trace.specs.Trail.{IsTrail};
-ghost use Rattle.call_trace.specs.Turns.{IsKeptOf, Goes};
-ghost use Rattle.call_trace.specs.Types.{Step as Steps};
-ghost use Rattle.vat_rules.specs.Audit.{Found, IsTrueOf};
+ghost use Rattle.std.specs.Prelude.{IfOk};
+ghost use Rattle.call_trace.specs.Findings.{MayBeNamed};
+ghost use Rattle.call_trace.specs.Named.{IsRunOf};
 
-use crate::ledger::Ledger;
-use crate::stories::{event_at, seen_at};
-use crate::trail::Trail;
+use crate::turns::Turns;
+use merge_order::Order;
+use run_model::Run;
 use std::alloc::{AllocError, Global};
 use vat_rules::VatFinding;
 
-impl Trail {
-    /// The next record of a good finding's log takes its step, if there is one. False where it has none.
-    pub(crate) fn turn(
-        &mut self,
-        alloc: Global,
-        ledger: &mut Ledger,
-        finding: &VatFinding,
-    ) -> Result<bool, AllocError>
-        requires good { is_good finding.now.outcome ≡ true }
-        requires of_the_log { IsTrueOf finding.now.log finding.now.limits finding.now.outcome }
-        ensures { IfOk result (λ taken. (findings : List Found) (turns : List ℕ) (v : ℕ) (before : List Steps) → finding_of v findings ≡ Some finding.now
-            → steps_of_row (taken_by findings turns) ≡ Some before → IsTrail before self.old → IsKeptOf v (taken_by findings turns) before ledger.old
-            → Goes v (taken_by findings turns) (taken_by findings (v ∷ turns)) before self.new ledger.new taken) }
-    {
-        let number = ledger.numbers.len();
-        let (Some(event), Some(seen)) = (event_at(finding, number), seen_at(finding, number)) else {
-            return Ok(true);
-        };
-        self.take(alloc, ledger, event, seen)
+/// The run of good findings by an order: each step of the order is that of the next record of the vat that it names. The
+/// logs are their vats' parts of the run. It is a run of the machine over first-in first-out links; in it each call reached
+/// the object that it was to go to, each capability that a vat uses is one that it has, each number was used in its life,
+/// and the counts of both ends of each connection balance. There is one such run ([`crate::findings_have_one_run`]).
+///
+/// The findings come by rising vat numbers, and the order fits their logs. Each connection is used by two of the logs at
+/// most, and the frames that either of them received on it are a prefix of those that the other sent.
+///
+/// # Errors
+///
+/// Want of memory.
+pub fn name_run(alloc: Global, findings: &[VatFinding], order: &Order) -> Result<Run, AllocError>
+    requires { MayBeNamed findings.now order.now }
+    ensures { IfOk result (IsRunOf findings.now order.now) }
+{
+    let vats = order.as_slice();
+    let mut turns = Turns::new(alloc, findings, vats.len())?;
+    for vat in vats {
+        if !turns.turn(alloc, findings, *vat)? {
+            unreachable!()
+        }
     }
+    Ok(turns.into_run())
 }

@@ -1,5 +1,5 @@
 //! What the records say that a vat makes by itself, and the messages that it sends: by what is kept of the vat, and by what
-//! was seen of each record. Nothing calls it yet: the run of a row of records is to come.
+//! was seen of each record.
 
 ghost use Rattle.std.specs.Prelude.{◌≡◌, List, Option, IfOk, slice_get, option_map};
 ghost use Rattle.std.specs.Option.{option_copied};

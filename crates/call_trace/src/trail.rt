@@ -33,14 +33,14 @@ pub(crate) struct Trail {
 }
 
 impl Trail {
-    /// Before any step.
-    pub(crate) fn new(alloc: Global) -> Trail
-        ensures { IsTrail [] result }
+    /// Before any step, with room for so many.
+    pub(crate) fn new(alloc: Global, steps: usize) -> Result<Trail, AllocError>
+        ensures { IfOk result (IsTrail []) }
     {
-        Trail {
-            steps: Vec::new(alloc),
+        Ok(Trail {
+            steps: Vec::with_capacity(alloc, steps)?,
             lines: Lines::new(alloc),
-        }
+        })
     }
 
     /// A copy of the message that comes next to a vat on a connection.

@@ -6,3 +6,4 @@ pub mod Existing
 pub mod Bringing
 pub mod Placing
 pub mod Exact
+pub mod Recording

@@ -2,7 +2,8 @@
 //!
 //! It stands on `run_model`, whose definition of edges (`specs/Edges.antt`) [`graph`] meets: where each vat first bound each
 //! capability of another vat, by vat, then by record, then by place. That what a vat uses of others has such an edge, or is a
-//! field of a call that it received, is the law of `src/laws.rt`.
+//! field of a call that it received, is the law of `src/laws.rt`. [`record_numbers`] says which record of its vat each step is
+//! (`specs/Records.antt`).
 #![tactic(auto)]
 
 mod edge;
@@ -11,9 +12,12 @@ mod finding;
 mod key;
 mod laws;
 mod numbers;
+mod records;
 mod witnesses;
 
 pub use edge::Edge;
 pub use edges::Graph;
 pub use finding::graph;
 pub use laws::what_is_used_is_explained;
+pub use numbers::vat_of;
+pub use records::record_numbers;

@@ -8,8 +8,8 @@ use run_model::Step;
 use std::alloc::{AllocError, Global};
 use std::collections::BTreeMap;
 
-/// Whose step it is.
-pub(crate) fn vat_of(step: &Step) -> u32
+/// Whose step it is, by the vat number.
+pub fn vat_of(step: &Step) -> u32
     ensures { result ≡ vat_of step.now }
 {
     match step {

@@ -1,0 +1,21 @@
+//! Which record of its vat each step is.
+
+ghost use Rattle.std.specs.Prelude.{◌≡◌, IfOk};
+ghost use Rattle.authority.specs.Records.{records_of};
+
+use crate::numbers::{Numbers, vat_of};
+use run_model::Run;
+use std::alloc::{AllocError, Global};
+
+/// The number of each step's record in its vat's log, counted from 0: how many steps of its vat came before it. The only
+/// error is want of memory.
+pub fn record_numbers(alloc: Global, run: &Run) -> Result<Vec<u64>, AllocError>
+    ensures { IfOk result (λ numbers. numbers.items ≡ records_of run.now) }
+{
+    let mut counts = Numbers::new(alloc);
+    let mut numbers = Vec::new(alloc);
+    for step in run.steps() {
+        numbers.push(counts.count(vat_of(step))?)?;
+    }
+    Ok(numbers)
+}

@@ -20,8 +20,7 @@ use Rattle.call_trace.specs.Named.{past_of, IsRunOf}
 use Rattle.call_trace.specs.Part.{IsPart}
 use Rattle.case_book.specs.Books.{AllFound, AreAll}
 use Rattle.audit_core.specs.Headline.{records_of, taken_of, IsBalancedThroughout, Explains}
-use Rattle.audit_core.specs.Report.{records_in, count_all, delivers, sends, receives, IsGoodCase, IsOrderFor, IsEarlyAt, IsReport}
-use Rattle.audit_core.specs.Glue.{AreGoodFindings}
+use Rattle.audit_core.specs.Report.{records_in, count_all, delivers, sends, receives, IsGoodCase, IsOrderFor, IsEarlyAt, IsReport, AreGoodFindings}
 use Rattle.audit_core.specs.declared.report.Report.{Report}
 use Rattle.audit_core.specs.declared.report.Report.TheVariants as report
 use Rattle.audit_core.proofs.FirstLine.{good_case}

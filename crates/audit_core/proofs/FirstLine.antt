@@ -15,8 +15,8 @@ use Rattle.link_check.specs.declared.outcome.LinkOutcome.{LinkOutcome}
 use Rattle.link_check.specs.declared.outcome.LinkOutcome.TheVariants.{Good as GoodLink, Broken as BrokenAt}
 use Rattle.case_book.specs.Books.{AllFound, AreAll}
 use Rattle.case_book.specs.declared.link.Link.{Link}
-use Rattle.audit_core.specs.Report.{AreGoodEnds, IsGoodLog, IsFirstBad, IsFirstBroken, AreGoodLogs, AreGoodLinks, IsGoodCase, IsReport}
-use Rattle.audit_core.specs.Glue.{HoldsBefore, HoldsOfEach, IsFirstNot, IsGoodFinding, line_of, IsBadFinding, AreBadEnds, AreGoodFindings}
+use Rattle.audit_core.specs.Report.{AreGoodEnds, IsGoodLog, IsFirstBad, IsFirstBroken, AreGoodLogs, AreGoodLinks, IsGoodCase, IsReport, HoldsOfEach, IsGoodFinding, AreGoodFindings}
+use Rattle.audit_core.specs.Glue.{HoldsBefore, IsFirstNot, line_of, IsBadFinding, AreBadEnds}
 use Rattle.audit_core.specs.declared.report.Breach.TheVariants.{Rule}
 use Rattle.audit_core.specs.declared.report.Report.{Report}
 use Rattle.audit_core.specs.declared.report.Report.TheVariants as report

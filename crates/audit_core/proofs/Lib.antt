@@ -8,3 +8,4 @@ pub mod Counting
 pub mod Posting
 pub mod Refusing
 pub mod OneLine
+pub mod Meaning

@@ -12,8 +12,7 @@ use Rattle.case_book.specs.Ties.{tie_fault_of}
 use Rattle.case_book.specs.Pieces.{IsComparisonOf}
 use Rattle.case_book.specs.Books.{AllFound}
 use Rattle.case_book.specs.declared.link.Link.{Link}
-use Rattle.audit_core.specs.Report.{AreGoodEnds, AreGoodLinks}
-use Rattle.audit_core.specs.Glue.{HoldsOfEach, IsGoodFinding, AreGoodFindings}
+use Rattle.audit_core.specs.Report.{AreGoodEnds, AreGoodLinks, HoldsOfEach, IsGoodFinding, AreGoodFindings}
 use Rattle.audit_core.proofs.Places.{one_of_number, one_contained, contained}
 use Rattle.audit_core.proofs.Whole.{logs_are}
 use Rattle.audit_core.proofs.FirstLine.{links_good}

@@ -35,8 +35,8 @@ use Rattle.case_book.specs.Ties.{tie_fault_of}
 use Rattle.case_book.specs.Pieces.{IsComparisonOf}
 use Rattle.case_book.specs.declared.link.Link.{Link}
 use Rattle.audit_core.specs.Headline.{Explains}
-use Rattle.audit_core.specs.Report.{IsGoodLog, AreGoodEnds, IsFirstBad, IsFirstBroken, IsGoodLink, AreGoodLogs, IsGoodCase, IsEarlyAt, IsYes, FailsAt, HasNoOrder, IsReport, line_in, IsFittingIfGiven}
-use Rattle.audit_core.specs.Glue.{HoldsOfEach, IsGoodFinding, line_of}
+use Rattle.audit_core.specs.Report.{IsGoodLog, AreGoodEnds, IsFirstBad, IsFirstBroken, IsGoodLink, AreGoodLogs, IsGoodCase, IsEarlyAt, IsYes, FailsAt, HasNoOrder, IsReport, line_in, IsFittingIfGiven, HoldsOfEach, IsGoodFinding}
+use Rattle.audit_core.specs.Glue.{line_of}
 use Rattle.audit_core.specs.declared.report.Breach.TheVariants.{Rule, Order}
 use Rattle.audit_core.specs.declared.report.Report.{Report}
 use Rattle.audit_core.specs.declared.report.Report.TheVariants as report

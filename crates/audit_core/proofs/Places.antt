@@ -8,7 +8,8 @@ use Rattle.std.proofs.lemmas.Bool.{cases_lt, cases_eq}
 use Rattle.std.proofs.lemmas.List.Kept.{AllPairs-from_increasing}
 use Rattle.std.proofs.lemmas.Option.{slice_get_within, slice_get-get_or, get_or_from_slice_get}
 use Rattle.case_book.proofs.Numbered.{under, stands_once}
-use Rattle.audit_core.specs.Glue.{HoldsBefore, HoldsOfEach}
+use Rattle.audit_core.specs.Report.{HoldsOfEach}
+use Rattle.audit_core.specs.Glue.{HoldsBefore}
 
 one_there : {X : Type 0} (o : Option X) (x y : X) → o ≡ Some x → o ≡ Some y → x ≡ y
 one_there o x y e f = let both : Some x ≡ Some y = sym e ∙ f in cc

@@ -1,15 +1,12 @@
 -- For the code's contracts, and no part of the meaning: what is so of findings that stand at places of a list.
-use Rattle.std.specs.Prelude.{◌≡◌, ℕ, ◌<◌, Bool, List, length, Option, Some, None, IsTrue, slice_get}
-use Rattle.vat_rules.specs.Audit.{Found, IsTrueOf, reads_within}
-use Rattle.vat_rules.specs.First.{AllGood}
+use Rattle.std.specs.Prelude.{◌≡◌, ℕ, ◌<◌, Bool, List, Option, Some, None, slice_get}
+use Rattle.vat_rules.specs.Audit.{Found, IsTrueOf}
 use Rattle.vat_rules.specs.declared.outcome.Outcome.{Outcome}
 use Rattle.vat_rules.specs.declared.outcome.Outcome.TheVariants.{Good, Broken, Outside}
 use Rattle.link_check.specs.Prefix.{Ends, IsOutcome}
 use Rattle.link_check.specs.declared.outcome.LinkOutcome.TheVariants.{Broken as BrokenAt}
-use Rattle.call_trace.specs.Findings.{is_good}
-use Rattle.case_book.specs.Books.{AllFound, AreAll}
 use Rattle.vat_log.specs.declared.body.Body.{Body}
-use Rattle.audit_core.specs.Report.{AreGoodEnds, delivers, sends, receives}
+use Rattle.audit_core.specs.Report.{delivers, sends, receives}
 use Rattle.audit_core.specs.declared.counts.Kind.{Kind}
 use Rattle.audit_core.specs.declared.counts.Kind.TheVariants.{Delivery, Sending, Receipt}
 use Rattle.audit_core.specs.declared.report.Breach.TheVariants.{Rule}
@@ -20,10 +17,6 @@ use Rattle.audit_core.specs.declared.report.Report.TheVariants as report
 abbrev pub HoldsBefore : {X : Type 0} → (X → Type 0) → List X → ℕ → Type 0
 HoldsBefore {X = X} P xs n = (k : ℕ) (x : X) → k < n → slice_get xs k ≡ Some x → P x
 
--- each of a list is so
-abbrev pub HoldsOfEach : {X : Type 0} → (X → Type 0) → List X → Type 0
-HoldsOfEach {X = X} P xs = (k : ℕ) (x : X) → slice_get xs k ≡ Some x → P x
-
 -- the first of a list that isn't so
 pub record IsFirstNot {X : Type 0} (P Q : X → Type 0) (xs : List X) : Type 0 where
   pub place : ℕ
@@ -31,11 +24,6 @@ pub record IsFirstNot {X : Type 0} (P Q : X → Type 0) (xs : List X) : Type 0 w
   pub there : slice_get xs place ≡ Some one
   pub before : HoldsBefore P xs place
   pub so : Q one
-
--- a finding says that every record is good, and it is so
-pub record IsGoodFinding (found : Found) : Type 0 where
-  pub says : IsTrue (is_good found.outcome)
-  pub means : AllGood (reads_within found.limits) found.log.records (length found.log.records)
 
 -- the line of a log that isn't good
 abbrev pub line_of : ℕ → Outcome → Option Report
@@ -54,12 +42,6 @@ pub record AreBadEnds (answer : Report) (ends : Ends) : Type 0 where
   pub message : ℕ
   pub line : answer ≡ report.Link ends.connection end message
   pub means : IsOutcome ends (BrokenAt end message)
-
--- the findings of a case are good
-pub record AreGoodFindings (all : AllFound) : Type 0 where
-  pub whole : AreAll all
-  pub vats_good : HoldsOfEach IsGoodFinding all.vats
-  pub links_good : HoldsOfEach AreGoodEnds all.links
 
 -- a record is of a kind
 abbrev pub is_of : Kind → Body → Bool

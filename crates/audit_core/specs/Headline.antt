@@ -1,13 +1,14 @@
 -- What a yes means: the logs of a case are the vats' parts of one run of the level 1 machine over first-in first-out links;
 -- each delivered call reached the object that it was to go to, calls through one reference were delivered as ordered, no
 -- number was used outside its life, and each capability that a vat uses is one that it has.
-use Rattle.std.specs.Prelude.{◌≡◌, ℕ, ◌==◌, List, IsTrue, Contains, length, map, take, count_by}
+use Rattle.std.specs.Prelude.{◌≡◌, ℕ, ◌==◌, ⊤, List, IsTrue, Contains, length, map, take, count_by}
 use Rattle.std.specs.List.{list_any, AllByRecursion}
 use Rattle.cap_reader.specs.Defaults.{default_limits}
 use Rattle.vat_log.specs.Log.{Log}
 use Rattle.vat_view.specs.Past.{Past, Each}
 use Rattle.vat_rules.specs.Audit.{reads_within}
 use Rattle.vat_rules.specs.Events.{past_at}
+use Rattle.merge_order.specs.Fits.{IsFitting}
 use Rattle.run_model.specs.declared.step.Step.{Step}
 use Rattle.run_model.specs.Steps.{vat_of, EachOf}
 use Rattle.run_model.specs.Legal.{IsLegalRun}
@@ -17,6 +18,8 @@ use Rattle.call_trace.specs.Balance.{IsBalanced}
 use Rattle.call_trace.specs.Findings.{AreEnds}
 use Rattle.call_trace.specs.Lives.{UsesLives}
 use Rattle.call_trace.specs.Part.{IsPart}
+use Rattle.audit_core.specs.declared.report.Report.{Report}
+use Rattle.audit_core.specs.declared.report.Report.TheVariants as report
 
 -- the records of a log before number i, with their messages read within the default limits, the newest first
 abbrev pub records_before : Log → ℕ → Past
@@ -61,3 +64,8 @@ pub record IsHeadline (logs : List Log) (order : List ℕ) (run : List Step) : T
   pub explained : Explains logs order run
   -- of two calls made through one reference the first is delivered first, where both are
   pub ordered : IsOrdered run
+
+-- where a report says yes, its run has all that a yes means, by an order that fits the logs
+abbrev pub YesMeansHeadline : List Log → Report → Type 0
+YesMeansHeadline logs (report.Yes vats records delivered under_way run) = (order : List ℕ) × IsFitting logs order × IsHeadline logs order run
+YesMeansHeadline logs _ = ⊤

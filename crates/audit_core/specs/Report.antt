@@ -1,11 +1,11 @@
 -- The report of a case and an order of its records, or of a case alone: the first line that applies. Vats are tried by their
 -- numbers, then links by theirs, then the order, then the order of calls in the run.
-use Rattle.std.specs.Prelude.{◌≡◌, ℕ, ◌-◌, ◌<◌, ⊤, Bool, true, false, List, [], length, Contains, count_by, sum_by, Option, Some, None}
+use Rattle.std.specs.Prelude.{◌≡◌, ℕ, ◌-◌, ◌<◌, ⊤, Bool, true, false, List, [], length, Contains, IsTrue, count_by, sum_by, Option, Some, None, slice_get}
 use Rattle.cap_reader.specs.Defaults.{default_limits}
 use Rattle.vat_log.specs.Log.{Log}
 use Rattle.vat_log.specs.declared.body.Body.{Body}
 use Rattle.vat_log.specs.declared.body.Body.TheVariants as body
-use Rattle.vat_rules.specs.Audit.{IsTrueOf, reads_within}
+use Rattle.vat_rules.specs.Audit.{Found, IsTrueOf, reads_within}
 use Rattle.vat_rules.specs.First.{AllGood}
 use Rattle.vat_rules.specs.declared.outcome.Outcome.{Outcome}
 use Rattle.vat_rules.specs.declared.outcome.Outcome.TheVariants.{Broken, Outside}
@@ -15,6 +15,8 @@ use Rattle.merge_order.specs.Fits.{IsFitting, TakesLeast, finding_of}
 use Rattle.merge_order.specs.declared.checking.OrderFinding.TheVariants.{Fails}
 use Rattle.run_model.specs.declared.step.Step.{Step}
 use Rattle.run_model.specs.Early.{IsOrderFault}
+use Rattle.call_trace.specs.Findings.{is_good}
+use Rattle.case_book.specs.Books.{AllFound, AreAll}
 use Rattle.case_book.specs.Case.{Contents}
 use Rattle.case_book.specs.Pieces.{IsComparisonOf}
 use Rattle.case_book.specs.declared.link.Link.{Link}
@@ -147,3 +149,18 @@ line_in other = other
 abbrev pub IsFittingIfGiven : List Log → Option (List ℕ) → Type 0
 IsFittingIfGiven logs (Some order) = IsFitting logs order
 IsFittingIfGiven logs None = ⊤
+
+-- each of a list is so
+abbrev pub HoldsOfEach : {X : Type 0} → (X → Type 0) → List X → Type 0
+HoldsOfEach {X = X} P xs = (k : ℕ) (x : X) → slice_get xs k ≡ Some x → P x
+
+-- a finding says that every record is good, and it is so
+pub record IsGoodFinding (found : Found) : Type 0 where
+  pub says : IsTrue (is_good found.outcome)
+  pub means : AllGood (reads_within found.limits) found.log.records (length found.log.records)
+
+-- the findings of a case are good
+pub record AreGoodFindings (all : AllFound) : Type 0 where
+  pub whole : AreAll all
+  pub vats_good : HoldsOfEach IsGoodFinding all.vats
+  pub links_good : HoldsOfEach AreGoodEnds all.links

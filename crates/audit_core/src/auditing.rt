@@ -1,14 +1,20 @@
-//! The audit of a case, up to its findings: when it is refused, and the work of its pieces. What audits a case calls these; it
-//! comes once `call_trace` names runs.
+//! The audit of a case.
 
-ghost use Rattle.std.specs.Prelude.{◌≡◌, None, IfOk};
+ghost use Rattle.std.specs.Prelude.{◌≡◌, None, IfOk, IfErr, OnOk};
 ghost use Rattle.case_book.specs.Ties.{tie_fault_of};
-ghost use Rattle.audit_core.specs.Refusals.{refusal_of};
+ghost use Rattle.audit_core.specs.Headline.{YesMeansHeadline};
+ghost use Rattle.audit_core.specs.Refusals.{IsRefusal, refusal_of};
+ghost use Rattle.audit_core.specs.Report.{IsReport};
 
 use crate::error::AuditError;
 use crate::gate::Gate;
+use crate::judging::{judge, judge_unordered};
+use crate::report::Report;
 use case_book::{Book, Case, Findings, TieFault};
+use merge_order::Order;
 use std::alloc::{AllocError, Global};
+use std::sync::Wait;
+use std::thread::Threads;
 
 /// How many workers there may be.
 const MAX_WORKERS: u32 = 64;
@@ -49,4 +55,40 @@ fn find_all<G: Gate>(alloc: Global, case: Case, gate: &G) -> Result<Findings, Al
         Ok(findings) => Ok(findings),
         Err(_) => unreachable!(),
     }
+}
+
+/// Audits a case: the report of its findings, and of the order that is given, or of the one that takes the smallest vat
+/// number that may come at each step. The report is the same for every number of workers, at least 1 and at most 64. All
+/// pieces are done on the calling thread, which calls the gate just before it posts each.
+///
+/// # Errors
+///
+/// The first that applies: `NoWorkers`; `TooManyWorkers` above 64; `MissingLog` or `SameEnds`, as the case's tie fault says;
+/// and else, at any time, want of memory.
+pub fn audit<R: Threads + Wait + Sync, G: Gate + Sync>(
+    rt: &R,
+    alloc: Global,
+    case: Case,
+    order: Option<Order>,
+    workers: u32,
+    gate: &G,
+) -> Result<Report, AuditError>
+    // When it is refused, and why.
+    ensures err { IfErr result (IsRefusal case workers) }
+    ensures accepted { OnOk result (refusal_of case workers ≡ None) }
+    // What it answers.
+    ensures report { IfOk result (IsReport case order) }
+    // What a yes means.
+    ensures headline { IfOk result (YesMeansHeadline case.logs) }
+{
+    let _runtime = rt;
+    if let Some(error) = refused(&case, workers) {
+        return Err(error);
+    }
+    let findings = find_all(alloc, case, gate)?;
+    let report = match order {
+        Some(order) => judge(alloc, findings, order)?,
+        None => judge_unordered(alloc, findings)?,
+    };
+    Ok(report)
 }

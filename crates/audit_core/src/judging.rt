@@ -1,15 +1,18 @@
-//! The report of findings, as far as no run is named. What judges them calls these; it comes once `call_trace` names runs.
+//! The report of findings.
 
-ghost use Rattle.std.specs.Prelude.{◌≡◌, ◌≤◌, ◌-◌, List, ℕ, Option, IfOk, MatchOption, length, map};
+ghost use Rattle.std.specs.Prelude.{◌≡◌, ◌≤◌, ◌-◌, List, ℕ, Option, Some, None, IfOk, MatchOption, length, map};
 ghost use Rattle.std.specs.Arc.{arc_value};
+ghost use Rattle.merge_order.specs.Fits.{IsFitting};
 ghost use Rattle.call_trace.specs.Findings.{logs_of};
-ghost use Rattle.audit_core.specs.Report.{IsReport, delivers, sends, receives, count_all, records_in};
-ghost use Rattle.audit_core.specs.Glue.{AreGoodFindings};
+ghost use Rattle.audit_core.specs.Headline.{YesMeansHeadline};
+ghost use Rattle.audit_core.specs.Report.{IsReport, IsOrderFor, delivers, sends, receives, count_all, records_in, AreGoodFindings};
 
-use crate::counts::{Kind, count_of};
+use crate::counts::{Kind, count_of, count_records};
 use crate::lines::{link_line, vat_line};
-use crate::report::Report;
+use crate::report::{Breach, Report};
+use call_trace::{name_run, order_fault};
 use case_book::Findings;
+use merge_order::{Order, OrderFinding, check_order, make_order};
 use run_model::Run;
 use std::alloc::{AllocError, Global};
 use std::sync::Arc;
@@ -53,5 +56,67 @@ fn yes(vats: &[VatFinding], records: u64, run: Run) -> Report
         delivered: count_of(vats, Kind::Delivery),
         under_way: sent.saturating_sub(received),
         run,
+    }
+}
+
+/// The report of good findings and an order that fits.
+fn by_order(alloc: Global, findings: &Findings, order: &Order) -> Result<Report, AllocError>
+    requires good { AreGoodFindings findings.now }
+    requires fits { IsFitting (logs_of findings.now.vats) order.now }
+    ensures { IfOk result (λ answer. (given : Option (List ℕ)) → IsOrderFor findings.now.case.logs given order.now
+        → IsReport findings.now.case given answer) }
+{
+    let vats = findings.vats();
+    let records = count_records(vats);
+    let run = name_run(alloc, vats, order)?;
+    match order_fault(alloc, &run)? {
+        Some((vat, at)) => Ok(Report::Vat {
+            vat,
+            at: at as u64,
+            rule: Breach::Order,
+        }),
+        None => Ok(yes(vats, records, run)),
+    }
+}
+
+/// The report of the findings of a case, and of an order of its records: the first line that applies. Vats are tried by their
+/// numbers, links by theirs, then the order, then the order of calls in the run of all vats.
+///
+/// # Errors
+///
+/// Want of memory.
+pub fn judge(alloc: Global, findings: Findings, order: Order) -> Result<Report, AllocError>
+    ensures report { IfOk result (IsReport findings.case (Some order)) }
+    // What a yes means.
+    ensures headline { IfOk result (YesMeansHeadline findings.case.logs) }
+{
+    if let Some(line) = line_of(&findings) {
+        return Ok(line);
+    }
+    let logs = logs_in(alloc, findings.vats())?;
+    match check_order(alloc, &logs, &order)? {
+        OrderFinding::Fails(step) => Ok(Report::OrderStep(step)),
+        OrderFinding::Fits => by_order(alloc, &findings, &order),
+    }
+}
+
+/// The report of the findings of a case for which no order is given: it is judged by the order that takes the smallest vat
+/// number that may come at each step.
+///
+/// # Errors
+///
+/// Want of memory.
+pub fn judge_unordered(alloc: Global, findings: Findings) -> Result<Report, AllocError>
+    ensures report { IfOk result (IsReport findings.case None) }
+    // What a yes means.
+    ensures headline { IfOk result (YesMeansHeadline findings.case.logs) }
+{
+    if let Some(line) = line_of(&findings) {
+        return Ok(line);
+    }
+    let logs = logs_in(alloc, findings.vats())?;
+    match make_order(alloc, &logs)? {
+        None => Ok(Report::NoOrder),
+        Some(order) => by_order(alloc, &findings, &order),
     }
 }

@@ -6,8 +6,7 @@ ghost use Rattle.call_trace.specs.Findings.{logs_of, MayBeNamed};
 ghost use Rattle.case_book.specs.Books.{AllFound};
 ghost use Rattle.case_book.specs.Case.{Contents, IsCase};
 ghost use Rattle.case_book.specs.Ties.{tie_fault_of};
-ghost use Rattle.audit_core.specs.Report.{IsReport, IsFittingIfGiven, line_in};
-ghost use Rattle.audit_core.specs.Glue.{AreGoodFindings};
+ghost use Rattle.audit_core.specs.Report.{IsReport, IsFittingIfGiven, line_in, AreGoodFindings};
 ghost use Rattle.audit_core.specs.declared.report.Report.{Report};
 
 /// Which order it is doesn't matter: a case that ties up has one line, by whatever order that fits, and where none is given.

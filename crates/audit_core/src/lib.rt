@@ -1,10 +1,11 @@
 //! The audit of a case: the logs of several vats and the links between them, judged together.
 //!
 //! It stands on `case_book`, whose book keeps what is found for each piece, on `merge_order` for orders, and on `call_trace`,
-//! which says that good logs have a run. Which report a case has, with an order or without one, is said in `specs/Report.antt`;
-//! the calls that answer it are to come. What a yes means stands in `specs/Headline.antt`, clause by clause; when a case
-//! isn't audited, in `specs/Refusals.antt`. Laws: good findings of a case and an order that fits are such as name a run
-//! ([`good_findings_name_a_run`]), and a case has one line, whichever order fits ([`a_case_has_one_line`]).
+//! which names the run of good logs. Which report a case has, with an order or without one, is said in `specs/Report.antt`;
+//! [`audit`], [`judge`] and [`judge_unordered`] answer just that. What a yes means stands in `specs/Headline.antt`, clause by
+//! clause, and each of the three cites it (clause `headline`); when a case isn't audited, in `specs/Refusals.antt`. Laws: good
+//! findings of a case and an order that fits are such as name a run ([`good_findings_name_a_run`]), and a case has one line,
+//! whichever order fits ([`a_case_has_one_line`]).
 #![tactic(auto)]
 
 mod auditing;
@@ -16,7 +17,9 @@ mod laws;
 mod lines;
 mod report;
 
+pub use auditing::audit;
 pub use error::AuditError;
 pub use gate::Gate;
+pub use judging::{judge, judge_unordered};
 pub use laws::{a_case_has_one_line, good_findings_name_a_run};
 pub use report::{Breach, Report};

@@ -1,8 +1,8 @@
 //! What findings say of vats and of links.
 
 ghost use Rattle.std.specs.Prelude.{MatchOption};
-ghost use Rattle.audit_core.specs.Report.{AreGoodEnds};
-ghost use Rattle.audit_core.specs.Glue.{HoldsOfEach, IsFirstNot, IsGoodFinding, IsBadFinding, AreBadEnds};
+ghost use Rattle.audit_core.specs.Report.{AreGoodEnds, HoldsOfEach, IsGoodFinding};
+ghost use Rattle.audit_core.specs.Glue.{IsFirstNot, IsBadFinding, AreBadEnds};
 
 use crate::report::{Breach, Report};
 use link_check::{LinkFinding, LinkOutcome};

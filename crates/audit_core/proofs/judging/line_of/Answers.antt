@@ -1,6 +1,7 @@
 use Rattle.std.proofs.Common.{List, subst}
 use Rattle.vat_rules.specs.Audit.{Found}
-use Rattle.audit_core.specs.Glue.{IsFirstNot, IsGoodFinding, IsBadFinding}
+use Rattle.audit_core.specs.Report.{IsGoodFinding}
+use Rattle.audit_core.specs.Glue.{IsFirstNot, IsBadFinding}
 use Rattle.audit_core.proofs.FirstLine.{vat_line_is, link_answer}
 use Rattle.audit_core.proofs.judging.line_of.Goals as goal
 

@@ -3,7 +3,8 @@ use Rattle.vat_log.specs.Log.{Log}
 use Rattle.vat_rules.specs.declared.outcome.Outcome.{Outcome}
 use Rattle.audit_core.specs.declared.report.Breach.TheVariants.{Rule}
 use Rattle.audit_core.specs.declared.report.Report.TheVariants as report
-use Rattle.audit_core.specs.Glue.{IsGoodFinding, line_of}
+use Rattle.audit_core.specs.Report.{IsGoodFinding}
+use Rattle.audit_core.specs.Glue.{line_of}
 use Rattle.audit_core.proofs.Places.{holds_none, holds_all}
 use Rattle.audit_core.proofs.FirstLine.{good_next, first_bad}
 use Rattle.audit_core.proofs.lines.vat_line.Goals as goal

@@ -48,4 +48,9 @@ pub trait Source {
     /// `CannotRead` where there is nothing that can be read under it, or want of memory.
     fn read(&mut self, name: &str) -> Result<Bytes, SourceError>
         ensures { read_gives self.old name.now result self.new };
+
+    /// The name that was asked for last, where it is kept. People are told it; no answer depends on it.
+    fn last(&self) -> Option<&str> {
+        None
+    }
 }

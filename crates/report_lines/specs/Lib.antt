@@ -1,4 +1,7 @@
+pub mod EdgeText
 pub mod Faults
 pub mod Lines
 pub mod MessageText
 pub mod RecordText
+pub mod Sentences
+pub mod StepText

@@ -7,8 +7,12 @@ use Rattle.vat_rules.specs.declared.outcome.Why.{Why}
 use Rattle.vat_rules.specs.declared.outcome.Why.TheVariants as why
 use Rattle.vat_rules.specs.declared.outcome.Outcome.{Outcome}
 use Rattle.vat_rules.specs.declared.outcome.Outcome.TheVariants.{Good, Broken, Outside}
+use Rattle.audit_core.specs.declared.report.Breach.{Breach}
+use Rattle.audit_core.specs.declared.report.Breach.TheVariants as breach
+use Rattle.audit_core.specs.declared.report.Report.{Report as ReportOf}
+use Rattle.audit_core.specs.declared.report.Report.TheVariants as report
 use Rattle.report_lines.specs.declared.answer.Answer.{Answer}
-use Rattle.report_lines.specs.declared.answer.Answer.TheVariants.{Finding, Message, Order, NoOrder, Fault}
+use Rattle.report_lines.specs.declared.answer.Answer.TheVariants.{Finding, Report, Message, Order, NoOrder, Fault}
 use Rattle.report_lines.specs.Faults.{fault_status, fault_text}
 use Rattle.report_lines.specs.MessageText.{message_text}
 
@@ -50,9 +54,31 @@ outcome_status (Good told) = 0
 outcome_status (Broken at broken) = 1
 outcome_status (Outside at reason) = 2
 
+-- the code of what a record breaks: a rule of its own log, or the order of calls
+abbrev pub breach_code : Breach → List ℕ
+breach_code (breach.Rule rule) = code_of rule
+breach_code breach.Order = codes "ORDER"
+
+-- what is answered of a case
+abbrev pub report_text : ReportOf → List ℕ
+report_text (report.Vat vat at broken) = codes "no vat " ++ (decimal vat ++ (codes " record " ++ (decimal at ++ (codes " rule " ++ breach_code broken))))
+report_text (report.OutsideVat vat at reason) = codes "outside vat " ++ (decimal vat ++ (codes " record " ++ (decimal at ++ (codes " " ++ word_of reason))))
+report_text (report.Link connection end message) = codes "no link " ++ (decimal connection ++ (codes " end " ++ (decimal end ++ (codes " message " ++ decimal message))))
+report_text (report.OrderStep step) = codes "no order step " ++ decimal step
+report_text report.NoOrder = codes "no order exists"
+report_text (report.Yes vats records delivered under_way run) = codes "yes vats " ++ (decimal vats ++ (codes " records " ++ (decimal records
+    ++ (codes " delivered " ++ (decimal delivered ++ (codes " under_way " ++ decimal under_way))))))
+
+-- 0 for yes, 1 for each no, 2 for a record that isn't judged
+abbrev pub report_status : ReportOf → ℕ
+report_status (report.OutsideVat vat at reason) = 2
+report_status (report.Yes vats records delivered under_way run) = 0
+report_status _ = 1
+
 -- the text of an answer
 abbrev pub answer_text : Answer → List ℕ
 answer_text (Finding found) = outcome_text found.log.vat (length found.log.records) found.outcome
+answer_text (Report found) = report_text found
 answer_text (Message message) = message_text message
 answer_text (Order steps) = codes "order steps " ++ decimal (length steps)
 answer_text NoOrder = codes "no order exists"
@@ -61,6 +87,7 @@ answer_text (Fault found) = fault_text found
 -- the exit status of an answer
 abbrev pub answer_status : Answer → ℕ
 answer_status (Finding found) = outcome_status found.outcome
+answer_status (Report found) = report_status found
 answer_status (Message message) = 0
 answer_status (Order steps) = 0
 answer_status NoOrder = 1

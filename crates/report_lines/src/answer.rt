@@ -5,7 +5,9 @@ ghost use Rattle.report_lines.specs.Lines.{answer_status, answer_text};
 
 use crate::fault::Fault;
 use crate::finding_text::{outcome_status, put_outcome};
+use crate::report_text::{put_report, report_status};
 use crate::shown::Shown;
+use audit_core::Report;
 use merge_order::Order;
 use rpc_view::RpcMessage;
 use std::fmt;
@@ -17,6 +19,8 @@ use vat_rules::VatFinding;
 pub enum Answer {
     /// What the audit of a vat's log found.
     Finding(VatFinding),
+    /// What the audit of a case found.
+    Report(Report),
     /// The message of a frame.
     Message(RpcMessage),
     /// An order of the records of a case.
@@ -28,13 +32,14 @@ pub enum Answer {
 }
 
 impl Answer {
-    /// The exit status: 0 for a good log, a message or an order; 1 for a rule that is broken, or where no order exists;
-    /// 2 for a record that isn't judged, or a fault; 3 where memory ran out.
+    /// The exit status: 0 for a good log, a yes, a message or an order; 1 for a rule that is broken, each other no, or where
+    /// no order exists; 2 for a record that isn't judged, or a fault; 3 where memory ran out.
     pub fn status(&self) -> u8
         ensures { result ≡ answer_status self.now }
     {
         match self {
             Answer::Finding(finding) => outcome_status(finding.outcome()),
+            Answer::Report(report) => report_status(report),
             Answer::Message(_) | Answer::Order(_) => 0,
             Answer::NoOrder => 1,
             Answer::Fault(fault) => fault.status(),
@@ -51,6 +56,7 @@ impl Display for Answer {
                 let log = finding.log();
                 put_outcome(f, log.vat(), log.len(), finding.outcome())
             }
+            Answer::Report(report) => put_report(f, report),
             Answer::Message(message) => write!(f, "{}", Shown(message)),
             Answer::Order(order) => write!(f, "order steps {}", order.as_slice().len()),
             Answer::NoOrder => f.write_str("no order exists"),

@@ -9,7 +9,7 @@ use std::fmt::Formatter;
 use vat_rules::{Outcome, Rule, Why};
 
 /// The code of a rule.
-fn code_of(rule: Rule) -> &'static str
+pub fn code_of(rule: Rule) -> &'static str
     ensures { result.now ≡ code_of rule }
 {
     match rule {
@@ -32,7 +32,7 @@ fn code_of(rule: Rule) -> &'static str
 }
 
 /// The word for why a record isn't judged.
-fn word_of(why: Why) -> &'static str
+pub fn word_of(why: Why) -> &'static str
     ensures { result.now ≡ word_of why }
 {
     match why {

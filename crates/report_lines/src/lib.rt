@@ -1,20 +1,29 @@
 //! From a value to its text and its exit status, and nothing else.
 //!
-//! It stands on `case_files`, `case_book`, `merge_order`, `vat_rules`, `rpc_view`, `cap_reader`, `vat_log` and
-//! `cap_frame`, whose values it shows. It asks no file, reads no bytes, audits nothing and takes no memory. An
-//! [`Answer`] is shown as just the text that `specs/Lines.antt` gives it, a [`Fault`] as that of `specs/Faults.antt`, a
-//! message as that of `specs/MessageText.antt`, a [`NumberedRecord`] as that of `specs/RecordText.antt`; `status` is just
-//! the exit status beside it. A line is the text and its end.
+//! It stands on `audit_core`, `authority`, `run_model`, `case_files`, `case_book`, `merge_order`, `vat_rules`, `rpc_view`,
+//! `cap_reader`, `vat_log` and `cap_frame`, whose values it shows. It asks no file, reads no bytes, audits nothing and takes
+//! no memory. An [`Answer`] is shown as just the text that `specs/Lines.antt` gives it, a [`Fault`] as that of
+//! `specs/Faults.antt`, a message as that of `specs/MessageText.antt`, a [`NumberedRecord`] as that of
+//! `specs/RecordText.antt`, an edge of a run ([`ShownEdge`]) as that of `specs/EdgeText.antt`, a step ([`NumberedStep`]) as
+//! that of `specs/StepText.antt`; `status` is just the exit status beside an answer. A line is the text and its end. What people are told of a rule
+//! or of why a record isn't judged ([`rule_sentence`], [`why_sentence`], [`report_sentence`]) is a line too, and no contract says which.
 #![tactic(auto)]
 
 mod answer;
+mod edge_text;
 mod fault;
 mod fault_name;
 mod finding_text;
 mod message_text;
 mod record_text;
+mod report_text;
+mod sentences;
 mod shown;
+mod step_text;
 
 pub use answer::Answer;
+pub use edge_text::ShownEdge;
 pub use fault::Fault;
 pub use record_text::NumberedRecord;
+pub use sentences::{report_sentence, rule_sentence, why_sentence};
+pub use step_text::NumberedStep;

@@ -1,0 +1,64 @@
+//! The text and the exit status of a report.
+
+ghost use Rattle.std.specs.Prelude.{◌≡◌};
+ghost use Rattle.std.specs.Fmt.{WritesOnOk};
+ghost use Rattle.report_lines.specs.Lines.{breach_code, report_status, report_text};
+
+use crate::finding_text::{code_of, word_of};
+use audit_core::{Breach, Report};
+use std::fmt;
+use std::fmt::Formatter;
+
+/// The code of what a record breaks.
+fn breach_code(breach: Breach) -> &'static str
+    ensures { result.now ≡ breach_code breach }
+{
+    match breach {
+        Breach::Rule(rule) => code_of(rule),
+        Breach::Order => "ORDER",
+    }
+}
+
+/// Writes what is answered of a case.
+pub fn put_report<W: fmt::Write>(f: &mut Formatter<W>, report: &Report) -> fmt::Result
+    ensures { WritesOnOk W.write_str_gives f.old result (report_text report.now) f.new }
+{
+    match report {
+        Report::Vat { vat, at, rule } => {
+            let code = breach_code(*rule);
+            write!(f, "no vat {vat} record {at} rule {code}")
+        }
+        Report::OutsideVat { vat, at, why } => {
+            let word = word_of(*why);
+            write!(f, "outside vat {vat} record {at} {word}")
+        }
+        Report::Link { conn, end, message } => {
+            write!(f, "no link {conn} end {end} message {message}")
+        }
+        Report::OrderStep(step) => write!(f, "no order step {step}"),
+        Report::NoOrder => f.write_str("no order exists"),
+        Report::Yes {
+            vats,
+            records,
+            delivered,
+            under_way,
+            ..
+        } => {
+            write!(
+                f,
+                "yes vats {vats} records {records} delivered {delivered} under_way {under_way}"
+            )
+        }
+    }
+}
+
+/// The exit status for what is answered of a case.
+pub fn report_status(report: &Report) -> u8
+    ensures { result ≡ report_status report.now }
+{
+    match report {
+        Report::Yes { .. } => 0,
+        Report::OutsideVat { .. } => 2,
+        Report::Vat { .. } | Report::Link { .. } | Report::OrderStep(_) | Report::NoOrder => 1,
+    }
+}

@@ -1,0 +1,127 @@
+//! The text of a step, without an end of line: its number, its vat, its record there, the record's kind, and the call that
+//! it names (docs/FORMATS.md).
+
+ghost use Rattle.std.specs.Prelude.{◌≡◌, Some};
+ghost use Rattle.report_lines.specs.StepText.{call_of, call_of_message, called_text, kind_text, message_word, plain_word, step_text};
+
+use crate::shown::Shown;
+use authority::vat_of;
+use run_model::{Message, Name, Plain, Step};
+use std::fmt;
+use std::fmt::{Display, Formatter};
+
+/// The word for a message that says nothing of calls and capabilities.
+fn plain_word(plain: Plain) -> &'static str
+    ensures { result.now ≡ plain_word plain }
+{
+    match plain {
+        Plain::Finish => "finish",
+        Plain::Release => "release",
+        Plain::Disembargo => "disembargo",
+        Plain::Abort => "abort",
+    }
+}
+
+/// The word for a message: with it the message's own text begins.
+fn message_word(message: &Message) -> &'static str
+    ensures { result.now ≡ message_word message.now }
+{
+    match message {
+        Message::Boot(_) => "bootstrap",
+        Message::Call { .. } => "call",
+        Message::Return { .. } | Message::Late(_) | Message::Failed(_) => "return",
+        Message::Resolve(..) | Message::Broken(_) => "resolve",
+        Message::Plain(plain) => plain_word(*plain),
+    }
+}
+
+/// The call that a message names, if it does.
+fn call_of_message(message: &Message) -> Option<Name>
+    ensures { result ≡ call_of_message message.now }
+{
+    match message {
+        Message::Boot(call)
+        | Message::Call { call, .. }
+        | Message::Return { call, .. }
+        | Message::Late(call)
+        | Message::Failed(call) => Some(*call),
+        Message::Resolve(..) | Message::Broken(_) | Message::Plain(_) => None,
+    }
+}
+
+/// The call that a step names, if it does.
+fn call_of(step: &Step) -> Option<Name>
+    ensures { result ≡ call_of step.now }
+{
+    match step {
+        Step::Make { vat, number, .. } => Some(Name {
+            maker: *vat,
+            number: *number,
+        }),
+        Step::Deliver { call, .. } | Step::Answer { call, .. } | Step::Fault { call, .. } => {
+            Some(*call)
+        }
+        Step::Send { message, .. } | Step::Receive { message, .. } => call_of_message(message),
+        Step::Host { .. }
+        | Step::Vow { .. }
+        | Step::Fulfil { .. }
+        | Step::Break { .. }
+        | Step::Name { .. } => None,
+    }
+}
+
+/// The kind of a step's record.
+impl Display for Shown<&Step> {
+    ghost output = { λ step. Some (kind_text step.0.now) };
+
+    fn fmt<W: fmt::Write>(&self, f: &mut Formatter<W>) -> fmt::Result {
+        match self.0 {
+            Step::Host { .. } => f.write_str("host"),
+            Step::Vow { .. } => f.write_str("vow"),
+            Step::Fulfil { .. } => f.write_str("fulfil"),
+            Step::Break { .. } => f.write_str("break"),
+            Step::Make { .. } => f.write_str("make"),
+            Step::Name { .. } => f.write_str("field"),
+            Step::Deliver { .. } => f.write_str("deliver"),
+            Step::Answer { .. } => f.write_str("answer"),
+            Step::Fault { .. } => f.write_str("fault"),
+            Step::Send { message, .. } => write!(f, "send {}", message_word(message)),
+            Step::Receive { message, .. } => write!(f, "receive {}", message_word(message)),
+        }
+    }
+}
+
+/// The call that a step names, if it does.
+impl Display for Shown<Option<Name>> {
+    ghost output = { λ call. Some (called_text call.0) };
+
+    fn fmt<W: fmt::Write>(&self, f: &mut Formatter<W>) -> fmt::Result {
+        match self.0 {
+            None => Ok(()),
+            Some(call) => write!(f, " call {}", Shown(call)),
+        }
+    }
+}
+
+/// A step of a run, to be shown as its line (docs/FORMATS.md), without the line's end.
+#[derive(Clone, Copy, Debug)]
+pub struct NumberedStep<'a> {
+    /// The step's number in its run, counted from 0.
+    pub at: usize,
+    /// The number of its record in its vat's log, counted from 0.
+    pub record: u64,
+    /// What the vat does.
+    pub step: &'a Step,
+}
+
+impl Display for NumberedStep<'_> {
+    ghost output = { λ shown. Some (step_text shown.at shown.«record» shown.step.now) };
+
+    fn fmt<W: fmt::Write>(&self, f: &mut Formatter<W>) -> fmt::Result {
+        let NumberedStep { at, record, step } = self;
+        let vat = vat_of(step);
+        let kind = Shown(*step);
+        let called = Shown(call_of(step));
+        write!(f, "step {at} vat {vat} record {record} {kind}{called}")
+    }
+}

@@ -1,79 +1,171 @@
--- Where clap finds no fault in the words of a command, each argument that it has found has a value.
-use Rattle.std.proofs.Common.{◌≡◌, ◌++◌, ◌&&◌, ℕ, zero, suc, Bool, true, false, List, [], ◌∷◌, Option, Some, None, if◌then◌else◌, length, drop, fold, refl, sym, subst}
+-- Where clap finds no fault in the words of a command, each argument that it has found has a value, and its values pass the
+-- argument's parser.
+use Rattle.std.proofs.Common.{◌≡◌, ◌++◌, ◌&&◌, ◌||◌, ℕ, zero, suc, Bool, true, false, List, [], ◌∷◌, Option, Some, None, if◌then◌else◌, length, drop, fold, refl, sym, subst}
 use Rattle.std.specs.Prelude.{⊤, IfSome, find, slice_get, encode_utf8, is_some}
 use Rattle.std.specs.Option.{option_map_or}
 use Rattle.std.specs.Str.{bytes_eq, chars}
+use Rattle.std.proofs.lemmas.Slice.Eq.{bytes_eq-Decides}
 use Rattle.clap.specs.Lexer.{long_of, short_of}
 use Rattle.clap.specs.Facts.{explicit_source}
 use Rattle.clap.specs.Words.{Row, Rule, Text, first_of}
 use Rattle.clap.specs.Walk.{Held, Names, Outcome, Step, Walk, Waiting, after_flag, after_step, arg_by_id, arg_by_index, arg_by_long, arg_by_short, at_row, attached_value, bundle, bundle_met, bundle_step, default_rows, done, flag_met, has_row, idle, is_pending, long_met, long_or_other, more_values, next, nothing_held, option, option_met, option_word, plain, plain_word, positional, reacted, reading_by, refused, rows_after, settled, settled_rows, short_met, short_or_plain, subcommand, subcommand_met, subcommand_or_other, takes_several, takes_values, to_positional, trailing, used, used_by_id, value, waits, walk, walked, walked_from, walk_from, with_default, with_values, without, word_met}
 use Rattle.clap.specs.Simple.{Shape}
-use Rattle.clap.specs.Kinds.{or_else}
+use Rattle.clap.specs.Kinds.{or_else, values_kinds}
 use Rattle.clap.specs.Faults.{bundle_fault, bundle_step_fault, check_fault, defaults_fault, flag_word_fault, flags_fault, level_fault, long_fault, option_fault, other_fault, positional_fault, react_fault, settle_fault, short_fault, step_fault, stray_fault, turn_fault, use_fault, walk_fault, word_fault}
 use Rattle.clap.specs.Takes.{is_given}
+use Rattle.clap.specs.Values.{refused_kind}
+use Rattle.clap.specs.ValueTests.{accepts}
 use Rattle.clap.specs.declared.error.ErrorKind.TheVariants as kind
+use Rattle.clap.specs.declared.error.ErrorKind.{ErrorKind}
 use Rattle.clap.specs.declared.parser.matches.ValueSource.{ValueSource}
+use Rattle.clap.specs.declared.parser.matches.ValueSource.TheVariants.{DefaultValue}
 use Rattle.clap.specs.declared.builder.value_parser.Reading.{Reading}
-use Rattle.command_line.proofs.Faultless.{first_none, then_none}
+use Rattle.clap.specs.declared.builder.value_parser.ValueParser.{ValueParser}
+use Rattle.clap.specs.declared.builder.value_parser.ValueParser.TheVariants as parser
+use Rattle.command_line.specs.Parser.{count, most, start, workers}
+use Rattle.command_line.proofs.Faultless.{first_none, never, then_none}
 
--- ---- rows that have a value
+-- ---- rows that have values, which pass
 
-abbrev pub HasValue : List Text → Type 0
-HasValue [] = ⊥
-HasValue (v ∷ vs) = ⊤
+-- the parser of an argument, by its id
+abbrev pub parser_by : Text → ValueParser
+parser_by id = if bytes_eq workers id then parser.Unsigned 1 64 else (if bytes_eq start id || bytes_eq count id then parser.Unsigned 0 most else parser.String)
+
+abbrev pub Passes : Text → List Text → Type 0
+Passes id [] = ⊤
+Passes id (v ∷ vs) = (accepts false (parser_by id) v ≡ true) × Passes id vs
+
+-- there is a value, and each passes
+abbrev pub IsFull : Text → List Text → Type 0
+IsFull id [] = ⊥
+IsFull id (v ∷ vs) = Passes id (v ∷ vs)
 
 abbrev pub AreFull : List Row → Type 0
 AreFull [] = ⊤
-AreFull (r ∷ rows) = HasValue r.values × AreFull rows
+AreFull (r ∷ rows) = IsFull r.id r.values × AreFull rows
 
-more : (vs ws : List Text) → HasValue vs → HasValue (vs ++ ws)
-more [] ws h = absurd h
-more (v ∷ vs) ws h = tt
+all_pass : (id : Text) (vs : List Text) → IsFull id vs → Passes id vs
+all_pass id [] h = tt
+all_pass id (v ∷ vs) h = h
+
+more_pass : (id : Text) (vs ws : List Text) → Passes id vs → Passes id ws → Passes id (vs ++ ws)
+more_pass id [] ws h k = k
+more_pass id (v ∷ vs) ws h k = (h.0, more_pass id vs ws h.1 k)
+
+more : (id : Text) (vs ws : List Text) → IsFull id vs → IsFull id ws → IsFull id (vs ++ ws)
+more id [] ws h k = absurd h
+more id (v ∷ vs) ws h k = more_pass id (v ∷ vs) ws h (all_pass id ws k)
 
 joined : (xs ys : List Row) → AreFull xs → AreFull ys → AreFull (xs ++ ys)
 joined [] ys hx hy = hy
 joined (x ∷ xs) ys hx hy = (hx.0, joined xs ys hx.1 hy)
 
-row_full : (id : Text) (change : Row → List Row) (missing rows : List Row) → ((r : Row) → HasValue r.values → AreFull (change r)) → AreFull missing → AreFull rows
+named : (r : Row) (id : Text) → bytes_eq r.id id ≡ true → r.id ≡ id
+named r id is = (bytes_eq-Decides r.id id).0 is
+
+row_full : (id : Text) (change : Row → List Row) (missing rows : List Row) → ((r : Row) → r.id ≡ id → IsFull r.id r.values → AreFull (change r)) → AreFull missing → AreFull rows
     → AreFull (at_row id change missing rows)
 row_full id change missing [] changes lacks full = lacks
-row_full id change missing (r ∷ rows) changes lacks full = go (bytes_eq r.id id) (row_full id change missing rows changes lacks full.1)
+row_full id change missing (r ∷ rows) changes lacks full = go (bytes_eq r.id id) refl (row_full id change missing rows changes lacks full.1)
   where
-    go : (b : Bool) → AreFull (at_row id change missing rows) → AreFull (if b then change r ++ rows else r ∷ at_row id change missing rows)
-    go true rest = joined (change r) rows (changes r full.0) full.1
-    go false rest = (full.0, rest)
+    go : (b : Bool) → bytes_eq r.id id ≡ b → AreFull (at_row id change missing rows) → AreFull (if b then change r ++ rows else r ∷ at_row id change missing rows)
+    go true is rest = joined (change r) rows (changes r (named r id is) full.0) full.1
+    go false is rest = (full.0, rest)
 
 without_full : (id : Text) (rows : List Row) → AreFull rows → AreFull (without id rows)
-without_full id rows full = row_full id (λ _. []) [] rows (λ r h. tt) tt full
+without_full id rows full = row_full id (λ _. []) [] rows (λ r is h. tt) tt full
 
-pub values_full : (id : Text) (how : Reading) (s : ValueSource) (values : List Text) (rows : List Row) → HasValue values → AreFull rows → AreFull (with_values id how s values rows)
-values_full id how s values rows some full = row_full id (more_values s values) _ rows (λ r h. (more r.values values h, tt)) (some, tt) full
+pub values_full : (id : Text) (how : Reading) (s : ValueSource) (values : List Text) (rows : List Row) → IsFull id values → AreFull rows → AreFull (with_values id how s values rows)
+values_full id how s values rows some full =
+    row_full id (more_values s values) _ rows (λ r is h. (more r.id r.values values h (subst (λ i. IsFull i values) (sym is) some), tt)) (some, tt) full
 
-pub replaced_full : (id : Text) (how : Reading) (s : ValueSource) (values : List Text) (rows : List Row) → HasValue values → AreFull rows
+pub replaced_full : (id : Text) (how : Reading) (s : ValueSource) (values : List Text) (rows : List Row) → IsFull id values → AreFull rows
     → AreFull (with_values id how s values (without id rows))
 replaced_full id how s values rows some full = values_full id how s values (without id rows) some (without_full id rows full)
 
--- a row that is found has a value
-found_full : (test : Row → Bool) (rows : List Row) → AreFull rows → IfSome (find test rows) (λ r. HasValue r.values)
-found_full test [] full = tt
-found_full test (r ∷ rows) full = go (test r) (found_full test rows full.1)
+-- a value that a parser refuses is a fault
+one_passes : (id v : Text) (k : ErrorKind) → (if accepts false (parser_by id) v then [] else k ∷ []) ≡ [] → accepts false (parser_by id) v ≡ true
+one_passes id v k e = go (accepts false (parser_by id) v) e
   where
-    go : (b : Bool) → IfSome (find test rows) (λ r. HasValue r.values) → IfSome (if b then Some r else find test rows) (λ r. HasValue r.values)
-    go true rest = full.0
-    go false rest = rest
+    go : (b : Bool) → (if b then [] else k ∷ []) ≡ [] → b ≡ true
+    go true e = refl
+    go false e = absurd (never e)
 
--- and so has an argument that was given
-pub given_value : (id : Text) (rows : List Row) → is_given id rows ≡ true → AreFull rows → (t : Text) × (first_of id rows ≡ Some t)
-given_value id rows given full = go (find (λ r. bytes_eq r.id id) rows) refl given (found_full (λ r. bytes_eq r.id id) rows full)
+pub values_pass : (id : Text) (vs : List Text) → values_kinds false (parser_by id) vs ≡ [] → Passes id vs
+values_pass id [] e = tt
+values_pass id (v ∷ vs) e = (one_passes id v (refused_kind (parser_by id)) (first_none _ _ e), values_pass id vs (then_none _ _ e))
+
+-- a row that is found has values, which pass
+found_full : (id : Text) (rows : List Row) → AreFull rows → IfSome (find (λ r. bytes_eq r.id id) rows) (λ r. IsFull id r.values)
+found_full id [] full = tt
+found_full id (r ∷ rows) full = go (bytes_eq r.id id) refl (found_full id rows full.1)
   where
-    first : (o : Option Row) (vs : List Text) → HasValue vs → (t : Text) × (slice_get vs 0 ≡ Some t)
-    first o [] h = absurd h
-    first o (v ∷ vs) h = (v, refl)
+    go : (b : Bool) → bytes_eq r.id id ≡ b → IfSome (find (λ r. bytes_eq r.id id) rows) (λ r. IsFull id r.values)
+        → IfSome (if b then Some r else find (λ r. bytes_eq r.id id) rows) (λ r. IsFull id r.values)
+    go true is rest = subst (λ i. IsFull i r.values) (named r id is) full.0
+    go false is rest = rest
 
-    go : (o : Option Row) → find (λ r. bytes_eq r.id id) rows ≡ o → option_map_or (λ r. explicit_source r.source) o false ≡ true → IfSome o (λ r. HasValue r.values)
-        → (t : Text) × (first_of id rows ≡ Some t)
+-- the value that was given for an argument, or stands for it
+abbrev pub HasValue : Text → List Row → Type 0
+HasValue id rows = (t : Text) × (first_of id rows ≡ Some t) × (accepts false (parser_by id) t ≡ true)
+
+first_value : (id : Text) (vs : List Text) → IsFull id vs → (t : Text) × (slice_get vs 0 ≡ Some t) × (accepts false (parser_by id) t ≡ true)
+first_value id [] h = absurd h
+first_value id (v ∷ vs) h = (v, refl, h.0)
+
+-- an argument that was given has a value
+pub given_value : (id : Text) (rows : List Row) → is_given id rows ≡ true → AreFull rows → HasValue id rows
+given_value id rows given full = go (find (λ r. bytes_eq r.id id) rows) refl given (found_full id rows full)
+  where
+    go : (o : Option Row) → find (λ r. bytes_eq r.id id) rows ≡ o → option_map_or (λ r. explicit_source r.source) o false ≡ true → IfSome o (λ r. IsFull id r.values)
+        → HasValue id rows
     go None is given full = absurd (cc)
-    go (Some r) is given full = let v = first None r.values full in (v.0, rw is v.1)
+    go (Some r) is given full = let v = first_value id r.values full in (v.0, rw is v.1, v.2)
+
+-- and so has one that has a row
+pub row_value : (id : Text) (rows : List Row) → has_row id rows ≡ true → AreFull rows → HasValue id rows
+row_value id [] has full = absurd (cc)
+row_value id (r ∷ rows) has full = go (bytes_eq r.id id) refl has (λ h. row_value id rows h full.1)
+  where
+    go : (b : Bool) → bytes_eq r.id id ≡ b → (b || has_row id rows) ≡ true → (has_row id rows ≡ true → HasValue id rows) → HasValue id (r ∷ rows)
+    go true is has rest = let v = first_value id r.values (subst (λ i. IsFull i r.values) (named r id is) full.0) in (v.0, rw is v.1, v.2)
+    go false is has rest = let v = rest has in (v.0, rw is v.1, v.2)
+
+-- the value of an argument, if there is one, passes
+pub first_passes : (id : Text) (rows : List Row) → AreFull rows → IfSome (first_of id rows) (λ t. accepts false (parser_by id) t ≡ true)
+first_passes id rows full = go (find (λ r. bytes_eq r.id id) rows) refl (found_full id rows full)
+  where
+    go : (o : Option Row) → find (λ r. bytes_eq r.id id) rows ≡ o → IfSome o (λ r. IsFull id r.values) → IfSome (first_of id rows) (λ t. accepts false (parser_by id) t ≡ true)
+    go None is full = rw is tt
+    go (Some r) is full = let v = first_value id r.values full in rw (is, v.1) v.2
+
+-- ---- defaults
+
+-- a row that values come to is there
+row_there : (id : Text) (how : Reading) (s : ValueSource) (values : List Text) (rows : List Row) → has_row id (with_values id how s values rows) ≡ true
+row_there id how s values [] = rw ((bytes_eq-Decides id id).1 refl) refl
+row_there id how s values (r ∷ rows) = go (bytes_eq r.id id) refl (row_there id how s values rows)
+  where
+    go : (b : Bool) → bytes_eq r.id id ≡ b → has_row id (with_values id how s values rows) ≡ true
+        → has_row id (if b then more_values s values r ++ rows else r ∷ with_values id how s values rows) ≡ true
+    go true same rest = rw same refl
+    go false same rest = rw same rest
+
+-- so an argument with a default has a row
+pub default_row : (a : Rule) (v : Text) (vs : List Text) (rows : List Row) → a.defaults ≡ v ∷ vs → has_row a.id (with_default rows a) ≡ true
+default_row a v vs rows is = go (has_row a.id rows) refl
+  where
+    go : (b : Bool) → has_row a.id rows ≡ b → has_row a.id (if b then rows else default_rows a.id (reading_by a) a.defaults rows) ≡ true
+    go true has = has
+    go false has = rw is (row_there a.id (reading_by a) DefaultValue (v ∷ vs) rows)
+
+-- one without changes nothing
+pub no_default : (a : Rule) (rows : List Row) → a.defaults ≡ [] → with_default rows a ≡ rows
+no_default a rows is = go (has_row a.id rows)
+  where
+    go : (b : Bool) → (if b then rows else default_rows a.id (reading_by a) a.defaults rows) ≡ rows
+    go true = refl
+    go false = rw is refl
 
 -- ---- the walk
 
@@ -83,30 +175,30 @@ Brings again a = (values : List Text) (rows : List Row) → use_fault again a va
 
 abbrev pub AllBring : Bool → List Rule → Type 0
 AllBring again [] = ⊤
-AllBring again (a ∷ rules) = Brings again a × AllBring again rules
+AllBring again (a ∷ rules) = Brings again a × Passes a.id a.defaults × AllBring again rules
 
 met : (again : Bool) (test : Rule → Bool) (rules : List Rule) → AllBring again rules → IfSome (find test rules) (Brings again)
 met again test [] all = tt
-met again test (a ∷ rules) all = go (test a) (met again test rules all.1)
+met again test (a ∷ rules) all = go (test a) (met again test rules all.2)
   where
     go : (b : Bool) → IfSome (find test rules) (Brings again) → IfSome (if b then Some a else find test rules) (Brings again)
     go true rest = all.0
     go false rest = rest
 
-default_full : (rows : List Row) (a : Rule) → AreFull rows → AreFull (with_default rows a)
-default_full rows a full = go (has_row a.id rows)
+default_full : (rows : List Row) (a : Rule) → Passes a.id a.defaults → AreFull rows → AreFull (with_default rows a)
+default_full rows a passes full = go (has_row a.id rows)
   where
-    else_full : (vs : List Text) → AreFull (default_rows a.id (reading_by a) vs rows)
-    else_full [] = full
-    else_full (v ∷ vs) = values_full a.id (reading_by a) _ (v ∷ vs) rows tt full
+    else_full : (vs : List Text) → Passes a.id vs → AreFull (default_rows a.id (reading_by a) vs rows)
+    else_full [] passes = full
+    else_full (v ∷ vs) passes = values_full a.id (reading_by a) _ (v ∷ vs) rows passes full
 
     go : (b : Bool) → AreFull (if b then rows else default_rows a.id (reading_by a) a.defaults rows)
     go true = full
-    go false = else_full a.defaults
+    go false = else_full a.defaults passes
 
-defaults_full : (rules : List Rule) (rows : List Row) → AreFull rows → AreFull (fold with_default rows rules)
-defaults_full [] rows full = full
-defaults_full (a ∷ rules) rows full = defaults_full rules (with_default rows a) (default_full rows a full)
+defaults_full : (again : Bool) (rules : List Rule) (rows : List Row) → AllBring again rules → AreFull rows → AreFull (fold with_default rows rules)
+defaults_full again [] rows all full = full
+defaults_full again (a ∷ rules) rows all full = defaults_full again rules (with_default rows a) all.2 (default_full rows a all.1 full)
 
 module _ (s : Shape) (all : AllBring s.args_override_self s.rules) where
   abbrev c : List Rule
@@ -260,6 +352,6 @@ module _ (s : Shape) (all : AllBring s.args_override_self s.rules) where
       let after = then_none (walk_fault s names (walk_from nothing_held) words) _ e in
       let settles = first_none (settle_fault c again end) _ after in
       let ends = then_none (settle_fault c again end) _ after in (
-        defaults_full c (settled c end).rows (settled_full end settles (walk_full names (walk_from nothing_held) words walks tt)),
+        defaults_full again c (settled c end).rows all (settled_full end settles (walk_full names (walk_from nothing_held) words walks tt)),
         then_none (defaults_fault (settled c end).rows c) _ ends,
       )

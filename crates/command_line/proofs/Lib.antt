@@ -1,3 +1,7 @@
 mod Faultless
 mod Filled
-pub mod Reading
+pub mod Matched
+pub mod Named
+mod One
+mod Reading
+pub mod Taken

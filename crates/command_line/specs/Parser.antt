@@ -1,5 +1,5 @@
 -- What clap is told of the command line.
-use Rattle.std.specs.Prelude.{ℕ, List, Some, codes, true}
+use Rattle.std.specs.Prelude.{ℕ, List, [], ◌∷◌, Some, codes, true}
 use Rattle.clap.specs.Words.{App, Rule, new_app, new_rule, with_rule, with_subcommand}
 use Rattle.clap.specs.Simple.{on_top}
 use Rattle.clap.specs.declared.builder.value_parser.ValueParser.TheVariants as parser
@@ -12,9 +12,24 @@ input = codes "input"
 abbrev pub input_rule : Rule
 input_rule = record (new_rule input) { value_names = 1; required = true }
 
--- a command that reads one thing: `vat FILE`, `frame HEX`, `frames FILE`
+-- a command that reads one thing: `graph CASE`, `run CASE`, `vat FILE`, `frame HEX`, `frames FILE`
 abbrev pub reader : List ℕ → App
 reader name = with_rule (new_app name) input_rule
+
+-- an option whose value is a number, from the least to the most
+abbrev pub number_rule : List ℕ → ℕ → ℕ → Rule
+number_rule name least most = record (new_rule name) { long = Some name; value_names = 1; parser = Some (parser.Unsigned least most) }
+
+-- by what clap knows the workers of `check`, which are given as `--workers N`, and are 1 where they aren't given
+abbrev pub workers : List ℕ
+workers = codes "workers"
+
+abbrev pub workers_rule : Rule
+workers_rule = record (number_rule workers 1 64) { defaults = codes "1" ∷ [] }
+
+-- `check CASE`, with `--workers N` if wanted
+abbrev pub check : App
+check = with_rule (with_rule (new_app (codes "check")) input_rule) workers_rule
 
 -- by what clap knows the file of `order`, which is given as `--out FILE` and has to be given
 abbrev pub path : List ℕ
@@ -27,27 +42,29 @@ path_rule = record (new_rule path) { long = Some (codes "out"); value_names = 1;
 abbrev pub order : App
 order = with_rule (with_rule (new_app (codes "order")) input_rule) path_rule
 
--- by what clap knows the options of `records`, which are given as `--from I` and `--count N`
+-- by what clap knows the options of `records`, which are given as `--from I` and `--count N`, numbers of 64 bits
 abbrev pub start : List ℕ
 start = codes "from"
 
 abbrev pub count : List ℕ
 count = codes "count"
 
--- an option whose value is a number of 64 bits
-abbrev pub number_rule : List ℕ → Rule
-number_rule name = record (new_rule name) { long = Some name; value_names = 1; parser = Some (parser.Unsigned 0 18446744073709551615) }
+abbrev pub most : ℕ
+most = 18446744073709551615
 
 -- `records FILE`, with `--from I` and `--count N` if wanted
 abbrev pub records : App
-records = with_rule (with_rule (with_rule (new_app (codes "records")) input_rule) (number_rule start)) (number_rule count)
+records = with_rule (with_rule (with_rule (new_app (codes "records")) input_rule) (number_rule start 0 most)) (number_rule count 0 most)
 
 -- the program, of which a command has to be given
 abbrev pub top : App
 top = on_top (λ s. record s { subcommand_required = true; arg_required_else_help = true }) (new_app (codes "vataudit"))
 
--- the program with its commands
+-- the program with its commands that read a case
+abbrev pub judging : App
+judging = with_subcommand (with_subcommand (with_subcommand (with_subcommand top check.top) order.top) (reader (codes "graph")).top) (reader (codes "run")).top
+
+-- and with those that read a file or a frame
 abbrev pub program : App
 program =
-    with_subcommand (with_subcommand (with_subcommand (with_subcommand (with_subcommand top (reader (codes "vat")).top) (reader (codes "frame")).top)
-    (reader (codes "frames")).top) order.top) records.top
+    with_subcommand (with_subcommand (with_subcommand (with_subcommand judging (reader (codes "vat")).top) records.top) (reader (codes "frame")).top) (reader (codes "frames")).top

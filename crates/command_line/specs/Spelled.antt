@@ -1,10 +1,13 @@
 -- How words spell commands.
-use Rattle.std.specs.Prelude.{◌≡◌, ◌⊎◌, ◌==◌, ◌<◌, ◌^◌, ℕ, Bool, false, List, [], ◌∷◌, Option, Some, None, codes}
+use Rattle.std.specs.Prelude.{◌≡◌, ◌⊎◌, ◌==◌, ◌≤◌, ⊤, ℕ, Bool, false, List, [], ◌∷◌, Option, Some, None, codes}
 use Rattle.std.specs.Str.Parse.{IsNumeral, digits_value, without_leading_plus}
 use Rattle.command_line.specs.declared.command.Command.{Command}
-use Rattle.command_line.specs.declared.command.Command.TheVariants.{Vat, Frame, Frames, Order, Records}
+use Rattle.command_line.specs.declared.command.Command.TheVariants.{Check, Order, Graph, Run, Vat, Records, Frame, Frames}
+use Rattle.clap.specs.Simple.{subcommand_rows_of}
+use Rattle.clap.specs.Values.{IsUnsignedIn}
 use Rattle.clap.specs.Words.{Row, fault_of, first_of, subcommand_of}
-use Rattle.command_line.specs.Parser.{count, input, path, program, start}
+use Rattle.clap.specs.declared.ArgMatches.{ArgMatches}
+use Rattle.command_line.specs.Parser.{count, input, path, program, start, workers}
 
 -- a word that begins with a hyphen, but `-`
 abbrev pub is_flag : List ℕ → Bool
@@ -20,41 +23,80 @@ SpellsOne name words thing = (first : List ℕ) ×
     ⊎ ((words ≡ first ∷ name ∷ codes "--" ∷ thing ∷ [])
     ⊎ (words ≡ first ∷ name ∷ thing ∷ codes "--" ∷ [])))
 
--- the words are read as `order CASE --out FILE`, by the rules of clap, which finds CASE and FILE in them
-abbrev pub SpellsOrder : List (List ℕ) → List ℕ → List ℕ → Type 0
-SpellsOrder words name out = (rows : List Row) ×
-    ((subcommand_of program words ≡ Some (codes "order", rows)) × (first_of input rows ≡ Some name) × (first_of path rows ≡ Some out))
+-- the words are read as the command of this name, by the rules of clap, which finds no fault in them, and what it finds
+abbrev pub IsRead : List (List ℕ) → List ℕ → List Row → Type 0
+IsRead words name rows = (fault_of program words ≡ []) × (subcommand_of program words ≡ Some (name, rows))
 
--- a word that was given as a number, if one was: the number that it spells, where that is one of 64 bits. Another word is a
--- fault of the words.
+-- clap found no fault in the words, and this is what it found
+abbrev pub AreMatchesOf : List (List ℕ) → ArgMatches → Type 0
+AreMatchesOf words matches = (fault_of program words ≡ []) × (subcommand_rows_of matches ≡ subcommand_of program words)
+
+-- a word that was given for a number is one of 64 bits, from the least to the most
+abbrev pub IsChecked : ℕ → ℕ → Option (List ℕ) → Type 0
+IsChecked least most None = ⊤
+IsChecked least most (Some text) = IsUnsignedIn least most text
+
+-- a word that was given as a number, or stands for one that wasn't, spells it
+abbrev pub IsSpelled : List ℕ → ℕ → Type 0
+IsSpelled text number = IsNumeral 10 (without_leading_plus text) × (number ≡ digits_value 10 (without_leading_plus text))
+
+-- there is a number just where there is a word for it, which spells it
 abbrev pub IsNumber : Option (List ℕ) → Option ℕ → Type 0
-IsNumber None number = number ≡ None
-IsNumber (Some text) (Some number) = IsNumeral 10 (without_leading_plus text) × (number ≡ digits_value 10 (without_leading_plus text))
-IsNumber (Some text) None = IsNumeral 10 (without_leading_plus text) → digits_value 10 (without_leading_plus text) < 2 ^ 64 → ⊥
+IsNumber None None = ⊤
+IsNumber None (Some number) = ⊥
+IsNumber (Some text) None = ⊥
+IsNumber (Some text) (Some number) = IsSpelled text number
 
--- the words are read as `records FILE`, by the rules of clap, which finds no fault in them, and finds FILE and, where they
--- were given, the number of the first record and how many are wanted
+-- the words are read as `check CASE`, and clap finds CASE and the number of workers in them, which is 1 where it isn't given
+abbrev pub SpellsCheck : List (List ℕ) → List ℕ → ℕ → Type 0
+SpellsCheck words name many = (rows : List Row) ×
+    (IsRead words (codes "check") rows × (first_of input rows ≡ Some name) × IsNumber (first_of workers rows) (Some many))
+
+-- the words are read as `order CASE --out FILE`, and clap finds CASE and FILE in them
+abbrev pub SpellsOrder : List (List ℕ) → List ℕ → List ℕ → Type 0
+SpellsOrder words name out = (rows : List Row) × (IsRead words (codes "order") rows × (first_of input rows ≡ Some name) × (first_of path rows ≡ Some out))
+
+-- the words are read as `records FILE`, and clap finds FILE and, where they were given, the number of the first record and
+-- how many are wanted
 abbrev pub SpellsRecords : List (List ℕ) → List ℕ → Option ℕ → Option ℕ → Type 0
 SpellsRecords words name first many = (rows : List Row) ×
-    ((fault_of program words ≡ []) × (subcommand_of program words ≡ Some (codes "records", rows)) × (first_of input rows ≡ Some name)
+    (IsRead words (codes "records") rows × (first_of input rows ≡ Some name)
     × IsNumber (first_of start rows) first × IsNumber (first_of count rows) many)
 
 -- the words spell the command
 abbrev pub Spells : List (List ℕ) → Command → Type 0
+Spells words (Check name many) = SpellsCheck words name.now many
+Spells words (Order name out) = SpellsOrder words name.now out.now
+Spells words (Graph name) = SpellsOne (codes "graph") words name.now
+Spells words (Run name) = SpellsOne (codes "run") words name.now
 Spells words (Vat file) = SpellsOne (codes "vat") words file.now
+Spells words (Records file first many) = SpellsRecords words file.now first many
 Spells words (Frame hex) = SpellsOne (codes "frame") words hex.now
 Spells words (Frames file) = SpellsOne (codes "frames") words file.now
-Spells words (Order name out) = SpellsOrder words name.now out.now
-Spells words (Records file first many) = SpellsRecords words file.now first many
 
 -- the name of a command that reads one thing
 abbrev pub IsReader : List ℕ → Type 0
-IsReader name = (name ≡ codes "vat") ⊎ ((name ≡ codes "frame") ⊎ (name ≡ codes "frames"))
+IsReader name =
+    (name ≡ codes "graph") ⊎ ((name ≡ codes "run") ⊎ ((name ≡ codes "vat") ⊎ ((name ≡ codes "frame") ⊎ (name ≡ codes "frames"))))
+
+-- a command that asks for workers asks for 1 to 64
+abbrev pub HasWorkers : Command → Type 0
+HasWorkers (Check name many) = (1 ≤ many) × (many ≤ 64)
+HasWorkers (Order name out) = ⊤
+HasWorkers (Graph name) = ⊤
+HasWorkers (Run name) = ⊤
+HasWorkers (Vat name) = ⊤
+HasWorkers (Records name first many) = ⊤
+HasWorkers (Frame hex) = ⊤
+HasWorkers (Frames name) = ⊤
 
 -- the name of the file that a command writes, if it writes one
 abbrev pub out_of : Command → Option (List ℕ)
+out_of (Check name many) = None
+out_of (Order name out) = Some out.now
+out_of (Graph name) = None
+out_of (Run name) = None
 out_of (Vat name) = None
+out_of (Records name first many) = None
 out_of (Frame hex) = None
 out_of (Frames name) = None
-out_of (Order name out) = Some out.now
-out_of (Records name first many) = None

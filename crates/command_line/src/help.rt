@@ -16,9 +16,123 @@ Examples:
   abort
 
 Exit status:
-  0  good, the message, an order, or the records
+  0  yes, good, an order, edges, steps, the records or the message
   1  no
   2  outside of what is judged, bad input, a failed write, or a wrong command line
+  3  memory ran out";
+
+/// `check`, in the list of commands.
+pub const CHECK: &str = "Audits the logs of a case together";
+
+pub const CHECK_LONG: &str = "\
+Audits the logs of a case together: each vat's log by itself, the two ends of
+each link, the order of all records, and the order of calls. Reads the case and
+the files that it names, and prints the first of these lines that applies, vats
+and links each by their numbers:
+
+  no vat V record I rule CODE   record I of vat V is the first that breaks a rule
+  outside vat V record I WHY    record I of vat V is the first that isn't judged
+  no link C end V message N     message N that vat V received on connection C
+                                isn't what the other end sent as its message N
+  no order step K               step K of the order that the case names doesn't
+                                fit the logs
+  no order exists               no order is named, and none fits the logs
+  no vat V record I rule ORDER  record I delivers a call before another that was
+                                made earlier through the same reference
+  yes vats V records N delivered D under_way U
+                                the logs of V vats are the parts of one run; N
+                                is their records, D the calls delivered, U the
+                                messages sent and not received
+
+A case that can't be audited has the line that order prints of it:
+
+  bad case [NAME [NUMBER]], bad log NAME [OFFSET], bad order NAME [OFFSET],
+  cannot read, out of memory
+
+Records, messages and steps are counted from 0. The line is the same for each
+number of workers. vataudit vat --help has the WHYs, vataudit order --help the
+form of a case file and what the last lines mean, docs/RULES.md each CODE.";
+
+pub const CHECK_END: &str = "\
+Example:
+  $ cd samples
+  $ vataudit check pipelined_call.json
+  yes vats 2 records 14 delivered 1 under_way 0
+
+Exit status:
+  0  yes
+  1  no
+  2  a record isn't audited, the case or a file of it is bad or can't be read,
+     the line can't be written, or the command line is wrong
+  3  memory ran out";
+
+/// N of `check`.
+pub const WORKERS: &str = "How many threads share the work, 1 to 64";
+
+/// `graph`, in the list of commands.
+pub const GRAPH: &str = "Prints which vat came to have what of another's";
+
+pub const GRAPH_LONG: &str = "\
+Audits a case as check does. Where the answer is yes it prints a line for each
+capability of another vat that a vat came to have, by the vat and then by the
+record:
+
+  edge vat V to NAME record I   record I of vat V is the first that it received
+                                with a reference to NAME
+
+NAME is obj W.N, object N of vat W; prom W.N, what vat W promised by its reference
+N; or field W.C PATH, what stands at a path of pointer fields in the results of
+call C of vat W. Records are counted from 0.
+
+Where the answer isn't yes, the line is check's (vataudit check --help). Where
+memory runs out, the last line is
+
+  out of memory";
+
+pub const GRAPH_END: &str = "\
+Example:
+  $ cd samples
+  $ vataudit graph pipelined_call.json
+  edge vat 1 to obj 2.7 record 4
+
+Exit status:
+  0  yes, and the edges are printed
+  1  no
+  2  a record isn't audited, the case or a file of it is bad or can't be read, a
+     line can't be written, or the command line is wrong
+  3  memory ran out";
+
+/// `run`, in the list of commands.
+pub const RUN: &str = "Prints the run of a case, step by step";
+
+pub const RUN_LONG: &str = "\
+Audits a case as check does. Where the answer is yes it prints a line for each step
+of the run whose parts the logs are, in order:
+
+  step K vat V record I KIND [call W.C]
+
+Step K is record I of vat V; both are counted from 0. KIND is host, vow, fulfil,
+break, make, field, deliver, answer or fault, or it is send or receive and the
+message's first word, as in send return (vataudit frame --help). W.C is the call that
+the step is about, call C of vat W, which made it.
+
+Where the answer isn't yes, the line is check's (vataudit check --help). Where
+memory runs out, the last line is
+
+  out of memory";
+
+pub const RUN_END: &str = "\
+Example:
+  $ cd samples
+  $ vataudit run pipelined_call.json
+  step 0 vat 1 record 0 send bootstrap call 1.1
+  ..
+
+Exit status:
+  0  yes, and the steps are printed
+  1  no
+  2  a record isn't audited, the case or a file of it is bad or can't be read, a
+     line can't be written, or the command line is wrong
   3  memory ran out";
 
 /// `vat`, in the list of commands.
@@ -225,7 +339,7 @@ pub const FROM: &str = "The first record that is printed, counted from 0";
 /// N of `records`.
 pub const COUNT: &str = "How many records are printed at most";
 
-/// CASE of `order`.
+/// CASE of `check`, `order`, `graph` and `run`.
 pub const CASE: &str = "The case, a path from the working directory; - is standard input";
 
 /// FILE of `order`.

@@ -8,5 +8,6 @@
 
 mod command;
 mod help;
+mod parser;
 
 pub use command::{Command, command_of};

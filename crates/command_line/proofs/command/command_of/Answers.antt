@@ -1,102 +1,60 @@
-use Rattle.std.proofs.Common.{◌≡◌, ◌∙◌, ℕ, List, Option, sym, subst, map, [], ◌∷◌, codes}
-use Rattle.clap.specs.Words.{app_of, kind_of}
-use Rattle.clap.specs.declared.error.ErrorKind.TheVariants.{OutOfMemory}
+use Rattle.std.proofs.Common.{◌≡◌, ◌⊎◌, ◌∷◌, [], codes, map}
+use Rattle.clap.specs.Words.{kind_of}
+use Rattle.clap.specs.declared.error.ErrorKind.TheVariants.{OutOfMemory, ValueValidation}
 use Rattle.clap.proofs.TakesLemmas.{passed_up}
-use Rattle.command_line.specs.Parser.{count, start}
-use Rattle.command_line.specs.Spelled.{IsNumber, SpellsOrder, SpellsRecords}
-use Rattle.command_line.proofs.Reading.{fails_by_memory, has_input, has_order, has_records, has_thing, none_differs, other_reader, other_text, same_text, some_same, spells_by, takes_after_dashes, takes_one, takes_order, takes_records}
+use Rattle.command_line.proofs.Matched.{fails_by_memory, fails_by_value, handed_on, refused_never}
+use Rattle.command_line.proofs.Taken.{refuses_part, refuses_workers, takes_after_dashes, takes_check, takes_one, takes_order, takes_part, takes_records, takes_workers}
 use Rattle.command_line.proofs.command.command_of.Goals as goal
 
-pub returns-then-eq-clause-ok : goal.returns-then-eq-clause-ok
-returns-then-eq-clause-ok g c =
-    let words = map g.S.AsStr.text c.args.words.now in
-    let r = has_order (app_of c.in_ok-parser.field-0) words c.in_ok-matches.matches c.in-Some.given.now c.in-Some.name.now
-    c.in_ok-parser.ensures c.in_ok-matches.ensures.kinds c.in_ok-matches.ensures.matches c.in-Some.ensures.name c.in-Some.ensures.rows
-    (same_text c.in-Some.name.now (codes "order") c.if-eq.ensures) in
-    subst (λ (o : List ℕ). SpellsOrder words c.in-Some-get_str.input.now o) (some_same (sym r.1.4 ∙ sym c.in-Some-get_str-2.ensures))
-    (subst (λ (f : List ℕ). SpellsOrder words f r.1.0) (some_same (sym r.1.3 ∙ sym c.in-Some-get_str.ensures)) r.1.1)
-
 pub returns-in_err-matches-clause-taken : goal.returns-in_err-matches-clause-taken
-returns-in_err-matches-clause-taken g c first name thing reader spelled no_flag =
-    let memory = fails_by_memory (app_of c.in_ok-parser.field-0) (map g.S.AsStr.text c.args.words.now) (first ∷ name ∷ thing ∷ []) c.in_err-matches.field-0.0
-    c.in_ok-parser.ensures c.in_err-matches.ensures.kinds spelled (takes_one first name thing reader no_flag) in
-    passed_up c.from_residual-in_err-matches.result c.in_err-matches.field-0.0 (λ e. kind_of e ≡ OutOfMemory) c.from_residual-in_err-matches.ensures.1 memory
+returns-in_err-matches-clause-taken g c first name thing reader spelled plain =
+    passed_up c.from_residual.result c.in_err-matches.field-0.0 (λ e. kind_of e ≡ OutOfMemory) c.from_residual.ensures.1
+    (fails_by_memory (map g.S.AsStr.text c.args.words.now) (first ∷ name ∷ thing ∷ []) c.in_err-matches.field-0.0 c.in_err-matches.ensures.kinds spelled (takes_one first name thing reader plain))
 
 pub returns-in_err-matches-clause-taken_after : goal.returns-in_err-matches-clause-taken_after
 returns-in_err-matches-clause-taken_after g c first name thing reader spelled =
-    let memory = fails_by_memory (app_of c.in_ok-parser.field-0) (map g.S.AsStr.text c.args.words.now) (first ∷ name ∷ codes "--" ∷ thing ∷ []) c.in_err-matches.field-0.0
-    c.in_ok-parser.ensures c.in_err-matches.ensures.kinds spelled (takes_after_dashes first name thing reader) in
-    passed_up c.from_residual-in_err-matches.result c.in_err-matches.field-0.0 (λ e. kind_of e ≡ OutOfMemory) c.from_residual-in_err-matches.ensures.1 memory
+    passed_up c.from_residual.result c.in_err-matches.field-0.0 (λ e. kind_of e ≡ OutOfMemory) c.from_residual.ensures.1
+    (fails_by_memory (map g.S.AsStr.text c.args.words.now) (first ∷ name ∷ codes "--" ∷ thing ∷ []) c.in_err-matches.field-0.0 c.in_err-matches.ensures.kinds spelled (takes_after_dashes first name thing reader))
+
+pub returns-in_err-matches-clause-taken_check : goal.returns-in_err-matches-clause-taken_check
+returns-in_err-matches-clause-taken_check g c first case spelled plain =
+    passed_up c.from_residual.result c.in_err-matches.field-0.0 (λ e. kind_of e ≡ OutOfMemory) c.from_residual.ensures.1
+    (fails_by_memory (map g.S.AsStr.text c.args.words.now) (first ∷ codes "check" ∷ case ∷ []) c.in_err-matches.field-0.0 c.in_err-matches.ensures.kinds spelled (takes_check first case plain))
+
+pub returns-in_err-matches-clause-taken_workers : goal.returns-in_err-matches-clause-taken_workers
+returns-in_err-matches-clause-taken_workers g c first case number spelled plain good =
+    passed_up c.from_residual.result c.in_err-matches.field-0.0 (λ e. kind_of e ≡ OutOfMemory) c.from_residual.ensures.1
+    (fails_by_memory (map g.S.AsStr.text c.args.words.now) (first ∷ codes "check" ∷ case ∷ codes "--workers" ∷ number ∷ []) c.in_err-matches.field-0.0 c.in_err-matches.ensures.kinds spelled (takes_workers first case number plain good))
+
+pub returns-in_err-matches-clause-refused_workers : goal.returns-in_err-matches-clause-refused_workers
+returns-in_err-matches-clause-refused_workers g c first case number spelled plain unflagged bad =
+    handed_on c.from_residual.result c.in_err-matches.field-0.0 (λ e. (kind_of e ≡ OutOfMemory) ⊎ (kind_of e ≡ ValueValidation)) c.from_residual.ensures.1
+    (fails_by_value (map g.S.AsStr.text c.args.words.now) (first ∷ codes "check" ∷ case ∷ codes "--workers" ∷ number ∷ []) c.in_err-matches.field-0.0 c.in_err-matches.ensures.kinds spelled (refuses_workers first case number plain unflagged bad))
+
+pub returns-clause-refused_workers : goal.returns-clause-refused_workers
+returns-clause-refused_workers g c first case number spelled plain unflagged bad =
+    absurd (refused_never (map g.S.AsStr.text c.args.words.now) (first ∷ codes "check" ∷ case ∷ codes "--workers" ∷ number ∷ []) c.in_ok-matches.ensures.kinds spelled (refuses_workers first case number plain unflagged bad))
 
 pub returns-in_err-matches-clause-taken_order : goal.returns-in_err-matches-clause-taken_order
-returns-in_err-matches-clause-taken_order g c first file out spelled file_plain out_plain =
-    let memory = fails_by_memory (app_of c.in_ok-parser.field-0) (map g.S.AsStr.text c.args.words.now) (first ∷ codes "order" ∷ file ∷ codes "--out" ∷ out ∷ []) c.in_err-matches.field-0.0
-    c.in_ok-parser.ensures c.in_err-matches.ensures.kinds spelled (takes_order first file out file_plain out_plain) in
-    passed_up c.from_residual-in_err-matches.result c.in_err-matches.field-0.0 (λ e. kind_of e ≡ OutOfMemory) c.from_residual-in_err-matches.ensures.1 memory
+returns-in_err-matches-clause-taken_order g c first case out spelled plain unflagged =
+    passed_up c.from_residual.result c.in_err-matches.field-0.0 (λ e. kind_of e ≡ OutOfMemory) c.from_residual.ensures.1
+    (fails_by_memory (map g.S.AsStr.text c.args.words.now) (first ∷ codes "order" ∷ case ∷ codes "--out" ∷ out ∷ []) c.in_err-matches.field-0.0 c.in_err-matches.ensures.kinds spelled (takes_order first case out plain unflagged))
 
 pub returns-in_err-matches-clause-taken_records : goal.returns-in_err-matches-clause-taken_records
 returns-in_err-matches-clause-taken_records g c first file spelled plain =
-    let memory = fails_by_memory (app_of c.in_ok-parser.field-0) (map g.S.AsStr.text c.args.words.now) (first ∷ codes "records" ∷ file ∷ []) c.in_err-matches.field-0.0
-    c.in_ok-parser.ensures c.in_err-matches.ensures.kinds spelled (takes_records first file plain) in
-    passed_up c.from_residual-in_err-matches.result c.in_err-matches.field-0.0 (λ e. kind_of e ≡ OutOfMemory) c.from_residual-in_err-matches.ensures.1 memory
+    passed_up c.from_residual.result c.in_err-matches.field-0.0 (λ e. kind_of e ≡ OutOfMemory) c.from_residual.ensures.1
+    (fails_by_memory (map g.S.AsStr.text c.args.words.now) (first ∷ codes "records" ∷ file ∷ []) c.in_err-matches.field-0.0 c.in_err-matches.ensures.kinds spelled (takes_records first file plain))
 
-pub returns-then-eq-2-clause-ok : goal.returns-then-eq-2-clause-ok
-returns-then-eq-2-clause-ok g c =
-    let words = map g.S.AsStr.text c.args.words.now in
-    let r = has_records (app_of c.in_ok-parser.field-0) words c.in_ok-matches.matches c.in-Some.given.now c.in-Some.name.now
-    c.in_ok-parser.ensures c.in_ok-matches.ensures.kinds c.in_ok-matches.ensures.matches c.in-Some.ensures.name c.in-Some.ensures.rows
-    (same_text c.in-Some.name.now (codes "records") c.if-eq-2.ensures) in
-    subst (λ (f : List ℕ). SpellsRecords words f c.number_of.result c.number_of-then-eq-2.result) (some_same (sym r.1.4 ∙ sym c.in-Some-get_str.ensures)) (
-      r.1.0,
-      (
-        r.1.1,
-        r.1.2,
-        r.1.3,
-        subst (λ (o : Option (List ℕ)). IsNumber o c.number_of.result) (r.1.5 start) c.number_of.ensures,
-        subst (λ (o : Option (List ℕ)). IsNumber o c.number_of-then-eq-2.result) (r.1.5 count) c.number_of-then-eq-2.ensures,
-      ),
-    )
+pub returns-in_err-matches-clause-taken_part : goal.returns-in_err-matches-clause-taken_part
+returns-in_err-matches-clause-taken_part g c first file from count spelled plain good well =
+    passed_up c.from_residual.result c.in_err-matches.field-0.0 (λ e. kind_of e ≡ OutOfMemory) c.from_residual.ensures.1
+    (fails_by_memory (map g.S.AsStr.text c.args.words.now) (first ∷ codes "records" ∷ file ∷ codes "--from" ∷ from ∷ codes "--count" ∷ count ∷ []) c.in_err-matches.field-0.0 c.in_err-matches.ensures.kinds spelled (takes_part first file from count plain good well))
 
-pub returns-then-eq-3-clause-ok : goal.returns-then-eq-3-clause-ok
-returns-then-eq-3-clause-ok g c =
-    let words = map g.S.AsStr.text c.args.words.now in
-    let name = c.in-Some.name.now in
-    let thing = c.in-Some-get_str.input.now in
-    let r = has_thing (app_of c.in_ok-parser.field-0) (map g.S.AsStr.text c.args.words.now) c.in_ok-matches.matches c.in-Some.given.now c.in-Some.name.now
-    c.in_ok-parser.ensures c.in_ok-matches.ensures.kinds c.in_ok-matches.ensures.matches c.in-Some.ensures.name c.in-Some.ensures.rows
-    (other_text c.in-Some.name.now (codes "order") c.if-eq.ensures) (other_text c.in-Some.name.now (codes "records") c.if-eq-2.ensures) in
-    spells_by r.0 words name r.1.0 thing (codes "vat") r.1.1 r.1.2 (some_same (sym r.1.3 ∙ sym c.in-Some-get_str.ensures)) (same_text name (codes "vat") c.if-eq-3.ensures)
+pub returns-in_err-matches-clause-refused_part : goal.returns-in_err-matches-clause-refused_part
+returns-in_err-matches-clause-refused_part g c first file from count spelled plain unflagged neither bad =
+    handed_on c.from_residual.result c.in_err-matches.field-0.0 (λ e. (kind_of e ≡ OutOfMemory) ⊎ (kind_of e ≡ ValueValidation)) c.from_residual.ensures.1
+    (fails_by_value (map g.S.AsStr.text c.args.words.now) (first ∷ codes "records" ∷ file ∷ codes "--from" ∷ from ∷ codes "--count" ∷ count ∷ []) c.in_err-matches.field-0.0 c.in_err-matches.ensures.kinds spelled (refuses_part first file from count plain unflagged neither bad))
 
-pub returns-then-eq-4-clause-ok : goal.returns-then-eq-4-clause-ok
-returns-then-eq-4-clause-ok g c =
-    let words = map g.S.AsStr.text c.args.words.now in
-    let name = c.in-Some.name.now in
-    let thing = c.in-Some-get_str.input.now in
-    let r = has_thing (app_of c.in_ok-parser.field-0) (map g.S.AsStr.text c.args.words.now) c.in_ok-matches.matches c.in-Some.given.now c.in-Some.name.now
-    c.in_ok-parser.ensures c.in_ok-matches.ensures.kinds c.in_ok-matches.ensures.matches c.in-Some.ensures.name c.in-Some.ensures.rows
-    (other_text c.in-Some.name.now (codes "order") c.if-eq.ensures) (other_text c.in-Some.name.now (codes "records") c.if-eq-2.ensures) in
-    spells_by r.0 words name r.1.0 thing (codes "frame") r.1.1 r.1.2 (some_same (sym r.1.3 ∙ sym c.in-Some-get_str.ensures)) (same_text name (codes "frame") c.if-eq-4.ensures)
-
-pub returns-clause-ok : goal.returns-clause-ok
-returns-clause-ok g c =
-    let words = map g.S.AsStr.text c.args.words.now in
-    let name = c.in-Some.name.now in
-    let thing = c.in-Some-get_str.input.now in
-    let r = has_thing (app_of c.in_ok-parser.field-0) (map g.S.AsStr.text c.args.words.now) c.in_ok-matches.matches c.in-Some.given.now c.in-Some.name.now
-    c.in_ok-parser.ensures c.in_ok-matches.ensures.kinds c.in_ok-matches.ensures.matches c.in-Some.ensures.name c.in-Some.ensures.rows
-    (other_text c.in-Some.name.now (codes "order") c.if-eq.ensures) (other_text c.in-Some.name.now (codes "records") c.if-eq-2.ensures) in
-    spells_by r.0 words name r.1.0 thing (codes "frames") r.1.1 r.1.2 (some_same (sym r.1.3 ∙ sym c.in-Some-get_str.ensures))
-    (other_reader r.0 name r.1.2 (other_text name (codes "vat") c.if-eq-3.ensures) (other_text name (codes "frame") c.if-eq-4.ensures))
-
-pub unreachable-requires-in_default-get_str : goal.unreachable-requires-in_default-get_str
-unreachable-requires-in_default-get_str g c =
-    let r = has_input (app_of c.in_ok-parser.field-0) (map g.S.AsStr.text c.args.words.now) c.in_ok-matches.matches c.in-Some.given.now c.in-Some.name.now
-    c.in_ok-parser.ensures c.in_ok-matches.ensures.kinds c.in_ok-matches.ensures.matches c.in-Some.ensures.name c.in-Some.ensures.rows in
-    none_differs r.0 (c.in_default-get_str.ensures ∙ r.1)
-
-pub unreachable-requires-in_default-get_str-2 : goal.unreachable-requires-in_default-get_str-2
-unreachable-requires-in_default-get_str-2 g c =
-    let r = has_order (app_of c.in_ok-parser.field-0) (map g.S.AsStr.text c.args.words.now) c.in_ok-matches.matches c.in-Some.given.now c.in-Some.name.now
-    c.in_ok-parser.ensures c.in_ok-matches.ensures.kinds c.in_ok-matches.ensures.matches c.in-Some.ensures.name c.in-Some.ensures.rows
-    (same_text c.in-Some.name.now (codes "order") c.if-eq.ensures) in
-    none_differs r.1.0 (c.in_default-get_str-2.ensures ∙ r.1.4)
+pub returns-clause-refused_part : goal.returns-clause-refused_part
+returns-clause-refused_part g c first file from count spelled plain unflagged neither bad =
+    absurd (refused_never (map g.S.AsStr.text c.args.words.now) (first ∷ codes "records" ∷ file ∷ codes "--from" ∷ from ∷ codes "--count" ∷ count ∷ []) c.in_ok-matches.ensures.kinds spelled (refuses_part first file from count plain unflagged neither bad))

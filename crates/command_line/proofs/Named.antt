@@ -1,0 +1,105 @@
+-- The commands and their names.
+use Rattle.std.proofs.Common.{◌≡◌, ◌⊎◌, ◌∙◌, ◌∷◌, [], List, true, false, if◌then◌else◌, codes, refl, sym, ap, inl, inr}
+use Rattle.std.specs.Str.{bytes_eq}
+use Rattle.std.proofs.lemmas.Slice.Eq.{bytes_eq-Decides}
+use Rattle.clap.specs.Words.{Text}
+use Rattle.command_line.specs.Spelled.{IsReader}
+
+-- the commands that read one thing
+pub data Reader : Type 0 where
+  of_graph : Reader
+  of_run : Reader
+  of_vat : Reader
+  of_frame : Reader
+  of_frames : Reader
+
+abbrev pub word_of : Reader → Text
+word_of of_graph = codes "graph"
+word_of of_run = codes "run"
+word_of of_vat = codes "vat"
+word_of of_frame = codes "frame"
+word_of of_frames = codes "frames"
+
+-- all commands
+pub data Named : Type 0 where
+  reading : Reader → Named
+  checking : Named
+  ordering : Named
+  listing : Named
+
+abbrev pub name_of : Named → Text
+name_of (reading r) = word_of r
+name_of checking = codes "check"
+name_of ordering = codes "order"
+name_of listing = codes "records"
+
+-- the names, as clap has them, of which the last is its own
+abbrev pub help_word : Text
+help_word = codes "help"
+
+abbrev pub all_names : List Text
+all_names =
+    codes "check" ∷ codes "order" ∷ codes "graph" ∷ codes "run" ∷ codes "vat" ∷ codes "records" ∷ codes "frame" ∷ codes "frames" ∷ help_word ∷ []
+
+abbrev pub IsOneOf : List Text → Text → Type 0
+IsOneOf [] w = ⊥
+IsOneOf (n ∷ ns) w = (w ≡ n) ⊎ IsOneOf ns w
+
+pub which : (w : Text) → IsOneOf all_names w → ((c : Named) × (w ≡ name_of c)) ⊎ (w ≡ help_word)
+which w (inl is) = inl (checking, is)
+which w (inr (inl is)) = inl (ordering, is)
+which w (inr (inr (inl is))) = inl (reading of_graph, is)
+which w (inr (inr (inr (inl is)))) = inl (reading of_run, is)
+which w (inr (inr (inr (inr (inl is))))) = inl (reading of_vat, is)
+which w (inr (inr (inr (inr (inr (inl is)))))) = inl (listing, is)
+which w (inr (inr (inr (inr (inr (inr (inl is))))))) = inl (reading of_frame, is)
+which w (inr (inr (inr (inr (inr (inr (inr (inl is)))))))) = inl (reading of_frames, is)
+which w (inr (inr (inr (inr (inr (inr (inr (inr (inl is))))))))) = inr is
+which w (inr (inr (inr (inr (inr (inr (inr (inr (inr none))))))))) = absurd none
+
+-- a command by its name
+abbrev by_name : Text → Named
+by_name w =
+    if bytes_eq w (codes "check") then checking else (if bytes_eq w (codes "order") then ordering else (if bytes_eq w (codes "graph") then reading of_graph
+    else (if bytes_eq w (codes "run") then reading of_run else (if bytes_eq w (codes "vat") then reading of_vat else (if bytes_eq w (codes "records") then listing
+    else (if bytes_eq w (codes "frame") then reading of_frame else reading of_frames))))))
+
+by_its_name : (c : Named) → by_name (name_of c) ≡ c
+by_its_name (reading of_graph) = refl
+by_its_name (reading of_run) = refl
+by_its_name (reading of_vat) = refl
+by_its_name (reading of_frame) = refl
+by_its_name (reading of_frames) = refl
+by_its_name checking = refl
+by_its_name ordering = refl
+by_its_name listing = refl
+
+-- so no two have one name
+pub same_command : (a b : Named) → name_of a ≡ name_of b → a ≡ b
+same_command a b same = sym (by_its_name a) ∙ ap by_name same ∙ by_its_name b
+
+pub reader_of : (name : Text) → IsReader name → (r : Reader) × (name ≡ word_of r)
+reader_of name (inl is) = (of_graph, is)
+reader_of name (inr (inl is)) = (of_run, is)
+reader_of name (inr (inr (inl is))) = (of_vat, is)
+reader_of name (inr (inr (inr (inl is)))) = (of_frame, is)
+reader_of name (inr (inr (inr (inr is)))) = (of_frames, is)
+
+-- texts that were compared
+pub same_text : (a b : Text) → true ≡ bytes_eq a b → a ≡ b
+same_text a b is = (bytes_eq-Decides a b).0 (sym is)
+
+pub other_text : (a b : Text) → false ≡ bytes_eq a b → a ≡ b → ⊥
+other_text a b differs is = let same : bytes_eq a b ≡ true = (bytes_eq-Decides a b).1 is in cc
+
+-- a command that has none of the other names is `frames`
+pub last_command : (c : Named) (name : Text) → name ≡ name_of c → (name ≡ codes "check" → ⊥) → (name ≡ codes "order" → ⊥) → (name ≡ codes "graph" → ⊥) → (name ≡ codes "run" → ⊥)
+    → (name ≡ codes "vat" → ⊥) → (name ≡ codes "records" → ⊥) → (name ≡ codes "frame" → ⊥) → name ≡ codes "frames"
+last_command checking name is no_check no_order no_graph no_run no_vat no_records no_frame = absurd (no_check is)
+last_command ordering name is no_check no_order no_graph no_run no_vat no_records no_frame = absurd (no_order is)
+last_command (reading of_graph) name is no_check no_order no_graph no_run no_vat no_records no_frame = absurd (no_graph is)
+last_command (reading of_run) name is no_check no_order no_graph no_run no_vat no_records no_frame = absurd (no_run is)
+last_command (reading of_vat) name is no_check no_order no_graph no_run no_vat no_records no_frame = absurd (no_vat is)
+last_command listing name is no_check no_order no_graph no_run no_vat no_records no_frame = absurd (no_records is)
+last_command (reading of_frame) name is no_check no_order no_graph no_run no_vat no_records no_frame = absurd (no_frame is)
+last_command (reading of_frames) name is no_check no_order no_graph no_run no_vat no_records no_frame = is

@@ -1,0 +1,295 @@
+-- Words in which clap finds no fault, and words in which it finds one.
+use Rattle.std.proofs.lemmas.Bool.{eqb-true}
+use Rattle.std.proofs.Common.{◌≡◌, ◌∙◌, ◌==◌, ◌&&◌, ℕ, Bool, true, false, List, [], ◌∷◌, Some, None, if◌then◌else◌, fold, codes, refl, ap, ap₂, subst, arith}
+use Rattle.std.specs.Prelude.{option_and_then}
+use Rattle.std.specs.Str.{bytes_eq}
+use Rattle.clap.specs.Lexer.{long_of, long_of_rest, short_of, short_of_rest, strip_byte}
+use Rattle.clap.specs.Words.{Row, Text, Kinds, fault_of}
+use Rattle.clap.specs.Walk.{Held, Step, Waiting, Walk, after_step, finished, idle, nothing_held, option, plain_word, positional, settled, value, walked, word_met}
+use Rattle.clap.specs.Simple.{Shape}
+use Rattle.clap.specs.Kinds.{or_else}
+use Rattle.clap.specs.Values.{IsUnsignedIn}
+use Rattle.clap.specs.ValueTests.{accepts}
+use Rattle.clap.proofs.ValueTestLemmas.{Accepts-accepts, accepts-Accepts}
+use Rattle.clap.specs.Faults.{check_fault, defaults_fault, level_fault, settle_fault, step_fault, turn_fault, walk_fault, word_fault}
+use Rattle.clap.specs.declared.error.ErrorKind.{ErrorKind}
+use Rattle.clap.specs.declared.error.ErrorKind.TheVariants.{ValueValidation}
+use Rattle.clap.specs.declared.builder.value_parser.ValueParser.{ValueParser}
+use Rattle.clap.specs.declared.builder.value_parser.ValueParser.TheVariants as parser
+use Rattle.clap.proofs.OnLiterals.{clap_on_literals}
+use Rattle.command_line.proofs.Named.{Reader, checking, listing, name_of, of_frame, of_frames, of_graph, of_run, of_vat, ordering, reader_of, word_of}
+use Rattle.command_line.proofs.One.{at, dashes, given, holding, sub}
+use Rattle.command_line.proofs.Reading.{shape_by}
+use Rattle.command_line.specs.Parser.{most, program, start}
+use Rattle.command_line.specs.Parser.{count as many}
+use Rattle.command_line.specs.Spelled.{IsReader, is_flag}
+
+-- ---- a word that is no flag
+
+abbrev IsPlain : Text → Type 0
+IsPlain word = (bytes_eq word dashes ≡ false) × (long_of word ≡ None) × (short_of word ≡ None)
+
+plain_word_is : (word : Text) → is_flag word ≡ false → IsPlain word
+plain_word_is [] e = (refl, refl, refl)
+plain_word_is (x ∷ []) e = go (x == 45)
+  where
+    go : (b : Bool) → ((b && false) ≡ false) × (option_and_then long_of_rest (option_and_then (strip_byte 45) (if b then Some [] else None)) ≡ None)
+        × (option_and_then short_of_rest (if b then Some [] else None) ≡ None)
+    go true = (refl, refl, refl)
+    go false = (refl, refl, refl)
+plain_word_is (x ∷ y ∷ rest) e = (rw e refl, rw e refl, rw e refl)
+
+-- nor is a number
+number_is_plain : (least last : ℕ) (word : Text) → IsUnsignedIn least last word → is_flag word ≡ false
+number_is_plain least last [] h = refl
+number_is_plain least last (x ∷ []) h = refl
+number_is_plain least last (x ∷ y ∷ rest) h = go (x == 45) refl
+  where
+    no_digit : (rest : Text) → IsUnsignedIn least last (45 ∷ rest) → ⊥
+    no_digit rest h = absurd (omega (arith, h.0))
+
+    go : (b : Bool) → (x == 45) ≡ b → b ≡ false
+    go false is = refl
+    go true is = absurd (no_digit (y ∷ rest) (subst (λ (n : ℕ). IsUnsignedIn least last (n ∷ y ∷ rest)) (eqb-true x 45 is) h))
+
+-- ---- commands that read one thing
+
+file_taken : (name file : Text) → is_flag file ≡ false → level_fault (sub name) [] nothing_held (file ∷ []) false [] ≡ []
+unfolding clap_on_literals
+file_taken name file e =
+    let is = plain_word_is file e in
+    let met : word_met (sub name).rules [] false idle 1 file (holding None) ≡ (holding None, value) = rw (is.0, is.1, is.2) refl in
+    let w : walked (sub name).rules [] (at None 1 false) file ≡ at (given file) 2 false = ap (λ (m : Held × Step). after_step (sub name).rules file (at None 1 false) m.0 m.1) met in
+    let word : word_fault (sub name) [] false idle file (holding None) ≡ [] = rw (is.0, is.1, is.2) refl in
+    let turn : turn_fault (sub name) [] (at None 1 false) file ≡ [] =
+    ap₂ (λ (k : Kinds) (m : Held × Step). or_else k (step_fault (sub name) 1 m.0 m.1)) word met in
+    let walks : walk_fault (sub name) [] (at None 1 false) (file ∷ []) ≡ [] = ap (λ k. or_else k []) turn in
+    ap₂ (λ (k : Kinds) (x : Walk). or_else k (or_else (settle_fault (sub name).rules false x.held)
+    (or_else (defaults_fault (settled (sub name).rules x.held).rows (sub name).rules) (check_fault (sub name) (finished (sub name).rules x.held) false)))) walks w
+
+taken_by : (r : Reader) (first file : Text) → is_flag file ≡ false → fault_of program (first ∷ word_of r ∷ file ∷ []) ≡ []
+unfolding clap_on_literals
+taken_by of_graph first file e = ap (λ (k : Kinds). or_else k []) (file_taken (word_of of_graph) file e)
+taken_by of_run first file e = ap (λ (k : Kinds). or_else k []) (file_taken (word_of of_run) file e)
+taken_by of_vat first file e = ap (λ (k : Kinds). or_else k []) (file_taken (word_of of_vat) file e)
+taken_by of_frame first file e = ap (λ (k : Kinds). or_else k []) (file_taken (word_of of_frame) file e)
+taken_by of_frames first file e = ap (λ (k : Kinds). or_else k []) (file_taken (word_of of_frames) file e)
+
+taken_after_by : (r : Reader) (first file : Text) → fault_of program (first ∷ word_of r ∷ dashes ∷ file ∷ []) ≡ []
+unfolding clap_on_literals
+taken_after_by of_graph first file = refl
+taken_after_by of_run first file = refl
+taken_after_by of_vat first file = refl
+taken_after_by of_frame first file = refl
+taken_after_by of_frames first file = refl
+
+-- the name of a command and one word have no fault, where the word is no flag
+pub takes_one : (first name file : Text) → IsReader name → is_flag file ≡ false → fault_of program (first ∷ name ∷ file ∷ []) ≡ []
+takes_one first name file reads e =
+    let r = reader_of name reads in
+    ap (λ (n : Text). fault_of program (first ∷ n ∷ file ∷ [])) r.1 ∙ taken_by r.0 first file e
+
+-- with `--` between them they have none, whatever the word is
+pub takes_after_dashes : (first name file : Text) → IsReader name → fault_of program (first ∷ name ∷ dashes ∷ file ∷ []) ≡ []
+takes_after_dashes first name file reads =
+    let r = reader_of name reads in
+    ap (λ (n : Text). fault_of program (first ∷ n ∷ dashes ∷ file ∷ [])) r.1 ∙ taken_after_by r.0 first file
+
+-- ---- check
+
+-- `check CASE` has no fault, where CASE is no flag
+pub takes_check : (first case : Text) → is_flag case ≡ false → fault_of program (first ∷ name_of checking ∷ case ∷ []) ≡ []
+unfolding clap_on_literals
+takes_check first case e =
+    let is = plain_word_is case e in
+    let level : level_fault (shape_by checking) [] nothing_held (case ∷ []) false [] ≡ [] = rw (is.0, is.1, is.2) refl in
+    ap (λ (k : Kinds). or_else k []) level
+
+workers_level : (case number : Text) (b : Bool) → is_flag case ≡ false → is_flag number ≡ false → accepts false (parser.Unsigned 1 64) number ≡ b
+    → level_fault (shape_by checking) [] nothing_held (case ∷ codes "--workers" ∷ number ∷ []) false [] ≡ (if b then [] else ValueValidation ∷ [])
+unfolding clap_on_literals
+workers_level case number true e h accepted =
+    let is = plain_word_is case e in
+    let are = plain_word_is number h in
+    rw (is.0, is.1, is.2, are.0, are.1, are.2, accepted) refl
+workers_level case number false e h refused =
+    let is = plain_word_is case e in
+    let are = plain_word_is number h in
+    rw (is.0, is.1, is.2, are.0, are.1, are.2, refused) refl
+
+workers_by : (first case number : Text) (b : Bool) → is_flag case ≡ false → is_flag number ≡ false → accepts false (parser.Unsigned 1 64) number ≡ b
+    → fault_of program (first ∷ name_of checking ∷ case ∷ codes "--workers" ∷ number ∷ []) ≡ (if b then [] else ValueValidation ∷ [])
+unfolding clap_on_literals
+workers_by first case number true e h accepted = ap (λ (k : Kinds). or_else k []) (workers_level case number true e h accepted)
+workers_by first case number false e h refused = ap (λ (k : Kinds). or_else k []) (workers_level case number false e h refused)
+
+-- `check CASE --workers N` has none, where N is a number from 1 to 64
+pub takes_workers : (first case number : Text) → is_flag case ≡ false → IsUnsignedIn 1 64 number
+    → fault_of program (first ∷ name_of checking ∷ case ∷ codes "--workers" ∷ number ∷ []) ≡ []
+takes_workers first case number e h =
+    workers_by first case number true e (number_is_plain 1 64 number h) (Accepts-accepts false (parser.Unsigned 1 64) number h)
+
+-- a test that isn't passed
+fails : (least last : ℕ) (word : Text) → (IsUnsignedIn least last word → ⊥) → accepts false (parser.Unsigned least last) word ≡ false
+fails least last word never = go (accepts false (parser.Unsigned least last) word) refl
+  where
+    go : (b : Bool) → accepts false (parser.Unsigned least last) word ≡ b → b ≡ false
+    go true is = absurd (never (accepts-Accepts false (parser.Unsigned least last) word is))
+    go false is = refl
+
+-- and another N is a fault
+pub refuses_workers : (first case number : Text) → is_flag case ≡ false → is_flag number ≡ false → (IsUnsignedIn 1 64 number → ⊥)
+    → fault_of program (first ∷ name_of checking ∷ case ∷ codes "--workers" ∷ number ∷ []) ≡ ValueValidation ∷ []
+refuses_workers first case number e h never = workers_by first case number false e h (fails 1 64 number never)
+
+-- ---- order
+
+order_words : (file out : Text) → is_flag file ≡ false → is_flag out ≡ false → level_fault (shape_by ordering) [] nothing_held (file ∷ codes "--out" ∷ out ∷ []) false [] ≡ []
+unfolding clap_on_literals
+order_words file out e h =
+    let is = plain_word_is file e in
+    let are = plain_word_is out h in
+    rw (is.0, is.1, is.2, are.0, are.1, are.2) refl
+
+-- has no fault, where CASE and FILE are no flags
+pub takes_order : (first file out : Text) → is_flag file ≡ false → is_flag out ≡ false → fault_of program (first ∷ name_of ordering ∷ file ∷ codes "--out" ∷ out ∷ []) ≡ []
+unfolding clap_on_literals
+takes_order first file out e h = ap (λ (k : Kinds). or_else k []) (order_words file out e h)
+
+-- ---- records
+
+-- `records FILE` has no fault, where FILE is no flag
+pub takes_records : (first file : Text) → is_flag file ≡ false → fault_of program (first ∷ name_of listing ∷ file ∷ []) ≡ []
+unfolding clap_on_literals
+takes_records first file e =
+    let is = plain_word_is file e in
+    let level : level_fault (shape_by listing) [] nothing_held (file ∷ []) false [] ≡ [] = rw (is.0, is.1, is.2) refl in
+    ap (λ (k : Kinds). or_else k []) level
+
+abbrev value_parser : ValueParser
+value_parser = parser.Unsigned 0 most
+
+-- the walk stands between two words
+abbrev state : Held → Waiting → ℕ → Walk
+state h waiting n = record { held = h; waiting = waiting; position = n; is_trailing = false; stopped = None }
+
+module _ (s : Shape) where
+  -- what is left of a command's fault, from a point of its walk
+  abbrev fault_from : Walk → List Text → Kinds
+  fault_from w words =
+      let end = (fold (walked s.rules []) w words).held in
+      or_else (walk_fault s [] w words) (or_else (settle_fault s.rules s.args_override_self end)
+      (or_else (defaults_fault (settled s.rules end).rows s.rules) (check_fault s (finished s.rules end) false)))
+
+  -- a word without a fault is passed
+  passed : (w next : Walk) (word : Text) (words : List Text) → turn_fault s [] w word ≡ [] → walked s.rules [] w word ≡ next → fault_from w (word ∷ words) ≡ fault_from next words
+  unfolding walk_fault
+  passed w next word words none is =
+      let end = (fold (walked s.rules []) w (word ∷ words)).held in
+      ap (λ (k : Kinds). or_else (or_else k (walk_fault s [] (walked s.rules [] w word) words)) (or_else (settle_fault s.rules s.args_override_self end)
+      (or_else (defaults_fault (settled s.rules end).rows s.rules) (check_fault s (finished s.rules end) false)))) none
+      ∙ ap (λ (x : Walk). fault_from x words) is
+
+  -- and one with a fault ends it
+  stopped_at : (w : Walk) (word : Text) (words : List Text) (k : ErrorKind) → turn_fault s [] w word ≡ k ∷ [] → fault_from w (word ∷ words) ≡ k ∷ []
+  unfolding walk_fault
+  stopped_at w word words k fault =
+      let end = (fold (walked s.rules []) w (word ∷ words)).held in
+      ap (λ (ks : Kinds). or_else (or_else ks (walk_fault s [] (walked s.rules [] w word) words)) (or_else (settle_fault s.rules s.args_override_self end)
+      (or_else (defaults_fault (settled s.rules end).rows s.rules) (check_fault s (finished s.rules end) false)))) fault
+
+  -- a word that is no flag, where an option waits for it or nothing does
+  plain_turn : (h : Held) (waiting : Waiting) (n : ℕ) (word : Text) → IsPlain word
+      → turn_fault s [] (state h waiting n) word ≡ step_fault s n (plain_word s.rules waiting word h).0 (plain_word s.rules waiting word h).1
+  plain_turn h idle n word is = rw (is.0, is.1, is.2) refl
+  plain_turn h (option id) n word is = rw (is.0, is.1, is.2) refl
+  plain_turn h positional n word is = rw (is.0, is.1, is.2) refl
+
+  plain_walk : (h : Held) (waiting : Waiting) (n : ℕ) (word : Text) → IsPlain word
+      → walked s.rules [] (state h waiting n) word ≡ after_step s.rules word (state h waiting n) (plain_word s.rules waiting word h).0 (plain_word s.rules waiting word h).1
+  unfolding walked
+  plain_walk h idle n word is = rw (is.0, is.1, is.2) refl
+  plain_walk h (option id) n word is = rw (is.0, is.1, is.2) refl
+  plain_walk h positional n word is = rw (is.0, is.1, is.2) refl
+
+-- what is held after FILE, after `--from`, after I, after `--count` and after N
+module _ (file from count : Text) where
+  abbrev rows_file : List Row
+  rows_file = (settled (shape_by listing).rules (holding (given file))).rows
+
+  abbrev at_from : Walk
+  at_from = state (record { rows = rows_file; pending = Some (start, []); skip = 0 }) (option start) 2
+
+  abbrev after_from : Held
+  after_from = record { rows = rows_file; pending = Some (start, from ∷ []); skip = 0 }
+
+  abbrev rows_from : List Row
+  rows_from = (settled (shape_by listing).rules after_from).rows
+
+  abbrev at_count : Walk
+  at_count = state (record { rows = rows_from; pending = Some (many, []); skip = 0 }) (option many) 2
+
+  abbrev after_count : Held
+  after_count = record { rows = rows_from; pending = Some (many, count ∷ []); skip = 0 }
+
+  -- up to I there is no fault
+  up_to_from : is_flag file ≡ false → is_flag from ≡ false
+      → fault_from (shape_by listing) (at None 1 false) (file ∷ codes "--from" ∷ from ∷ codes "--count" ∷ count ∷ [])
+      ≡ fault_from (shape_by listing) (state after_from idle 2) (codes "--count" ∷ count ∷ [])
+  unfolding clap_on_literals
+  up_to_from e f =
+      let s = shape_by listing in
+      passed s (at None 1 false) (at (given file) 2 false) file (codes "--from" ∷ from ∷ codes "--count" ∷ count ∷ [])
+      (plain_turn s (holding None) idle 1 file (plain_word_is file e)) (plain_walk s (holding None) idle 1 file (plain_word_is file e))
+      ∙ passed s (at (given file) 2 false) at_from (codes "--from") (from ∷ codes "--count" ∷ count ∷ []) refl refl
+      ∙ passed s at_from (state after_from idle 2) from (codes "--count" ∷ count ∷ [])
+      (plain_turn s at_from.held (option start) 2 from (plain_word_is from f)) (plain_walk s at_from.held (option start) 2 from (plain_word_is from f))
+
+  from_turn : (b : Bool) → accepts false value_parser from ≡ b → turn_fault (shape_by listing) [] (state after_from idle 2) (codes "--count") ≡ (if b then [] else ValueValidation ∷ [])
+  unfolding clap_on_literals
+  from_turn true is = rw is refl
+  from_turn false is = rw is refl
+
+  count_end : (b : Bool) → accepts false value_parser count ≡ b → fault_from (shape_by listing) (state after_count idle 2) [] ≡ (if b then [] else ValueValidation ∷ [])
+  unfolding clap_on_literals
+  count_end true is = rw is refl
+  count_end false is = rw is refl
+
+  part_level : (a b : Bool) → is_flag file ≡ false → is_flag from ≡ false → is_flag count ≡ false → accepts false value_parser from ≡ a → accepts false value_parser count ≡ b
+      → fault_from (shape_by listing) (at None 1 false) (file ∷ codes "--from" ∷ from ∷ codes "--count" ∷ count ∷ []) ≡ (if a && b then [] else ValueValidation ∷ [])
+  unfolding clap_on_literals
+  part_level false b e f g first second = up_to_from e f ∙ stopped_at (shape_by listing) (state after_from idle 2) (codes "--count") (count ∷ []) ValueValidation (from_turn false first)
+  part_level true b e f g first second =
+      let s = shape_by listing in
+      up_to_from e f
+      ∙ passed s (state after_from idle 2) at_count (codes "--count") (count ∷ []) (from_turn true first) refl
+      ∙ passed s at_count (state after_count idle 2) count []
+      (plain_turn s at_count.held (option many) 2 count (plain_word_is count g)) (plain_walk s at_count.held (option many) 2 count (plain_word_is count g))
+      ∙ count_end b second
+
+part_by : (first file from count : Text) (a b : Bool) → is_flag file ≡ false → is_flag from ≡ false → is_flag count ≡ false
+    → accepts false value_parser from ≡ a → accepts false value_parser count ≡ b
+    → fault_of program (first ∷ name_of listing ∷ file ∷ codes "--from" ∷ from ∷ codes "--count" ∷ count ∷ []) ≡ (if a && b then [] else ValueValidation ∷ [])
+unfolding clap_on_literals
+part_by first file from count true true e f g one two = ap (λ (k : Kinds). or_else k []) (part_level file from count true true e f g one two)
+part_by first file from count true false e f g one two = ap (λ (k : Kinds). or_else k []) (part_level file from count true false e f g one two)
+part_by first file from count false b e f g one two = ap (λ (k : Kinds). or_else k []) (part_level file from count false b e f g one two)
+
+-- `records FILE --from I --count N` has none, where I and N are numbers of 64 bits
+pub takes_part : (first file from count : Text) → is_flag file ≡ false → IsUnsignedIn 0 most from → IsUnsignedIn 0 most count
+    → fault_of program (first ∷ name_of listing ∷ file ∷ codes "--from" ∷ from ∷ codes "--count" ∷ count ∷ []) ≡ []
+takes_part first file from count e f g =
+    part_by first file from count true true e (number_is_plain 0 most from f) (number_is_plain 0 most count g)
+    (Accepts-accepts false value_parser from f) (Accepts-accepts false value_parser count g)
+
+-- and where one of them isn't, that is a fault
+pub refuses_part : (first file from count : Text) → is_flag file ≡ false → is_flag from ≡ false → is_flag count ≡ false → (IsUnsignedIn 0 most from × IsUnsignedIn 0 most count → ⊥)
+    → fault_of program (first ∷ name_of listing ∷ file ∷ codes "--from" ∷ from ∷ codes "--count" ∷ count ∷ []) ≡ ValueValidation ∷ []
+refuses_part first file from count e f g never =
+    go (accepts false value_parser from) (accepts false value_parser count) refl refl
+  where
+    go : (a b : Bool) → accepts false value_parser from ≡ a → accepts false value_parser count ≡ b
+        → fault_of program (first ∷ name_of listing ∷ file ∷ codes "--from" ∷ from ∷ codes "--count" ∷ count ∷ []) ≡ ValueValidation ∷ []
+    go false b one two = part_by first file from count false b e f g one two
+    go true false one two = part_by first file from count true false e f g one two
+    go true true one two = absurd (never (accepts-Accepts false value_parser from one, accepts-Accepts false value_parser count two))

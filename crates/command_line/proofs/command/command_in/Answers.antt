@@ -1,0 +1,89 @@
+use Rattle.std.proofs.Common.{◌∙◌, sym}
+use Rattle.clap.specs.Words.{first_value, found_of}
+use Rattle.command_line.proofs.Matched.{besides_of, checked_as, has_subcommand, input_there, is_some_by, matched, number_as, read_as, spells_one, thing_is}
+use Rattle.command_line.proofs.Named.{checking, last_command, listing, of_frame, of_frames, of_graph, of_run, of_vat, ordering}
+use Rattle.command_line.specs.Parser.{count, most, path, start, workers}
+use Rattle.command_line.proofs.command.command_in.Goals as goal
+
+pub unreachable-requires : goal.unreachable-requires
+unreachable-requires c = has_subcommand c.requires.0 c.args.matches.now c.requires.1 c.in_default.ensures.name
+
+pub value_of-input-requires : goal.value_of-input-requires
+value_of-input-requires c = input_there (matched c.requires.0 c.args.matches.now c.in-Some.given.now c.in-Some.name.now c.requires.1 c.in-Some.ensures.name c.in-Some.ensures.rows)
+
+pub workers_of-requires-clause-given : goal.workers_of-requires-clause-given
+workers_of-requires-clause-given c =
+    let m = matched c.requires.0 c.args.matches.now c.in-Some.given.now c.in-Some.name.now c.requires.1 c.in-Some.ensures.name c.in-Some.ensures.rows in
+    let many = besides_of m checking c.in-check.is in
+    is_some_by (first_value (found_of c.in-Some.given.now) workers) many.0 (m.each workers ∙ many.1.0)
+
+pub workers_of-requires-clause-checked : goal.workers_of-requires-clause-checked
+workers_of-requires-clause-checked c =
+    let m = matched c.requires.0 c.args.matches.now c.in-Some.given.now c.in-Some.name.now c.requires.1 c.in-Some.ensures.name c.in-Some.ensures.rows in
+    let many = besides_of m checking c.in-check.is in
+    rw (m.each workers ∙ many.1.0) many.1.1
+
+pub value_of-requires : goal.value_of-requires
+value_of-requires c =
+    let m = matched c.requires.0 c.args.matches.now c.in-Some.given.now c.in-Some.name.now c.requires.1 c.in-Some.ensures.name c.in-Some.ensures.rows in
+    let out = besides_of m ordering c.in-order.is in
+    is_some_by (first_value (found_of c.in-Some.given.now) path) out.0 (m.each path ∙ out.1)
+
+pub number_of-requires : goal.number_of-requires
+number_of-requires c =
+    let m = matched c.requires.0 c.args.matches.now c.in-Some.given.now c.in-Some.name.now c.requires.1 c.in-Some.ensures.name c.in-Some.ensures.rows in
+    checked_as m 0 most start (besides_of m listing c.in-records.is).0
+
+pub number_of-requires-in-records : goal.number_of-requires-in-records
+number_of-requires-in-records c =
+    let m = matched c.requires.0 c.args.matches.now c.in-Some.given.now c.in-Some.name.now c.requires.1 c.in-Some.ensures.name c.in-Some.ensures.rows in
+    checked_as m 0 most count (besides_of m listing c.in-records.is).1
+
+pub returns-in-check-clause-spelled : goal.returns-in-check-clause-spelled
+returns-in-check-clause-spelled c words are =
+    let m = matched words c.args.matches.now c.in-Some.given.now c.in-Some.name.now are c.in-Some.ensures.name c.in-Some.ensures.rows in
+    (m.rows, (read_as m checking c.in-check.is, thing_is m _ c.value_of-input.ensures, number_as m workers _ c.workers_of.ensures.spelled))
+
+pub returns-in-order-clause-spelled : goal.returns-in-order-clause-spelled
+returns-in-order-clause-spelled c words are =
+    let m = matched words c.args.matches.now c.in-Some.given.now c.in-Some.name.now are c.in-Some.ensures.name c.in-Some.ensures.rows in
+    (m.rows, (read_as m ordering c.in-order.is, thing_is m _ c.value_of-input.ensures, sym (m.each path) ∙ c.value_of.ensures))
+
+pub returns-in-records-clause-spelled : goal.returns-in-records-clause-spelled
+returns-in-records-clause-spelled c words are =
+    let m = matched words c.args.matches.now c.in-Some.given.now c.in-Some.name.now are c.in-Some.ensures.name c.in-Some.ensures.rows in (
+      m.rows,
+      (
+        read_as m listing c.in-records.is,
+        thing_is m _ c.value_of-input.ensures,
+        number_as m start _ c.number_of.ensures,
+        number_as m count _ c.number_of-in-records.ensures,
+      ),
+    )
+
+pub returns-in-graph-clause-spelled : goal.returns-in-graph-clause-spelled
+returns-in-graph-clause-spelled c words are =
+    let m = matched words c.args.matches.now c.in-Some.given.now c.in-Some.name.now are c.in-Some.ensures.name c.in-Some.ensures.rows in
+    spells_one m of_graph _ c.in-graph.is c.value_of-input.ensures
+
+pub returns-in-run-clause-spelled : goal.returns-in-run-clause-spelled
+returns-in-run-clause-spelled c words are =
+    let m = matched words c.args.matches.now c.in-Some.given.now c.in-Some.name.now are c.in-Some.ensures.name c.in-Some.ensures.rows in
+    spells_one m of_run _ c.in-run.is c.value_of-input.ensures
+
+pub returns-in-vat-clause-spelled : goal.returns-in-vat-clause-spelled
+returns-in-vat-clause-spelled c words are =
+    let m = matched words c.args.matches.now c.in-Some.given.now c.in-Some.name.now are c.in-Some.ensures.name c.in-Some.ensures.rows in
+    spells_one m of_vat _ c.in-vat.is c.value_of-input.ensures
+
+pub returns-in-frame-clause-spelled : goal.returns-in-frame-clause-spelled
+returns-in-frame-clause-spelled c words are =
+    let m = matched words c.args.matches.now c.in-Some.given.now c.in-Some.name.now are c.in-Some.ensures.name c.in-Some.ensures.rows in
+    spells_one m of_frame _ c.in-frame.is c.value_of-input.ensures
+
+pub returns-in_default-name-clause-spelled : goal.returns-in_default-name-clause-spelled
+returns-in_default-name-clause-spelled c words are =
+    let m = matched words c.args.matches.now c.in-Some.given.now c.in-Some.name.now are c.in-Some.ensures.name c.in-Some.ensures.rows in
+    let not = c.in_default-name in
+    let is = last_command m.command c.in-Some.name.now m.named not.not-check not.not-order not.not-graph not.not-run not.not-vat not.not-records not.not-frame in
+    spells_one m of_frames _ is c.value_of-input.ensures

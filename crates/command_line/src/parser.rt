@@ -1,0 +1,228 @@
+//! What `clap` is told of the command line.
+
+ghost use Rattle.std.specs.Prelude.{◌≡◌, ℕ, List, IfOk, Some, codes, false};
+ghost use Rattle.clap.specs.Words.{Rule, app_of, new_rule, rule_of, with_subcommand};
+ghost use Rattle.command_line.specs.Parser.{check, input_rule, judging, order, program, reader, records, top, workers_rule};
+
+use crate::help;
+use clap::builder::ValueParser;
+use clap::{Arg, Command};
+use std::alloc::{AllocError, Global};
+
+/// By what `clap` knows the one thing that a command reads.
+pub(crate) const INPUT: &str = "input";
+
+/// By what `clap` knows the number of workers.
+pub(crate) const WORKERS: &str = "workers";
+
+/// By what `clap` knows the file that is written.
+pub(crate) const OUT: &str = "out";
+
+/// By what `clap` knows the number of the first record.
+pub(crate) const FROM: &str = "from";
+
+/// By what `clap` knows how many records are wanted.
+pub(crate) const COUNT: &str = "count";
+
+/// What is said of a command that reads one thing.
+#[derive(Drop)]
+struct Reader<'a> {
+    name: &'a str,
+    about: &'a str,
+    long_about: &'a str,
+    after_help: &'a str,
+    thing: &'a str,
+    help: &'a str,
+}
+
+/// The one thing that a command reads, which has to be given.
+fn input<'a>(alloc: Global, thing: &'a str, help: &'a str) -> Arg<'a>
+    ensures rule { rule_of result ≡ input_rule }
+    ensures local { result.global ≡ false }
+{
+    Arg::new(alloc, INPUT)
+        .value_name(thing)
+        .required(true)
+        .help(help)
+}
+
+/// An option whose value is one of these numbers.
+fn number_option<'a>(
+    alloc: Global,
+    name: &'a str,
+    thing: &'a str,
+    numbers: ValueParser<'a>,
+    help: &'a str,
+) -> Arg<'a>
+    ensures rule { rule_of result ≡ record (new_rule name.entry.now) { long = Some name.entry.now; value_names = 1; parser = Some numbers.entry } }
+    ensures local { result.global ≡ false }
+{
+    Arg::new(alloc, name)
+        .long(name)
+        .value_name(thing)
+        .value_parser(numbers)
+        .help(help)
+}
+
+/// The program with a command that reads one thing.
+///
+/// # Errors
+///
+/// Want of memory.
+fn with_reader<'a>(
+    alloc: Global,
+    program: Command<'a>,
+    said: Reader<'a>,
+) -> Result<Command<'a>, AllocError>
+    ensures { IfOk result (λ c. app_of c ≡ with_subcommand (app_of program.entry) (reader said.entry.name.now).top) }
+{
+    let command = Command::new(alloc, said.name)
+        .about(said.about)
+        .long_about(said.long_about)
+        .after_help(said.after_help)
+        .arg(input(alloc, said.thing, said.help))?;
+    program.subcommand(command)
+}
+
+/// The program with its command `check CASE`, which has the option `--workers N`.
+///
+/// # Errors
+///
+/// Want of memory.
+fn with_check<'a>(alloc: Global, program: Command<'a>) -> Result<Command<'a>, AllocError>
+    ensures { IfOk result (λ c. app_of c ≡ with_subcommand (app_of program.entry) check.top) }
+{
+    let workers = clap::value_parser!(u64).range(1..=64);
+    let workers = number_option(alloc, WORKERS, "N", workers, help::WORKERS).default_value("1");
+    let check = Command::new(alloc, "check")
+        .about(help::CHECK)
+        .long_about(help::CHECK_LONG)
+        .after_help(help::CHECK_END)
+        .arg(input(alloc, "CASE", help::CASE))?
+        .arg(workers)?;
+    program.subcommand(check)
+}
+
+/// The program with its command `order CASE --out FILE`.
+///
+/// # Errors
+///
+/// Want of memory.
+fn with_order<'a>(alloc: Global, program: Command<'a>) -> Result<Command<'a>, AllocError>
+    ensures { IfOk result (λ c. app_of c ≡ with_subcommand (app_of program.entry) order.top) }
+{
+    let out = Arg::new(alloc, OUT)
+        .long("out")
+        .value_name("FILE")
+        .required(true)
+        .help(help::OUT);
+    let order = Command::new(alloc, "order")
+        .about(help::ORDER)
+        .long_about(help::ORDER_LONG)
+        .after_help(help::ORDER_END)
+        .arg(input(alloc, "CASE", help::CASE))?
+        .arg(out)?;
+    program.subcommand(order)
+}
+
+/// The program with its command `records FILE`, which has the options `--from I` and `--count N`.
+///
+/// # Errors
+///
+/// Want of memory.
+fn with_records<'a>(alloc: Global, program: Command<'a>) -> Result<Command<'a>, AllocError>
+    ensures { IfOk result (λ c. app_of c ≡ with_subcommand (app_of program.entry) records.top) }
+{
+    let from = number_option(alloc, FROM, "I", clap::value_parser!(u64), help::FROM);
+    let count = number_option(alloc, COUNT, "N", clap::value_parser!(u64), help::COUNT);
+    let records = Command::new(alloc, "records")
+        .about(help::RECORDS)
+        .long_about(help::RECORDS_LONG)
+        .after_help(help::RECORDS_END)
+        .arg(input(alloc, "FILE", help::FILE))?
+        .arg(from)?
+        .arg(count)?;
+    program.subcommand(records)
+}
+
+/// The program with its commands that read a case: `check CASE`, `order CASE --out FILE`, `graph CASE` and `run CASE`.
+///
+/// # Errors
+///
+/// Want of memory.
+fn with_cases<'a>(alloc: Global, program: Command<'a>) -> Result<Command<'a>, AllocError>
+    requires { app_of program ≡ top }
+    ensures { IfOk result (λ c. app_of c ≡ judging) }
+{
+    let graph = Reader {
+        name: "graph",
+        about: help::GRAPH,
+        long_about: help::GRAPH_LONG,
+        after_help: help::GRAPH_END,
+        thing: "CASE",
+        help: help::CASE,
+    };
+    let run = Reader {
+        name: "run",
+        about: help::RUN,
+        long_about: help::RUN_LONG,
+        after_help: help::RUN_END,
+        thing: "CASE",
+        help: help::CASE,
+    };
+    let judging = with_order(alloc, with_check(alloc, program)?)?;
+    with_reader(alloc, with_reader(alloc, judging, graph)?, run)
+}
+
+/// The program with its commands that read a log or frames: `vat FILE`, `records FILE`, `frame HEX` and `frames FILE`.
+///
+/// # Errors
+///
+/// Want of memory.
+fn with_files<'a>(alloc: Global, cases: Command<'a>) -> Result<Command<'a>, AllocError>
+    requires { app_of cases ≡ judging }
+    ensures { IfOk result (λ c. app_of c ≡ program) }
+{
+    let vat = Reader {
+        name: "vat",
+        about: help::VAT,
+        long_about: help::VAT_LONG,
+        after_help: help::VAT_END,
+        thing: "FILE",
+        help: help::FILE,
+    };
+    let frame = Reader {
+        name: "frame",
+        about: help::FRAME,
+        long_about: help::FRAME_LONG,
+        after_help: help::FRAME_END,
+        thing: "HEX",
+        help: help::HEX,
+    };
+    let frames = Reader {
+        name: "frames",
+        about: help::FRAMES,
+        long_about: help::FRAMES_LONG,
+        after_help: help::FRAMES_END,
+        thing: "FILE",
+        help: help::FRAMES_FILE,
+    };
+    let logs = with_records(alloc, with_reader(alloc, cases, vat)?)?;
+    with_reader(alloc, with_reader(alloc, logs, frame)?, frames)
+}
+
+/// The program's command line, with its help.
+///
+/// # Errors
+///
+/// Want of memory.
+pub(crate) fn command_line<'a>(alloc: Global) -> Result<Command<'a>, AllocError>
+    ensures { IfOk result (λ c. app_of c ≡ program) }
+{
+    let top = Command::new(alloc, "vataudit")
+        .about(help::PROGRAM)
+        .after_help(help::PROGRAM_END)
+        .subcommand_required(true)
+        .arg_required_else_help(true);
+    with_files(alloc, with_cases(alloc, top)?)
+}

@@ -1,4 +1,6 @@
 mod Falling
 mod Listing
+mod Judged
 mod Mapped
+mod Running
 mod Told

@@ -3,7 +3,7 @@ use Rattle.std.proofs.Common.{◌≡◌, ℕ, List, Option, Some, None, Result, 
 use Rattle.std.specs.Result.{result_unwrap_or}
 use Rattle.case_files.specs.CaseReading.{Reads}
 use Rattle.command_line.specs.declared.command.Command.{Command}
-use Rattle.command_line.specs.declared.command.Command.TheVariants.{Vat, Frame, Frames, Order, Records}
+use Rattle.command_line.specs.declared.command.Command.TheVariants.{Check, Order, Graph, Run, Vat, Records, Frame, Frames}
 use Rattle.command_run.specs.declared.output.Failed.{Failed}
 use Rattle.command_run.specs.declared.output.Failed.TheVariants.{Out, File}
 use Rattle.command_run.specs.Runs.{Adds, Answering, CarriesOut, Saves, Writes, WritesOrFails, Wrote}
@@ -27,6 +27,9 @@ module _ {W F E X : Type 0} (in_out : W → Option (List ℕ)) (out_done : W →
   pub carried : {S : Type 0} (gives : Reads S) (command : Command) (old new : S)
       → CarriesOut gives command old new (λ answers. Writes answers (Wrote in_out out_done) (Wrote in_file file_done) out out_new file file_new r)
       → CarriesOut gives command old new (λ answers. WritesOrFails answers (Adds in_out) (Adds in_file) out out_new file file_new ended)
+  carried gives (Check name workers) old new c = mapped _ c
+  carried gives (Graph name) old new c = mapped _ c
+  carried gives (Run name) old new c = mapped _ c
   carried gives (Vat name) old new c = (c.0, c.1, mapped _ c.2)
   carried gives (Frame hex) old new c = (c.0, mapped _ c.1)
   carried gives (Frames name) old new c = (c.0, c.1, mapped _ c.2)

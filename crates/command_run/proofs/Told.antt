@@ -1,10 +1,11 @@
 -- Answers that were said, or whose write failed.
-use Rattle.std.proofs.Common.{◌≡◌, ℕ, List, Result, Ok, Err, IfOk, OnOk, subst, sym}
+use Rattle.std.proofs.Common.{◌≡◌, ℕ, List, None, Result, Ok, Err, IfOk, OnOk, refl, subst, sym}
 use Rattle.std.specs.Prelude.{IsErrAnd}
 use Rattle.report_lines.specs.declared.answer.Answer.{Answer}
 use Rattle.report_lines.specs.Lines.{answer_status, answer_text, line}
-use Rattle.command_run.specs.Glue.{Prints}
-use Rattle.command_run.specs.Runs.{Writing}
+use Rattle.command_run.specs.declared.output.Failed.{Failed}
+use Rattle.command_run.specs.Glue.{Prints, of_lines}
+use Rattle.command_run.specs.Runs.{NoFile, Writes, Writing}
 
 -- one answer
 pub told : {W E : Type 0} (answers : List ℕ → ℕ → Type 0) (wrote : Writing W) (old new : W) (answer : Answer) (r : Result ℕ E)
@@ -18,3 +19,11 @@ pub torn : {W E : Type 0} (P : E → Type 0) (answers : List ℕ → ℕ → Typ
     → answers text status → IsErrAnd r P → Prints answers wrote old new r
 torn P answers wrote old new (Ok s) text status is failed = absurd failed
 torn P answers wrote old new (Err e) text status is failed = (text, (status, is))
+
+-- lines alone were written
+pub lines_written : {W F E X : Type 0} (answers : List ℕ → ℕ → Type 0) (to_out : Writing W) (to_file : Writing F) (out out_new : W) (file : F) (said : Result ℕ E) (r : Result ℕ (Failed E X))
+    → r ≡ of_lines said → Prints answers to_out out out_new said → Writes (NoFile answers) to_out to_file out out_new file file r
+lines_written {E = E} {X = X} answers to_out to_file out out_new file (Ok status) r is printed =
+    subst (λ (x : Result ℕ (Failed E X)). Writes (NoFile answers) to_out to_file out out_new file file x) (sym is) (printed.0, (None, (printed.1, refl), refl, printed.2))
+lines_written {E = E} {X = X} answers to_out to_file out out_new file (Err fault) r is printed =
+    subst (λ (x : Result ℕ (Failed E X)). Writes (NoFile answers) to_out to_file out out_new file file x) (sym is) (printed.0, (printed.1.0, (None, (printed.1.1, refl), refl)))

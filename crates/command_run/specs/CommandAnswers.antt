@@ -12,6 +12,7 @@ use Rattle.command_run.specs.Answers.{AnswersHex, AnswersLog}
 use Rattle.command_run.specs.OrderAnswers.{AnswersCase}
 use Rattle.command_run.specs.Pieces.{AnswersFrames, Falls, lines}
 use Rattle.command_run.specs.RecordAnswers.{AnswersRecords}
+use Rattle.command_run.specs.ReportAnswers.{AnswersJudged, Reporting}
 
 -- the line and the status for want of memory
 abbrev pub IsOutOfMemory : List ℕ → ℕ → Type 0
@@ -51,3 +52,8 @@ abbrev pub AnswersOrder : {S : Type 0} → Reads S → S → List ℕ → List �
 AnswersOrder gives old name text status bytes new =
     ((came : Result ReadCase CaseFault) × (ComesOfCase gives old name came new × AnswersCase came text status bytes))
     ⊎ (IsOutOfMemory text status × (bytes ≡ None))
+
+-- lines and a status answer the report of the case that a source has under a name, or memory ran out
+abbrev pub AnswersReportOf : Reporting → {S : Type 0} → Reads S → S → List ℕ → S → List ℕ → ℕ → Type 0
+AnswersReportOf answers gives old name new text status =
+    ((came : Result ReadCase CaseFault) × (ComesOfCase gives old name came new × AnswersJudged answers came text status)) ⊎ IsOutOfMemory text status

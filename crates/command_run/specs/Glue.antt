@@ -5,13 +5,19 @@ use Rattle.report_lines.specs.declared.answer.Answer.TheVariants.{Finding}
 use Rattle.report_lines.specs.declared.answer.Answer.TheVariants as answer
 use Rattle.report_lines.specs.declared.fault.Fault.{Fault}
 use Rattle.report_lines.specs.declared.fault.Fault.TheVariants.{OutOfMemory}
-use Rattle.report_lines.specs.Faults.{of_log, of_source}
-use Rattle.case_files.specs.CaseReading.{Read}
+use Rattle.report_lines.specs.Faults.{of_case, of_log, of_source}
+use Rattle.audit_core.specs.Report.{IsReport}
+use Rattle.audit_core.specs.declared.report.Report.{Report}
+use Rattle.case_files.specs.CaseReading.{ComesOfCase, Read, Reads}
+use Rattle.case_files.specs.declared.case_fault.CaseFault.{CaseFault}
+use Rattle.case_files.specs.declared.case_reading.ReadCase.{ReadCase}
 use Rattle.vat_log.specs.declared.body.Body.{Body}
 use Rattle.vat_log.specs.declared.error.LogError.{LogError}
 use Rattle.vat_log.specs.Log.{Log}
 use Rattle.vat_log.specs.Reading.{log_of}
 use Rattle.vat_rules.specs.declared.finding.VatFinding.{VatFinding}
+use Rattle.command_run.specs.declared.output.Failed.{Failed}
+use Rattle.command_run.specs.declared.output.Failed.TheVariants.{Out}
 use Rattle.command_run.specs.RecordAnswers.{first_ones}
 use Rattle.command_run.specs.Runs.{Writing}
 
@@ -35,3 +41,13 @@ Prints answers wrote old new (Err fault) = (text : List ℕ) × ((status : ℕ) 
 -- of so many records, those from the first one on up to an end are those that are asked for
 abbrev pub Ends : ℕ → Option ℕ → ℕ → ℕ → Type 0
 Ends first many count end = (events : List Body) → length events ≡ count → take (end - first) (drop first events) ≡ first_ones many (drop first events)
+
+-- what came of a case that was judged: its report, or its fault, or memory ran out
+abbrev pub ComesJudged : {S : Type 0} → Reads S → S → List ℕ → Result Report Fault → S → Type 0
+ComesJudged gives old name (Ok report) new = (came : ReadCase) × (ComesOfCase gives old name (Ok came) new × IsReport came.case came.order report)
+ComesJudged gives old name (Err fault) new = (fault ≡ OutOfMemory) ⊎ ((found : CaseFault) × (ComesOfCase gives old name (Err found) new × (fault ≡ of_case found)))
+
+-- what came of writing lines alone: a write that failed is one of them
+abbrev pub of_lines : {E X : Type 0} → Result ℕ E → Result ℕ (Failed E X)
+of_lines (Ok status) = Ok status
+of_lines (Err fault) = Err (Out fault)

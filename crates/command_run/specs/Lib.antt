@@ -4,4 +4,5 @@ pub mod Glue
 pub mod OrderAnswers
 pub mod Pieces
 pub mod RecordAnswers
+pub mod ReportAnswers
 pub mod Runs

@@ -3,10 +3,11 @@ use Rattle.std.specs.Prelude.{◌≡◌, ◌⊎◌, ℕ, List, Option, Some, Non
 use Rattle.std.specs.Io.KnownBytes.{Appends}
 use Rattle.case_files.specs.CaseReading.{Read, Reads}
 use Rattle.command_line.specs.declared.command.Command.{Command}
-use Rattle.command_line.specs.declared.command.Command.TheVariants.{Vat, Frame, Frames, Order, Records}
+use Rattle.command_line.specs.declared.command.Command.TheVariants.{Check, Order, Graph, Run, Vat, Records, Frame, Frames}
 use Rattle.command_run.specs.declared.output.Failed.{Failed}
 use Rattle.command_run.specs.declared.output.Failed.TheVariants.{Out, File}
-use Rattle.command_run.specs.CommandAnswers.{AnswersFile, AnswersFrame, AnswersLogRecords, AnswersOrder, AnswersSource}
+use Rattle.command_run.specs.CommandAnswers.{AnswersFile, AnswersFrame, AnswersLogRecords, AnswersOrder, AnswersReportOf, AnswersSource}
+use Rattle.command_run.specs.ReportAnswers.{AnswersGraph, AnswersReport, AnswersRun}
 
 -- lines, a status and the bytes for the file, if there are any, are an answer
 abbrev pub Answering : Type 1
@@ -23,6 +24,9 @@ CarriesOut gives (Vat file) old new writes = (read : Read) × gives old file.now
 CarriesOut gives (Frame hex) old new writes = (new ≡ old) × writes (NoFile (AnswersFrame hex.now))
 CarriesOut gives (Frames file) old new writes = (read : Read) × gives old file.now read new × writes (NoFile (AnswersFile read))
 CarriesOut gives (Records file first many) old new writes = (read : Read) × gives old file.now read new × writes (NoFile (AnswersLogRecords first many read))
+CarriesOut gives (Check name workers) old new writes = writes (NoFile (AnswersReportOf AnswersReport gives old name.now new))
+CarriesOut gives (Graph name) old new writes = writes (NoFile (AnswersReportOf AnswersGraph gives old name.now new))
+CarriesOut gives (Run name) old new writes = writes (NoFile (AnswersReportOf AnswersRun gives old name.now new))
 CarriesOut gives (Order name out) old new writes = writes (λ text status bytes. AnswersOrder gives old name.now text status bytes new)
 
 -- what may come of writing: the writer, what was written, and the writer afterwards

@@ -1,21 +1,26 @@
 //! A command, run: what it asks of its source, and what it writes.
 //!
-//! It stands on `command_line`, whose `Command` it runs, on `case_files`, whose `Source` it asks, and on the crates
-//! that read logs, frames and cases; `report_lines` shows what it answers. It opens no file: a source gives bytes by
-//! name, and an [`Output`] takes lines and bytes. The answer of each command stands in `specs/CommandAnswers.antt`,
-//! over that of a log and of a frame (`specs/Answers.antt`), of a file of frames (`specs/Pieces.antt`) and of a case
-//! (`specs/OrderAnswers.antt`) and of the records of a log (`specs/RecordAnswers.antt`); what a run asks for and writes in `specs/Runs.antt`. [`answer_command`] does just
-//! that, or answers the error of a write; [`run_on`] does it over std's writers and ends with 2 where a write failed.
+//! It stands on `command_line`, whose `Command` it runs, on `case_files`, whose `Source` it asks, on the crates that read
+//! logs, frames and cases, on `audit_core`, which audits a case, and on `authority`, which finds the edges of its run;
+//! `report_lines` shows what it answers. It opens no file: a source gives bytes by name, and an [`Output`] takes lines and
+//! bytes. The answer of each command stands in `specs/CommandAnswers.antt`, over that of a log and of a frame
+//! (`specs/Answers.antt`), of a file of frames (`specs/Pieces.antt`), of the records of a log (`specs/RecordAnswers.antt`), of
+//! a case whose order is asked for (`specs/OrderAnswers.antt`), and of one that is judged (`specs/ReportAnswers.antt`); what a
+//! run asks for and writes in `specs/Runs.antt`. [`answer_command`] does just that, or answers the error of a write;
+//! [`run_on`] does it over std's writers and ends with 2 where a write failed.
 #![tactic(auto)]
 
+mod edges;
 mod frame;
 mod frames;
 mod order;
 mod output;
 mod piece;
 mod records;
+mod report;
 mod run;
 mod say;
+mod steps;
 mod vat;
 
 pub use output::{Failed, Output};

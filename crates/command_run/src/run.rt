@@ -1,67 +1,90 @@
 //! Commands, run over a source and writers.
 
 ghost use Rattle.std.specs.Prelude.{◌≡◌};
+ghost use Rattle.command_line.specs.Spelled.{HasWorkers};
+ghost use Rattle.command_run.specs.Glue.{of_lines};
 ghost use Rattle.command_run.specs.Runs.{Adds, CarriesOut, Writes, WritesOrFails, Wrote};
 
+use crate::edges::say_graph;
 use crate::frame::say_frame;
 use crate::frames::say_frames;
 use crate::order::say_order;
 use crate::output::{Failed, Output};
 use crate::records::say_records;
+use crate::report::say_report;
+use crate::steps::say_run;
 use crate::vat::say_vat;
 use case_files::Source;
 use command_line::Command;
 use std::alloc::Global;
 use std::io::Write;
+use std::sync::Wait;
+use std::thread::Threads;
 
 /// The exit status where a write fails, or the command line is wrong.
 pub const FAILED: u8 = 2;
 
-/// Runs a command: writes its line, or its lines, to `out`, and answers the exit status. It is 0 where the log is
-/// good, the message of each frame is said, the records are or an order is made, 1 where a record breaks a rule or no order exists, 2
-/// where a record isn't judged, a message isn't read, or the input is bad or can't be read, and 3 where memory ran
-/// out. To `file` go the bytes of an order alone, before the line.
-///
-/// # Errors
-///
-/// That of a write; nothing is written after it. Where no write can fail, there is none.
-pub fn answer_command<S: Source, O: Output, F: Output>(
-    alloc: Global,
-    command: &Command<'_>,
-    source: &mut S,
-    out: &mut O,
-    file: &mut F,
-) -> Result<u8, Failed<O::Error, F::Error>>
-    requires out { O.can_write out.old }
-    requires file { F.can_write file.old }
-    ensures { CarriesOut S.read_gives command.now source.old source.new (λ answers. Writes answers (Wrote O.contents O.is_finished) (Wrote F.contents F.is_finished) out.old out.new file.old file.new result) }
+/// What came of writing lines alone: a write that failed is one of them.
+fn of_lines<O, F>(said: Result<u8, O>) -> Result<u8, Failed<O, F>>
+    ensures { result ≡ of_lines said }
 {
-    let said = match command {
-        Command::Vat { file: name } => say_vat(alloc, name, source, out),
-        Command::Frame { hex } => say_frame(alloc, hex, out),
-        Command::Frames { file: name } => say_frames(alloc, name, source, out),
-        Command::Records {
-            file: name,
-            from,
-            count,
-        } => say_records(alloc, name, *from, *count, source, out),
-        Command::Order { case, .. } => return say_order(alloc, case, source, out, file),
-    };
     match said {
         Ok(status) => Ok(status),
         Err(fault) => Err(Failed::Out(fault)),
     }
 }
 
+/// Runs a command: writes its line, or its lines, to `out`, and answers the exit status. It is 0 where the log is good, the
+/// report of a case is yes, the message of each frame is said, the records are or an order is made; 1 where a record breaks
+/// a rule, the report is a no, or no order exists; 2 where a record isn't judged, a message isn't read, or the input is bad
+/// or can't be read; and 3 where memory ran out. To `file` go the bytes of an order alone, before the line. `rt` is for the
+/// workers that audit a case; today all is done on the calling thread.
+///
+/// # Errors
+///
+/// That of a write; nothing is written after it. Where no write can fail, there is none.
+pub fn answer_command<R: Threads + Wait + Sync, S: Source, O: Output, F: Output>(
+    rt: &R,
+    alloc: Global,
+    command: &Command<'_>,
+    source: &mut S,
+    out: &mut O,
+    file: &mut F,
+) -> Result<u8, Failed<O::Error, F::Error>>
+    requires workers { HasWorkers command.now }
+    requires out { O.can_write out.old }
+    requires file { F.can_write file.old }
+    ensures { CarriesOut S.read_gives command.now source.old source.new (λ answers. Writes answers (Wrote O.contents O.is_finished) (Wrote F.contents F.is_finished) out.old out.new file.old file.new result) }
+{
+    match command {
+        Command::Check { case, workers } => {
+            of_lines(say_report(rt, alloc, case, *workers, source, out))
+        }
+        Command::Order { case, .. } => say_order(alloc, case, source, out, file),
+        Command::Graph { case } => of_lines(say_graph(rt, alloc, case, source, out)),
+        Command::Run { case } => of_lines(say_run(rt, alloc, case, source, out)),
+        Command::Vat { file: name } => of_lines(say_vat(alloc, name, source, out)),
+        Command::Records {
+            file: name,
+            from,
+            count,
+        } => of_lines(say_records(alloc, name, *from, *count, source, out)),
+        Command::Frame { hex } => of_lines(say_frame(alloc, hex, out)),
+        Command::Frames { file: name } => of_lines(say_frames(alloc, name, source, out)),
+    }
+}
+
 /// Runs a command over std's writers: as `answer_command`, and the exit status is 2 where a write fails.
-pub fn run_on<S: Source, W: Write, F: Write>(
+pub fn run_on<R: Threads + Wait + Sync, S: Source, W: Write, F: Write>(
+    rt: &R,
     alloc: Global,
     command: &Command<'_>,
     source: &mut S,
     out: &mut W,
     file: &mut F,
 ) -> u8
+    requires { HasWorkers command.now }
     ensures { CarriesOut S.read_gives command.now source.old source.new (λ answers. WritesOrFails answers (Adds W.contents) (Adds F.contents) out.old out.new file.old file.new result) }
 {
-    answer_command(alloc, command, source, out, file).unwrap_or(FAILED)
+    answer_command(rt, alloc, command, source, out, file).unwrap_or(FAILED)
 }

@@ -1,0 +1,17 @@
+use Rattle.command_run.specs.CommandAnswers.{AnswersReportOf}
+use Rattle.command_run.specs.ReportAnswers.{AnswersGraph, AnswersRun}
+use Rattle.command_run.specs.Runs.{Wrote}
+use Rattle.command_run.proofs.Told.{lines_written}
+use Rattle.command_run.proofs.run.answer_command.Goals as goal
+
+pub returns-in-Graph : goal.returns-in-Graph
+returns-in-Graph g c =
+    rw c.in-Graph.is
+    (lines_written (AnswersReportOf AnswersGraph g.S.Source.read_gives c.args.source.now c.in-Graph.case.now c.say_graph.new.source) (Wrote g.O.Output.contents g.O.Output.is_finished)
+    (Wrote g.F.Output.contents g.F.Output.is_finished) c.args.out.now c.say_graph.new.out c.args.file.now c.say_graph.result c.of_lines-in-Graph.result c.of_lines-in-Graph.ensures c.say_graph.ensures)
+
+pub returns-in-Run : goal.returns-in-Run
+returns-in-Run g c =
+    rw c.in-Run.is
+    (lines_written (AnswersReportOf AnswersRun g.S.Source.read_gives c.args.source.now c.in-Run.case.now c.say_run.new.source) (Wrote g.O.Output.contents g.O.Output.is_finished)
+    (Wrote g.F.Output.contents g.F.Output.is_finished) c.args.out.now c.say_run.new.out c.args.file.now c.say_run.result c.of_lines-in-Run.result c.of_lines-in-Run.ensures c.say_run.ensures)

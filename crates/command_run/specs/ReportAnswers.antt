@@ -1,0 +1,72 @@
+-- The lines and the exit status that answer a case which is judged: the line of its report, or where it is yes, and they are
+-- asked for, the edges or the steps of its run.
+use Rattle.std.specs.Prelude.{◌≡◌, ◌≢◌, ℕ, List, [], ◌∷◌, ◌++◌, length, Result, Ok, Err}
+use Rattle.std.specs.List.{flat_map}
+use Rattle.run_model.specs.Edges.{AreEdges, Edge}
+use Rattle.run_model.specs.Steps.{Past}
+use Rattle.run_model.specs.declared.step.Step.{Step}
+use Rattle.authority.specs.Records.{record_of}
+use Rattle.audit_core.specs.Report.{IsReport}
+use Rattle.audit_core.specs.declared.report.Report.{Report as ReportOf}
+use Rattle.audit_core.specs.declared.report.Report.TheVariants.{Yes}
+use Rattle.case_files.specs.declared.case_fault.CaseFault.{CaseFault}
+use Rattle.case_files.specs.declared.case_fault.CaseFault.TheVariants as fault
+use Rattle.case_files.specs.declared.case_reading.ReadCase.{ReadCase}
+use Rattle.report_lines.specs.declared.answer.Answer.TheVariants.{Fault, Report}
+use Rattle.report_lines.specs.EdgeText.{edge_text}
+use Rattle.report_lines.specs.Faults.{of_case}
+use Rattle.report_lines.specs.Lines.{Says, line}
+use Rattle.report_lines.specs.StepText.{step_text}
+
+-- ---- the lines of a run
+
+-- a line for each edge
+abbrev pub edge_lines : List Edge → List ℕ
+edge_lines edges = flat_map (λ edge. line (edge_text edge)) edges
+
+-- the line of a step, by the steps before it
+abbrev pub step_line : Past → Step → List ℕ
+step_line before step = line (step_text (length before) (record_of before step) step)
+
+-- a line for each step of those that follow one another
+abbrev pub step_lines_from : Past → List Step → List ℕ
+step_lines_from before [] = []
+step_lines_from before (step ∷ steps) = step_line before step ++ step_lines_from (step ∷ before) steps
+
+-- a line for each step of a run
+abbrev pub step_lines : List Step → List ℕ
+step_lines run = step_lines_from [] run
+
+-- lines and a status show the edges of a run
+abbrev pub ShowsEdges : List Step → List ℕ → ℕ → Type 0
+ShowsEdges run text status = (edges : List Edge) × (AreEdges run edges × (text ≡ edge_lines edges) × (status ≡ 0))
+
+-- lines and a status show its steps
+abbrev pub ShowsSteps : List Step → List ℕ → ℕ → Type 0
+ShowsSteps run text status = (text ≡ step_lines run) × (status ≡ 0)
+
+-- ---- what answers a report
+
+-- a report, and the lines and the status that answer it
+abbrev pub Reporting : Type 1
+Reporting = ReportOf → List ℕ → ℕ → Type 0
+
+-- where it is asked for: its line
+abbrev pub AnswersReport : Reporting
+AnswersReport report text status = Says (Report report) text status
+
+-- where the graph is asked for: the edges of the run, or the line of a report that isn't yes
+abbrev pub AnswersGraph : Reporting
+AnswersGraph (Yes vats records delivered under_way run) text status = ShowsEdges run text status
+AnswersGraph report text status = Says (Report report) text status
+
+-- where the run is asked for: its steps, or the line of a report that isn't yes
+abbrev pub AnswersRun : Reporting
+AnswersRun (Yes vats records delivered under_way run) text status = ShowsSteps run text status
+AnswersRun report text status = Says (Report report) text status
+
+-- Lines and a status answer what came of a case: its report by the order that its file names, if it names one, or why there
+-- is none. Want of memory is no answer of a case.
+abbrev pub AnswersJudged : Reporting → Result ReadCase CaseFault → List ℕ → ℕ → Type 0
+AnswersJudged answers (Ok came) text status = (report : ReportOf) × (IsReport came.case came.order report × answers report text status)
+AnswersJudged answers (Err found) text status = (found ≢ fault.OutOfMemory) × Says (Fault (of_case found)) text status

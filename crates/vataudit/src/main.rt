@@ -1,6 +1,8 @@
-//! Audits what the vats of Cap'n Proto RPC recorded: `vataudit vat FILE` prints one line for the log of one vat,
-//! `vataudit records FILE` a line for each record of a log, `vataudit frame HEX` the message of a frame, `vataudit frames
-//! FILE` that of each frame of a file, and `vataudit order CASE --out FILE` makes an order of the records of a case.
+//! Audits what the vats of Cap'n Proto RPC recorded. Of the logs of a conversation, which a case file names, `vataudit check
+//! CASE` prints one line, `vataudit graph CASE` which vat came to have what of another's, `vataudit run CASE` the steps of
+//! their run, and `vataudit order CASE --out FILE` makes an order of their records. `vataudit vat FILE` prints one line for the
+//! log of one vat, `vataudit records FILE` a line for each record of a log, `vataudit frame HEX` the message of a frame, and
+//! `vataudit frames FILE` that of each frame of a file.
 //!
 //! It stands on `command_line`, which reads the words, and on `command_run`, which runs the command that they spell
 //! and says in its specs/Runs.antt what a run prints. Here are the files: those that are read are a `Source` of
@@ -20,8 +22,11 @@ use command_run::{FAILED, run_on};
 use file::Folder;
 use new_file::NewFile;
 use report_lines::Fault;
+use std::io::Write;
 use std::process::ExitCode;
 use std::rt::Files;
+use std::sync::Wait;
+use std::thread::Threads;
 use std::{env, fs, io};
 
 /// Prints that memory ran out, and gives the exit status: that of a failed write where the line can't be written.
@@ -54,16 +59,20 @@ fn hold_standard_places<R: Files>(rt: &R) -> [io::Result<R::File>; 3] {
     [fs::open(rt, "/"), fs::open(rt, "/"), fs::open(rt, "/")]
 }
 
-/// Does what the words ask, and gives the exit status.
-fn start(rt: &HostRuntime, words: &[String]) -> u8 {
+/// Does what the words ask, writes its lines to `out`, and gives the exit status.
+fn start<R: Threads + Wait + Sync + Files + Input + Print + Eprint + AllocGlobal, W: Write>(
+    rt: &R,
+    out: &mut W,
+    words: &[String],
+) -> u8 {
     let alloc = rt.alloc();
-    let _held = hold_standard_places(rt);
     match command_of(alloc, words) {
         Ok(command) => run_on(
+            rt,
             alloc,
             &command,
             &mut Folder::new(rt),
-            &mut rt.stdout(),
+            out,
             &mut NewFile::new(rt, command.out()),
         ),
         Err(error) => refuse(rt, &error),
@@ -71,10 +80,11 @@ fn start(rt: &HostRuntime, words: &[String]) -> u8 {
 }
 
 fn main(rt: HostRuntime) -> ExitCode {
+    let _held = hold_standard_places(&rt);
     let alloc = rt.alloc();
     let words: io::Result<Vec<String>> = env::args(&rt).and_then(|args| Ok(args.collect(alloc)?));
     ExitCode::from(match words {
-        Ok(words) => start(&rt, &words),
+        Ok(words) => start(&rt, &mut rt.stdout(), &words),
         Err(e) if e.kind() == io::ErrorKind::OutOfMemory => out_of_memory(&rt),
         Err(_) => {
             let _ = rt.eprint("error: an argument isn't UTF-8\n");

@@ -7,6 +7,8 @@ use command_line::command_of;
 use command_run::run_on;
 use std::alloc::{AllocError, Global};
 use std::fmt::Write;
+use std::sync::Wait;
+use std::thread::Threads;
 use vat_notation::{Fault, Script, words_of};
 
 /// What a run wrote to its output, its exit status, and what it wrote to the file of an order.
@@ -19,7 +21,12 @@ pub struct Told {
 
 /// Runs the program with these words, of which the first is its name, over these files. Words that it doesn't understand have
 /// status 2 and no line, since their fault is told on standard error.
-pub fn ask(alloc: Global, words: &[&str], files: Vec<(String, Bytes)>) -> Result<Told, Fault> {
+pub fn ask<R: Threads + Wait + Sync>(
+    rt: &R,
+    alloc: Global,
+    words: &[&str],
+    files: Vec<(String, Bytes)>,
+) -> Result<Told, Fault> {
     let mut told = Told {
         out: Vec::new(alloc),
         status: 2,
@@ -28,7 +35,14 @@ pub fn ask(alloc: Global, words: &[&str], files: Vec<(String, Bytes)>) -> Result
     let mut source = FileList::new(files);
     match command_of(alloc, words) {
         Ok(command) => {
-            told.status = run_on(alloc, &command, &mut source, &mut told.out, &mut told.made);
+            told.status = run_on(
+                rt,
+                alloc,
+                &command,
+                &mut source,
+                &mut told.out,
+                &mut told.made,
+            );
             Ok(told)
         }
         Err(error) if error.kind() == ErrorKind::OutOfMemory => Err(Fault::OutOfMemory),
@@ -68,10 +82,14 @@ fn text_of(alloc: Global, told: &Told) -> Result<String, Fault> {
 
 /// What the run that a conversation asks for prints, with `made V V ..` behind it where it wrote an order, and its status as
 /// a last line.
-pub fn answer(alloc: Global, script: &Script<'_>) -> Result<String, Fault> {
+pub fn answer<R: Threads + Wait + Sync>(
+    rt: &R,
+    alloc: Global,
+    script: &Script<'_>,
+) -> Result<String, Fault> {
     let asked = script.asked.unwrap_or("");
     let text = format!(in alloc; "vataudit {asked}")?;
     let words = words_of(alloc, text.as_str())?;
-    let told = ask(alloc, &words, script.files(alloc)?)?;
+    let told = ask(rt, alloc, &words, script.files(alloc)?)?;
     text_of(alloc, &told)
 }

@@ -11,6 +11,8 @@ mod tests;
 
 use asking::answer;
 use std::rt::Files;
+use std::sync::Wait;
+use std::thread::Threads;
 use std::{fs, io};
 use vat_notation::{Fault, Script};
 
@@ -70,7 +72,7 @@ impl Tally {
 }
 
 /// Runs what a conversation asks for, and compares.
-fn run<R: Print + AllocGlobal>(
+fn run<R: Print + Threads + Wait + Sync + AllocGlobal>(
     rt: &R,
     name: &str,
     text: &str,
@@ -84,7 +86,7 @@ fn run<R: Print + AllocGlobal>(
             Ok(true) => {
                 let asked = script.asked.unwrap_or("");
                 let place = format!(in alloc; "{name}: {asked}")?;
-                match answer(alloc, &script) {
+                match answer(rt, alloc, &script) {
                     Ok(came) => tally.compare(rt, place.as_str(), &script.wanted, came.as_str())?,
                     Err(fault) => tally.refuse(rt, place.as_str(), asked, fault)?,
                 }
@@ -97,7 +99,7 @@ fn run<R: Print + AllocGlobal>(
 }
 
 /// Runs each conversation of the list.
-fn run_all<R: Print + Files + AllocGlobal>(rt: &R) -> io::Result<Tally> {
+fn run_all<R: Print + Files + Threads + Wait + Sync + AllocGlobal>(rt: &R) -> io::Result<Tally> {
     let mut tally = Tally { same: 0, other: 0 };
     let list = fs::read_to_string(rt, "conversations.txt")?;
     for name in list.lines() {

@@ -1,7 +1,7 @@
 //! The edges of runs: which vat came to have which capability of another, and where first.
 
 use super::given::Refused;
-use authority::graph;
+use authority::{graph, record_numbers};
 use cap_frame::Path;
 use run_model::{Cap, Caps, Message, Name, Run, Step};
 use std::alloc::Global;
@@ -139,13 +139,18 @@ fn step(alloc: Global, did: Did) -> Result<Step, Refused> {
     }
 }
 
-/// Whether the run of these has just these edges.
-fn has_edges(alloc: Global, did: &[Did], told: &[Told]) -> Result<bool, Refused> {
+/// The run of these.
+fn run_of(alloc: Global, did: &[Did]) -> Result<Run, Refused> {
     let mut steps = Vec::new(alloc);
     for one in did {
         steps.push(step(alloc, *one)?)?;
     }
-    let found = graph(alloc, &Run::new(steps))?;
+    Ok(Run::new(steps))
+}
+
+/// Whether the run of these has just these edges.
+fn has_edges(alloc: Global, did: &[Did], told: &[Told]) -> Result<bool, Refused> {
+    let found = graph(alloc, &run_of(alloc, did)?)?;
     let mut all = found.edges().len() == told.len();
     for (edge, (vat, held, at_record, place)) in found.edges().iter().zip(told) {
         let is_there = edge.vat == *vat && edge.at_record == *at_record && edge.place == *place;
@@ -163,4 +168,32 @@ fn a_run_has_just_its_edges(rt: HostRuntime) {
         };
         assert!(rt; is_so, "{did:?} {told:?}");
     }
+}
+
+/// What two vats did in turns, and the number of each record.
+const RECORDS: (&[Did], &[u64]) = (
+    &[
+        Host(1),
+        Host(2),
+        Host(1),
+        Bind(2, &[Object(1, 5)]),
+        Bind(2, &[]),
+        Host(1),
+    ],
+    &[0, 0, 1, 1, 2, 2],
+);
+
+/// Whether the records of the run of these have these numbers.
+fn has_records(alloc: Global, did: &[Did], numbers: &[u64]) -> Result<bool, Refused> {
+    Ok(record_numbers(alloc, &run_of(alloc, did)?)?.as_slice() == numbers)
+}
+
+#[test]
+fn records_are_counted_vat_by_vat(rt: HostRuntime) {
+    let (did, numbers) = RECORDS;
+    let is_so = match has_records(rt.alloc(), did, numbers) {
+        Ok(is_so) => is_so,
+        Err(_) => has_records(rt.alloc(), did, numbers).unwrap_or(false),
+    };
+    assert!(rt; is_so);
 }

@@ -9,6 +9,8 @@ use command_run::run_on;
 use std::alloc::Global;
 use std::io;
 use std::io::Write;
+use std::sync::Wait;
+use std::thread::Threads;
 
 /// A source without memory.
 #[derive(Drop)]
@@ -43,51 +45,69 @@ impl Write for Narrow {
     }
 }
 
-/// The commands that read what a source has under the name `given`.
-const READERS: [Command<'static>; 4] = [
-    Command::Vat { file: "given" },
-    Command::Records {
-        file: "given",
-        from: None,
-        count: None,
-    },
-    Command::Frames { file: "given" },
-    Command::Order {
-        case: "given",
-        out: "made",
-    },
+/// The words of the commands that read what a source has under the name `given`.
+const READERS: [&[&str]; 7] = [
+    &["vataudit", "vat", "given"],
+    &["vataudit", "records", "given"],
+    &["vataudit", "frames", "given"],
+    &["vataudit", "check", "given"],
+    &["vataudit", "graph", "given"],
+    &["vataudit", "run", "given"],
+    &["vataudit", "order", "given", "--out", "made"],
 ];
 
+/// The exit status of a command whose source has no memory. That the words are a command is asked here, too.
+fn status_without_memory<R: Threads + Wait + Sync + AllocGlobal, W: Write>(
+    rt: &R,
+    words: &[&str],
+    out: &mut W,
+) -> Result<u8, Refused> {
+    let command = command_of(rt.alloc(), words)?;
+    Ok(run_on(rt, rt.alloc(), &command, &mut Poor, out, &mut io::sink()))
+}
+
 /// Whether a command says that memory ran out, where its source has none.
-fn is_poor(alloc: Global, command: &Command<'_>) -> Result<bool, Refused> {
-    let mut out = Vec::with_capacity(alloc, 256)?;
-    let status = run_on(alloc, command, &mut Poor, &mut out, &mut io::sink());
+fn is_poor<R: Threads + Wait + Sync + AllocGlobal>(
+    rt: &R,
+    words: &[&str],
+) -> Result<bool, Refused> {
+    let mut out = Vec::with_capacity(rt.alloc(), 256)?;
+    let status = status_without_memory(rt, words, &mut out)?;
     Ok(status == 3 && out.as_slice() == "out of memory\n".as_bytes())
 }
 
 #[test]
 fn says_that_memory_ran_out(rt: HostRuntime) {
-    for command in &READERS {
-        let is_so = match is_poor(rt.alloc(), command) {
+    for words in &READERS {
+        let is_so = match is_poor(&rt, words) {
             Ok(is_so) => is_so,
-            Err(_) => is_poor(rt.alloc(), command).unwrap_or(false),
+            Err(_) => is_poor(&rt, words).unwrap_or(false),
         };
-        assert!(rt; is_so);
+        assert!(rt; is_so, "{words:?}");
     }
 }
 
 /// Whether a command ends at its first write that fails, behind so many bytes.
-fn is_the_last(alloc: Global, command: &Command<'_>, room: usize) -> bool {
+fn is_the_last<R: Threads + Wait + Sync + AllocGlobal>(
+    rt: &R,
+    words: &[&str],
+    room: usize,
+) -> Result<bool, Refused> {
     let mut out = Narrow { room, refusals: 0 };
-    let status = run_on(alloc, command, &mut Poor, &mut out, &mut io::sink());
-    status == 2 && out.room == 0 && out.refusals == 1
+    let status = status_without_memory(rt, words, &mut out)?;
+    Ok(status == 2 && out.room == 0 && out.refusals == 1)
 }
 
 #[test]
 fn a_failed_write_is_the_last(rt: HostRuntime) {
-    for command in &READERS {
-        assert!(rt; is_the_last(rt.alloc(), command, 0));
-        assert!(rt; is_the_last(rt.alloc(), command, 5));
+    for words in &READERS {
+        for room in [0, 5] {
+            let is_so = match is_the_last(&rt, words, room) {
+                Ok(is_so) => is_so,
+                Err(_) => is_the_last(&rt, words, room).unwrap_or(false),
+            };
+            assert!(rt; is_so, "{words:?}");
+        }
     }
 }
 
@@ -99,14 +119,19 @@ fn empty_case(alloc: Global) -> Result<FileList, Refused> {
 }
 
 /// Whether nothing is printed of an order that can't be written.
-fn is_unwritten(alloc: Global, order: &Command<'_>) -> Result<bool, Refused> {
+fn is_unwritten<R: Threads + Wait + Sync + AllocGlobal>(rt: &R) -> Result<bool, Refused> {
+    let alloc = rt.alloc();
+    let order = Command::Order {
+        case: "given",
+        out: "made",
+    };
     let mut source = empty_case(alloc)?;
     let mut out = Vec::with_capacity(alloc, 256)?;
     let mut file = Narrow {
         room: 3,
         refusals: 0,
     };
-    match run_on(alloc, order, &mut source, &mut out, &mut file) {
+    match run_on(rt, alloc, &order, &mut source, &mut out, &mut file) {
         3 => Err(Refused),
         status => Ok(out.is_empty() && status == 2 && file.refusals == 1),
     }
@@ -114,17 +139,39 @@ fn is_unwritten(alloc: Global, order: &Command<'_>) -> Result<bool, Refused> {
 
 #[test]
 fn prints_nothing_of_an_order_that_is_not_written(rt: HostRuntime) {
-    let [_, _, _, order] = &READERS;
-    let is_so = match is_unwritten(rt.alloc(), order) {
+    let is_so = match is_unwritten(&rt) {
         Ok(is_so) => is_so,
-        Err(_) => is_unwritten(rt.alloc(), order).unwrap_or(false),
+        Err(_) => is_unwritten(&rt).unwrap_or(false),
     };
     assert!(rt; is_so);
 }
 
 /// Words, and what they spell, or the kind of `clap`'s error.
-const WORDS: [(&[&str], Result<Command<'static>, ErrorKind>); 6] = [
+const WORDS: [(&[&str], Result<Command<'static>, ErrorKind>); 11] = [
     (&["vataudit", "vat", "-"], Ok(Command::Vat { file: "-" })),
+    (
+        &["vataudit", "check", "a"],
+        Ok(Command::Check {
+            case: "a",
+            workers: 1,
+        }),
+    ),
+    (
+        &["vataudit", "check", "--workers=64", "a"],
+        Ok(Command::Check {
+            case: "a",
+            workers: 64,
+        }),
+    ),
+    (
+        &["vataudit", "check", "a", "--workers", "65"],
+        Err(ErrorKind::ValueValidation),
+    ),
+    (
+        &["vataudit", "graph", "a"],
+        Ok(Command::Graph { case: "a" }),
+    ),
+    (&["vataudit", "run", "-"], Ok(Command::Run { case: "-" })),
     (
         &["vataudit", "order", "a", "--out=-x"],
         Ok(Command::Order {
@@ -185,7 +232,10 @@ fn an_order_has_a_file(rt: HostRuntime) {
 }
 
 /// Commands, and a line of their help.
-const HELP: [(&str, &str); 6] = [
+const HELP: [(&str, &str); 9] = [
+    ("check", "yes vats 2 records 14 delivered 1 under_way 0"),
+    ("graph", "edge vat 1 to obj 2.7 record 4"),
+    ("run", "step 0 vat 1 record 0 send bootstrap call 1.1"),
     ("vat", "good vat 2 records 8 delivered 1"),
     ("frame", "abort"),
     ("frames", "bootstrap question 0"),

@@ -1,0 +1,440 @@
+//! Reports of whole cases: by `audit`, and by `judge` of what is posted in a book.
+
+use super::given::Refused;
+use audit_core::{AuditError, Breach, Gate, Report, audit, judge, judge_unordered};
+use bytes::Bytes;
+use case_book::{Book, Case, Finding, Findings, Link, Piece};
+use merge_order::{Order, make_order};
+use std::alloc::Global;
+use std::sync::atomic::{AtomicU64, Ordering};
+use std::sync::{Arc, Wait};
+use std::thread::Threads;
+use vat_log::{VatLog, parse_log};
+use vat_notation::{Vat, add_records, log_of};
+use vat_rules::{Rule, Why};
+
+/// What vats recorded, and the links between them.
+#[derive(Clone, Copy)]
+struct Conversation<'a> {
+    /// The number of each vat, and its records.
+    vats: &'a [(&'a str, &'a str)],
+    links: &'a [Link],
+}
+
+/// Vats 1 and 2 are the ends of connection 0.
+const LINKS: [Link; 1] = [Link {
+    conn: 0,
+    a: 1,
+    b: 2,
+}];
+
+/// A call to what the answer of another call will be.
+const PIPELINED_CALL: Conversation<'static> = Conversation {
+    vats: &[
+        (
+            "1",
+            "S0 c1 boot q0; FIELD r1 c1 []; MAKE c2 r1; S0 c2 call q1 answer 0 []; R0 r2 ret q0 senderHosted 0@[]; R0 ret q1",
+        ),
+        (
+            "2",
+            "HOST r1 7; R0 c1 boot q0; R0 c2 call q1 answer 0 []; ANSWER c1 r1@[]; DELIVER c2 7; S0 r1 ret q0 senderHosted 0@[]; \
+            ANSWER c2; S0 ret q1",
+        ),
+    ],
+    links: &LINKS,
+};
+
+/// Calls to the caller's own object, the later of which waits for an embargo.
+const EMBARGOED_CALLS: Conversation<'static> = Conversation {
+    vats: &[
+        (
+            "1",
+            "HOST r1 5; S0 c1 boot q0; FIELD r2 c1 []; MAKE c2 r2; S0 c2 r1 call q1 answer 0 [] senderHosted 0; FIELD r3 c2 [0]; \
+            MAKE c3 r3; S0 c3 call q2 answer 1 [0]; R0 r4 ret q0 senderHosted 0@[]; R0 r5 ret q1 keep receiverHosted 0@[0]; \
+            MAKE c4 r3; S0 disembargo 0 senderLoopback answer 1 [0]; R0 c5 call q0 import 0; DELIVER c5 5; \
+            R0 disembargo 0 receiverLoopback import 0; DELIVER c4 5",
+        ),
+        (
+            "2",
+            "HOST r1 7; R0 c1 boot q0; R0 c2 r2 call q1 answer 0 [] senderHosted 0; ANSWER c1 r1@[]; S0 r1 ret q0 senderHosted 0@[]; \
+            DELIVER c2 7; R0 c3 call q2 answer 1 [0]; ANSWER c2 r2@[0]; S0 r2 ret q1 keep receiverHosted 0@[0]; \
+            R0 disembargo 0 senderLoopback answer 1 [0]; S0 c3 call q0 import 0; S0 disembargo 0 receiverLoopback import 0",
+        ),
+    ],
+    links: &LINKS,
+};
+
+/// A question whose number is used again.
+const REUSED_QUESTION: Conversation<'static> = Conversation {
+    vats: &[
+        (
+            "1",
+            "S0 c1 boot q7; S0 fin q7; R0 ret q7 canceled; S0 c2 boot q7",
+        ),
+        (
+            "2",
+            "R0 c1 boot q7; R0 fin q7; S0 ret q7 canceled; R0 c2 boot q7",
+        ),
+    ],
+    links: &LINKS,
+};
+
+/// A promise that is released while its Resolve is on its way.
+const RELEASED_PROMISE: Conversation<'static> = Conversation {
+    vats: &[
+        (
+            "1",
+            "S0 c1 boot q0; R0 r1 ret q0 senderPromise 0@[]; S0 release id 0 count 1; R0 r2 resolve promise 0 senderHosted 1; \
+            S0 release id 1 count 1",
+        ),
+        (
+            "2",
+            "HOST r1 7; VOW r2; R0 c1 boot q0; ANSWER c1 r2@[]; S0 r2 ret q0 senderPromise 0@[]; FULFIL r2 r1; \
+            S0 r1 resolve promise 0 senderHosted 1; R0 release id 0 count 1; R0 release id 1 count 1",
+        ),
+    ],
+    links: &LINKS,
+};
+
+/// Two frames that are received in the other order.
+const EXCHANGED_FRAMES: Conversation<'static> = Conversation {
+    vats: &[
+        ("1", "S0 c1 boot q0; S0 c2 boot q1"),
+        ("2", "R0 c1 boot q1; R0 c2 boot q0"),
+    ],
+    links: &LINKS,
+};
+
+/// Each vat waits for the other's frame before it sends its own.
+const MUTUAL_WAIT: Conversation<'static> = Conversation {
+    vats: &[
+        ("1", "R0 c1 boot q0; S0 c2 boot q0"),
+        ("2", "R0 c1 boot q0; S0 c2 boot q0"),
+    ],
+    links: &LINKS,
+};
+
+/// A log without records, and no log at all.
+const EMPTY_LOG: Conversation<'static> = Conversation {
+    vats: &[("1", "")],
+    links: &[],
+};
+
+const NO_LOGS: Conversation<'static> = Conversation {
+    vats: &[],
+    links: &[],
+};
+
+/// A record that isn't judged, behind one log that is good.
+const UNREAD: Conversation<'static> = Conversation {
+    vats: &[("1", ""), ("2", "R0 hex")],
+    links: &LINKS,
+};
+
+/// What one of two vats recorded.
+const ONE_VAT: [(&str, &str); 1] = [("1", "S0 c1 boot q0")];
+
+/// Its log, and the link with the other vat.
+const MISSING_LOG: Conversation<'static> = Conversation {
+    vats: &ONE_VAT,
+    links: &LINKS,
+};
+
+/// Its log, and a link of the vat with itself.
+const SAME_ENDS: Conversation<'static> = Conversation {
+    vats: &ONE_VAT,
+    links: &[Link {
+        conn: 0,
+        a: 1,
+        b: 1,
+    }],
+};
+
+/// What is answered of a case, all but the run.
+#[derive(Clone, Copy, Debug, PartialEq, Eq)]
+enum Line {
+    Vat(u32, u64, Breach),
+    OutsideVat(u32, u64, Why),
+    Link(u32, u32, u64),
+    OrderStep(u64),
+    NoOrder,
+    /// Vats, records, deliveries and frames under way.
+    Yes(u64, u64, u64, u64),
+}
+
+/// The line of a report. None where it is a yes whose run hasn't a step for each record.
+fn line_of(report: &Report) -> Option<Line> {
+    match report {
+        Report::Vat { vat, at, rule } => Some(Line::Vat(*vat, *at, *rule)),
+        Report::OutsideVat { vat, at, why } => Some(Line::OutsideVat(*vat, *at, *why)),
+        Report::Link { conn, end, message } => Some(Line::Link(*conn, *end, *message)),
+        Report::OrderStep(step) => Some(Line::OrderStep(*step)),
+        Report::NoOrder => Some(Line::NoOrder),
+        Report::Yes {
+            vats,
+            records,
+            delivered,
+            under_way,
+            run,
+        } if run.steps().len() as u64 == *records => {
+            Some(Line::Yes(*vats, *records, *delivered, *under_way))
+        }
+        Report::Yes { .. } => None,
+    }
+}
+
+/// The log of a vat that recorded this, with what is changed.
+fn changed_log(
+    alloc: Global,
+    number: &str,
+    records: &str,
+    changes: &[&str],
+) -> Result<Arc<VatLog>, Refused> {
+    let mut vat = Vat {
+        number,
+        records: Vec::new(alloc),
+    };
+    add_records(&mut vat.records, records)?;
+    let bytes = Bytes::from_vec(log_of(alloc, &vat, changes)?)?;
+    Ok(Arc::new(alloc, parse_log(alloc, bytes)?)?)
+}
+
+/// The case of a conversation, with what is changed in its logs.
+fn case_of(alloc: Global, given: Conversation<'_>, changes: &[&str]) -> Result<Case, Refused> {
+    let mut logs = Vec::new(alloc);
+    for (number, records) in given.vats {
+        logs.push(changed_log(alloc, number, records, changes)?)?;
+    }
+    Ok(Case::new(logs, Vec::from_slice(alloc, given.links)?)?)
+}
+
+/// A gate at which nobody waits.
+struct Open;
+
+impl Gate for Open {
+    fn before_post(&self, _piece: u32) {}
+}
+
+/// What is answered of a case and an order, or why it isn't audited. Want of memory is a failure.
+fn audited<R: Threads + Wait + Sync>(
+    rt: &R,
+    alloc: Global,
+    case: Case,
+    order: Option<&[u32]>,
+    workers: u32,
+) -> Result<Result<Line, AuditError>, Refused> {
+    let order = match order {
+        Some(vats) => Some(Order::new(Vec::from_slice(alloc, vats)?)),
+        None => None,
+    };
+    match audit(rt, alloc, case, order, workers, &Open) {
+        Ok(report) => Ok(Ok(line_of(&report).ok_or("a run of all records")?)),
+        Err(AuditError::OutOfMemory) => Err(Refused),
+        Err(error) => Ok(Err(error)),
+    }
+}
+
+/// A conversation, what is changed in it, an order if one is given, and what is answered.
+type Row = (
+    Conversation<'static>,
+    &'static [&'static str],
+    Option<&'static [u32]>,
+    Result<Line, AuditError>,
+);
+
+const ROWS: [Row; 19] = [
+    (EMPTY_LOG, &[], None, Ok(Line::Yes(1, 0, 0, 0))),
+    (EMPTY_LOG, &[], Some(&[]), Ok(Line::Yes(1, 0, 0, 0))),
+    (NO_LOGS, &[], None, Ok(Line::Yes(0, 0, 0, 0))),
+    (PIPELINED_CALL, &[], None, Ok(Line::Yes(2, 14, 1, 0))),
+    // The call reaches another object.
+    (
+        PIPELINED_CALL,
+        &["vat 2 record 4 is DELIVER c2 9"],
+        None,
+        Ok(Line::Vat(2, 4, Breach::Rule(Rule::Goal))),
+    ),
+    // What vat 2 returned is under way, or was never recorded.
+    (
+        PIPELINED_CALL,
+        &["vat 1 cut to 4 records"],
+        None,
+        Ok(Line::Yes(2, 12, 1, 2)),
+    ),
+    (
+        PIPELINED_CALL,
+        &["vat 2 cut to 5 records"],
+        None,
+        Ok(Line::Link(0, 1, 0)),
+    ),
+    (EMBARGOED_CALLS, &[], None, Ok(Line::Yes(2, 28, 3, 0))),
+    // The later call is delivered first: vat 1's log alone is good, and only the two logs together tell.
+    (
+        EMBARGOED_CALLS,
+        &["vat 1 record 15 moved to 11"],
+        None,
+        Ok(Line::Vat(1, 11, Breach::Order)),
+    ),
+    // The echo is sent before the call that it has to follow.
+    (
+        EMBARGOED_CALLS,
+        &["vat 2 record 11 moved to 10"],
+        None,
+        Ok(Line::Vat(2, 10, Breach::Rule(Rule::Emb))),
+    ),
+    (RELEASED_PROMISE, &[], None, Ok(Line::Yes(2, 14, 0, 0))),
+    (EXCHANGED_FRAMES, &[], None, Ok(Line::Link(0, 2, 0))),
+    (REUSED_QUESTION, &[], None, Ok(Line::Yes(2, 8, 0, 0))),
+    (
+        REUSED_QUESTION,
+        &[],
+        Some(&[1, 2, 1, 1, 2, 2, 1, 2]),
+        Ok(Line::OrderStep(3)),
+    ),
+    (
+        REUSED_QUESTION,
+        &[],
+        Some(&[1, 2, 1, 2, 2, 1, 1, 2]),
+        Ok(Line::Yes(2, 8, 0, 0)),
+    ),
+    (MUTUAL_WAIT, &[], None, Ok(Line::NoOrder)),
+    (UNREAD, &[], None, Ok(Line::OutsideVat(2, 0, Why::Unread))),
+    (MISSING_LOG, &[], None, Err(AuditError::MissingLog(0))),
+    (SAME_ENDS, &[], None, Err(AuditError::SameEnds(0))),
+];
+
+/// Whether this is answered with so many workers.
+fn is_answered<R: Threads + Wait + Sync>(
+    rt: &R,
+    alloc: Global,
+    row: Row,
+    workers: u32,
+) -> Result<bool, Refused> {
+    let (given, changes, order, answer) = row;
+    let case = case_of(alloc, given, changes)?;
+    Ok(audited(rt, alloc, case, order, workers)? == answer)
+}
+
+#[test]
+fn a_case_has_its_report(rt: HostRuntime) {
+    for (place, row) in ROWS.iter().enumerate() {
+        let is_so = match is_answered(&rt, rt.alloc(), *row, 1) {
+            Ok(is_so) => is_so,
+            Err(_) => is_answered(&rt, rt.alloc(), *row, 1).unwrap_or(false),
+        };
+        assert!(rt; is_so, "row {place}");
+    }
+}
+
+/// Numbers of workers, and what is answered of embargoed_calls, also where a log is missing.
+const WORKERS: [(u32, Option<AuditError>); 5] = [
+    (1, None),
+    (2, None),
+    (64, None),
+    (0, Some(AuditError::NoWorkers)),
+    (65, Some(AuditError::TooManyWorkers)),
+];
+
+/// Whether so many workers answer the same as one, or are refused for this.
+fn is_the_same<R: Threads + Wait + Sync>(
+    rt: &R,
+    alloc: Global,
+    workers: u32,
+    refusal: Option<AuditError>,
+) -> Result<bool, Refused> {
+    let (yes, missing) = match refusal {
+        Some(error) => (Err(error), Err(error)),
+        None => (Ok(Line::Yes(2, 28, 3, 0)), Err(AuditError::MissingLog(0))),
+    };
+    let whole = is_answered(rt, alloc, (EMBARGOED_CALLS, &[], None, yes), workers)?;
+    Ok(whole && is_answered(rt, alloc, (MISSING_LOG, &[], None, missing), workers)?)
+}
+
+#[test]
+fn any_number_of_workers_answers_the_same(rt: HostRuntime) {
+    for (workers, refusal) in &WORKERS {
+        let is_so = match is_the_same(&rt, rt.alloc(), *workers, *refusal) {
+            Ok(is_so) => is_so,
+            Err(_) => is_the_same(&rt, rt.alloc(), *workers, *refusal).unwrap_or(false),
+        };
+        assert!(rt; is_so, "{workers}");
+    }
+}
+
+/// A gate that counts who passes it.
+#[derive(Drop)]
+struct Counting {
+    passed: AtomicU64,
+}
+
+impl Gate for Counting {
+    fn before_post(&self, _piece: u32) {
+        self.passed.fetch_add(1, Ordering::SeqCst);
+    }
+}
+
+/// Whether the gate is passed once for each of the three pieces of embargoed_calls.
+fn is_passed<R: Threads + Wait + Sync>(rt: &R, alloc: Global) -> Result<bool, Refused> {
+    let gate = Counting {
+        passed: AtomicU64::new(0),
+    };
+    let case = case_of(alloc, EMBARGOED_CALLS, &[])?;
+    audit(rt, alloc, case, None, 1, &gate)?;
+    Ok(gate.passed.load(Ordering::SeqCst) == 3)
+}
+
+#[test]
+fn the_gate_is_passed_once_for_each_piece(rt: HostRuntime) {
+    let is_so = match is_passed(&rt, rt.alloc()) {
+        Ok(is_so) => is_so,
+        Err(_) => is_passed(&rt, rt.alloc()).unwrap_or(false),
+    };
+    assert!(rt; is_so);
+}
+
+/// What is found for a piece, where the case ties up.
+fn found(alloc: Global, book: &Book, piece: Piece) -> Result<Finding, Refused> {
+    let found = book.case().find(alloc, piece)?;
+    Ok(found.ok_or("a piece of the case")?)
+}
+
+/// All findings of a case of three pieces that ties up.
+fn all_found(alloc: Global, case: Case) -> Result<Findings, Refused> {
+    if case.tie_fault().is_some() {
+        return Err(Refused);
+    }
+    let mut book = Book::new(alloc, case)?;
+    for _ in 0..3 {
+        let piece = book.claim().ok_or("three pieces")?;
+        let found = found(alloc, &book, piece)?;
+        if book.post(found).is_err() {
+            return Err(Refused);
+        }
+    }
+    match book.into_findings() {
+        Ok(findings) => Ok(findings),
+        Err(_) => Err(Refused),
+    }
+}
+
+/// What is answered of pipelined_call.
+const YES: Option<Line> = Some(Line::Yes(2, 14, 1, 0));
+
+/// Whether what was posted in a book is judged as the whole case is, by the order that is made and without one.
+fn is_judged(alloc: Global) -> Result<bool, Refused> {
+    let case = case_of(alloc, PIPELINED_CALL, &[])?;
+    let copy = case.copy(alloc)?;
+    let order = make_order(alloc, case.logs())?.ok_or("an order")?;
+    let ordered = judge(alloc, all_found(alloc, case)?, order)?;
+    let unordered = judge_unordered(alloc, all_found(alloc, copy)?)?;
+    Ok(line_of(&ordered) == YES && line_of(&unordered) == YES)
+}
+
+#[test]
+fn the_findings_of_a_book_are_judged(rt: HostRuntime) {
+    let is_so = match is_judged(rt.alloc()) {
+        Ok(is_so) => is_so,
+        Err(_) => is_judged(rt.alloc()).unwrap_or(false),
+    };
+    assert!(rt; is_so);
+}

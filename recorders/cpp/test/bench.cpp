@@ -47,37 +47,42 @@ double ping(Counter::Client counter, kj::WaitScope& scope, uint32_t pings) {
   return taken.count() / pings;
 }
 
-// Microseconds a ping, the server in a thread of its own.
-double unrecorded(uint32_t pings) {
+// What one end answers that asks over a local socket, while the other serves in a thread of its own.
+template <typename Serve, typename Ask>
+double overSocket(Serve&& serve, Ask&& ask) {
   int sockets[2];
   KJ_SYSCALL(socketpair(AF_UNIX, SOCK_STREAM, 0, sockets));
   kj::Thread server([&]() {
     auto io = kj::setupAsyncIo();
     auto stream = opened(io, sockets[1]);
-    capnp::TwoPartyClient peer(*stream, kj::heap<CounterObject>(), Side::SERVER);
-    peer.onDisconnect().wait(io.waitScope);
+    serve(*stream, io.waitScope);
   });
   auto io = kj::setupAsyncIo();
   auto stream = opened(io, sockets[0]);
-  capnp::TwoPartyClient client(*stream);
-  return ping(client.bootstrap().castAs<Counter>(), io.waitScope, pings);
+  return ask(*stream, io.waitScope);
+}
+
+// Microseconds a ping.
+double unrecorded(uint32_t pings) {
+  return overSocket([](kj::AsyncIoStream& stream, kj::WaitScope& scope) {
+    capnp::TwoPartyClient peer(stream, kj::heap<CounterObject>(), Side::SERVER);
+    peer.onDisconnect().wait(scope);
+  }, [pings](kj::AsyncIoStream& stream, kj::WaitScope& scope) {
+    capnp::TwoPartyClient client(stream);
+    return ping(client.bootstrap().castAs<Counter>(), scope, pings);
+  });
 }
 
 double recorded(uint32_t pings) {
-  int sockets[2];
-  KJ_SYSCALL(socketpair(AF_UNIX, SOCK_STREAM, 0, sockets));
-  kj::Thread server([&]() {
-    auto io = kj::setupAsyncIo();
+  return overSocket([](kj::AsyncIoStream& stream, kj::WaitScope& scope) {
     vataudit::Recorder recorder("bench.vat2.log", 2);
-    auto stream = opened(io, sockets[1]);
-    vataudit::TwoPartyClient peer(recorder, *stream, 0, recorder.host<CounterObject>(), Side::SERVER);
-    peer.onDisconnect().wait(io.waitScope);
+    vataudit::TwoPartyClient peer(recorder, stream, 0, recorder.host<CounterObject>(), Side::SERVER);
+    peer.onDisconnect().wait(scope);
+  }, [pings](kj::AsyncIoStream& stream, kj::WaitScope& scope) {
+    vataudit::Recorder recorder("bench.vat1.log", 1);
+    vataudit::TwoPartyClient client(recorder, stream, 0);
+    return ping(client.bootstrap().castAs<Counter>(), scope, pings);
   });
-  auto io = kj::setupAsyncIo();
-  vataudit::Recorder recorder("bench.vat1.log", 1);
-  auto stream = opened(io, sockets[0]);
-  vataudit::TwoPartyClient client(recorder, *stream, 0);
-  return ping(client.bootstrap().castAs<Counter>(), io.waitScope, pings);
 }
 
 }  // namespace

@@ -3,13 +3,10 @@
 //
 // The fault sits between capnp's RpcSystem and the recorder's network, so RpcSystem and fault together are the
 // runtime that is recorded: a message is changed, held back, doubled or left out before it is handed over, or is
-// understood as another one after it was looked at.
+// understood as another one after it was looked at. The last two faults break no rule of one log: one of them sits in
+// the line between the vats.
 
-#include "objects.h"
-
-#include <cstdio>
-#include <functional>
-#include <map>
+#include "world.h"
 
 namespace {
 
@@ -19,7 +16,7 @@ using Base = capnp::TwoPartyVatNetworkBase;
 
 // What a planted fault does with messages.
 struct Fault {
-  virtual ~Fault() {}
+  virtual ~Fault() noexcept(false) {}
   // Whether a message goes out; it may be changed, and others may be sent before it.
   virtual bool sends(rpc::Message::Builder, Base::Connection&) { return true; }
   // A message has gone out; others may be sent behind it.
@@ -30,13 +27,9 @@ struct Fault {
   virtual bool keeps(rpc::Message::Reader) { return false; }
   // Changes in memory what the runtime makes of a message, after it was recorded.
   virtual void understands(rpc::Message::Reader) {}
+  // What vat 2 reads in the place of this stream.
+  virtual kj::AsyncIoStream& line(kj::AsyncIoStream& stream) { return stream; }
 };
-
-void sendAgain(rpc::Message::Reader message, Base::Connection& connection) {
-  auto again = connection.newOutgoingMessage(0);
-  again->getBody().setAs<rpc::Message>(message);
-  again->send();
-}
 
 class FaultyConnection final: public Base::Connection {
 public:
@@ -132,27 +125,17 @@ private:
 };
 
 // Vat 1 asks vat 2 over connection 0, each with a runtime that may have a fault.
-struct Two {
-  Two(kj::AsyncIoContext& io, const std::string& prefix, Fault& firstFault, Fault& secondFault)
-      : io(io), first((prefix + ".vat1.log").c_str(), 1), second((prefix + ".vat2.log").c_str(), 2),
-        pipe(io.provider->newTwoWayPipe()), network(first, *pipe.ends[0], 0, Side::CLIENT),
-        peer(second, *pipe.ends[1], 0, Side::SERVER), faulty(network, firstFault), faultyPeer(peer, secondFault),
-        server(capnp::makeRpcServer(faultyPeer, peer.asBootstrap(second.host<CounterObject>(second)))),
-        client(capnp::makeRpcClient(faulty)), counter(network.bootstrap(client).castAs<Counter>()) {}
+struct Two: TwoVats {
+  Two(World& world, Fault& firstFault, Fault& secondFault)
+      : TwoVats(world), peer(second, secondFault.line(*pipe.ends[1]), 0, Side::SERVER),
+        faulty(network, firstFault), faultyPeer(peer, secondFault) {}
 
-  void settle() {
-    for (int turn = 0; turn < 20; turn++) {
-      io.provider->getTimer().afterDelay(1 * kj::MILLISECONDS).wait(io.waitScope);
-    }
-  }
-
-  kj::AsyncIoContext& io;
-  vataudit::Recorder first, second;
-  kj::TwoWayPipe pipe;
-  vataudit::Network network, peer;
+  vataudit::Network network { first, *pipe.ends[0], 0, Side::CLIENT };
+  vataudit::Network peer;
   FaultyNetwork faulty, faultyPeer;
-  capnp::RpcSystem<rpc::twoparty::VatId> server, client;
-  Counter::Client counter;
+  vataudit::Network::RpcSystem server = capnp::makeRpcServer(faultyPeer, peer.asBootstrap(seconds()));
+  vataudit::Network::RpcSystem client = capnp::makeRpcClient(faulty);
+  Counter::Client counter = network.bootstrap(client).castAs<Counter>();
 };
 
 const uint16_t NEXT = 0, SAME = 1;
@@ -220,32 +203,25 @@ struct QuestionReused: Fault {
   }
 };
 
-struct FinishedTwice: Fault {
+// A runtime that sends each message of a kind twice.
+template <bool (*isSentTwice)(rpc::Message::Reader)>
+struct SentTwice: Fault {
   void sent(rpc::Message::Reader message, Base::Connection& connection) override {
-    if (message.isFinish()) sendAgain(message, connection);
+    if (!isSentTwice(message)) return;
+    auto again = connection.newOutgoingMessage(0);
+    again->getBody().setAs<rpc::Message>(message);
+    again->send();
   }
 };
+
+bool isFinish(rpc::Message::Reader message) { return message.isFinish(); }
+bool isResolve(rpc::Message::Reader message) { return message.isResolve(); }
+bool isEcho(rpc::Message::Reader message) { return message.isDisembargo(); }
 
 // Not the Return with the bootstrap object: a copy of that would need its capabilities.
-struct ReturnedTwice: Fault {
-  void sent(rpc::Message::Reader message, Base::Connection& connection) override {
-    if (!message.isReturn() || message.getReturn().getResults().getCapTable().size() > 0) return;
-    sendAgain(message, connection);
-  }
-};
-
-struct ResolvedTwice: Fault {
-  void sent(rpc::Message::Reader message, Base::Connection& connection) override {
-    if (message.isResolve()) sendAgain(message, connection);
-  }
-};
-
-// Vat 2 answers an embargo twice: the second time there is none.
-struct EchoedTwice: Fault {
-  void sent(rpc::Message::Reader message, Base::Connection& connection) override {
-    if (message.isDisembargo()) sendAgain(message, connection);
-  }
-};
+bool isReturnOfNone(rpc::Message::Reader message) {
+  return message.isReturn() && message.getReturn().getResults().getCapTable().size() == 0;
+}
 
 // A call stays in a queue of vat 2, and the echo goes round it.
 struct EchoOvertakes: Fault {
@@ -271,29 +247,83 @@ struct WrongResult: Fault {
   bool isArmed = false;
 };
 
-template <typename Result>
-void rest(Two& two, kj::Promise<Result>&& promise) {
-  auto kept = promise.then([](Result&&) {}, [](kj::Exception&&) {}).eagerlyEvaluate(nullptr);
+// The queue of vat 1 lets a call overtake one that was made through the same reference.
+struct Reordered: Fault {
+  bool holds(rpc::Message::Reader message) override { return isCallOf(message, NEXT); }
+};
+
+const uint32_t MARK = 0x5eed;
+
+// A stream in which a word that is the mark comes as another.
+class ChangingStream final: public kj::AsyncIoStream {
+public:
+  explicit ChangingStream(kj::AsyncIoStream& inner): inner(inner) {}
+
+  kj::Promise<size_t> tryRead(void* buffer, size_t least, size_t most) override {
+    return inner.tryRead(buffer, least, most).then([buffer](size_t length) {
+      auto bytes = static_cast<kj::byte*>(buffer);
+      for (size_t at = 0; at + sizeof(uint64_t) <= length; at += sizeof(uint64_t)) {
+        uint64_t word;
+        memcpy(&word, bytes + at, sizeof(word));
+        if (word == MARK) bytes[at]++;
+      }
+      return length;
+    });
+  }
+  kj::Promise<void> write(const void* buffer, size_t size) override { return inner.write(buffer, size); }
+  kj::Promise<void> write(kj::ArrayPtr<const kj::ArrayPtr<const kj::byte>> pieces) override {
+    return inner.write(pieces);
+  }
+  kj::Promise<void> whenWriteDisconnected() override { return inner.whenWriteDisconnected(); }
+  void shutdownWrite() override { inner.shutdownWrite(); }
+
+private:
+  kj::AsyncIoStream& inner;
+};
+
+// The line changes a parameter on its way to vat 2.
+struct Changed: Fault {
+  kj::AsyncIoStream& line(kj::AsyncIoStream& stream) override {
+    changing = kj::heap<ChangingStream>(stream);
+    return *changing;
+  }
+  kj::Own<ChangingStream> changing;
+};
+
+// Waits until all has come to rest, whether or not the promise is kept.
+template <typename Promise>
+void rest(Two& two, Promise&& promise) {
+  auto kept = promise.then([](auto&&) {}, [](kj::Exception&&) {}).eagerlyEvaluate(nullptr);
   two.settle();
 }
 
 // One call at a time, so that it goes to the number that vat 2 gave out.
 void callNext(Two& two) {
   two.settle();
-  rest(two, kj::Promise<capnp::Response<Counter::NextResults>>(nextBy(two.counter, 1).send()));
+  rest(two, nextBy(two.counter, 1).send());
+}
+
+void callTwice(Two& two) {
+  two.settle();
+  auto one = nextBy(two.counter, 1).send();
+  rest(two, nextBy(two.counter, 2).send());
+}
+
+void callMarked(Two& two) {
+  two.settle();
+  rest(two, nextBy(two.counter, MARK).send());
 }
 
 void callNextOfTwo(Two& two) {
   two.settle();
-  auto made = two.counter.makeRequest().send().wait(two.io.waitScope);
+  auto made = two.wait(two.counter.makeRequest().send());
   callNext(two);
 }
 
 void callOnResult(Two& two) {
   two.settle();
   auto same = two.counter.sameRequest().send();
-  auto next = nextBy(same.getCounter(), 1).send();
-  rest(two, kj::Promise<capnp::Response<Counter::NextResults>>(kj::mv(next)));
+  rest(two, nextBy(same.getCounter(), 1).send());
 }
 
 void callWhileWaiting(Two& two) {
@@ -310,58 +340,56 @@ void dropAll(Two& two) {
 }
 
 void resolvePromise(Two& two) {
-  Counter::Client promise = two.counter.laterRequest().send().wait(two.io.waitScope).getCounter();
-  settleAs(two.counter, 0).send().wait(two.io.waitScope);
+  Counter::Client promise = two.later(two.counter);
+  two.settlePromise(two.counter, 0);
   two.settle();
 }
 
 void liftEmbargoAfterCall(Two& two) {
-  holdOf(two.counter, two.first.host<CounterObject>(two.first, 10)).send().wait(two.io.waitScope);
-  Counter::Client promise = two.counter.laterRequest().send().wait(two.io.waitScope).getCounter();
+  two.hold(two.counter, two.firsts(10));
+  Counter::Client promise = two.later(two.counter);
   auto early = nextBy(promise, 1).send();
-  settleAs(two.counter, 2).send().wait(two.io.waitScope);
+  two.settlePromise(two.counter, 2);
   auto late = nextBy(promise, 2).send();
   two.settle();
 }
 
 void liftEmbargo(Two& two) {
-  holdOf(two.counter, two.first.host<CounterObject>(two.first, 10)).send().wait(two.io.waitScope);
-  Counter::Client promise = two.counter.laterRequest().send().wait(two.io.waitScope).getCounter();
-  auto request = two.counter.passRequest();
-  request.initCounters(1).set(0, promise);
-  request.send().wait(two.io.waitScope);
-  settleAs(two.counter, 2).send().wait(two.io.waitScope);
+  two.hold(two.counter, two.firsts(10));
+  Counter::Client promise = two.later(two.counter);
+  two.pass(two.counter, promise);
+  two.settlePromise(two.counter, 2);
   two.settle();
 }
 
-void wrongResult(kj::AsyncIoContext& io, const std::string& prefix) {
+void wrongResult(World& world) {
   WrongResult fault;
-  Two two(io, prefix, sound, fault);
+  Two two(world, sound, fault);
   two.settle();
-  auto made = two.counter.makeRequest().send().wait(two.io.waitScope);
+  auto made = two.wait(two.counter.makeRequest().send());
   fault.isArmed = true;
-  rest(two, kj::Promise<capnp::Response<Counter::SameResults>>(two.counter.sameRequest().send()));
+  rest(two, two.counter.sameRequest().send());
 }
 
+// A conversation in which the runtime of vat 1, or that of vat 2, has the fault.
 template <typename Planted>
-std::function<void(kj::AsyncIoContext&, const std::string&)> inFirst(void (*conversation)(Two&)) {
-  return [conversation](kj::AsyncIoContext& io, const std::string& prefix) {
+std::function<void(World&)> inFirst(void (*conversation)(Two&)) {
+  return [conversation](World& world) {
     Planted fault;
-    Two two(io, prefix, fault, sound);
+    Two two(world, fault, sound);
+    conversation(two);
+  };
+}
+template <typename Planted>
+std::function<void(World&)> inSecond(void (*conversation)(Two&)) {
+  return [conversation](World& world) {
+    Planted fault;
+    Two two(world, sound, fault);
     conversation(two);
   };
 }
 
-template <typename Planted>
-std::function<void(kj::AsyncIoContext&, const std::string&)> inSecond(void (*conversation)(Two&)) {
-  return [conversation](kj::AsyncIoContext& io, const std::string& prefix) {
-    Planted fault;
-    Two two(io, prefix, sound, fault);
-    conversation(two);
-  };
-}
-
-const std::map<std::string, std::function<void(kj::AsyncIoContext&, const std::string&)>> faults = {
+const Conversations faults = {
   { "fault_wrong_object", inSecond<WrongObject>(callNextOfTwo) },
   { "fault_overtaken", inFirst<Overtaken>(callOnResult) },
   { "fault_released_early", inFirst<ReleasedEarly>(callNext) },
@@ -369,26 +397,19 @@ const std::map<std::string, std::function<void(kj::AsyncIoContext&, const std::s
   { "fault_wrong_method", inFirst<WrongMethod>(callNext) },
   { "fault_wrong_target", inFirst<WrongTarget>(callNextOfTwo) },
   { "fault_question_reused", inFirst<QuestionReused>(callWhileWaiting) },
-  { "fault_finished_twice", inFirst<FinishedTwice>(callNext) },
-  { "fault_returned_twice", inSecond<ReturnedTwice>(callNext) },
-  { "fault_resolved_twice", inSecond<ResolvedTwice>(resolvePromise) },
-  { "fault_echoed_twice", inSecond<EchoedTwice>(liftEmbargo) },
+  { "fault_finished_twice", inFirst<SentTwice<isFinish>>(callNext) },
+  { "fault_returned_twice", inSecond<SentTwice<isReturnOfNone>>(callNext) },
+  { "fault_resolved_twice", inSecond<SentTwice<isResolve>>(resolvePromise) },
+  { "fault_echoed_twice", inSecond<SentTwice<isEcho>>(liftEmbargo) },
   { "fault_echo_overtakes", inSecond<EchoOvertakes>(liftEmbargoAfterCall) },
   { "fault_wrong_question", inSecond<WrongQuestion>(callWhileWaiting) },
   { "fault_wrong_result", wrongResult },
+  { "fault_reordered", inFirst<Reordered>(callTwice) },
+  { "fault_changed", inSecond<Changed>(callMarked) },
 };
 
 }  // namespace
 
 int main(int count, char** words) {
-  if (count < 2) {
-    fprintf(stderr, "usage: faults FOLDER [NAME]\n");
-    return 2;
-  }
-  for (auto& fault: faults) {
-    if (count > 2 && fault.first != words[2]) continue;
-    auto io = kj::setupAsyncIo();
-    fault.second(io, std::string(words[1]) + "/" + fault.first);
-  }
-  return 0;
+  return writeLogs("faults", faults, count, words);
 }

@@ -193,6 +193,13 @@ struct Met {
   Path path;
 };
 
+// The references of capabilities met, in their order.
+inline std::vector<Reference> asMet(const std::vector<Met>& met, const std::vector<Reference>& byIndex) {
+  std::vector<Reference> list;
+  for (auto& one: met) list.push_back(one.index < byIndex.size() ? byIndex[one.index] : Reference());
+  return list;
+}
+
 // A call that was made or received here. Lists "by index" go by the index in the capability table of the message
 // in which they were written or came; lists "as met" by their order in the content, which every copy keeps.
 struct Call {
@@ -208,6 +215,14 @@ struct Call {
   uint64_t content = 0;              // a hash of its parameters
   bool isGone = false;               // sent, or delivered
   bool isLocallyAnswered = false;    // by ANSWER
+
+  void setResults(std::vector<Reference>&& byIndex, const std::vector<Met>& met) {
+    resultsByIndex = kj::mv(byIndex);
+    resultsAsMet = asMet(met, resultsByIndex);
+    for (size_t at = 0; at < met.size(); at++) {
+      if (met[at].hasPath) fields.push_back({ met[at].path, resultsAsMet[at] });
+    }
+  }
 };
 
 // Notes which capability was asked for, and gives none out.
@@ -289,13 +304,6 @@ private:
 inline const void* placeOf(AnyPointer::Reader params) {
   if (params.isNull()) return nullptr;
   return params.getAs<AnyStruct>().getDataSection().begin();
-}
-
-// The references of capabilities met, in their order.
-inline std::vector<Reference> asMet(const std::vector<Met>& met, const std::vector<Reference>& byIndex) {
-  std::vector<Reference> list;
-  for (auto& one: met) list.push_back(one.index < byIndex.size() ? byIndex[one.index] : Reference());
-  return list;
 }
 
 // =========================================================================== The vat
@@ -626,6 +634,16 @@ inline kj::Own<ClientHook> wrapped(const SharedVat& vat, const Reference& refere
   return kj::refcounted<Handle>(vat, reference, kj::mv(hook));
 }
 
+// The capability at an index of the runtime's table, with the reference that was noted for it there.
+inline kj::Maybe<kj::Own<ClientHook>> extracted(const SharedVat& vat, const std::vector<Reference>& byIndex,
+                                                capnp::_::CapTableReader& table, uint index) {
+  KJ_IF_MAYBE(hook, table.extractCap(index)) {
+    return wrapped(vat, index < byIndex.size() ? byIndex[index] : Reference(), kj::mv(*hook));
+  } else {
+    return nullptr;
+  }
+}
+
 // The capability table of a message that came in, by whose indexes the references were noted.
 class ReadTable final: public capnp::_::CapTableReader {
 public:
@@ -639,11 +657,7 @@ public:
 
   kj::Maybe<kj::Own<ClientHook>> extractCap(uint index) override {
     if (inner == nullptr) return nullptr;
-    KJ_IF_MAYBE(hook, inner->extractCap(index)) {
-      return wrapped(vat, index < byIndex.size() ? byIndex[index] : Reference(), kj::mv(*hook));
-    } else {
-      return nullptr;
-    }
+    return extracted(vat, byIndex, *inner, index);
   }
 
 private:
@@ -665,11 +679,7 @@ public:
   }
 
   kj::Maybe<kj::Own<ClientHook>> extractCap(uint index) override {
-    KJ_IF_MAYBE(hook, inner->extractCap(index)) {
-      return wrapped(vat, index < byIndex.size() ? byIndex[index] : Reference(), kj::mv(*hook));
-    } else {
-      return nullptr;
-    }
+    return extracted(vat, byIndex, *inner, index);
   }
 
   uint injectCap(kj::Own<ClientHook>&& hook) override {
@@ -766,11 +776,7 @@ public:
 
   capnp::RemotePromise<AnyPointer> send() override {
     if (!begin()) return inner->send();
-    auto promise = [&] {
-      Meanwhile meanwhile(vat->sending, call);
-      return inner->send();
-    }();
-    end();
+    auto promise = whileSending([&] { return inner->send(); });
     auto pipeline = kj::refcounted<Pipeline>(vat, call, capnp::PipelineHook::from(kj::mv(promise)));
     auto results = promise.then([vat = vat, call = call](capnp::Response<AnyPointer>&& response) {
       const Call* answered = call.get();
@@ -785,12 +791,7 @@ public:
 
   kj::Promise<void> sendStreaming() override {
     if (!begin()) return inner->sendStreaming();
-    auto promise = [&] {
-      Meanwhile meanwhile(vat->sending, call);
-      return inner->sendStreaming();
-    }();
-    end();
-    return promise;
+    return whileSending([&] { return inner->sendStreaming(); });
   }
 
   // The runtime never sees this request, only the one inside.
@@ -810,9 +811,16 @@ public:
     vat->keep(call, reader);
     return vat->isRecording();
   }
-  // A call that wasn't sent at once waits for a promise, or to be delivered.
-  void end() {
+  // What the runtime answers when this call is handed to it. A call that it doesn't send at once waits for a promise,
+  // or to be delivered.
+  template <typename Send>
+  auto whileSending(Send&& send) -> decltype(send()) {
+    auto sent = [&] {
+      Meanwhile meanwhile(vat->sending, call);
+      return send();
+    }();
     if (!call->isGone) vat->wait(call);
+    return sent;
   }
 
   SharedVat vat;
@@ -868,22 +876,10 @@ public:
     return results.imbue(inner->getResults(sizeHint));
   }
   kj::Promise<void> tailCall(kj::Own<capnp::RequestHook>&& request) override {
-    if (auto made = begin(*request)) {
-      Meanwhile meanwhile(vat->sending, made->call);
-      auto promise = inner->tailCall(kj::mv(made->inner));
-      made->end();
-      return promise;
-    }
-    return inner->tailCall(kj::mv(request));
+    return handOn(kj::mv(request), [&](auto&& to) { return inner->tailCall(kj::mv(to)); });
   }
   capnp::ClientHook::VoidPromiseAndPipeline directTailCall(kj::Own<capnp::RequestHook>&& request) override {
-    if (auto made = begin(*request)) {
-      Meanwhile meanwhile(vat->sending, made->call);
-      auto result = inner->directTailCall(kj::mv(made->inner));
-      made->end();
-      return result;
-    }
-    return inner->directTailCall(kj::mv(request));
+    return handOn(kj::mv(request), [&](auto&& to) { return inner->directTailCall(kj::mv(to)); });
   }
   void allowCancellation() override { inner->allowCancellation(); }
   void setPipeline(kj::Own<capnp::PipelineHook>&& pipeline) override { inner->setPipeline(kj::mv(pipeline)); }
@@ -899,11 +895,7 @@ public:
       call->resultsAsMet = call->answeredBy->resultsAsMet;
     } else if (hasResults && !results.byIndex.empty()) {
       Content content(inner->getResults(capnp::MessageSize { 0, 0 }).asReader());
-      call->resultsByIndex = kj::mv(results.byIndex);
-      call->resultsAsMet = asMet(content.met, call->resultsByIndex);
-      for (size_t at = 0; at < content.met.size(); at++) {
-        if (content.met[at].hasPath) call->fields.push_back({ content.met[at].path, call->resultsAsMet[at] });
-      }
+      call->setResults(kj::mv(results.byIndex), content.met);
     }
     vat->answer(*call);
   }
@@ -916,11 +908,13 @@ private:
   WriteTable results;
   bool hasResults = false;
 
-  Request* begin(capnp::RequestHook& request) {
-    auto made = dynamic_cast<Request*>(&request);
-    if (made == nullptr || !made->begin()) return nullptr;
+  // The call is handed on: its results are those of the call that the request makes.
+  template <typename TailCall>
+  auto handOn(kj::Own<capnp::RequestHook>&& request, TailCall&& tailCall) -> decltype(tailCall(kj::mv(request))) {
+    auto made = dynamic_cast<Request*>(request.get());
+    if (made == nullptr || !made->begin()) return tailCall(kj::mv(request));
     call->answeredBy = made->call;
-    return made;
+    return made->whileSending([&] { return tailCall(kj::mv(made->inner)); });
   }
 };
 
@@ -1220,16 +1214,9 @@ private:
     if (found == asked.end()) return;
     Question& answered = found->second;
     if (message.isResults() && !answered.isLate) {
-      Call& call = *answered.call;
       auto payload = message.getResults();
-      call.resultsByIndex = take(payload.getCapTable(), references, answered.broughtByReturn);
-      if (!call.resultsByIndex.empty()) {
-        auto met = Content(payload.getContent()).met;
-        call.resultsAsMet = asMet(met, call.resultsByIndex);
-        for (size_t at = 0; at < met.size(); at++) {
-          if (met[at].hasPath) call.fields.push_back({ met[at].path, call.resultsAsMet[at] });
-        }
-      }
+      auto byIndex = take(payload.getCapTable(), references, answered.broughtByReturn);
+      if (!byIndex.empty()) answered.call->setResults(kj::mv(byIndex), Content(payload.getContent()).met);
     }
     answered.isReturned = true;
     if (message.getReleaseParamCaps()) giveBack(exports, answered.broughtByCall);
@@ -1321,6 +1308,13 @@ private:
 
 using Segments = std::vector<kj::ArrayPtr<const capnp::word>>;
 
+template <typename List>
+size_t wordsOf(const List& segments) {
+  size_t size = 0;
+  for (auto& segment: segments) size += segment.size();
+  return size;
+}
+
 // A message of the runtime, until it is handed to the transport.
 class Outgoing final: public capnp::OutgoingRpcMessage, public kj::Refcounted {
 public:
@@ -1337,11 +1331,7 @@ public:
 
   AnyPointer::Builder getBody() override { return message.getRoot<AnyPointer>(); }
   void send() override;
-  size_t sizeInWords() override {
-    size_t size = 0;
-    for (auto& segment: message.getSegmentsForOutput()) size += segment.size();
-    return size;
-  }
+  size_t sizeInWords() override { return wordsOf(message.getSegmentsForOutput()); }
 
   // A call that was received lets go of its message right after its parameters were copied into this one: it is
   // passed on.
@@ -1400,11 +1390,7 @@ public:
     isSeen = true;
     return message->getRoot<AnyPointer>();
   }
-  size_t sizeInWords() override {
-    size_t size = 0;
-    for (auto& segment: segments) size += segment.size();
-    return size;
-  }
+  size_t sizeInWords() override { return wordsOf(segments); }
 
 private:
   std::shared_ptr<End> end;

@@ -4,6 +4,7 @@ pub mod Counting
 pub mod Keys
 pub mod Knowing
 pub mod Stepping
+pub mod Siding
 pub mod Raising
 pub mod Originating
 pub mod Beginning

@@ -2,22 +2,20 @@
 use Rattle.std.proofs.Common.{◌≡◌, ◌≢◌, ◌+◌, ◌<◌, inl, inr, refl, sym, ◌∙◌, ap, subst, ℕ, ◌==◌, List, [], ◌∷◌, ◌++◌, zero-add, count_by, cond, Bool, true, false, ◌&&◌, Option, Some, None, if◌then◌else◌, option_map, arith}
 use Rattle.std.specs.Prelude.{unwrap_or, find, is_none, Result, Ok, Err, OnOk, is_err}
 use Rattle.std.specs.Option.{option_or}
-use Rattle.std.specs.Ordering.{is_eq}
 use Rattle.std.proofs.lemmas.Bool.{cases_Bool, false≢true, ne_eqb, eqb-true, eqb-false}
 use Rattle.std.proofs.lemmas.List.Sums.{sum_by-cons}
 use Rattle.vat_view.specs.declared.origin.Life.{Life}
 use Rattle.vat_view.specs.declared.origin.Origin.{Origin}
 use Rattle.vat_view.specs.Types.{Id}
 use Rattle.vat_view.specs.Past.{same_id}
-use Rattle.vat_view.specs.Tables.{id_cmp, kept_origin, raised_origin}
+use Rattle.vat_view.specs.Tables.{begun_at, kept_origin, raised_origin}
 use Rattle.vat_view.proofs.Naming.{same_id_is, same_id_self}
-use Rattle.vat_view.proofs.Keys.{found_same}
 
 abbrev pub count_in : Option Life → ℕ
 count_in o = unwrap_or (option_map (λ life. life.count) o) 0
 
 abbrev pub origin_in : Option Life → Option Origin
-origin_in o = option_map (λ life. life.origin) o
+origin_in o = option_map begun_at o
 
 pub apart_sym : (a b : Id) → same_id a b ≡ false → same_id b a ≡ false
 apart_sym a b e = elim (cases_Bool (same_id b a)) [
@@ -31,15 +29,15 @@ kept_if false o p = refl
 
 kept_at : (old : Option Life) (origin : Origin) → Some (kept_origin old origin) ≡ (if true && (count_in old == 0) then Some origin else origin_in old)
 kept_at None origin = refl
-kept_at (Some life) origin = kept_if (life.count == 0) origin life.origin
+kept_at (Some life) origin = kept_if (life.count == 0) origin (begun_at life)
 
 module _ (old new : Id → Option Life) (n : Id) (w : Life) (origin : Origin)
-    (put : (i : Id) → new i ≡ (if is_eq (id_cmp n i) then Some w else old i)) (count_is : w.count ≡ count_in (old n) + 1) (origin_is : w.origin ≡ kept_origin (old n) origin) where
+    (put : (i : Id) → new i ≡ (if same_id n i then Some w else old i)) (count_is : w.count ≡ count_in (old n) + 1) (origin_is : begun_at w ≡ kept_origin (old n) origin) where
   at_it : new n ≡ Some w
-  at_it = put n ∙ ap (λ b. if b then Some w else old n) (found_same n n ∙ same_id_self n)
+  at_it = put n ∙ ap (λ b. if b then Some w else old n) (same_id_self n)
 
   at_other : (i : Id) → same_id i n ≡ false → new i ≡ old i
-  at_other i apart = put i ∙ ap (λ b. if b then Some w else old i) (found_same n i ∙ apart_sym i n apart)
+  at_other i apart = put i ∙ ap (λ b. if b then Some w else old i) (apart_sym i n apart)
 
   pub raised_count : (i : Id) → count_in (new i) ≡ count_in (old i) + (if same_id i n then 1 else 0)
   raised_count i = elim (cases_Bool (same_id i n)) [

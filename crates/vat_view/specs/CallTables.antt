@@ -6,6 +6,7 @@ use Rattle.vat_view.specs.declared.question.Question.{Question}
 use Rattle.vat_view.specs.declared.lives.Lives.{Lives}
 use Rattle.vat_view.specs.declared.calls.Calls.{Calls}
 use Rattle.vat_view.specs.declared.progress.Progress.{Progress}
+use Rattle.vat_view.specs.declared.progress.CallEntry.{CallEntry}
 use Rattle.vat_view.specs.declared.progress.Step.{Step}
 use Rattle.vat_view.specs.declared.progress.Step.TheVariants.{Left, Delivered, Faulted, Answered, Known}
 use Rattle.vat_view.specs.declared.progress.News.{News}
@@ -19,9 +20,23 @@ use Rattle.vat_view.specs.Bindings.{is_bound_call}
 use Rattle.vat_view.specs.Tables.{late_by}
 use Rattle.vat_view.specs.Asking.{opening_call_in, targeted_by}
 
+-- the goal that an entry has
+abbrev pub aim_in : CallEntry → Option View
+aim_in entry = if entry.aimed then Some entry.goal else None
+
+-- what an entry says of a call
+abbrev pub progress_in : CallEntry → Progress
+progress_in entry = record {
+  asked = if entry.came then Some (record { goal = aim_in entry; interface = entry.interface; method = entry.method }) else None;
+  at_vat = entry.at_vat;
+  served = entry.served;
+  settled = entry.settled;
+  known = entry.known;
+}
+
 -- what the table has of a call
 abbrev pub progress_at : Calls → ℕ → Option Progress
-progress_at table c = entry_at table.entries c
+progress_at table c = option_map progress_in (entry_at table.entries c)
 
 -- what looking back finds of a call that is bound
 abbrev pub progress_of : ℕ → Past → Option Progress

@@ -1,9 +1,10 @@
 -- For the code's contracts, and no part of the meaning: the tables, and what looking back finds for each of their
 -- keys.
-use Rattle.std.specs.Prelude.{◌≡◌, ℕ, ◌+◌, ◌≤◌, ◌==◌, ◌&&◌, length, List, [], ◌∷◌, Bool, true, false, not, Option, Some, None, if◌then◌else◌, option_map, option_and_then, unwrap_or, find, slice_get}
+use Rattle.std.specs.Prelude.{◌≡◌, ℕ, ◌+◌, ◌*◌, ◌≤◌, ◌==◌, ◌&&◌, length, List, [], ◌∷◌, Bool, true, false, not, Option, Some, None, if◌then◌else◌, option_map, option_and_then, unwrap_or, find, slice_get}
 use Rattle.std.specs.List.{cons_option}
 use Rattle.std.specs.Option.{option_or}
 use Rattle.std.specs.declared.cmp.Ordering.{Ordering}
+use Rattle.std.specs.Ordering.{nat_cmp}
 use Rattle.std.specs.BTreeMap.{get}
 use Rattle.rising_table.specs.Entries.{entry_at}
 use Rattle.vat_view.specs.declared.question.Question.{Question}
@@ -52,9 +53,17 @@ question_known q past = option_map (λ p. record {
   brought = introductions_at (return_of q past);
 }) (opening q past)
 
+-- which of the tables has a number: that of its connection and of who gave it out
+abbrev pub side_of : Id → ℕ
+side_of i = i.connection * 2 + (if i.ours then 1 else 0)
+
 -- what the table has of a number
 abbrev pub life_at : Lives → Id → Option Life
-life_at table i = get id_cmp table.entries i
+life_at table i = option_and_then (λ lives. entry_at lives i.number) (get nat_cmp table.sides (side_of i))
+
+-- where a number's life began, by what is kept of it
+abbrev pub begun_at : Life → Origin
+begun_at life = record { number = life.number; place = life.place; reference = if life.noted then Some life.reference else None }
 
 -- how often the table says that a number is held
 abbrev pub count_at : Lives → Id → ℕ
@@ -62,11 +71,11 @@ count_at table i = unwrap_or (option_map (λ life. life.count) (life_at table i)
 
 -- where the table says that its last life began
 abbrev pub origin_at : Lives → Id → Option Origin
-origin_at table i = option_map (λ life. life.origin) (life_at table i)
+origin_at table i = option_map begun_at (life_at table i)
 
 -- where a number's life began, if it is held; else this
 abbrev pub kept_origin : Option Life → Origin → Origin
-kept_origin (Some life) origin = if life.count == 0 then origin else life.origin
+kept_origin (Some life) origin = if life.count == 0 then origin else begun_at life
 kept_origin None origin = origin
 
 -- the origin of a number's life after these introductions: the first of its own where it wasn't held

@@ -6,7 +6,7 @@ ghost use Rattle.vat_view.specs.CallTables.{progress_at, asked_in, goal_in, at_v
 ghost use Rattle.vat_view.specs.LoopTables.{same_target};
 
 use crate::asked::Asked;
-use crate::progress::{Progress, Step};
+use crate::progress::{CallEntry, Progress, Step};
 use crate::view::View;
 use crate::walk::same;
 use rising_table::RisingTable;
@@ -15,7 +15,7 @@ use std::alloc::{AllocError, Global};
 /// How far each call that is bound has come.
 #[derive(Debug, Drop)]
 pub(crate) struct Calls {
-    entries: RisingTable<Progress>,
+    entries: RisingTable<CallEntry>,
 }
 
 impl Calls {
@@ -26,13 +26,6 @@ impl Calls {
         Calls {
             entries: RisingTable::new(alloc),
         }
-    }
-
-    /// What is known of this call, if it is bound.
-    pub(crate) fn of(&self, call: u64) -> Option<&Progress>
-        ensures { option_copied result ≡ progress_at self.now call }
-    {
-        self.entries.get(call)
     }
 
     /// Whether this call is bound.
@@ -46,13 +39,18 @@ impl Calls {
     pub(crate) fn asked(&self, call: u64) -> Result<Option<Asked>, AllocError>
         ensures { IfOk result (λ asked. asked ≡ asked_in (progress_at self.now call)) }
     {
-        match self.of(call) {
-            Some(
-                Progress {
-                    asked: Some(asked),
-                    ..
-                },
-            ) => Ok(Some(asked.copy()?)),
+        match self.entries.get(call) {
+            Some(entry) if entry.came => {
+                let goal = match entry.goal() {
+                    Some(view) => Some(view.copy()?),
+                    None => None,
+                };
+                Ok(Some(Asked {
+                    goal,
+                    interface: entry.interface,
+                    method: entry.method,
+                }))
+            }
             _ => Ok(None),
         }
     }
@@ -61,18 +59,8 @@ impl Calls {
     pub(crate) fn goal(&self, call: u64) -> Option<&View>
         ensures { option_copied result ≡ goal_in (progress_at self.now call) }
     {
-        match self.of(call) {
-            Some(
-                Progress {
-                    asked: Some(
-                        Asked {
-                            goal: Some(goal),
-                            ..
-                        },
-                    ),
-                    ..
-                },
-            ) => Some(goal),
+        match self.entries.get(call) {
+            Some(entry) if entry.came => entry.goal(),
             _ => None,
         }
     }
@@ -102,8 +90,8 @@ impl Calls {
     pub(crate) fn is_at_vat(&self, call: u64) -> bool
         ensures { result ≡ at_vat_in (progress_at self.now call) }
     {
-        match self.of(call) {
-            Some(progress) => progress.at_vat,
+        match self.entries.get(call) {
+            Some(entry) => entry.at_vat,
             None => false,
         }
     }
@@ -112,8 +100,8 @@ impl Calls {
     pub(crate) fn is_served(&self, call: u64) -> bool
         ensures { result ≡ served_in (progress_at self.now call) }
     {
-        match self.of(call) {
-            Some(progress) => progress.served,
+        match self.entries.get(call) {
+            Some(entry) => entry.served,
             None => false,
         }
     }
@@ -122,8 +110,8 @@ impl Calls {
     pub(crate) fn is_settled(&self, call: u64) -> bool
         ensures { result ≡ settled_in (progress_at self.now call) }
     {
-        match self.of(call) {
-            Some(progress) => progress.settled,
+        match self.entries.get(call) {
+            Some(entry) => entry.settled,
             None => false,
         }
     }
@@ -132,8 +120,8 @@ impl Calls {
     pub(crate) fn is_known(&self, call: u64) -> bool
         ensures { result ≡ known_in (progress_at self.now call) }
     {
-        match self.of(call) {
-            Some(progress) => progress.known,
+        match self.entries.get(call) {
+            Some(entry) => entry.known,
             None => false,
         }
     }
@@ -143,7 +131,7 @@ impl Calls {
         ensures ok { OnOk result ((c : ℕ) → progress_at self.new c ≡ (if call == c then Some progress else progress_at self.old c)) }
         ensures err { OnErr result ((c : ℕ) → progress_at self.new c ≡ progress_at self.old c) }
     {
-        self.entries.put(call, progress)
+        self.entries.put(call, CallEntry::new(progress))
     }
 
     /// This call isn't bound.
@@ -157,15 +145,15 @@ impl Calls {
     pub(crate) fn note(&mut self, call: u64, step: Step)
         ensures { (c : ℕ) → progress_at self.new c ≡ (if call == c then option_map (stepped step) (progress_at self.old c) else progress_at self.old c) }
     {
-        let held = Progress {
+        let held = CallEntry::new(Progress {
             asked: None,
             at_vat: false,
             served: false,
             settled: false,
             known: false,
-        };
-        if let Some(progress) = self.entries.replace(call, held) {
-            let _ = self.entries.replace(call, progress.after(step));
+        });
+        if let Some(entry) = self.entries.replace(call, held) {
+            let _ = self.entries.replace(call, entry.after(step));
         }
     }
 }

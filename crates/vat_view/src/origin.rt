@@ -1,5 +1,10 @@
 //! Where lives of numbers began.
 
+ghost use Rattle.std.specs.Prelude.{◌≡◌, ◌-◌, IfOk};
+ghost use Rattle.vat_view.specs.Tables.{begun_at};
+
+use std::alloc::AllocError;
+
 /// Where a life of an export or import number began.
 #[derive(Clone, Copy, Debug)]
 pub(crate) struct Origin {
@@ -11,11 +16,69 @@ pub(crate) struct Origin {
     pub(crate) reference: Option<u64>,
 }
 
-/// What is known of an export or import number.
+/// What is known of an export or import number, kept in little room since there is one for each number of a log.
 #[derive(Clone, Copy, Debug)]
 pub(crate) struct Life {
     /// How often it is held.
-    pub(crate) count: u64,
-    /// Where its life began; of no use where it isn't held.
-    pub(crate) origin: Origin,
+    pub(crate) count: u32,
+    /// The number of the record where its life began; of no use where it isn't held, as all that follows.
+    number: u32,
+    /// The place of the descriptor there.
+    place: u32,
+    /// Whether a reference was noted for that descriptor.
+    noted: bool,
+    /// That reference.
+    reference: u64,
+}
+
+impl Life {
+    /// A number that is held so often, and whose life began so. A number that is too great, which no log in memory
+    /// reaches, is answered as want of memory is.
+    pub(crate) fn new(count: u64, origin: Origin) -> Result<Life, AllocError>
+        ensures count { IfOk result (λ life. life.count ≡ count) }
+        ensures origin { IfOk result (λ life. begun_at life ≡ origin) }
+    {
+        let (Ok(count), Ok(number), Ok(place)) = (
+            u32::try_from(count),
+            u32::try_from(origin.number),
+            u32::try_from(origin.place),
+        ) else {
+            return Err(AllocError);
+        };
+        Ok(Life {
+            count,
+            number,
+            place,
+            noted: origin.reference.is_some(),
+            reference: origin.reference.unwrap_or(0),
+        })
+    }
+
+    /// Where its life began.
+    pub(crate) fn origin(self) -> Origin
+        ensures { result ≡ begun_at self }
+    {
+        let reference = if self.noted {
+            Some(self.reference)
+        } else {
+            None
+        };
+        Origin {
+            number: self.number as usize,
+            place: self.place as usize,
+            reference,
+        }
+    }
+
+    /// The same number, held so much less often, down to 0.
+    pub(crate) fn less(self, by: u64) -> Life
+        ensures count { result.count ≡ self.count - by }
+        ensures origin { begun_at result ≡ begun_at self }
+    {
+        let by = u32::try_from(by).unwrap_or(u32::MAX);
+        Life {
+            count: self.count.saturating_sub(by),
+            ..self
+        }
+    }
 }

@@ -1,9 +1,11 @@
 //! How far calls have come.
 
 ghost use Rattle.std.specs.Prelude.{◌≡◌};
-ghost use Rattle.vat_view.specs.CallTables.{stepped};
+ghost use Rattle.std.specs.Option.{option_copied};
+ghost use Rattle.vat_view.specs.CallTables.{aim_in, progress_in, stepped};
 
 use crate::asked::Asked;
+use crate::view::View;
 
 /// What is known of a call that is bound.
 #[derive(Debug, Drop)]
@@ -20,10 +22,78 @@ pub(crate) struct Progress {
     pub(crate) known: bool,
 }
 
-impl Progress {
+/// What is kept of a call that is bound: how far it has come, laid flat, since there is one for each call of a log.
+#[derive(Debug, Drop)]
+pub(crate) struct CallEntry {
+    /// The goal with which it came to the vat, where it came with one.
+    goal: View,
+    /// The interface for which it asked, where it came.
+    pub(crate) interface: u64,
+    /// The method for which it asked, where it came.
+    pub(crate) method: u16,
+    /// Whether it came to the vat.
+    pub(crate) came: bool,
+    /// Whether it has a goal, where it came.
+    aimed: bool,
+    /// Whether it is at the vat.
+    pub(crate) at_vat: bool,
+    /// Whether it was delivered here, or is that of a received Bootstrap.
+    pub(crate) served: bool,
+    /// Whether it has an answer or fault.
+    pub(crate) settled: bool,
+    /// Whether its results are known.
+    pub(crate) known: bool,
+}
+
+impl CallEntry {
+    /// What is kept of a call that has come so far. It takes no memory.
+    pub(crate) fn new(progress: Progress) -> CallEntry
+        ensures { progress_in result ≡ progress }
+    {
+        let Progress {
+            asked,
+            at_vat,
+            served,
+            settled,
+            known,
+        } = progress;
+        let (came, goal, interface, method) = match asked {
+            Some(
+                Asked {
+                    goal,
+                    interface,
+                    method,
+                },
+            ) => (true, goal, interface, method),
+            None => (false, None, 0, 0),
+        };
+        let (aimed, goal) = match goal {
+            Some(view) => (true, view),
+            None => (false, View::Object(0)),
+        };
+        CallEntry {
+            goal,
+            interface,
+            method,
+            came,
+            aimed,
+            at_vat,
+            served,
+            settled,
+            known,
+        }
+    }
+
+    /// The goal with which it came to the vat, if it came with one.
+    pub(crate) fn goal(&self) -> Option<&View>
+        ensures { option_copied result ≡ aim_in self.now }
+    {
+        if self.aimed { Some(&self.goal) } else { None }
+    }
+
     /// How far a call is once this has happened to it.
-    pub(crate) fn after(mut self, step: Step) -> Progress
-        ensures { result ≡ stepped step self }
+    pub(crate) fn after(mut self, step: Step) -> CallEntry
+        ensures { progress_in result ≡ stepped step (progress_in self) }
     {
         match step {
             Step::Left => self.at_vat = false,

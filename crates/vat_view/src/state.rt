@@ -220,7 +220,7 @@ impl VatState {
         let alloc = *self.events.allocator();
         let number = self.events.len();
         let pending = settled(&self.questions, &self.lives, &self.bound, &event);
-        self.turns.make_room(pending)?;
+        self.turns.make_room(pending, number)?;
         let promise = records::resolved(&event);
         self.resolves.room_for(promise)?;
         self.connections.grow_for(&event)?;

@@ -1,6 +1,6 @@
 //! The table of turns.
 
-ghost use Rattle.std.specs.Prelude.{◌≡◌, ◌==◌, ℕ, None, Some, OnOk, IsTrue, is_some, option_and_then, if◌then◌else◌};
+ghost use Rattle.std.specs.Prelude.{◌≡◌, ◌==◌, ◌<◌, ◌^◌, ℕ, None, Some, OnOk, IsTrue, is_some, option_and_then, if◌then◌else◌};
 ghost use Rattle.rising_table.specs.Entries.{entry_at};
 ghost use Rattle.vat_view.specs.declared.pending.Pending.{Pending};
 ghost use Rattle.vat_view.specs.declared.pending.Pending.TheVariants.{Import as ImportToResolve};
@@ -15,13 +15,13 @@ use std::collections::BTreeMap;
 /// says nothing: it holds room.
 #[derive(Debug, Drop)]
 pub(crate) struct Turns {
-    promises: RisingTable<Option<usize>>,
-    results: RisingTable<Option<usize>>,
+    promises: RisingTable<Option<u32>>,
+    results: RisingTable<Option<u32>>,
     imports: BTreeMap<Pending, Option<usize>>,
 }
 
 /// Makes room for what is settled under this key.
-fn make_room_in(table: &mut RisingTable<Option<usize>>, key: u64) -> Result<(), AllocError>
+fn make_room_in(table: &mut RisingTable<Option<u32>>, key: u64) -> Result<(), AllocError>
     ensures same { (k : ℕ) → number_in table.new k ≡ number_in table.old k }
     ensures room { OnOk result (IsTrue (is_some (entry_at table.new key))) }
 {
@@ -32,11 +32,22 @@ fn make_room_in(table: &mut RisingTable<Option<usize>>, key: u64) -> Result<(), 
 }
 
 /// The record of this number settled what stands under this key, for which there is room.
-fn note_in(table: &mut RisingTable<Option<usize>>, key: u64, number: usize)
-    requires { IsTrue (is_some (entry_at table.old key)) }
+fn note_in(table: &mut RisingTable<Option<u32>>, key: u64, number: usize)
+    requires room { IsTrue (is_some (entry_at table.old key)) }
+    requires small { number < 2 ^ 32 }
     ensures { (k : ℕ) → number_in table.new k ≡ (if key == k then Some number else number_in table.old k) }
 {
-    let _ = table.replace(key, Some(number));
+    let _ = table.replace(key, Some(number as u32));
+}
+
+/// The number of the record that settled what stands under this key, if one did.
+fn number_in(table: &RisingTable<Option<u32>>, key: u64) -> Option<usize>
+    ensures { result ≡ number_in table.now key }
+{
+    match table.get(key) {
+        Some(Some(number)) => Some(*number as usize),
+        _ => None,
+    }
 }
 
 impl Turns {
@@ -55,14 +66,13 @@ impl Turns {
     pub(crate) fn of(&self, pending: Pending) -> Option<usize>
         ensures { result ≡ settler_at self.now pending }
     {
-        let settler = match pending {
-            Pending::Promise(promise) => self.promises.get(promise),
-            Pending::Results(call) => self.results.get(call),
-            Pending::Import(..) => self.imports.get(&pending),
-        };
-        match settler {
-            Some(number) => *number,
-            None => None,
+        match pending {
+            Pending::Promise(promise) => number_in(&self.promises, promise),
+            Pending::Results(call) => number_in(&self.results, call),
+            Pending::Import(..) => match self.imports.get(&pending) {
+                Some(number) => *number,
+                None => None,
+            },
         }
     }
 
@@ -89,15 +99,24 @@ impl Turns {
         Ok(())
     }
 
-    /// Makes room for what a record settles. What the table says stays as it is, where memory is refused too.
-    pub(crate) fn make_room(&mut self, settled: Option<Pending>) -> Result<(), AllocError>
+    /// Makes room for what the record of this number settles. What the table says stays as it is, where memory is
+    /// refused too; a number that is too great, which no log in memory reaches, is answered so.
+    pub(crate) fn make_room(
+        &mut self,
+        settled: Option<Pending>,
+        number: usize,
+    ) -> Result<(), AllocError>
         ensures same { (p : Pending) → settler_at self.new p ≡ settler_at self.old p }
         ensures room { OnOk result (IsTrue (has_room self.new settled)) }
+        ensures small { OnOk result (number < 2 ^ 32) }
     {
+        if number > u32::MAX as usize {
+            return Err(AllocError);
+        }
         match settled {
             Some(Pending::Promise(promise)) => make_room_in(&mut self.promises, promise),
             Some(Pending::Results(call)) => make_room_in(&mut self.results, call),
-            Some(Pending::Import(number, place)) => self.make_room_for_import(number, place),
+            Some(Pending::Import(brought, place)) => self.make_room_for_import(brought, place),
             None => Ok(()),
         }
     }
@@ -115,7 +134,8 @@ impl Turns {
 
     /// The record of this number settled this, for which there is room.
     pub(crate) fn note(&mut self, settled: Option<Pending>, number: usize)
-        requires { IsTrue (has_room self.old settled) }
+        requires room { IsTrue (has_room self.old settled) }
+        requires small { number < 2 ^ 32 }
         ensures { (p : Pending) → settler_at self.new p ≡ (if is_this p settled then Some number else settler_at self.old p) }
     {
         match settled {

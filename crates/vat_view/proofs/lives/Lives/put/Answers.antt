@@ -2,7 +2,6 @@ use Rattle.std.proofs.Common.{◌∙◌, sym, ap, ap₂, ◌==◌, [], cond, Som
 use Rattle.std.specs.BTreeMap.{get}
 use Rattle.std.specs.Ordering.{nat_cmp, is_eq}
 use Rattle.rising_table.specs.Entries.{entry_at}
-use Rattle.vat_view.specs.Tables.{side_of}
 use Rattle.vat_view.proofs.Siding.{look, changed_life}
 use Rattle.vat_view.proofs.lives.Lives.put.Goals as goal
 

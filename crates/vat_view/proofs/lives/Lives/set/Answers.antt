@@ -3,7 +3,6 @@ use Rattle.std.specs.Prelude.{option_map}
 use Rattle.std.specs.BTreeMap.{get}
 use Rattle.std.specs.Ordering.{nat_cmp, is_eq}
 use Rattle.rising_table.specs.Entries.{entry_at}
-use Rattle.vat_view.specs.Tables.{side_of}
 use Rattle.vat_view.proofs.Siding.{look, changed_life, replaced}
 use Rattle.vat_view.proofs.lives.Lives.set.Goals as goal
 

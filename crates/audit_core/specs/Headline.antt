@@ -40,7 +40,7 @@ IsBalancedThroughout logs order = (i k : ℕ) (one other : Log) → Contains log
 
 -- a run explains the logs, by an order of their records
 pub record Explains (logs : List Log) (order : List ℕ) (run : List Step) : Type 0 where
-  -- the steps of the run are those of the vats that the order names
+  -- the order names, step by step, whose step of the run it is
   pub by_order : map vat_of run ≡ order
   -- the logs are the vats' parts of the run: record by record each says its step
   pub parts : (log : Log) → Contains logs log → IsPart run log.vat (records_of log)
@@ -54,9 +54,10 @@ pub record Explains (logs : List Log) (order : List ℕ) (run : List Step) : Typ
   pub reached : EachOf ReachesObject run
   -- each number is used in its life
   pub lives : (log : Log) → Contains logs log → Each UsesLives (records_of log)
-  -- each capability that a vat uses is one that it has: its own, or it came by bootstrap or a recorded message
+  -- each capability that a vat uses is one that it has: its own, a field of a call that it made, booted or received, or one
+  -- that it bound with a recorded message
   pub connected : IsConnected run
-  -- the counts of both ends balance
+  -- the counts of both ends balance, at each point of the order
   pub balanced : IsBalancedThroughout logs order
 
 -- what a yes means

@@ -1,4 +1,4 @@
--- What is asked of findings and an order, so that they name a run. Who made them can know it.
+-- What is asked of findings and an order, so that they name a run. Who has findings of a whole case can know it.
 use Rattle.std.specs.Prelude.{ℕ, List, Bool, true, false, map, All, IsTrue, Contains, ◌≡◌, ◌≢◌, ◌⊎◌, ◌||◌}
 use Rattle.std.specs.List.{list_any, list_all}
 use Rattle.vat_rules.specs.declared.outcome.Outcome.{Outcome}

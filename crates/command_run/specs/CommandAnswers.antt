@@ -47,13 +47,15 @@ abbrev pub AnswersLogRecords : Option ℕ → Option ℕ → Read → List ℕ �
 AnswersLogRecords first many (Ok bytes) text status = AnswersRecords first many (log_of bytes) text status
 AnswersLogRecords first many (Err fault) text status = Says (Fault (of_source fault)) text status
 
--- a line, a status and the bytes for the file answer the case that a source has under a name, or memory ran out
+-- A line, a status and the bytes for the file answer the case that a source has under a name; or memory ran out, and then
+-- nothing is said of what the source was asked for.
 abbrev pub AnswersOrder : {S : Type 0} → Reads S → S → List ℕ → List ℕ → ℕ → Option (List ℕ) → S → Type 0
 AnswersOrder gives old name text status bytes new =
     ((came : Result ReadCase CaseFault) × (ComesOfCase gives old name came new × AnswersCase came text status bytes))
     ⊎ (IsOutOfMemory text status × (bytes ≡ None))
 
--- lines and a status answer the report of the case that a source has under a name, or memory ran out
+-- Lines and a status answer the report of the case that a source has under a name; or memory ran out, and then nothing is
+-- said of what the source was asked for.
 abbrev pub AnswersReportOf : Reporting → {S : Type 0} → Reads S → S → List ℕ → S → List ℕ → ℕ → Type 0
 AnswersReportOf answers gives old name new text status =
     ((came : Result ReadCase CaseFault) × (ComesOfCase gives old name came new × AnswersJudged answers came text status)) ⊎ IsOutOfMemory text status

@@ -51,20 +51,22 @@ module _ {W F : Type 0} (answers : Answering) (to_out : Writing W) (to_file : Wr
   abbrev pub WritesAll : ℕ → Type 0
   WritesAll ended = (text : List ℕ) × ((bytes : Option (List ℕ)) × answers text ended bytes × Saves to_file bytes file file_new × to_out out text out_new)
 
-  -- an answer's bytes were written, and a write of its lines failed
+  -- an answer's bytes were written; of the output nothing is said, since a write of its lines failed
   abbrev pub FailsAfterFile : Type 0
   FailsAfterFile = (text : List ℕ) × ((status : ℕ) × ((bytes : Option (List ℕ)) × answers text status bytes × Saves to_file bytes file file_new))
 
-  -- a write of an answer's bytes failed, and nothing was written to the output
+  -- nothing was written to the output, since a write of an answer's bytes failed
   abbrev pub FailsInFile : Type 0
   FailsInFile = (text : List ℕ) × ((status : ℕ) × ((bytes : Option (List ℕ)) × answers text status bytes × IsSome bytes × (out_new ≡ out)))
 
-  -- what comes of writing an answer, its bytes first
+  -- What comes of writing an answer, its bytes first. That an error is here at all says that a write failed: no code can make
+  -- up a value of an unknown type.
   abbrev pub Writes : {E X : Type 0} → Result ℕ (Failed E X) → Type 0
   Writes (Ok ended) = WritesAll ended
   Writes (Err (Out fault)) = FailsAfterFile
   Writes (Err (File fault)) = FailsInFile
 
-  -- the same over std's writers, where a write that fails ends with 2
+  -- The same over std's writers, where a write that fails ends with 2. Their errors can be made up, so this alone doesn't say
+  -- that a write failed.
   abbrev pub WritesOrFails : ℕ → Type 0
   WritesOrFails ended = WritesAll ended ⊎ ((ended ≡ 2) × (FailsAfterFile ⊎ FailsInFile))

@@ -11,5 +11,5 @@ loop-preserved c =
     let pushed = c.in_ok-push.ensures.items in (
       omega (arith, ap (λ (l : List Body). length l) pushed, length-append before (event ∷ []), c.loop.invariant.0),
       omega (arith, c.loop-test.true),
-      subst (All IsSend) (sym pushed) (All-push IsSend before event c.loop.invariant.2 c.in_ok-send.ensures),
+      subst (All IsSend) (sym {A = List Body} pushed) (All-push IsSend before event c.loop.invariant.2 c.in_ok-send.ensures),
     )

@@ -26,9 +26,9 @@ rising_push xs n rising below k lt =
     ]
 
 pub draws_as : (slots seat : ℕ) (me : Me (Unit {0}) View) (v : View) → me ≡ (v, []) → length v.tickets < v.room
-    → Allows (Kept 1048576) slots seat me 0 (λ n. (n + 1) % 2 ^ 64) (Draws 1048576 me)
+    → Allows (Kept 1048576) slots seat me 15 (λ n. (n + 1) % 2 ^ 64) (Draws 1048576 me)
 draws_as slots seat me v is more =
-    subst (λ (m : Me (Unit {0}) View). Allows (Kept 1048576) slots seat m 0 (λ n. (n + 1) % 2 ^ 64) (Draws 1048576 m)) (sym is) (draws 1048576 slots seat v more (omega arith))
+    subst (λ (m : Me (Unit {0}) View). Allows (Kept 1048576) slots seat m 15 (λ n. (n + 1) % 2 ^ 64) (Draws 1048576 m)) (sym is) (draws 1048576 slots seat v more (omega arith))
 
 module _ {P : Type 0} where
   pub lane_after : (table word word' : TableId) (me me' : Me (Unit {0}) View) (recorded share n : ℕ) (said : Body) (ring ring' : Producer Ticketed Global P)
@@ -48,7 +48,7 @@ module _ {P : Type 0} where
         rising = subst IsStrictlyIncreasing (sym tickets) (rising_push before n lane.rising told.1);
       }
 
-pub looks_as : (slots seat : ℕ) (me : Me (Unit {0}) View) → me.1 ≡ [] → me.0.room ≡ 1048576 → Allows (Kept 1048576) slots seat me 0 (λ n. n) (Looks me)
+pub looks_as : (slots seat : ℕ) (me : Me (Unit {0}) View) → me.1 ≡ [] → me.0.room ≡ 1048576 → Allows (Kept 1048576) slots seat me 15 (λ n. n) (Looks me)
 looks_as slots seat me none all =
     let is : me ≡ (me.0, []) = λ i. (me.0, none i) in
-    subst (λ (m : Me (Unit {0}) View). Allows (Kept 1048576) slots seat m 0 (λ n. n) (Looks m)) (sym is) (looks 1048576 slots seat me.0 all)
+    subst (λ (m : Me (Unit {0}) View). Allows (Kept 1048576) slots seat m 15 (λ n. n) (Looks m)) (sym is) (looks 1048576 slots seat me.0 all)

@@ -1,6 +1,6 @@
 -- Each step on the ticket word keeps the rule, and tells what it is to tell.
 use Rattle.std.proofs.Common.{◌≡◌, ◌≢◌, ℕ, zero, suc, ◌+◌, ◌-◌, ◌%◌, ◌^◌, ◌<◌, ◌≤◌, ◌==◌, Bool, true, false, cond, eqb, ltb, List, [], ◌∷◌, ◌++◌, length, get_or, set, All, refl, sym, ap, ◌∙◌, subst, ⊎_elim, arith, inl, inr, length-append}
-use Rattle.std.specs.Prelude.{slice_index}
+use Rattle.std.specs.Prelude.{slice_index, replicate}
 use Rattle.std.specs.List.{sum_by}
 use Rattle.std.proofs.Math.Nat.{mod-eq_of_lt}
 use Rattle.std.proofs.lemmas.Bool.{cases_lt, cases_eq, lt-ltb, le-ltb}
@@ -10,7 +10,7 @@ use lib.ListN.{get_elem?}
 use Rattle.atomic_table.specs.Table.{keeps, Allows, Splits, Joins, opening}
 use Rattle.atomic_table.proofs.Lists.{at_set, at_snoc, set_here}
 use Rattle.vat_tap.specs.declared.view.View.{View}
-use Rattle.vat_tap.specs.Rule.{times, once_below, view, Counted, Kept, without_share, a_share, together, spent, Draws, Looks}
+use Rattle.vat_tap.specs.Rule.{times, once_below, view, apart, Counted, Kept, without_share, a_share, together, spent, Draws, Looks}
 
 -- ---- sums over seats
 
@@ -91,7 +91,7 @@ drawn_below limit word views seat v c at i d lt =
 
 -- ---- the steps
 
-pub begins : (limit share : ℕ) → Kept {S = Unit {0}} limit (opening (0 ∷ []) [] (view limit share []))
+pub begins : (limit share : ℕ) → Kept {S = Unit {0}} limit (opening (replicate 31 0) [] (view limit share []))
 begins limit share = (0, refl, record { rooms = omega arith; drawn = refl; once = λ ticket. sym (none ticket); within = only })
   where
     only : (seat : ℕ) (v : View) → get_elem? (view limit share [] ∷ []) seat ≡ some v → length v.tickets ≤ v.room
@@ -123,15 +123,15 @@ pub word_small : (limit word : ℕ) (views : List View) (seat : ℕ) (v : View) 
 word_small limit word views seat v more c at = omega (arith, sum_gap (λ u. length u.tickets) (λ u. u.room) views seat v c.within at, c.rooms, c.drawn)
 
 pub draws : (limit slots seat : ℕ) (v : View) → length v.tickets < v.room → limit < 2 ^ 64
-    → Allows {S = Unit {0}} (Kept limit) slots seat (v, []) 0 (λ n. (n + 1) % 2 ^ 64) (Draws limit (v, []))
+    → Allows {S = Unit {0}} (Kept limit) slots seat (v, []) 15 (λ n. (n + 1) % 2 ^ 64) (Draws limit (v, []))
 draws limit slots seat v more small s h homes at fits =
     let word = h.0 in
     let c = h.2 in
     let w = view v.room v.share (v.tickets ++ word ∷ []) in
     let lt = word_small limit word s.views seat v more c at in
-    let now : (slice_index s.words 0 + 1) % 2 ^ 64 ≡ (word + 1) = ap (λ (ws : List ℕ). (slice_index ws 0 + 1) % 2 ^ 64) h.1 ∙ mod-eq_of_lt (omega arith) in
-    let found : slice_index s.words 0 ≡ word = ap (λ (ws : List ℕ). slice_index ws 0) h.1 in
-    let words : set s.words 0 ((slice_index s.words 0 + 1) % 2 ^ 64) ≡ (word + 1) ∷ [] = ap (λ (n : ℕ). set s.words 0 n) now ∙ ap (λ (ws : List ℕ). set ws 0 ((word + 1))) h.1 in (
+    let now : (slice_index s.words 15 + 1) % 2 ^ 64 ≡ (word + 1) = ap (λ (ws : List ℕ). (slice_index ws 15 + 1) % 2 ^ 64) h.1 ∙ mod-eq_of_lt (omega arith) in
+    let found : slice_index s.words 15 ≡ word = ap (λ (ws : List ℕ). slice_index ws 15) h.1 in
+    let words : set s.words 15 ((slice_index s.words 15 + 1) % 2 ^ 64) ≡ apart (word + 1) = ap (λ (n : ℕ). set s.words 15 n) now ∙ ap (λ (ws : List ℕ). set ws 15 ((word + 1))) h.1 in (
       w,
       keeps,
       tt,
@@ -180,12 +180,12 @@ joins limit seat v other w s h at apart there =
 few_of : (views : List View) → ((j : ℕ) (u : View) → get_elem? views j ≡ some u → length u.tickets ≤ u.room) → (ticket j : ℕ) (u : View) → get_elem? views j ≡ some u → times ticket u.tickets ≤ u.room
 few_of views within ticket j u e = omega (arith, times_few ticket u.tickets, within j u e)
 
-pub looks : (limit slots seat : ℕ) (v : View) → v.room ≡ limit → Allows {S = Unit {0}} (Kept limit) slots seat (v, []) 0 (λ n. n) (Looks (v, []))
+pub looks : (limit slots seat : ℕ) (v : View) → v.room ≡ limit → Allows {S = Unit {0}} (Kept limit) slots seat (v, []) 15 (λ n. n) (Looks (v, []))
 looks limit slots seat v all s h homes at fits =
     let word = h.0 in
     let c = h.2 in
-    let found : slice_index s.words 0 ≡ word = ap (λ (ws : List ℕ). slice_index ws 0) h.1 in
-    let words : set s.words 0 (slice_index s.words 0) ≡ word ∷ [] = ap (λ (n : ℕ). set s.words 0 n) found ∙ ap (λ (ws : List ℕ). set ws 0 word) h.1 in
+    let found : slice_index s.words 15 ≡ word = ap (λ (ws : List ℕ). slice_index ws 15) h.1 in
+    let words : set s.words 15 (slice_index s.words 15) ≡ apart word = ap (λ (n : ℕ). set s.words 15 n) found ∙ ap (λ (ws : List ℕ). set ws 15 word) h.1 in
     let views : set s.views seat v ≡ s.views = Rattle.atomic_table.proofs.Lists.set_again s.views seat v at in
     let few = few_of s.views c.within in
     let once : (ticket : ℕ) → times ticket v.tickets ≡ once_below word ticket = λ ticket. omega (arith, sum_gap (λ u. times ticket u.tickets) (λ u. u.room) s.views seat v (few ticket) at, sum_has (λ u. times ticket u.tickets) s.views seat v at, c.rooms, c.once ticket) in

@@ -30,7 +30,7 @@ module _ {P : Type 0} where
   -- What a lane knows: its seat is at its ticket word and has the tickets of what the lane recorded, and they rise.
   pub record IsLane (table word : TableId) (me : Me (Unit {0}) View) (recorded share : ℕ) (ring : Producer Ticketed Global P) : Type 0 where
     pub at : word ≡ table
-    pub words : word.words ≡ 1
+    pub words : word.words ≡ 31
     pub seat : me ≡ (view share share (tickets_of (sent ring)), [])
     pub count : recorded ≡ length (sent ring)
     pub within : recorded ≤ share
@@ -45,7 +45,7 @@ Goes before after count = (more : List Ticketed) × (after ≡ before ++ more) �
 pub record IsTap (table word : TableId) (me : Me (Unit {0}) View) (lanes : ℕ) : Type 0 where
   pub few : lanes ≤ 64
   pub at : word ≡ table
-  pub words : word.words ≡ 1
+  pub words : word.words ≡ 31
   pub share : me.0.share ≡ share_of lanes
   pub room : me.0.room + lanes * share_of lanes ≡ 1048576
   pub tickets : me.0.tickets ≡ []

@@ -1,6 +1,6 @@
 -- What each seat at the ticket word knows, and what always holds of all of them together. The word is the number of tickets
 -- that were drawn.
-use Rattle.std.specs.Prelude.{◌≡◌, ℕ, ◌+◌, ◌-◌, ◌<◌, ◌≤◌, List, [], ◌∷◌, ◌++◌, length, nat_lt, ◌==◌, if◌then◌else◌, All}
+use Rattle.std.specs.Prelude.{◌≡◌, ℕ, ◌+◌, ◌-◌, ◌<◌, ◌≤◌, List, [], ◌∷◌, ◌++◌, length, nat_lt, ◌==◌, if◌then◌else◌, All, replicate}
 use Rattle.std.specs.List.{sum_by}
 use mathlib.Core.Option.{some}
 use lib.ListN.{get_elem?}
@@ -27,9 +27,13 @@ pub record Counted (limit word : ℕ) (views : List View) : Type 0 where
   pub once : (ticket : ℕ) → sum_by (λ v. times ticket v.tickets) views ≡ once_below word ticket
   pub within : (seat : ℕ) (v : View) → get_elem? views seat ≡ some v → length v.tickets ≤ v.room
 
+-- The ticket word lies between words that are never used, 15 to either side, so that no other memory shares its cache lines.
+abbrev pub apart : ℕ → List ℕ
+apart word = replicate 15 0 ++ word ∷ replicate 15 0
+
 -- what holds between any two steps on the word
 abbrev pub Kept : {S : Type 0} → ℕ → State S View → Type 0
-Kept limit state = (word : ℕ) × (state.words ≡ word ∷ []) × Counted limit word state.views
+Kept limit state = (word : ℕ) × (state.words ≡ apart word) × Counted limit word state.views
 
 -- a lane's seat takes its share of the room along, and no ticket
 abbrev pub without_share : View → View

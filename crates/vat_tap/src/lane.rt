@@ -5,7 +5,7 @@ ghost use Rattle.vat_tap.specs.Tickets.{SameLane};
 
 use crate::error::Full;
 use crate::ticket::Ticket;
-use crate::view::{Drawing, TicketWord, View};
+use crate::view::{Drawing, TICKET, TicketWord, View};
 use atomic_table::Seat;
 use rtrb::Producer;
 use std::marker::Model;
@@ -56,7 +56,10 @@ impl Lane {
         if self.recorded >= self.share || self.ring.is_full() {
             return Err(Full(event));
         }
-        let number = self.word.shared.fetch_add::<Drawing>(&mut self.seat, 0, 1);
+        let number = self
+            .word
+            .shared
+            .fetch_add::<Drawing>(&mut self.seat, TICKET, 1);
         self.ring.push_reserved((number, event));
         self.recorded += 1;
         Ok(Ticket::new(number))

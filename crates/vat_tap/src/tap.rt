@@ -13,7 +13,7 @@ use crate::error::CloseError;
 use crate::intake::Intake;
 use crate::lane::Lane;
 use crate::order::{in_order, lend};
-use crate::view::{Closing, Looking, Opening, TicketWord, View};
+use crate::view::{Closing, Looking, Opening, TICKET, TicketWord, View, WORDS};
 use atomic_table::Seat;
 use rtrb::RingBuffer;
 use std::alloc::{AllocError, Global};
@@ -69,7 +69,7 @@ impl Tap {
         ensures { IfOk result (λ opened. IsOpened vat lanes ring opened.0 opened.1.items) }
     {
         let share = MOST / lanes as u64;
-        let (table, first) = TicketWord::of_words(alloc, &[0], &share)?;
+        let (table, first) = TicketWord::of_words(alloc, &[0; WORDS], &share)?;
         let word = Arc::new(alloc, table)?;
         let mut seat = first;
         let mut intakes = Vec::new(alloc);
@@ -256,5 +256,5 @@ fn join_all(word: &Arc<TicketWord>, seat: Seat<(), View>, lanes: Vec<Lane>)
         } = lane;
         word.shared.join_seat::<Closing>(&mut seat, theirs);
     }
-    word.shared.load::<Looking>(&mut seat, 0);
+    word.shared.load::<Looking>(&mut seat, TICKET);
 }

@@ -67,5 +67,12 @@ impl Play<(), View> for Looking {
     ghost then = { λ _ me found after. Looks me found after };
 }
 
+/// The words of the table: the ticket word, and 15 to either side of it that are never used. So no memory that a lane reads or
+/// another thread writes shares its cache line, or the one that a processor fetches along with it.
+pub(crate) const WORDS: usize = 31;
+
+/// Which of them is the ticket word.
+pub(crate) const TICKET: usize = 15;
+
 /// The word from which tickets are drawn: how many were.
 pub type TicketWord = Table<(), View, u64, TicketRule, Global>;

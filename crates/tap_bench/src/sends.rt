@@ -1,0 +1,37 @@
+//! The records that are recorded.
+
+ghost use Rattle.std.specs.Prelude.{◌≡◌, length, All, IfOk};
+ghost use Rattle.tap_bench.specs.Sends.{IsSend};
+
+use crate::refused::Refused;
+use bytes::Bytes;
+use std::alloc::Global;
+use vat_log::{Body, Record, References};
+
+/// The bytes of each frame.
+const FRAME: [u8; 112] = [0; 112];
+
+/// A SEND with a frame of its own.
+pub fn send(alloc: Global) -> Result<Record, Refused>
+    ensures { IfOk result IsSend }
+{
+    let body = Body::Send {
+        connection: 0,
+        call: 0,
+        references: References::new(Vec::new(alloc)),
+        frame: Bytes::copy_from_slice(alloc, &FRAME)?,
+    };
+    Ok(Record::new(body)?)
+}
+
+/// So many of these.
+pub fn sends(alloc: Global, count: usize) -> Result<Vec<Record>, Refused>
+    ensures count { IfOk result (λ records. length records.items ≡ count) }
+    ensures each { IfOk result (λ records. All IsSend records.items) }
+{
+    let mut records = Vec::with_capacity(alloc, count)?;
+    for _ in 0..count {
+        records.push(send(alloc)?)?;
+    }
+    Ok(records)
+}

@@ -7,6 +7,7 @@ ghost use Rattle.case_files.specs.declared.source.SourceError.TheVariants.{OutOf
 
 use bytes::Bytes;
 use std::alloc::{AllocError, AllocFailed};
+use std::io;
 use thiserror::Error;
 
 /// Why a source gives nothing under a name.
@@ -52,5 +53,15 @@ pub trait Source {
     /// The name that was asked for last, where it is kept. People are told it; no answer depends on it.
     fn last(&self) -> Option<&str> {
         None
+    }
+
+    /// Why nothing could be read under that name, where it is kept. It is for people, too.
+    fn refusal(&self) -> Option<&io::Error> {
+        None
+    }
+
+    /// The files that were read, with their names, in the order of reading, where they are kept. They are for people, too.
+    fn kept(&self) -> &[(String, Bytes)] {
+        &[]
     }
 }

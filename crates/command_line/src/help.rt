@@ -9,6 +9,10 @@ pub const PROGRAM_END: &str = "\
 Each command prints its answer in lines on standard output; its own --help has
 the lines, an example and the exit status.
 
+Notes for people go to standard error: the record of a no and what its rule asks,
+or the file that is bad or can't be read. They change no line and no status.
+vataudit --quiet COMMAND .. leaves them out; --quiet stands before the command.
+
 Examples:
   $ vataudit vat samples/pipelined_call.vat2.log
   good vat 2 records 8 delivered 1

@@ -6,6 +6,7 @@ ghost use Rattle.command_run.specs.Glue.{Prints};
 ghost use Rattle.command_run.specs.ReportAnswers.{AnswersGraph, ShowsEdges, edge_lines};
 ghost use Rattle.command_run.specs.Runs.{Adds, Wrote};
 
+use crate::heard::Heard;
 use crate::output::Output;
 use crate::report::report_of;
 use crate::say::say;
@@ -31,12 +32,17 @@ fn put_edges<O: Output>(graph: &Graph, out: &mut O) -> Result<(), O::Error>
 }
 
 /// Says the edges of a run, or that memory ran out.
-fn say_edges<O: Output>(alloc: Global, run: &Run, out: &mut O) -> Result<u8, O::Error>
+fn say_edges<O: Output>(
+    alloc: Global,
+    run: &Run,
+    heard: &mut Heard,
+    out: &mut O,
+) -> Result<u8, O::Error>
     requires { O.can_write out.old }
     ensures { Prints (λ text status. ShowsEdges run.now text status ⊎ IsOutOfMemory text status) (Wrote O.contents O.is_finished) out.old out.new result }
 {
     let Ok(graph) = graph(alloc, run) else {
-        return say(Answer::Fault(Fault::OutOfMemory), out);
+        return say(Answer::Fault(Fault::OutOfMemory), heard, out);
     };
     put_edges(&graph, out)?;
     out.finish()?;
@@ -54,6 +60,7 @@ pub fn say_graph<R: Threads + Wait + Sync, S: Source, O: Output>(
     alloc: Global,
     name: &str,
     source: &mut S,
+    heard: &mut Heard,
     out: &mut O,
 ) -> Result<u8, O::Error>
     requires { O.can_write out.old }
@@ -61,10 +68,10 @@ pub fn say_graph<R: Threads + Wait + Sync, S: Source, O: Output>(
 {
     let report = match report_of(rt, alloc, name, 1, source) {
         Ok(report) => report,
-        Err(fault) => return say(Answer::Fault(fault), out),
+        Err(fault) => return say(Answer::Fault(fault), heard, out),
     };
     match report {
-        Report::Yes { run, .. } => say_edges(alloc, &run, out),
-        report => say(Answer::Report(report), out),
+        Report::Yes { run, .. } => say_edges(alloc, &run, heard, out),
+        report => say(Answer::Report(report), heard, out),
     }
 }

@@ -9,6 +9,7 @@ ghost use Rattle.command_run.specs.CommandAnswers.{AnswersFrame};
 ghost use Rattle.command_run.specs.Glue.{Prints};
 ghost use Rattle.command_run.specs.Runs.{Wrote};
 
+use crate::heard::Heard;
 use crate::output::Output;
 use crate::say::say;
 use bytes::Bytes;
@@ -49,12 +50,17 @@ fn answer_of_hex(alloc: Global, hex: &str) -> Result<Answer, AllocError>
 /// # Errors
 ///
 /// That of a write; nothing is written after it.
-pub fn say_frame<O: Output>(alloc: Global, hex: &str, out: &mut O) -> Result<u8, O::Error>
+pub fn say_frame<O: Output>(
+    alloc: Global,
+    hex: &str,
+    heard: &mut Heard,
+    out: &mut O,
+) -> Result<u8, O::Error>
     requires { O.can_write out.old }
     ensures { Prints (AnswersFrame hex.now) (Wrote O.contents O.is_finished) out.old out.new result }
 {
     match answer_of_hex(alloc, hex) {
-        Ok(answer) => say(answer, out),
-        Err(AllocError) => say(Answer::Fault(Fault::OutOfMemory), out),
+        Ok(answer) => say(answer, heard, out),
+        Err(AllocError) => say(Answer::Fault(Fault::OutOfMemory), heard, out),
     }
 }

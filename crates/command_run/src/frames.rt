@@ -9,6 +9,7 @@ ghost use Rattle.command_run.specs.Runs.{Wrote};
 ghost use Rattle.command_run.specs.Pieces.{piece_len, piece_line, piece_status};
 
 use crate::frame::answer_of_bytes;
+use crate::heard::Heard;
 use crate::output::Output;
 use crate::piece::cut_piece;
 use crate::say::{put, say};
@@ -29,7 +30,12 @@ fn next_answer(alloc: Global, bytes: &mut Bytes) -> Result<Answer, AllocError>
 }
 
 /// Says the answer to each frame of a file.
-fn say_bytes<O: Output>(alloc: Global, bytes: Bytes, out: &mut O) -> Result<u8, O::Error>
+fn say_bytes<O: Output>(
+    alloc: Global,
+    bytes: Bytes,
+    heard: &mut Heard,
+    out: &mut O,
+) -> Result<u8, O::Error>
     requires { O.can_write out.old }
     ensures { Prints (AnswersBytes bytes) (Wrote O.contents O.is_finished) out.old out.new result }
 {
@@ -37,9 +43,9 @@ fn say_bytes<O: Output>(alloc: Global, bytes: Bytes, out: &mut O) -> Result<u8, 
     let mut status = 0;
     while !rest.is_empty() {
         let Ok(answer) = next_answer(alloc, &mut rest) else {
-            return say(Answer::Fault(Fault::OutOfMemory), out);
+            return say(Answer::Fault(Fault::OutOfMemory), heard, out);
         };
-        status = status.max(put(answer, out)?);
+        status = status.max(put(answer, heard, out)?);
     }
     out.finish()?;
     Ok(status)
@@ -55,13 +61,14 @@ pub fn say_frames<S: Source, O: Output>(
     alloc: Global,
     name: &str,
     source: &mut S,
+    heard: &mut Heard,
     out: &mut O,
 ) -> Result<u8, O::Error>
     requires { O.can_write out.old }
     ensures { (read : Read) × S.read_gives source.old name.now read source.new × Prints (AnswersFile read) (Wrote O.contents O.is_finished) out.old out.new result }
 {
     match source.read(name) {
-        Ok(bytes) => say_bytes(alloc, bytes, out),
-        Err(fault) => say(Answer::Fault(Fault::from(fault)), out),
+        Ok(bytes) => say_bytes(alloc, bytes, heard, out),
+        Err(fault) => say(Answer::Fault(Fault::from(fault)), heard, out),
     }
 }

@@ -7,12 +7,15 @@
 //! (`specs/Answers.antt`), of a file of frames (`specs/Pieces.antt`), of the records of a log (`specs/RecordAnswers.antt`), of
 //! a case whose order is asked for (`specs/OrderAnswers.antt`), and of one that is judged (`specs/ReportAnswers.antt`); what a
 //! run asks for and writes in `specs/Runs.antt`. [`answer_command`] does just that, or answers the error of a write;
-//! [`run_on`] does it over std's writers and ends with 2 where a write failed.
+//! [`run_on`] does it over std's writers and ends with 2 where a write failed, and [`run_with_notes`] tells people more of
+//! it besides (notes.rt), on a writer of its own: what it tells is in no contract.
 #![tactic(auto)]
 
 mod edges;
 mod frame;
 mod frames;
+mod heard;
+mod notes;
 mod order;
 mod output;
 mod piece;
@@ -24,4 +27,4 @@ mod steps;
 mod vat;
 
 pub use output::{Failed, Output};
-pub use run::{FAILED, answer_command, run_on};
+pub use run::{FAILED, answer_command, run_on, run_with_notes};

@@ -6,6 +6,7 @@ ghost use Rattle.command_run.specs.CommandAnswers.{AnswersOrder};
 ghost use Rattle.command_run.specs.OrderAnswers.{AnswersLogs};
 ghost use Rattle.command_run.specs.Runs.{Saves, Writes, Wrote};
 
+use crate::heard::Heard;
 use crate::output::{Failed, Output};
 use crate::say::say;
 use bytes::Bytes;
@@ -89,6 +90,7 @@ pub fn say_order<S: Source, O: Output, F: Output>(
     alloc: Global,
     name: &str,
     source: &mut S,
+    heard: &mut Heard,
     out: &mut O,
     file: &mut F,
 ) -> Result<u8, Failed<O::Error, F::Error>>
@@ -101,7 +103,7 @@ pub fn say_order<S: Source, O: Output, F: Output>(
     if let Err(fault) = save(&order, file) {
         return Err(Failed::File(fault));
     }
-    match say(answer, out) {
+    match say(answer, heard, out) {
         Ok(status) => Ok(status),
         Err(fault) => Err(Failed::Out(fault)),
     }

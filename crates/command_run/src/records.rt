@@ -10,6 +10,7 @@ ghost use Rattle.command_run.specs.RecordAnswers.{AnswersListing, record_line};
 ghost use Rattle.command_run.specs.Runs.{Adds, Wrote};
 
 use crate::frame::answer_of_bytes;
+use crate::heard::Heard;
 use crate::output::Output;
 use crate::say::say;
 use case_files::Source;
@@ -18,7 +19,7 @@ use std::alloc::{AllocError, Global};
 use vat_log::{Body, Record, VatLog, parse_log};
 
 /// A record to be shown with its number, its frame read as `frame` reads it.
-fn numbered<'a>(
+pub fn numbered<'a>(
     alloc: Global,
     at: usize,
     event: &'a Record,
@@ -61,6 +62,7 @@ fn say_log<O: Output>(
     log: &VatLog,
     from: Option<u64>,
     count: Option<u64>,
+    heard: &mut Heard,
     out: &mut O,
 ) -> Result<u8, O::Error>
     requires { O.can_write out.old }
@@ -74,7 +76,7 @@ fn say_log<O: Output>(
             unreachable!()
         };
         let Ok(shown) = numbered(alloc, at, event) else {
-            return say(Answer::Fault(Fault::OutOfMemory), out);
+            return say(Answer::Fault(Fault::OutOfMemory), heard, out);
         };
         put_numbered(shown, out)?;
         at += 1;
@@ -104,6 +106,7 @@ pub fn say_records<S: Source, O: Output>(
     from: Option<u64>,
     count: Option<u64>,
     source: &mut S,
+    heard: &mut Heard,
     out: &mut O,
 ) -> Result<u8, O::Error>
     requires { O.can_write out.old }
@@ -111,7 +114,7 @@ pub fn say_records<S: Source, O: Output>(
         × Prints (AnswersLogRecords from count read) (Wrote O.contents O.is_finished) out.old out.new result }
 {
     match log_of(alloc, source, name) {
-        Ok(log) => say_log(alloc, &log, from, count, out),
-        Err(fault) => say(Answer::Fault(fault), out),
+        Ok(log) => say_log(alloc, &log, from, count, heard, out),
+        Err(fault) => say(Answer::Fault(fault), heard, out),
     }
 }

@@ -6,6 +6,7 @@ ghost use Rattle.command_run.specs.Glue.{ComesJudged, Prints};
 ghost use Rattle.command_run.specs.ReportAnswers.{AnswersReport};
 ghost use Rattle.command_run.specs.Runs.{Wrote};
 
+use crate::heard::Heard;
 use crate::output::Output;
 use crate::say::say;
 use audit_core::{AuditError, Gate, Report, audit};
@@ -63,6 +64,7 @@ pub fn say_report<R: Threads + Wait + Sync, S: Source, O: Output>(
     name: &str,
     workers: u32,
     source: &mut S,
+    heard: &mut Heard,
     out: &mut O,
 ) -> Result<u8, O::Error>
     requires some { 1 ≤ workers }
@@ -71,7 +73,7 @@ pub fn say_report<R: Threads + Wait + Sync, S: Source, O: Output>(
     ensures { Prints (AnswersReportOf AnswersReport S.read_gives source.old name.now source.new) (Wrote O.contents O.is_finished) out.old out.new result }
 {
     match report_of(rt, alloc, name, workers, source) {
-        Ok(report) => say(Answer::Report(report), out),
-        Err(fault) => say(Answer::Fault(fault), out),
+        Ok(report) => say(Answer::Report(report), heard, out),
+        Err(fault) => say(Answer::Fault(fault), heard, out),
     }
 }

@@ -8,6 +8,8 @@ ghost use Rattle.command_run.specs.Runs.{Adds, CarriesOut, Writes, WritesOrFails
 use crate::edges::say_graph;
 use crate::frame::say_frame;
 use crate::frames::say_frames;
+use crate::heard::Heard;
+use crate::notes::notes_of;
 use crate::order::say_order;
 use crate::output::{Failed, Output};
 use crate::records::say_records;
@@ -34,6 +36,39 @@ fn of_lines<O, F>(said: Result<u8, O>) -> Result<u8, Failed<O, F>>
     }
 }
 
+/// Runs a command, as [`answer_command`] does; its last answer is heard.
+fn answer_heard<R: Threads + Wait + Sync, S: Source, O: Output, F: Output>(
+    rt: &R,
+    alloc: Global,
+    command: &Command<'_>,
+    source: &mut S,
+    heard: &mut Heard,
+    out: &mut O,
+    file: &mut F,
+) -> Result<u8, Failed<O::Error, F::Error>>
+    requires workers { HasWorkers command.now }
+    requires out { O.can_write out.old }
+    requires file { F.can_write file.old }
+    ensures { CarriesOut S.read_gives command.now source.old source.new (λ answers. Writes answers (Wrote O.contents O.is_finished) (Wrote F.contents F.is_finished) out.old out.new file.old file.new result) }
+{
+    match command {
+        Command::Check { case, workers } => {
+            of_lines(say_report(rt, alloc, case, *workers, source, heard, out))
+        }
+        Command::Order { case, .. } => say_order(alloc, case, source, heard, out, file),
+        Command::Graph { case } => of_lines(say_graph(rt, alloc, case, source, heard, out)),
+        Command::Run { case } => of_lines(say_run(rt, alloc, case, source, heard, out)),
+        Command::Vat { file: name } => of_lines(say_vat(alloc, name, source, heard, out)),
+        Command::Records {
+            file: name,
+            from,
+            count,
+        } => of_lines(say_records(alloc, name, *from, *count, source, heard, out)),
+        Command::Frame { hex } => of_lines(say_frame(alloc, hex, heard, out)),
+        Command::Frames { file: name } => of_lines(say_frames(alloc, name, source, heard, out)),
+    }
+}
+
 /// Runs a command: writes its line, or its lines, to `out`, and answers the exit status. It is 0 where the log is good, the
 /// report of a case is yes, the message of each frame is said, the records are or an order is made; 1 where a record breaks
 /// a rule, the report is a no, or no order exists; 2 where a record isn't judged, a message isn't read, or the input is bad
@@ -56,22 +91,7 @@ pub fn answer_command<R: Threads + Wait + Sync, S: Source, O: Output, F: Output>
     requires file { F.can_write file.old }
     ensures { CarriesOut S.read_gives command.now source.old source.new (λ answers. Writes answers (Wrote O.contents O.is_finished) (Wrote F.contents F.is_finished) out.old out.new file.old file.new result) }
 {
-    match command {
-        Command::Check { case, workers } => {
-            of_lines(say_report(rt, alloc, case, *workers, source, out))
-        }
-        Command::Order { case, .. } => say_order(alloc, case, source, out, file),
-        Command::Graph { case } => of_lines(say_graph(rt, alloc, case, source, out)),
-        Command::Run { case } => of_lines(say_run(rt, alloc, case, source, out)),
-        Command::Vat { file: name } => of_lines(say_vat(alloc, name, source, out)),
-        Command::Records {
-            file: name,
-            from,
-            count,
-        } => of_lines(say_records(alloc, name, *from, *count, source, out)),
-        Command::Frame { hex } => of_lines(say_frame(alloc, hex, out)),
-        Command::Frames { file: name } => of_lines(say_frames(alloc, name, source, out)),
-    }
+    answer_heard(rt, alloc, command, source, &mut Heard::Nothing, out, file)
 }
 
 /// Runs a command over std's writers: as `answer_command`, and the exit status is 2 where a write fails.
@@ -87,4 +107,28 @@ pub fn run_on<R: Threads + Wait + Sync, S: Source, W: Write, F: Write>(
     ensures { CarriesOut S.read_gives command.now source.old source.new (λ answers. WritesOrFails answers (Adds W.contents) (Adds F.contents) out.old out.new file.old file.new result) }
 {
     answer_command(rt, alloc, command, source, out, file).unwrap_or(FAILED)
+}
+
+/// Runs a command over std's writers, as [`run_on`] does, and then writes notes to `notes`: a line or two for people, beside
+/// a no, an outside, a file that can't be read or a log, an order or a case file that is bad (docs/FORMATS.md). No contract
+/// says what they tell. They change neither what is written elsewhere nor the exit status: where a write of them fails, or
+/// memory is refused for them, they are left out.
+pub fn run_with_notes<R: Threads + Wait + Sync, S: Source, W: Write, F: Write, N: Write>(
+    rt: &R,
+    alloc: Global,
+    command: &Command<'_>,
+    source: &mut S,
+    out: &mut W,
+    file: &mut F,
+    notes: &mut N,
+) -> u8
+    requires { HasWorkers command.now }
+    ensures { CarriesOut S.read_gives command.now source.old source.new (λ answers. WritesOrFails answers (Adds W.contents) (Adds F.contents) out.old out.new file.old file.new result) }
+{
+    let mut heard = Heard::Nothing;
+    let answered = answer_heard(rt, alloc, command, source, &mut heard, out, file);
+    if let Ok(text) = notes_of(alloc, heard, source) {
+        let _ = notes.write_all(text.as_bytes());
+    }
+    answered.unwrap_or(FAILED)
 }

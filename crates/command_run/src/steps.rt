@@ -7,6 +7,7 @@ ghost use Rattle.command_run.specs.Glue.{Prints};
 ghost use Rattle.command_run.specs.ReportAnswers.{AnswersRun, ShowsSteps, step_lines};
 ghost use Rattle.command_run.specs.Runs.{Adds, Wrote};
 
+use crate::heard::Heard;
 use crate::output::Output;
 use crate::report::report_of;
 use crate::say::say;
@@ -38,12 +39,17 @@ fn put_steps<O: Output>(run: &Run, numbers: &[u64], out: &mut O) -> Result<(), O
 }
 
 /// Says the steps of a run, or that memory ran out.
-fn say_steps<O: Output>(alloc: Global, run: &Run, out: &mut O) -> Result<u8, O::Error>
+fn say_steps<O: Output>(
+    alloc: Global,
+    run: &Run,
+    heard: &mut Heard,
+    out: &mut O,
+) -> Result<u8, O::Error>
     requires { O.can_write out.old }
     ensures { Prints (λ text status. ShowsSteps run.now text status ⊎ IsOutOfMemory text status) (Wrote O.contents O.is_finished) out.old out.new result }
 {
     let Ok(numbers) = record_numbers(alloc, run) else {
-        return say(Answer::Fault(Fault::OutOfMemory), out);
+        return say(Answer::Fault(Fault::OutOfMemory), heard, out);
     };
     put_steps(run, &numbers, out)?;
     out.finish()?;
@@ -61,6 +67,7 @@ pub fn say_run<R: Threads + Wait + Sync, S: Source, O: Output>(
     alloc: Global,
     name: &str,
     source: &mut S,
+    heard: &mut Heard,
     out: &mut O,
 ) -> Result<u8, O::Error>
     requires { O.can_write out.old }
@@ -68,10 +75,10 @@ pub fn say_run<R: Threads + Wait + Sync, S: Source, O: Output>(
 {
     let report = match report_of(rt, alloc, name, 1, source) {
         Ok(report) => report,
-        Err(fault) => return say(Answer::Fault(fault), out),
+        Err(fault) => return say(Answer::Fault(fault), heard, out),
     };
     match report {
-        Report::Yes { run, .. } => say_steps(alloc, &run, out),
-        report => say(Answer::Report(report), out),
+        Report::Yes { run, .. } => say_steps(alloc, &run, heard, out),
+        report => say(Answer::Report(report), heard, out),
     }
 }

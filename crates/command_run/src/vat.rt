@@ -6,6 +6,7 @@ ghost use Rattle.command_run.specs.CommandAnswers.{AnswersSource};
 ghost use Rattle.command_run.specs.Glue.{Prints, answer_of};
 ghost use Rattle.command_run.specs.Runs.{Wrote};
 
+use crate::heard::Heard;
 use crate::output::Output;
 use crate::say::say;
 use case_files::Source;
@@ -35,13 +36,14 @@ pub fn say_vat<S: Source, O: Output>(
     alloc: Global,
     name: &str,
     source: &mut S,
+    heard: &mut Heard,
     out: &mut O,
 ) -> Result<u8, O::Error>
     requires { O.can_write out.old }
     ensures { (read : Read) × S.read_gives source.old name.now read source.new × Prints (AnswersSource read) (Wrote O.contents O.is_finished) out.old out.new result }
 {
     match finding(alloc, source, name) {
-        Ok(finding) => say(Answer::Finding(finding), out),
-        Err(fault) => say(Answer::Fault(fault), out),
+        Ok(finding) => say(Answer::Finding(finding), heard, out),
+        Err(fault) => say(Answer::Fault(fault), heard, out),
     }
 }

@@ -4,62 +4,135 @@ ghost use Rattle.std.specs.Prelude.{◌≡◌, ◌<◌, ◌≤◌, length, IfErr
 
 use bytes::Bytes;
 use case_files::{Source, SourceError};
-use std::alloc::Global;
-use std::fs;
+use std::alloc::{AllocError, Global};
 use std::io::{ErrorKind, Read};
 use std::rt::Files;
+use std::{fs, io};
 
 /// How many bytes a file that is read may have, at most.
 const LIMIT: usize = 1_073_741_824;
 
-/// All that was read, where it is at most the limit.
-fn within_limit(bytes: Vec<u8>) -> Result<Bytes, SourceError>
+/// All that was read, where it is at most the limit. Else the reason is told.
+fn within_limit(bytes: Vec<u8>, why: &mut Option<io::Error>) -> Result<Bytes, SourceError>
     ensures limit { IfOk result (λ kept. length kept ≤ LIMIT) }
     ensures whole { IfOk result (λ kept. kept ≡ bytes.items) }
     // What is at most the limit isn't refused as too long.
     ensures long { IfErr result (λ fault. fault ≡ SourceError.CannotRead → LIMIT < length bytes.items) }
 {
     if bytes.len() > LIMIT {
+        *why = Some(io::Error::other("it has over 1073741824 bytes"));
         return Err(SourceError::CannotRead);
     }
     Ok(Bytes::from_vec(bytes)?)
 }
 
-/// All bytes of a reader, where they are at most the limit; one more is read, to see that there are no more.
-pub fn read_all<R: Read + Drop>(alloc: Global, reader: R) -> Result<Bytes, SourceError>
+/// What is answered where the system refuses, whose reason is told.
+fn refused(error: io::Error, why: &mut Option<io::Error>) -> SourceError {
+    let fault = if error.kind() == ErrorKind::OutOfMemory {
+        SourceError::OutOfMemory
+    } else {
+        SourceError::CannotRead
+    };
+    *why = Some(error);
+    fault
+}
+
+/// All bytes of a reader, where they are at most the limit; one more is read, to see that there are no more. Where they
+/// can't be read the reason is told.
+pub fn read_all<R: Read + Drop>(
+    alloc: Global,
+    reader: R,
+    why: &mut Option<io::Error>,
+) -> Result<Bytes, SourceError>
     ensures limit { IfOk result (λ bytes. length bytes ≤ LIMIT) }
     ensures whole { IfOk result (λ bytes. IfSome (R.remaining reader) (λ all. bytes ≡ all)) }
 {
     let mut bytes = Vec::new(alloc);
     match reader.take(LIMIT as u64 + 1).read_to_end(&mut bytes) {
-        Ok(_) => within_limit(bytes),
-        Err(e) if e.kind() == ErrorKind::OutOfMemory => Err(SourceError::OutOfMemory),
-        Err(_) => Err(SourceError::CannotRead),
+        Ok(_) => within_limit(bytes, why),
+        Err(error) => Err(refused(error, why)),
     }
 }
 
-/// The files of the working directory, and standard input under the name `-`.
+/// The files of the working directory, and standard input under the name `-`. Where notes are wanted it keeps what people
+/// are told of the files; the bytes that it keeps are shared, not copied.
 #[derive(Drop)]
 pub struct Folder<'a, R> {
     rt: &'a R,
+    keeps: bool,
+    last: Option<String>,
+    refusal: Option<io::Error>,
+    kept: Vec<(String, Bytes)>,
 }
 
 impl<'a, R: Files + Input + AllocGlobal> Folder<'a, R> {
+    /// The folder, which keeps nothing.
     pub fn new(rt: &'a R) -> Folder<'a, R> {
-        Folder { rt }
+        Folder {
+            rt,
+            keeps: false,
+            last: None,
+            refusal: None,
+            kept: Vec::new(rt.alloc()),
+        }
+    }
+
+    /// The folder, which keeps what notes need.
+    pub fn keeping(rt: &'a R) -> Folder<'a, R> {
+        Folder {
+            keeps: true,
+            ..Folder::new(rt)
+        }
+    }
+
+    /// Keeps the name that is asked for, and the file that was read. Where memory is refused less is kept.
+    fn keep(&mut self, name: &str, read: &Result<Bytes, SourceError>) -> Result<(), AllocError> {
+        let alloc = self.rt.alloc();
+        self.last = None;
+        self.last = Some(String::from_str(alloc, name)?);
+        if let Ok(bytes) = read {
+            let file = (String::from_str(alloc, name)?, bytes.clone()?);
+            self.kept.push(file)?;
+        }
+        Ok(())
+    }
+}
+
+/// All bytes of a file, or of standard input. Where they can't be read the reason is told.
+fn read_named<R: Files + Input + AllocGlobal>(
+    rt: &R,
+    name: &str,
+    why: &mut Option<io::Error>,
+) -> Result<Bytes, SourceError> {
+    let alloc = rt.alloc();
+    if name == "-" {
+        return read_all(alloc, rt.reader(), why);
+    }
+    match fs::open(rt, name) {
+        Ok(file) => read_all(alloc, file, why),
+        Err(error) => Err(refused(error, why)),
     }
 }
 
 impl<R: Files + Input + AllocGlobal> Source for Folder<'_, R> {
     fn read(&mut self, name: &str) -> Result<Bytes, SourceError> {
-        let alloc = self.rt.alloc();
-        if name == "-" {
-            return read_all(alloc, self.rt.reader());
+        self.refusal = None;
+        let read = read_named(self.rt, name, &mut self.refusal);
+        if self.keeps {
+            let _ = self.keep(name, &read);
         }
-        match fs::open(self.rt, name) {
-            Ok(file) => read_all(alloc, file),
-            Err(e) if e.kind() == ErrorKind::OutOfMemory => Err(SourceError::OutOfMemory),
-            Err(_) => Err(SourceError::CannotRead),
-        }
+        read
+    }
+
+    fn last(&self) -> Option<&str> {
+        self.last.as_ref().map(String::as_str)
+    }
+
+    fn refusal(&self) -> Option<&io::Error> {
+        self.refusal.as_ref()
+    }
+
+    fn kept(&self) -> &[(String, Bytes)] {
+        &self.kept
     }
 }

@@ -3,6 +3,8 @@
 //! their run, and `vataudit order CASE --out FILE` makes an order of their records. `vataudit vat FILE` prints one line for the
 //! log of one vat, `vataudit records FILE` a line for each record of a log, `vataudit frame HEX` the message of a frame, and
 //! `vataudit frames FILE` that of each frame of a file.
+//! Beside the lines it notes on standard error what people need of a no, of a record that isn't judged and of a file that is
+//! bad or can't be read; `--quiet` before the command leaves notes out.
 //!
 //! It stands on `command_line`, which reads the words, and on `command_run`, which runs the command that they spell
 //! and says in its specs/Runs.antt what a run prints. Here are the files: those that are read are a `Source` of
@@ -18,7 +20,7 @@ mod new_file;
 
 use clap::error::ErrorKind;
 use command_line::command_of;
-use command_run::{FAILED, run_on};
+use command_run::{FAILED, run_on, run_with_notes};
 use file::Folder;
 use new_file::NewFile;
 use report_lines::Fault;
@@ -59,23 +61,35 @@ fn hold_standard_places<R: Files>(rt: &R) -> [io::Result<R::File>; 3] {
     [fs::open(rt, "/"), fs::open(rt, "/"), fs::open(rt, "/")]
 }
 
-/// Does what the words ask, writes its lines to `out`, and gives the exit status.
-fn start<R: Threads + Wait + Sync + Files + Input + Print + Eprint + AllocGlobal, W: Write>(
-    rt: &R,
-    out: &mut W,
-    words: &[String],
-) -> u8 {
+/// Takes away `--quiet`, where it stands before the command, and says whether it did.
+fn take_quiet(words: &mut Vec<String>) -> bool {
+    if words.len() > 1 && words[1].as_str() == "--quiet" {
+        let _ = words.remove(1);
+        return true;
+    }
+    false
+}
+
+/// Does what the words ask, writes its lines to `out` and, where none asks for quiet, notes to `notes`; and gives the exit
+/// status.
+fn start<
+    R: Threads + Wait + Sync + Files + Input + Print + Eprint + AllocGlobal,
+    W: Write,
+    N: Write,
+>(rt: &R, out: &mut W, notes: &mut N, words: &mut Vec<String>) -> u8 {
     let alloc = rt.alloc();
-    match command_of(alloc, words) {
-        Ok(command) => run_on(
-            rt,
-            alloc,
-            &command,
-            &mut Folder::new(rt),
-            out,
-            &mut NewFile::new(rt, command.out()),
-        ),
-        Err(error) => refuse(rt, &error),
+    let is_quiet = take_quiet(words);
+    let command = match command_of(alloc, words) {
+        Ok(command) => command,
+        Err(error) => return refuse(rt, &error),
+    };
+    let mut file = NewFile::new(rt, command.out());
+    if is_quiet {
+        let mut folder = Folder::new(rt);
+        run_on(rt, alloc, &command, &mut folder, out, &mut file)
+    } else {
+        let mut folder = Folder::keeping(rt);
+        run_with_notes(rt, alloc, &command, &mut folder, out, &mut file, notes)
     }
 }
 
@@ -84,7 +98,7 @@ fn main(rt: HostRuntime) -> ExitCode {
     let alloc = rt.alloc();
     let words: io::Result<Vec<String>> = env::args(&rt).and_then(|args| Ok(args.collect(alloc)?));
     ExitCode::from(match words {
-        Ok(words) => start(&rt, &mut rt.stdout(), &words),
+        Ok(mut words) => start(&rt, &mut rt.stdout(), &mut rt.stderr(), &mut words),
         Err(e) if e.kind() == io::ErrorKind::OutOfMemory => out_of_memory(&rt),
         Err(_) => {
             let _ = rt.eprint("error: an argument isn't UTF-8\n");

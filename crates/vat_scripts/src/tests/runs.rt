@@ -5,7 +5,7 @@ use bytes::Bytes;
 use case_files::{FileList, Source, SourceError};
 use clap::error::ErrorKind;
 use command_line::{Command, command_of};
-use command_run::run_on;
+use command_run::{run_on, run_with_notes};
 use std::alloc::Global;
 use std::io;
 use std::io::Write;
@@ -142,6 +142,91 @@ fn prints_nothing_of_an_order_that_is_not_written(rt: HostRuntime) {
     let is_so = match is_unwritten(&rt) {
         Ok(is_so) => is_so,
         Err(_) => is_unwritten(&rt).unwrap_or(false),
+    };
+    assert!(rt; is_so);
+}
+
+/// A source with one file, which it gives under each name, and keeps.
+#[derive(Drop)]
+struct One {
+    kept: Vec<(String, Bytes)>,
+}
+
+impl Source for One {
+    fn read(&mut self, _name: &str) -> Result<Bytes, SourceError> {
+        match self.kept.first() {
+            Some((_, bytes)) => Ok(bytes.clone()?),
+            None => Err(SourceError::CannotRead),
+        }
+    }
+
+    fn kept(&self) -> &[(String, Bytes)] {
+        &self.kept
+    }
+}
+
+/// The log of vat 7, whose one record delivers a call that was never bound.
+const UNBOUND: &[u8] = b"VATLOG01\x07\0\0\0\x07\x01\0\0\0\0\0\0\0\x02\0\0\0\0\0\0\0";
+
+/// What is noted of it.
+const UNBOUND_NOTES: &str =
+    "note: given: record 0 deliver call 1 object 2\nnote: rule: a record binds new references and calls once, names others only where they were bound, and notes a call beside a Bootstrap or a Call alone\n";
+
+/// Whether that log is told its no, with these notes beside it.
+fn is_told<R: Threads + Wait + Sync + AllocGlobal, N: Write>(
+    rt: &R,
+    notes: &mut N,
+) -> Result<bool, Refused> {
+    let alloc = rt.alloc();
+    let name = String::from_str(alloc, "given")?;
+    let bytes = Bytes::copy_from_slice(alloc, UNBOUND)?;
+    let mut source = One {
+        kept: vec![in alloc; (name, bytes)]?,
+    };
+    let mut out = Vec::with_capacity(alloc, 256)?;
+    let vat = Command::Vat { file: "given" };
+    let file = &mut io::sink();
+    match run_with_notes(rt, alloc, &vat, &mut source, &mut out, file, notes) {
+        3 => Err(Refused),
+        status => Ok(status == 1 && out.as_slice() == b"no vat 7 record 0 rule REF\n".as_slice()),
+    }
+}
+
+/// Whether it is noted, too. Where memory is refused for the notes alone, there are none.
+fn is_noted<R: Threads + Wait + Sync + AllocGlobal>(rt: &R) -> Result<bool, Refused> {
+    let mut notes = Vec::with_capacity(rt.alloc(), 256)?;
+    match is_told(rt, &mut notes)? {
+        true if notes.is_empty() => Err(Refused),
+        is_so => Ok(is_so && notes.as_slice() == UNBOUND_NOTES.as_bytes()),
+    }
+}
+
+#[test]
+fn notes_a_no(rt: HostRuntime) {
+    let is_so = match is_noted(&rt) {
+        Ok(is_so) => is_so,
+        Err(_) => is_noted(&rt).unwrap_or(false),
+    };
+    assert!(rt; is_so);
+}
+
+/// Whether it is told just so where its notes can't be written.
+fn is_told_alone<R: Threads + Wait + Sync + AllocGlobal>(rt: &R) -> Result<bool, Refused> {
+    let mut notes = Narrow {
+        room: 3,
+        refusals: 0,
+    };
+    match is_told(rt, &mut notes)? {
+        true if notes.room == 3 => Err(Refused),
+        is_so => Ok(is_so && notes.room == 0 && notes.refusals == 1),
+    }
+}
+
+#[test]
+fn a_failed_note_changes_nothing(rt: HostRuntime) {
+    let is_so = match is_told_alone(&rt) {
+        Ok(is_so) => is_so,
+        Err(_) => is_told_alone(&rt).unwrap_or(false),
     };
     assert!(rt; is_so);
 }

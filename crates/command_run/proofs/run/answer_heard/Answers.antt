@@ -2,7 +2,7 @@ use Rattle.command_run.specs.CommandAnswers.{AnswersReportOf}
 use Rattle.command_run.specs.ReportAnswers.{AnswersGraph, AnswersRun}
 use Rattle.command_run.specs.Runs.{Wrote}
 use Rattle.command_run.proofs.Told.{lines_written}
-use Rattle.command_run.proofs.run.answer_command.Goals as goal
+use Rattle.command_run.proofs.run.answer_heard.Goals as goal
 
 pub returns-in-Graph : goal.returns-in-Graph
 returns-in-Graph g c =

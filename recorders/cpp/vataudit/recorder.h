@@ -53,6 +53,7 @@
 #include <deque>
 #include <memory>
 #include <string>
+#include <type_traits>
 #include <unordered_map>
 #include <utility>
 #include <vector>
@@ -209,7 +210,8 @@ struct Call {
   std::vector<Reference> paramsByIndex, paramsAsMet;
   std::vector<Reference> resultsByIndex, resultsAsMet;
   std::vector<std::pair<Path, Reference>> fields;
-  std::shared_ptr<Call> answeredBy;  // the call that another was handed on to by `tailCall`
+  std::shared_ptr<Call> answeredBy;  // the call that this one was handed on to by `tailCall`
+  std::vector<std::weak_ptr<Call>> handedOn;  // the calls that were handed on to this one
   const void* params = nullptr;      // where its parameters lie, until it is delivered
   bool hasContent = false;           // whether `content` is known
   uint64_t content = 0;              // a hash of its parameters
@@ -393,6 +395,19 @@ public:
       log.number(call.number), log.number(static_cast<uint16_t>(call.fields.size()));
       for (auto& field: call.fields) log.number(field.second.number), addPath(field.first);
     });
+    answerHandedOn(call);
+  }
+
+  // The results of a call are those of each call that was handed on to it. ANSWER of these stands right behind: what
+  // the runtime does next may already go by them, as a Resolve.
+  void answerHandedOn(Call& call) {
+    for (auto& one: call.handedOn) {
+      auto handed = one.lock();
+      if (handed == nullptr || handed->isLocallyAnswered) continue;
+      handed->fields = call.fields;
+      handed->resultsAsMet = call.resultsAsMet;
+      answer(*handed);
+    }
   }
 
   // Of a call that was delivered and failed: where it came from another vat its Return says so as well, where it is
@@ -603,14 +618,20 @@ public:
 };
 
 // The reference of a capability that the program gives away. A broken one gets a VOW and a BREAK, since it goes out
-// as senderHosted and no object stands behind it.
+// as senderHosted and no object stands behind it. So does a null one: in content it is a null pointer and never comes
+// here, but a promise may become one, and C++ then resolves that to a senderHosted whose calls all fail.
 inline Reference referenceOf(Vat& vat, ClientHook& hook) {
   ClientHook* at = &hook;
   for (;;) {
-    if (auto handle = dynamic_cast<Handle*>(at)) return handle->reference;
+    if (auto handle = dynamic_cast<Handle*>(at)) {
+      if (handle->vat.get() == &vat) return handle->reference;
+      vat.stop("a capability is given away that another recorder of this process knows: it has to come over a "
+               "connection");
+      return Reference();
+    }
     auto found = vat.hosted.find(at);
     if (found != vat.hosted.end()) return found->second;
-    if (at->isError() && vat.isRecording()) {
+    if ((at->isError() || at->isNull()) && vat.isRecording()) {
       Reference broken = vat.vow();
       vat.breakPromise(broken);
       return broken;
@@ -863,6 +884,40 @@ struct Opened {
 };
 template struct Opened<HookOfContext, &capnp::CallContext<AnyPointer, AnyPointer>::hook>;
 
+// In the same way, the hook of which an object's `thisCap()` makes its clients.
+struct HookOfServer {
+  using Type = ClientHook* capnp::Capability::Server::*;
+  friend Type open(HookOfServer);
+};
+template struct Opened<HookOfServer, &capnp::Capability::Server::thisHook>;
+
+// What stands in that place: `thisCap()` then gives the recorded client of the object. As the runtime's pointer there
+// it holds nothing: the runtime's hook owns the object, and the object this.
+class Self final: public ClientHook {
+public:
+  Self(SharedVat vat, Reference reference): vat(kj::mv(vat)), reference(kj::mv(reference)) {}
+
+  capnp::Request<AnyPointer, AnyPointer> newCall(
+      uint64_t interfaceId, uint16_t methodId, kj::Maybe<capnp::MessageSize> sizeHint) override {
+    return addRef()->newCall(interfaceId, methodId, sizeHint);
+  }
+  VoidPromiseAndPipeline call(uint64_t interfaceId, uint16_t methodId,
+                              kj::Own<capnp::CallContextHook>&& context) override {
+    return inner->call(interfaceId, methodId, kj::mv(context));
+  }
+  kj::Maybe<ClientHook&> getResolved() override { return *inner; }
+  kj::Maybe<kj::Promise<kj::Own<ClientHook>>> whenMoreResolved() override { return inner->whenMoreResolved(); }
+  kj::Own<ClientHook> addRef() override { return wrapped(vat, reference, inner->addRef()); }
+  const void* getBrand() override { return inner->getBrand(); }
+  kj::Maybe<int> getFd() override { return inner->getFd(); }
+
+  ClientHook* inner = nullptr;  // the runtime's hook of the object
+
+private:
+  SharedVat vat;
+  Reference reference;
+};
+
 // What the program sees of a call that it serves: parameters and results whose capabilities are known by reference.
 class Context final: public capnp::CallContextHook, public kj::Refcounted {
 public:
@@ -887,9 +942,9 @@ public:
   kj::Own<capnp::CallContextHook> addRef() override { return kj::addRef(*this); }
 
   // Records ANSWER: each capability in the results with its path. Those of a call that was handed on are the results
-  // of that call.
+  // of that call, and mostly recorded with them.
   void answer() {
-    if (!vat->isRecording()) return;
+    if (!vat->isRecording() || call->isLocallyAnswered) return;
     if (call->answeredBy != nullptr) {
       call->fields = call->answeredBy->fields;
       call->resultsAsMet = call->answeredBy->resultsAsMet;
@@ -914,6 +969,7 @@ private:
     auto made = dynamic_cast<Request*>(request.get());
     if (made == nullptr || !made->begin()) return tailCall(kj::mv(request));
     call->answeredBy = made->call;
+    made->call->handedOn.push_back(call);
     return made->whileSending([&] { return tailCall(kj::mv(made->inner)); });
   }
 };
@@ -925,8 +981,16 @@ public:
   template <typename... Arguments>
   explicit Hosted(SharedVat vat, Arguments&&... arguments)
       : Implementation(kj::fwd<Arguments>(arguments)...), vat(vat), object(vat->newObject()),
-        reference(vat->host(object)) {}
-  ~Hosted() noexcept(false) { vat->hosted.erase(hook); }
+        reference(vat->host(object)), self(vat, reference) {}
+  ~Hosted() noexcept(false) { vat->hosted.erase(self.inner); }
+
+  // The runtime has made its hook of this object.
+  void isHeldBy(ClientHook& hook) {
+    self.inner = &hook;
+    vat->hosted[&hook] = reference;
+    capnp::Capability::Server& server = *this;
+    server.*open(HookOfServer()) = &self;
+  }
 
   capnp::Capability::Server::DispatchCallResult dispatchCall(
       uint64_t interfaceId, uint16_t methodId, capnp::CallContext<AnyPointer, AnyPointer> context) override {
@@ -954,12 +1018,13 @@ public:
   SharedVat vat;
   uint64_t object;
   Reference reference;
-  ClientHook* hook = nullptr;
 
 private:
+  Self self;
+
   // Finds the call by where its parameters lie. The runtime copies them where a promise was settled between the
-  // making of a request and its sending: then by what they are. What is left are calls through `thisCap()`, which
-  // goes straight to the runtime's hook: they have no MAKE yet.
+  // making of a request and its sending: then by what they are. What is left are calls through a client that isn't
+  // recorded, as that of a promise which isn't from `promise`: they have no MAKE yet.
   std::shared_ptr<Call> delivered(AnyPointer::Reader params, uint64_t interfaceId, uint16_t methodId) {
     auto call = vat->callOf(params, interfaceId, methodId);
     if (call == nullptr) call = vat->takeWaiting(interfaceId, methodId, params);
@@ -1043,7 +1108,7 @@ public:
   std::shared_ptr<Call> received(rpc::Message::Reader message,
                                  kj::ArrayPtr<const kj::ArrayPtr<const capnp::word>> segments) {
     std::vector<Reference> references;
-    std::shared_ptr<Call> call;
+    std::shared_ptr<Call> call, returned;
     switch (message.which()) {
       case rpc::Message::BOOTSTRAP:
         call = vat->newCall(0, 0);
@@ -1054,7 +1119,7 @@ public:
         call = receivedCall(message.getCall(), references);
         break;
       case rpc::Message::RETURN:
-        receivedReturn(message.getReturn(), references);
+        returned = receivedReturn(message.getReturn(), references);
         break;
       case rpc::Message::RESOLVE:
         receivedResolve(message.getResolve(), references);
@@ -1072,6 +1137,7 @@ public:
         break;
     }
     vat->frame(false, connection, call == nullptr ? 0 : call->number, references, segments);
+    if (returned != nullptr) vat->answerHandedOn(*returned);
     return message.isCall() ? call : nullptr;
   }
 
@@ -1208,12 +1274,14 @@ private:
     return call;
   }
 
-  // A late Return, one after a Finish with releaseResultCaps, notes no reference.
-  void receivedReturn(rpc::Return::Reader message, std::vector<Reference>& references) {
+  // A late Return, one after a Finish with releaseResultCaps, notes no reference. Answers the call whose results come.
+  std::shared_ptr<Call> receivedReturn(rpc::Return::Reader message, std::vector<Reference>& references) {
     auto found = asked.find(message.getAnswerId());
-    if (found == asked.end()) return;
+    if (found == asked.end()) return nullptr;
     Question& answered = found->second;
+    std::shared_ptr<Call> returned;
     if (message.isResults() && !answered.isLate) {
+      returned = answered.call;
       auto payload = message.getResults();
       auto byIndex = take(payload.getCapTable(), references, answered.broughtByReturn);
       if (!byIndex.empty()) answered.call->setResults(kj::mv(byIndex), Content(payload.getContent()).met);
@@ -1221,6 +1289,7 @@ private:
     answered.isReturned = true;
     if (message.getReleaseParamCaps()) giveBack(exports, answered.broughtByCall);
     if (answered.isLate) asked.erase(found);
+    return returned;
   }
 
   void receivedResolve(rpc::Resolve::Reader message, std::vector<Reference>& references) {
@@ -1450,7 +1519,7 @@ public:
   // make yourself.
   capnp::Capability::Client asBootstrap(capnp::Capability::Client bootstrap) {
     auto hook = capnp::ClientHook::from(kj::mv(bootstrap));
-    end->bootstrap = inside::referenceOf(*vat, *hook);
+    end->bootstrap = hook->isNull() ? inside::Reference() : inside::referenceOf(*vat, *hook);
     if (end->bootstrap.number == 0 && !hook->isNull()) {
       vat->stop("the bootstrap object is none of `host`, `promise` or a result");
     }
@@ -1647,12 +1716,13 @@ inline uint64_t Recorder::records() const { return vat->records; }
 
 template <typename Implementation, typename... Arguments>
 typename Implementation::Serves::Client Recorder::host(Arguments&&... arguments) {
+  static_assert(!std::is_final<Implementation>::value,
+                "vataudit: host<FooImpl>() derives a class from FooImpl, so FooImpl can't be `final`");
   auto object = kj::heap<inside::Hosted<Implementation>>(vat, kj::fwd<Arguments>(arguments)...);
   auto& hosted = *object;
   typename Implementation::Serves::Client client(kj::mv(object));
   auto hook = capnp::ClientHook::from(kj::mv(client));
-  hosted.hook = hook.get();
-  vat->hosted[hosted.hook] = hosted.reference;
+  hosted.isHeldBy(*hook);
   return capnp::Capability::Client(inside::wrapped(vat, hosted.reference, kj::mv(hook)))
       .castAs<typename Implementation::Serves>();
 }

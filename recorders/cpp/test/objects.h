@@ -68,6 +68,7 @@ protected:
       case 0: fulfiller->fulfill(recorder.host<CounterObject>(recorder, 1000)); break;
       case 1: fulfiller->reject(KJ_EXCEPTION(FAILED, "broken as asked for")); break;
       case 2: fulfiller->fulfill(Counter::Client(KJ_ASSERT_NONNULL(kept))); break;
+      case 3: fulfiller->fulfill(nullptr); break;
     }
     return kj::READY_NOW;
   }
@@ -89,6 +90,14 @@ protected:
     return kj::READY_NOW;
   }
   kj::Promise<void> nothing(NothingContext) override { return kj::READY_NOW; }
+  kj::Promise<void> mine(MineContext context) override {
+    uint32_t steps = context.getParams().getSteps();
+    auto request = thisCap().mineRequest();
+    request.setSteps(steps - 1);
+    if (steps % 2 == 1) return context.tailCall(kj::mv(request));
+    context.getResults().setCounter(steps == 0 ? thisCap() : request.send().getCounter());
+    return kj::READY_NOW;
+  }
 
 private:
   vataudit::Recorder& recorder;

@@ -71,6 +71,23 @@ void brokenPromise(World& world) {
   two.settle();
 }
 
+// The same, but the promise becomes a null capability. Then a promise of vat 1 does so before it goes out.
+void nullPromise(World& world) {
+  Two two(world);
+  auto later = two.counter.laterRequest().send();
+  Counter::Client promise = two.wait(later).getCounter();
+  auto waiting = nextBy(promise, 7).send();
+  two.settle();
+  two.settlePromise(two.counter, 3);
+  KJ_ASSERT(two.fails(waiting));
+  two.settle();
+  KJ_ASSERT(two.fails(nextBy(promise, 1).send()));
+  Counter::Client mine = two.first.promise(kj::Promise<Counter::Client>(Counter::Client(nullptr)));
+  two.settle();
+  KJ_ASSERT(two.fails(nextBy(mine, 1).send()));
+  two.hold(two.counter, mine);
+}
+
 // Vat 1 promises an object of its own, gives it away, and settles it.
 void ownPromise(World& world) {
   Two two(world);
@@ -442,6 +459,30 @@ void streaming(World& world) {
   KJ_ASSERT(two.next(two.counter, 1) == 7);
 }
 
+// An object calls itself through `thisCap()`: it gives the result away before it is there, and that of a method that
+// ends with a tail call.
+void thisCap(World& world) {
+  Two two(world);
+  auto first = two.counter.mineRequest();
+  first.setSteps(2);
+  auto mine = first.send();
+  KJ_ASSERT(two.next(mine.getCounter(), 1) == 1);
+  KJ_ASSERT(two.next(two.wait(mine).getCounter(), 1) == 2);
+  two.settle();
+  auto request = two.counter.mineRequest();
+  request.setSteps(3);
+  auto handed = two.wait(request.send());
+  KJ_ASSERT(two.next(handed.getCounter(), 3) == 5);
+}
+
+// Vat 1 gives away an object of vat 2 that it took from the memory of the process. Its recorder refuses that.
+void taken(World& world) {
+  Two two(world);
+  auto request = two.counter.callRequest();
+  request.setBack(two.seconds());
+  KJ_ASSERT(two.wait(request.send()).getValue() == 5);
+}
+
 // What a recorder refuses: it says so once, and the program goes on. Vat 1 gives away an object that no recorder
 // knows, vat 2's log has no room on its disk, and vat 3's can't be made.
 void refused(World& world) {
@@ -465,7 +506,7 @@ const Conversations scenarios = {
   { "number_taken_over", numberTakenOver }, { "gone", gone }, { "two_connections", twoConnections },
   { "refused", refused }, { "handed_on", handedOn }, { "handed_on_early", handedOnEarly },
   { "queued", queued }, { "canceled_waiting", canceledWaiting }, { "server", server },
-  { "streaming", streaming },
+  { "streaming", streaming }, { "null_promise", nullPromise }, { "this_cap", thisCap }, { "taken", taken },
 };
 
 }  // namespace

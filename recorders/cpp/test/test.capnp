@@ -16,4 +16,5 @@ interface Counter {
   nothing @11 () -> ();
   handOn @12 () -> (counter :Counter);
   push @13 (by :UInt32) -> stream;
+  mine @14 (steps :UInt32) -> (counter :Counter);
 }

@@ -33,6 +33,8 @@ fi
 make --quiet
 rm -rf logs
 mkdir logs
+if make --quiet final > logs/final 2>&1; then differ "host took a class that is final"; fi
+grep -q "error: .*so FooImpl can't be .final." logs/final || differ "host doesn't say that a class can't be final"
 : > logs/said
 for suite in scenarios faults; do
   "./$suite" logs 2>> logs/said || { cat logs/said; differ "$suite ended with $?"; }

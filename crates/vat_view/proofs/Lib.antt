@@ -34,6 +34,7 @@ pub mod Promising
 pub mod Unresolved
 pub mod Alike
 pub mod Looping
+pub mod Queueing
 pub mod Holding
 pub mod Receiving
 pub mod Hopping

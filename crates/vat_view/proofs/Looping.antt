@@ -1,7 +1,7 @@
 -- The tables of what waits, after a record.
-use Rattle.std.proofs.Common.{◌≡◌, ◌<◌, refl, sym, ◌∙◌, ap, ap₂, subst, ℕ, ◌∷◌, length, Bool, true, false, Option, Some, None, if◌then◌else◌, option_map, option_and_then}
+use Rattle.std.proofs.Common.{◌≡◌, ◌==◌, ◌<◌, inl, inr, refl, sym, ◌∙◌, ap, ap₂, subst, ℕ, ◌∷◌, length, Bool, true, false, Option, Some, None, if◌then◌else◌, option_map, option_and_then}
 use Rattle.std.specs.Prelude.{Decides, is_some}
-use Rattle.std.proofs.lemmas.Bool.{false≢true}
+use Rattle.std.proofs.lemmas.Bool.{cases_Bool, eqb-true, false≢true}
 use Rattle.vat_view.specs.declared.questions.Questions.{Questions}
 use Rattle.vat_view.specs.declared.lives.Lives.{Lives}
 use Rattle.vat_view.specs.declared.bound.Bound.{Bound}
@@ -14,16 +14,30 @@ use Rattle.vat_view.specs.Types.{Return, Exception, Canceled, Event, Wire, Id}
 use Rattle.vat_view.specs.Past.{Past, Point, point, id, is, names, number_of}
 use Rattle.vat_view.specs.Questions.{call_at, opening}
 use Rattle.vat_view.specs.Views.{view_of_target}
-use Rattle.vat_view.specs.Calls.{has_passed, is_at_vat}
+use Rattle.vat_view.specs.Calls.{goal_of, has_passed, is_at_vat}
 use Rattle.vat_view.specs.Loopbacks.{looped, echoed, loopback_of, waiting, receives, IsHeldUp}
 use Rattle.vat_view.specs.Bindings.{Refers}
 use Rattle.vat_view.specs.Tables.{bound_at, question_at}
-use Rattle.vat_view.specs.Asking.{opening_call_in}
+use Rattle.vat_view.specs.Asking.{opening_call_in, targeted_by}
 use Rattle.vat_view.specs.Kept.{AreKept}
-use Rattle.vat_view.specs.LoopTables.{loopback_at, target_in, looped_at, put_by, receipt_of, receipt_here, receipt_at, received_by, taken_by, put_call, change_by, Holding, SaysSame, IsChangedBy, AreWaiting}
+use Rattle.vat_view.specs.Queues.{queued_at, is_queued, has_joined}
+use Rattle.vat_view.specs.LoopTables.{loopback_at, target_in, looped_at, put_by, receipt_of, receipt_here, receipt_at, received_by, taken_by, put_call, queued_by, change_by, AreQueued, Holding, SaysSame, IsChangedBy, AreWaiting}
 use Rattle.vat_view.proofs.Answering.{targeted_known, opening_call_known}
 use Rattle.vat_view.proofs.Called.{goal_known}
-use Rattle.vat_view.proofs.Receiving.{received_step, received_since, passed_since}
+use Rattle.vat_view.proofs.Receiving.{goal_stays, goal_received, received_step, received_since, passed_since}
+
+none_some : {A : Type 0} {x : A} → None ≡ Some x → ⊥
+none_some e = cc
+
+some_same : {A : Type 0} {x y : A} → Some x ≡ Some y → x ≡ y
+some_same e = cc
+
+here_parts : (c : ℕ) (past : Past) (r : Receipt) → receipt_here c past ≡ Some r → (is_at_vat c past ≡ true) × (receipt_of c past ≡ Some r)
+here_parts c past r h = inner (is_at_vat c past) h
+  where
+    inner : (b : Bool) → (if b then receipt_of c past else None) ≡ Some r → (b ≡ true) × (receipt_of c past ≡ Some r)
+    inner true g = (refl, g)
+    inner false g = absurd (none_some g)
 
 -- ---- the table of loopbacks after a record
 
@@ -65,14 +79,50 @@ module _ (before : Past) (questions : Questions) (lives : Lives) (bound : Bound)
       (taken_same (λ q. opening_call_in (question_at questions q)) (λ q. call_at (opening q before)) (λ q. opening_call_known before questions lives bound calls kept q) e)
       ∙ received_step c before e refers
 
-  pub waits_after : (old new : Waits) → AreWaiting before old → IsChangedBy change old new → AreWaiting (e ∷ before) new
-  waits_after old new waits changed = record {
+  -- each call that is at the vat then stands in the queue
+  module _ (old : Waits) (waits : AreWaiting before old) (joined : has_joined old.inbox (queued_by (bound_at bound) lives (question_at questions) number e) ≡ true) (c : ℕ) (r : Receipt) where
+    stood : receipt_at old.inbox c ≡ Some r → is_queued old.inbox (queued_at c r (goal_of c (e ∷ before))) ≡ true
+    stood was =
+        let here : receipt_here c before ≡ Some r = sym (waits.received c) ∙ was in
+        subst (λ g. is_queued old.inbox (queued_at c r g) ≡ true) (sym (goal_stays c before e r refers (here_parts c before r here).1)) (waits.queued c r here)
+
+    stands : (o : Option (ℕ × Receipt)) → received_by number e ≡ o → put_call c o (receipt_at old.inbox c) ≡ Some r → is_queued old.inbox (queued_at c r (goal_of c (e ∷ before))) ≡ true
+    stands None is put = stood put
+    stands (Some x) is put = elim (cases_Bool (x.0 == c)) [
+      | inl same ↦
+          let goal : targeted_by (bound_at bound) lives (question_at questions) e ≡ goal_of c (e ∷ before) =
+          targeted_known before questions lives bound calls kept e ∙ sym (goal_received c number before e x is same) in
+          subst (λ q. is_queued old.inbox q ≡ true)
+          (ap₂ (λ y s. queued_at y s (targeted_by (bound_at bound) lives (question_at questions) e)) (eqb-true x.0 c same) (some_same (sym (ap (λ b. if b then Some x.1 else receipt_at old.inbox c) same) ∙ put))
+          ∙ ap (λ v. queued_at c r v) goal)
+          (sym (ap (λ o. has_joined old.inbox (option_map (λ y. queued_at y.0 y.1 (targeted_by (bound_at bound) lives (question_at questions) e)) o)) is) ∙ joined)
+      | inr apart ↦ stood (sym (ap (λ b. if b then Some x.1 else receipt_at old.inbox c) apart) ∙ put)
+    ]
+
+    queued_after : (new : Waits) → IsChangedBy change old new → receipt_here c (e ∷ before) ≡ Some r → is_queued new.inbox (queued_at c r (goal_of c (e ∷ before))) ≡ true
+    queued_after new changed h =
+        let now : (if is c change.taken then None else put_call c change.received (receipt_at old.inbox c)) ≡ Some r = received_after c (receipt_at old.inbox c) (waits.received c) ∙ h in
+        elim (cases_Bool (is c change.taken)) [
+          | inl gone ↦ absurd (none_some (sym (ap (λ b. if b then None else put_call c change.received (receipt_at old.inbox c)) gone) ∙ now))
+          | inr stays ↦ changed.queued (queued_at c r (goal_of c (e ∷ before))) stays
+              (stands (received_by number e) refl
+              (sym (ap (λ x. put_call c x.received (receipt_at old.inbox c)) is_change) ∙ sym (ap (λ b. if b then None else put_call c change.received (receipt_at old.inbox c)) stays) ∙ now))
+        ]
+
+  pub waits_after : (old new : Waits) → AreWaiting before old → has_joined old.inbox (queued_by (bound_at bound) lives (question_at questions) number e) ≡ true → IsChangedBy change old new →
+      AreWaiting (e ∷ before) new
+  waits_after old new waits joined changed = record {
     looped = λ i. changed.looped i ∙ looped_after i (loopback_at old.loopbacks i) (waits.looped i);
     received = λ c. changed.received c ∙ received_after c (receipt_at old.inbox c) (waits.received c);
+    queued = λ c r h. queued_after old waits joined c r new changed h;
   }
 
 pub waits_same : (past : Past) (old new : Waits) → SaysSame old new → AreWaiting past old → AreWaiting past new
-waits_same past old new same waits = record { looped = λ i. same.looped i ∙ waits.looped i; received = λ c. same.received c ∙ waits.received c }
+waits_same past old new same waits = record {
+  looped = λ i. same.looped i ∙ waits.looped i;
+  received = λ c. same.received c ∙ waits.received c;
+  queued = λ c r h. same.queued (queued_at c r (goal_of c past)) (waits.queued c r h);
+}
 
 -- ---- what is asked of a loopback
 
@@ -93,28 +143,19 @@ module _ (past : Past) (waits : Waits) (kept : AreWaiting past waits) (i : Id) w
 
 -- ---- what holds an echo up
 
-none_some : {A : Type 0} {x : A} → None ≡ Some x → ⊥
-none_some e = cc
-
-some_same : {A : Type 0} {x y : A} → Some x ≡ Some y → x ≡ y
-some_same e = cc
-
-here_parts : (c : ℕ) (past : Past) (r : Receipt) → receipt_here c past ≡ Some r → (is_at_vat c past ≡ true) × (receipt_of c past ≡ Some r)
-here_parts c past r h = inner (is_at_vat c past) h
-  where
-    inner : (b : Bool) → (if b then receipt_of c past else None) ≡ Some r → (b ≡ true) × (receipt_of c past ≡ Some r)
-    inner true g = (refl, g)
-    inner false g = absurd (none_some g)
-
 looped_parts : (o : Option Point) (u : Unechoed) → option_map looped_at o ≡ Some u → (p : Point) × (o ≡ Some p) × (looped_at p ≡ u)
 looped_parts (Some p) u h = (p, refl, some_same h)
 looped_parts None u h = absurd (none_some h)
 
 module _ (past : Past) (questions : Questions) (lives : Lives) (bound : Bound) (calls : Calls) (kept : AreKept past questions lives bound calls) (waits : Waits) (waiting : AreWaiting past waits)
     (i : Id) where
-  pub held_decided : (u : Unechoed) → loopback_at waits.loopbacks i ≡ Some u → (b : Bool) → Decides b (Holding waits.inbox calls i.connection u) → Decides b (IsHeldUp i past)
+  -- by the goals that the table of calls has
+  all_queued : AreQueued waits.inbox calls
+  all_queued c r h = subst (λ g. is_queued waits.inbox (queued_at c r g) ≡ true) (sym (goal_known past questions lives bound calls kept c)) (waiting.queued c r (sym (waiting.received c) ∙ h))
+
+  pub held_decided : (u : Unechoed) → loopback_at waits.loopbacks i ≡ Some u → (b : Bool) → (AreQueued waits.inbox calls → Decides b (Holding waits.inbox calls i.connection u)) → Decides b (IsHeldUp i past)
   held_decided u there b decides = (
-    λ so. (let holds = decides.0 so in
+    λ so. (let holds = (decides all_queued).0 so in
         let call : ℕ = holds.0 in
         let r : Receipt = holds.1 in
         let known = looped_parts (loopback_of i past) u (sym (waiting.looped i) ∙ there) in
@@ -136,7 +177,7 @@ module _ (past : Past) (questions : Questions) (lives : Lives) (bound : Bound) (
         let same : looped_at p ≡ u = some_same (sym (ap (λ o. option_map looped_at o) held.1) ∙ sym (waiting.looped i) ∙ there) in
         let got = received_since (λ before e. names i (echoed e)) (λ before e. names i (looped e)) i.connection call past kept.sound p held.1 held.2.1 in
         let at : receipt_at waits.inbox call ≡ Some got.0 = waiting.received call ∙ ap (λ b. if b then receipt_of call past else None) held.2.3 ∙ got.1 in
-        decides.1 (
+        (decides all_queued).1 (
           call,
           got.0,
           at,

@@ -1,6 +1,6 @@
 -- What one record more does to where received calls that are at the vat were received.
 use Rattle.std.proofs.Common.{◌≡◌, ◌⊎◌, ◌<◌, inl, inr, refl, sym, ◌∙◌, ap, ap₂, subst, ℕ, ◌==◌, List, [], ◌∷◌, length, Bool, true, false, not, ◌&&◌, ◌||◌, Option, Some, None, if◌then◌else◌, arith}
-use Rattle.std.specs.Prelude.{is_some, unwrap_or}
+use Rattle.std.specs.Prelude.{is_some, option_and_then, unwrap_or}
 use Rattle.std.specs.List.{list_all}
 use Rattle.std.specs.Option.{option_or}
 use Rattle.std.proofs.lemmas.Bool.{cases_Bool, and_parts, or_parts, false≢true, eqb-true, eq-eqb, not-true}
@@ -9,7 +9,7 @@ use Rattle.vat_view.specs.Types.{Call, Return, Exception, Canceled, Event, Make,
 use Rattle.vat_view.specs.Past.{Past, Point, point, id, is, number_of, last_answer, last_where, last_since, Each}
 use Rattle.vat_view.specs.Questions.{call_at, opening}
 use Rattle.vat_view.specs.Views.{view_of_reference, view_of_target}
-use Rattle.vat_view.specs.Calls.{moves, has_passed, is_at_vat}
+use Rattle.vat_view.specs.Calls.{brings, asked, goal_of, moves, has_passed, is_at_vat}
 use Rattle.vat_view.specs.Loopbacks.{receives}
 use Rattle.vat_view.specs.Bindings.{Refers, contains, new_calls, is_bound_call}
 use Rattle.vat_view.specs.Sound.{IsSound}
@@ -45,11 +45,35 @@ apart_from f c bound (x ∷ xs) h =
       | inr apart ↦ ap (λ b. b || contains c xs) apart ∙ apart_from f c bound xs parts.1
     ]
 
-received_once : (c : ℕ) (before : Past) (e : Event) (r : Receipt) → Refers before e → receipt_of c before ≡ Some r → receipt c before e ≡ None
-received_once c before e r refers h = elim (cases_Bool (is_bound_call before c)) [
-  | inl bound ↦ no_receipt c before e (apart_from (is_bound_call before) c bound (new_calls e) refers.unused_call)
+not_new : (c : ℕ) (before : Past) (e : Event) (r : Receipt) → Refers before e → receipt_of c before ≡ Some r → contains c (new_calls e) ≡ false
+not_new c before e r refers h = elim (cases_Bool (is_bound_call before c)) [
+  | inl bound ↦ apart_from (is_bound_call before) c bound (new_calls e) refers.unused_call
   | inr unbound ↦ absurd (none_some (sym (unreceived c before unbound) ∙ h))
 ]
+
+received_once : (c : ℕ) (before : Past) (e : Event) (r : Receipt) → Refers before e → receipt_of c before ≡ Some r → receipt c before e ≡ None
+received_once c before e r refers h = no_receipt c before e (not_new c before e r refers h)
+
+-- ---- the goal of a call that was received stays
+
+not_brought : (c : ℕ) (before : Past) (e : Event) → contains c (new_calls e) ≡ false → brings c before e ≡ None
+not_brought c before (Make d r f m) h =
+    let a : Asked = record { goal = view_of_reference before r; interface = f; method = m } in ap (λ b. if b then Some a else None) (or_parts (d == c) false h).0
+not_brought c before (Wire false k d rs (Call q t f m p)) h =
+    let a : Asked = record { goal = view_of_target before (Wire false k d rs (Call q t f m p)); interface = f; method = m } in
+    ap (λ b. if b then Some a else None) (or_parts (d == c) false h).0
+not_brought c before _ h = refl
+
+pub goal_stays : (c : ℕ) (before : Past) (e : Event) (r : Receipt) → Refers before e → receipt_of c before ≡ Some r → goal_of c (e ∷ before) ≡ goal_of c before
+goal_stays c before e r refers h = ap (λ o. option_and_then (λ a. a.goal) (option_or o (asked c before))) (not_brought c before e (not_new c before e r refers h))
+
+-- it is what the target stands for of the record that receives the call
+pub goal_received : (c n : ℕ) (before : Past) (e : Event) (x : ℕ × Receipt) → received_by n e ≡ Some x → (x.0 == c) ≡ true → goal_of c (e ∷ before) ≡ view_of_target before e
+goal_received c n before (Wire false k d rs (Call q t f m p)) x h same =
+    let a : Asked = record { goal = view_of_target before (Wire false k d rs (Call q t f m p)); interface = f; method = m } in
+    let named : d ≡ x.0 = ap (λ y. y.0) (some_same h) in
+    ap (λ b. option_and_then (λ a. a.goal) (option_or (if b then Some a else None) (asked c before))) (ap (λ y. y == c) named ∙ same)
+goal_received c n before _ x h same = absurd (none_some h)
 
 -- ---- the step of one record
 

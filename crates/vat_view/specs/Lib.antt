@@ -16,6 +16,7 @@ pub mod Tables
 pub mod Asking
 pub mod CallTables
 pub mod KindTables
+pub mod Queues
 pub mod LoopTables
 pub mod Kept
 pub mod TurnTables

@@ -8,6 +8,7 @@ use Rattle.vat_view.specs.declared.lives.Lives.{Lives}
 use Rattle.vat_view.specs.declared.calls.Calls.{Calls}
 use Rattle.vat_view.specs.declared.inbox.Receipt.{Receipt}
 use Rattle.vat_view.specs.declared.inbox.Inbox.{Inbox}
+use Rattle.vat_view.specs.declared.queued.Queued.{Queued}
 use Rattle.vat_view.specs.declared.loopbacks.Unechoed.{Unechoed}
 use Rattle.vat_view.specs.declared.loopbacks.Loopbacks.{Loopbacks}
 use Rattle.vat_view.specs.declared.waits.Waits.{Waits}
@@ -15,11 +16,12 @@ use Rattle.vat_view.specs.declared.waits.Change.{Change}
 use Rattle.vat_view.specs.Types.{Call, Return, Exception, Canceled, Event, Deliver, Fault, Wire, View, Object, Promise, FieldOf, Import, Id}
 use Rattle.vat_view.specs.Past.{Past, Point, id, is, same_id, names, number_of, last_answer}
 use Rattle.vat_view.specs.Views.{view_of_target}
-use Rattle.vat_view.specs.Calls.{is_at_vat}
+use Rattle.vat_view.specs.Calls.{goal_of, is_at_vat}
 use Rattle.vat_view.specs.Loopbacks.{looped, echoed, loopback_of}
 use Rattle.vat_view.specs.Tables.{id_cmp}
 use Rattle.vat_view.specs.Asking.{opening_call_in, targeted_by}
 use Rattle.vat_view.specs.CallTables.{progress_at, goal_in}
+use Rattle.vat_view.specs.Queues.{queued_at, is_queued, Stay, OthersStay}
 
 -- ---- loopbacks
 
@@ -95,10 +97,28 @@ abbrev pub space_at : Inbox → Option (ℕ × Receipt) → Bool
 space_at table (Some x) = is_some (get nat_cmp table.entries x.0)
 space_at table None = true
 
+-- the tables have room for the same calls
+abbrev pub SameSpace : Inbox → Inbox → Type 0
+SameSpace old new = (received : Option (ℕ × Receipt)) → space_at new received ≡ space_at old received
+
 -- what the table has of a call once this one is received, if there is one
 abbrev pub put_call : ℕ → Option (ℕ × Receipt) → Option Receipt → Option Receipt
 put_call call (Some x) old = if x.0 == call then Some x.1 else old
 put_call call None old = old
+
+-- ---- the queue of received calls
+
+-- how the call stands in the queue that a record of this number receives, by the tables before it
+abbrev pub queued_by : (ℕ → Option View) → Lives → (Id → Option Question) → ℕ → Event → Option Queued
+queued_by named lives known number e = option_map (λ x. queued_at x.0 x.1 (targeted_by named lives known e)) (received_by number e)
+
+-- each received call that is at the vat stands in the queue, by what the table of calls has as its goal
+abbrev pub AreQueued : Inbox → Calls → Type 0
+AreQueued table calls = (call : ℕ) (r : Receipt) → receipt_at table call ≡ Some r → is_queued table (queued_at call r (goal_in (progress_at calls call))) ≡ true
+
+-- the call that is taken, if it was at the vat, stands in the queue no longer
+abbrev pub HasLeft : Option ℕ → Inbox → Calls → Inbox → Type 0
+HasLeft taken old calls new = (call : ℕ) (r : Receipt) → is call taken ≡ true → receipt_at old call ≡ Some r → is_queued new (queued_at call r (goal_in (progress_at calls call))) ≡ false
 
 -- ---- what holds an echo up
 
@@ -141,13 +161,16 @@ change_by named lives known number e = record {
 pub record SaysSame (old : Waits) (new : Waits) : Type 0 where
   pub looped : (i : Id) → loopback_at new.loopbacks i ≡ loopback_at old.loopbacks i
   pub received : (call : ℕ) → receipt_at new.inbox call ≡ receipt_at old.inbox call
+  pub queued : Stay old.inbox new.inbox
 
 -- they were changed so
 pub record IsChangedBy (change : Change) (old : Waits) (new : Waits) : Type 0 where
   pub looped : (i : Id) → loopback_at new.loopbacks i ≡ (if names i change.echoed then None else put_by i change.looped (loopback_at old.loopbacks i))
   pub received : (call : ℕ) → receipt_at new.inbox call ≡ (if is call change.taken then None else put_call call change.received (receipt_at old.inbox call))
+  pub queued : OthersStay change.taken old.inbox new.inbox
 
 -- they have what looking back finds
 pub record AreWaiting (past : Past) (waits : Waits) : Type 0 where
   pub looped : AreLooped past waits.loopbacks
   pub received : AreReceived past waits.inbox
+  pub queued : (call : ℕ) (r : Receipt) → receipt_here call past ≡ Some r → is_queued waits.inbox (queued_at call r (goal_of call past)) ≡ true

@@ -1,20 +1,24 @@
 //! The table of received calls that are at the vat.
 
-ghost use Rattle.std.specs.Prelude.{◌≡◌, ◌==◌, ℕ, None, Some, OnOk, IsTrue, Decides, nat_lt, ◌&&◌, if◌then◌else◌};
-ghost use Rattle.std.specs.List.{All, list_any};
-ghost use Rattle.std.specs.BTreeMap.{get};
-ghost use Rattle.std.specs.Ordering.{nat_cmp};
+ghost use Rattle.std.specs.Prelude.{◌≡◌, ◌==◌, ℕ, None, OnOk, IfOk, IsTrue, Decides, nat_lt, ◌&&◌, if◌then◌else◌};
+ghost use Rattle.std.specs.List.{list_any};
+ghost use Rattle.std.specs.BTreeMap.Range.{entries_between};
 ghost use Rattle.vat_view.specs.Past.{is};
-ghost use Rattle.vat_view.specs.Tables.{question_at};
+ghost use Rattle.vat_view.specs.Tables.{bound_at, question_at};
 ghost use Rattle.vat_view.specs.Asking.{opening_call_in};
-ghost use Rattle.vat_view.specs.LoopTables.{receipt_at, put_call, space_at, received_by, taken_by, held_by, Holding};
+ghost use Rattle.vat_view.specs.Queues.{queued_cmp, from_first, up_to, has_joined, Stay, OthersStay};
+ghost use Rattle.vat_view.specs.LoopTables.{receipt_at, put_call, space_at, received_by, taken_by, queued_by, held_by, SameSpace, AreQueued, HasLeft, Holding};
 
-use crate::asking::opening_call;
+use crate::asking::{opening_call, view_of_target};
+use crate::bound::Bound;
 use crate::calls::Calls;
 use crate::event::Event;
+use crate::heading::heading_of;
 use crate::id::Id;
+use crate::lives::Lives;
 use crate::loopbacks::Unechoed;
 use crate::questions::Questions;
+use crate::queued::Queued;
 use rpc_view::{Outcome, RpcMessage};
 use std::alloc::{AllocError, Global};
 use std::collections::BTreeMap;
@@ -47,6 +51,25 @@ pub(crate) fn received(number: usize, event: &Event) -> Option<(u64, Receipt)>
             },
         )),
         _ => None,
+    }
+}
+
+/// Where the call joins the queue that a record receives, which has this number in the log, by the tables before it.
+pub(crate) fn joining(
+    bound: &Bound,
+    lives: &Lives,
+    questions: &Questions,
+    number: usize,
+    event: &Event,
+) -> Result<Option<Queued>, AllocError>
+    ensures { IfOk result (λ queued. queued ≡ queued_by (bound_at bound.now) lives.now (question_at questions.now) number event.now) }
+{
+    match received(number, event) {
+        Some((call, receipt)) => {
+            let goal = view_of_target(bound, lives, questions, event)?;
+            Ok(Some(Queued::new(call, receipt, goal.as_ref())))
+        }
+        None => Ok(None),
     }
 }
 
@@ -91,28 +114,12 @@ fn came_before(receipt: Receipt, connection: u32, number: usize) -> bool
     receipt.connection == connection && receipt.number < number
 }
 
-/// Whether a call with this receipt, if it has one, holds up the echo of a loopback of this connection.
-fn holds(
-    calls: &Calls,
-    connection: u32,
-    looped: &Unechoed,
-    call: u64,
-    receipt: Option<Receipt>,
-) -> bool
-    ensures { result ≡ held_by calls.now connection looped.now call receipt }
-{
-    match receipt {
-        Some(receipt) => {
-            came_before(receipt, connection, looped.number) && calls.goes_to(call, &looped.target)
-        }
-        None => false,
-    }
-}
-
-/// Where each received call that is at the vat was received. An entry without a receipt says nothing: it holds room.
+/// Where each received call that is at the vat was received, and the queue of these calls. An entry without a receipt
+/// says nothing: it holds room. In the queue more may stand than the calls that are at the vat.
 #[derive(Debug, Drop)]
 pub(crate) struct Inbox {
     entries: BTreeMap<u64, Option<Receipt>>,
+    queue: BTreeMap<Queued, ()>,
 }
 
 impl Inbox {
@@ -122,21 +129,50 @@ impl Inbox {
     {
         Inbox {
             entries: BTreeMap::new(alloc),
+            queue: BTreeMap::new(alloc),
         }
     }
 
-    /// Whether an entry holds up the echo of a loopback of this connection; and each entry is found by its call.
-    fn any_holds(&self, calls: &Calls, connection: u32, looped: &Unechoed) -> bool
-        ensures any { result ≡ list_any (λ e. held_by calls.now connection looped.now e.0 e.1) self.now.entries.entries }
-        ensures found { All (λ e. get nat_cmp self.now.entries e.0 ≡ Some e.1) self.now.entries.entries }
+    /// Whether this call holds up the echo of a loopback of this connection.
+    fn holds(&self, calls: &Calls, connection: u32, looped: &Unechoed, call: u64) -> bool
+        ensures { result ≡ held_by calls.now connection looped.now call (receipt_at self.now call) }
     {
-        self.entries.iter().any(|(call, receipt)| holds(calls, connection, looped, *call, *receipt))
+        match self.entries.get(&call) {
+            Some(Some(receipt)) => {
+                came_before(*receipt, connection, looped.number)
+                    && calls.goes_to(call, &looped.target)
+            }
+            _ => false,
+        }
+    }
+
+    /// Whether a call holds up the echo of a loopback of this connection, of those in the queue that were received
+    /// there before it and have the heading of its target.
+    fn any_holds(&self, calls: &Calls, connection: u32, looped: &Unechoed) -> bool
+        ensures { result ≡ list_any (λ e. held_by calls.now connection looped.now e.0.call (receipt_at self.now e.0.call)) (entries_between queued_cmp (from_first connection looped.now.target) (up_to connection looped.now.target looped.now.number) self.now.queue.entries) }
+    {
+        let first = Queued {
+            connection,
+            heading: heading_of(looped.target.as_ref()),
+            number: 0,
+            call: 0,
+        };
+        let end = Queued {
+            number: looped.number,
+            ..first
+        };
+        self.queue.range(first..end).any(|(queued, _)| self.holds(
+            calls,
+            connection,
+            looped,
+            queued.call,
+        ))
     }
 
     /// Whether a received call that is at the vat holds up the echo of a loopback of this connection: it was received
     /// there before the loopback, and goes where the loopback's target went.
     pub(crate) fn holds_up(&self, calls: &Calls, connection: u32, looped: &Unechoed) -> bool
-        ensures { Decides result (Holding self.now calls.now connection looped.now) }
+        ensures { AreQueued self.now calls.now → Decides result (Holding self.now calls.now connection looped.now) }
     {
         self.any_holds(calls, connection, looped)
     }
@@ -145,6 +181,7 @@ impl Inbox {
     /// too.
     pub(crate) fn room_for(&mut self, received: Option<(u64, Receipt)>) -> Result<(), AllocError>
         ensures same { (c : ℕ) → receipt_at self.new c ≡ receipt_at self.old c }
+        ensures stay { Stay self.old self.new }
         ensures room { OnOk result (IsTrue (space_at self.new received)) }
     {
         let Some((call, _)) = received else {
@@ -157,10 +194,24 @@ impl Inbox {
         Ok(())
     }
 
+    /// This call joins the queue. What the table says of calls stays as it is, where memory is refused too.
+    pub(crate) fn join(&mut self, queued: Option<Queued>) -> Result<(), AllocError>
+        ensures same { (c : ℕ) → receipt_at self.new c ≡ receipt_at self.old c }
+        ensures stay { Stay self.old self.new }
+        ensures space { SameSpace self.old self.new }
+        ensures joins { OnOk result (IsTrue (has_joined self.new queued)) }
+    {
+        if let Some(queued) = queued {
+            self.queue.insert(queued, ())?;
+        }
+        Ok(())
+    }
+
     /// This call is received, for which there is room.
     pub(crate) fn begin(&mut self, received: Option<(u64, Receipt)>)
         requires { IsTrue (space_at self.old received) }
-        ensures { (c : ℕ) → receipt_at self.new c ≡ put_call c received (receipt_at self.old c) }
+        ensures begun { (c : ℕ) → receipt_at self.new c ≡ put_call c received (receipt_at self.old c) }
+        ensures stay { Stay self.old self.new }
     {
         let Some((call, receipt)) = received else {
             return;
@@ -170,12 +221,18 @@ impl Inbox {
         }
     }
 
-    /// This call leaves the vat.
-    pub(crate) fn end(&mut self, taken: Option<u64>)
-        ensures { (c : ℕ) → receipt_at self.new c ≡ (if is c taken then None else receipt_at self.old c) }
+    /// This call leaves the vat. Its goal, by which it is found in the queue, is asked of the table of calls.
+    pub(crate) fn end(&mut self, calls: &Calls, taken: Option<u64>)
+        ensures gone { (c : ℕ) → receipt_at self.new c ≡ (if is c taken then None else receipt_at self.old c) }
+        ensures stay { OthersStay taken self.old self.new }
+        ensures left { HasLeft taken self.old calls.now self.new }
     {
-        if let Some(call) = taken {
-            let _ = self.entries.remove(&call);
+        let Some(call) = taken else {
+            return;
+        };
+        if let Some(Some(receipt)) = self.entries.remove(&call) {
+            let queued = Queued::new(call, receipt, calls.goal(call));
+            let _ = self.queue.remove(&queued);
         }
     }
 }

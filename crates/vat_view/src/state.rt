@@ -240,7 +240,7 @@ impl VatState {
         self.turns.note(pending, number);
         self.resolves.note_resolve(promise, number);
         self.connections.note_event(&event);
-        self.waits.change(change);
+        self.waits.change(&self.calls, change);
         self.events.push_reserved(event);
         Ok(())
     }
@@ -682,8 +682,9 @@ impl VatState {
     }
 
     /// Whether the echo is held up of the senderLoopback that waits under a number: whether a call that was received on
-    /// its connection before it, and whose goal is what its target stood for then, is still at the vat. It looks at the
-    /// received calls that are at the vat, and takes no memory.
+    /// its connection before it, and whose goal is what its target stood for then, is still at the vat. It looks only at
+    /// calls of the connection that came before and whose goal differs from that target in a long path at most; the
+    /// first with that goal decides. It takes no memory.
     pub fn is_held_up(&self, number: Id) -> bool
         ensures { Decides result (IsHeldUp number self.now) }
     {

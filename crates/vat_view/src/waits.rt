@@ -1,13 +1,15 @@
 //! The tables of what waits.
 
-ghost use Rattle.std.specs.Prelude.{◌≡◌, [], IfOk, IsTrue};
+ghost use Rattle.std.specs.Prelude.{◌≡◌, [], IfOk, OnOk, IsTrue};
 ghost use Rattle.vat_view.specs.Tables.{bound_at, question_at};
-ghost use Rattle.vat_view.specs.LoopTables.{room_at, space_at, change_by, SaysSame, IsChangedBy, AreWaiting};
+ghost use Rattle.vat_view.specs.Queues.{has_joined};
+ghost use Rattle.vat_view.specs.LoopTables.{room_at, space_at, queued_by, change_by, SaysSame, IsChangedBy, AreWaiting};
 
 use crate::bound::Bound;
+use crate::calls::Calls;
 use crate::event::Event;
 use crate::id::Id;
-use crate::inbox::{Inbox, Receipt, received, taken};
+use crate::inbox::{Inbox, Receipt, joining, received, taken};
 use crate::lives::Lives;
 use crate::loopbacks::{Loopbacks, Unechoed, echoed, looped};
 use crate::questions::Questions;
@@ -58,11 +60,14 @@ impl Waits {
         ensures change { IfOk result (λ change. change ≡ change_by (bound_at bound.now) lives.now (question_at questions.now) number event.now) }
         ensures room { IfOk result (λ change. IsTrue (room_at self.new.loopbacks change.looped)) }
         ensures space { IfOk result (λ change. IsTrue (space_at self.new.inbox change.received)) }
+        ensures joins { OnOk result (IsTrue (has_joined self.new.inbox (queued_by (bound_at bound.now) lives.now (question_at questions.now) number event.now))) }
     {
         let looped = looped(bound, lives, questions, number, event)?;
         self.loopbacks.room_for(&looped)?;
         let received = received(number, event);
         self.inbox.room_for(received)?;
+        self.inbox
+            .join(joining(bound, lives, questions, number, event)?)?;
         Ok(Change {
             looped,
             echoed: echoed(event),
@@ -71,8 +76,8 @@ impl Waits {
         })
     }
 
-    /// Changes what a record changes, for which there is room.
-    pub(crate) fn change(&mut self, change: Change)
+    /// Changes what a record changes, for which there is room, by the table of calls after it.
+    pub(crate) fn change(&mut self, calls: &Calls, change: Change)
         requires room { IsTrue (room_at self.old.loopbacks change.looped) }
         requires space { IsTrue (space_at self.old.inbox change.received) }
         ensures { IsChangedBy change self.old self.new }
@@ -86,6 +91,6 @@ impl Waits {
         self.loopbacks.begin(looped);
         self.loopbacks.end(echoed);
         self.inbox.begin(received);
-        self.inbox.end(taken);
+        self.inbox.end(calls, taken);
     }
 }

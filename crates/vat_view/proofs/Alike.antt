@@ -8,13 +8,14 @@ use Rattle.std.proofs.lemmas.Bool.{cases_Bool}
 use Rattle.std.proofs.lemmas.List.{reverse-append, reverse-reverse}
 use Rattle.vat_view.specs.declared.questions.Questions.{Questions}
 use Rattle.vat_view.specs.declared.lives.Lives.{Lives}
+use Rattle.vat_view.specs.declared.begun.Begun.{Begun}
 use Rattle.vat_view.specs.declared.bound.Bound.{Bound}
 use Rattle.vat_view.specs.declared.calls.Calls.{Calls}
 use Rattle.vat_view.specs.declared.resolves.Resolves.{Resolves}
 use Rattle.vat_view.specs.Types.{Descriptor, SenderHosted, SenderPromise, Event, Wire, Id}
 use Rattle.vat_view.specs.Past.{Past, number_of, last_answer}
 use Rattle.vat_view.specs.Lives.{Birth, birth, begins, gives_back, introduced, descriptors, is_in_life, is_promised, began_promised, is_resolved, is_of_kind, keeps_kind, KeepsKinds}
-use Rattle.vat_view.specs.Tables.{held_origin, origin_of, origins, AreBegun}
+use Rattle.vat_view.specs.Tables.{held_origin, begun_origin, origin_of, origins, AreBegun}
 use Rattle.vat_view.specs.KindTables.{resolve_at, AreResolved, resolved_since, promised_by, of_kind_by, keeps_by}
 use Rattle.vat_view.specs.Kept.{AreKept}
 use Rattle.vat_view.proofs.Describing.{sender_keeps, origin_after}
@@ -63,9 +64,9 @@ module _ (past : Past) (items : List Event) (view_is : reverse items ≡ past) (
   of_kind_known i d None h = refl
 
   module _ (questions : Questions) (lives : Lives) (bound : Bound) (calls : Calls) (kept : AreKept past questions lives bound calls)
-      (resolves : Resolves) (resolved : AreResolved past resolves) (begun : Lives) (starts : AreBegun (origins past e) begun) where
+      (resolves : Resolves) (resolved : AreResolved past resolves) (begun : Begun) (starts : AreBegun (origins past e) begun) where
     introduced_known : (d : Descriptor) (o : Option Id) → introduced e d ≡ o →
-        option_map_or (λ i. of_kind_by items e d (option_or (held_origin lives i) (held_origin begun i)) && not (resolved_since (held_origin lives i) (resolve_at resolves i))) o true
+        option_map_or (λ i. of_kind_by items e d (option_or (held_origin lives i) (begun_origin begun i)) && not (resolved_since (held_origin lives i) (resolve_at resolves i))) o true
         ≡ option_map_or (λ i. option_map_or (is_of_kind d) (birth i (e ∷ past)) true && not (is_resolved i past)) o true
     introduced_known d None h = refl
     introduced_known d (Some i) h = ap₂ (λ a b. a && not b)

@@ -5,6 +5,7 @@ use Rattle.std.proofs.lemmas.List.{length-reverse}
 use Rattle.std.proofs.lemmas.Bool.{cases_Bool, and_parts, false≢true}
 use Rattle.vat_view.specs.declared.questions.Questions.{Questions}
 use Rattle.vat_view.specs.declared.lives.Lives.{Lives}
+use Rattle.vat_view.specs.declared.begun.Begun.{Begun}
 use Rattle.vat_view.specs.declared.bound.Bound.{Bound}
 use Rattle.vat_view.specs.declared.calls.Calls.{Calls}
 use Rattle.vat_view.specs.Types.{Descriptor, Target, Imported, Promised, Return, Finish, Event, Wire, View, FieldOf, Id}
@@ -152,12 +153,12 @@ module _ (past : Past) (questions : Questions) (lives : Lives) (bound : Bound) (
   targeted_known _ = refl
 
   -- a table of what a record introduces that comes next
-  pub begun_next : (e : Event) (begun : Lives) (late : Bool) (number : ℕ) (items : List Event) → late ≡ late_by (question_at questions) e → number ≡ length items → reverse items ≡ past →
+  pub begun_next : (e : Event) (begun : Begun) (late : Bool) (number : ℕ) (items : List Event) → late ≡ late_by (question_at questions) e → number ≡ length items → reverse items ≡ past →
       AreBegun (origins_if late number e) begun → AreBegun (origins past e) begun
   begun_next e begun late number items is_late place view_is starts i =
       starts i ∙ ap₂ (λ b n. first_in i (origins_if b n e)) (is_late ∙ late_is e) (place ∙ sym (length-reverse items) ∙ ap (λ l. length l) view_is)
 
-  module _ (e : Event) (begun : Lives) (starts : AreBegun (origins past e) begun) where
+  module _ (e : Event) (begun : Begun) (starts : AreBegun (origins past e) begun) where
     each_known : (d : Descriptor) → view_by (bound_at bound) lives begun (question_at questions) e d ≡ described (view_of_reference past) past e d
     each_known d = described_known past questions lives bound kept.tabled.tabled kept.tabled.bounds begun e starts d
 

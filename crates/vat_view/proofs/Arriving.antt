@@ -8,6 +8,7 @@ use Rattle.std.proofs.lemmas.Bool.{and_parts, cases_Bool, false≢true, not-true
 use Rattle.vat_view.specs.declared.question.Question.{Question}
 use Rattle.vat_view.specs.declared.questions.Questions.{Questions}
 use Rattle.vat_view.specs.declared.lives.Lives.{Lives}
+use Rattle.vat_view.specs.declared.begun.Begun.{Begun}
 use Rattle.vat_view.specs.declared.bound.Bound.{Bound}
 use Rattle.vat_view.specs.Types.{Descriptor, NoCap, SenderHosted, SenderPromise, ReceiverHosted, ReceiverAnswer, RpcMessage, Event, Host, Vow, Field, Wire, View, Object, Promise, FieldOf, Id}
 use Rattle.vat_view.specs.Past.{Past}
@@ -189,7 +190,7 @@ module _ (f : Descriptor → Option View) where
 
 -- ---- what a record binds
 
-module _ (before : Past) (questions : Questions) (lives begun : Lives) (bound : Bound) (tabled : IsTabled before questions lives) (bounds : AreBound before bound) where
+module _ (before : Past) (questions : Questions) (lives : Lives) (begun : Begun) (bound : Bound) (tabled : IsTabled before questions lives) (bounds : AreBound before bound) where
   module _ (k c : ℕ) (rs : List ℕ) (m : RpcMessage) (starts : AreBegun (origins before (Wire false k c rs m)) begun) where
     at_known : (o : Option Descriptor) → option_and_then (view_by (bound_at bound) lives begun (question_at questions) (Wire false k c rs m)) o
         ≡ option_and_then (described (view_of_reference before) before (Wire false k c rs m)) o
@@ -221,7 +222,7 @@ module _ (before : Past) (questions : Questions) (lives begun : Lives) (bound : 
 
 -- ---- references that a record binds are new
 
-pub keys_new : (named : ℕ → Option View) (lives begun : Lives) (known : Id → Option Question) (e : Event) (q : ℕ) → contains q (new_references e) ≡ false →
+pub keys_new : (named : ℕ → Option View) (lives : Lives) (begun : Begun) (known : Id → Option Question) (e : Event) (q : ℕ) → contains q (new_references e) ≡ false →
     contains q (map (λ x. x.0) (bindings named lives begun known e)) ≡ false
 keys_new named lives begun known (Host r object) q h = h
 keys_new named lives begun known (Vow r) q h = h
@@ -234,7 +235,7 @@ append_nothing : {A : Type 0} (xs : List A) → xs ++ [] ≡ xs
 append_nothing [] = refl
 append_nothing (x ∷ xs) = ap (λ l. x ∷ l) (append_nothing xs)
 
-pub bindings_apart : (named : ℕ → Option View) (lives begun : Lives) (known : Id → Option Question) (e : Event) (q : ℕ) (v : Option View) → contains q (new_references e) ≡ false →
+pub bindings_apart : (named : ℕ → Option View) (lives : Lives) (begun : Begun) (known : Id → Option Question) (e : Event) (q : ℕ) (v : Option View) → contains q (new_references e) ≡ false →
     bound_by q (bindings named lives begun known e) v ≡ v
 bindings_apart named lives begun known e q v h =
     bound_apart q (bindings named lives begun known e) [] v

@@ -8,13 +8,14 @@ use Rattle.std.proofs.lemmas.List.Sums.{sum_by-cons}
 use Rattle.vat_view.specs.declared.origin.Origin.{Origin}
 use Rattle.vat_view.specs.declared.questions.Questions.{Questions}
 use Rattle.vat_view.specs.declared.lives.Lives.{Lives}
+use Rattle.vat_view.specs.declared.begun.Begun.{Begun}
 use Rattle.vat_view.specs.declared.bound.Bound.{Bound}
 use Rattle.vat_view.specs.Types.{Descriptor, NoCap, SenderHosted, SenderPromise, ReceiverHosted, ReceiverAnswer, RpcMessage, Bootstrap, Call, Return, Finish, Release, Event, Wire, View, FieldOf, Id}
 use Rattle.vat_view.specs.Past.{Past, point, id, same_id, last_answer}
 use Rattle.vat_view.specs.Questions.{opens, returns, opening, return_of, is_late}
 use Rattle.vat_view.specs.Lives.{Birth, birth, begins, descriptors, introduced, introduces, introductions_at, gives_back, held, is_in_life}
 use Rattle.vat_view.specs.Views.{view_of_reference, view_given, view_of_number, described, noted}
-use Rattle.vat_view.specs.Tables.{question_at, bound_at, origin_of, origins, raised_origin, held_origin, first_in, AreBegun, view_from, number_by, call_by, view_by, IsTabled, AreBound}
+use Rattle.vat_view.specs.Tables.{question_at, bound_at, origin_of, origins, raised_origin, held_origin, begun_origin, first_in, AreBegun, view_from, number_by, call_by, view_by, IsTabled, AreBound}
 use Rattle.vat_view.proofs.Naming.{same_id_is}
 use Rattle.vat_view.proofs.Raising.{none_counted}
 use Rattle.vat_view.proofs.Beginning.{counted_origins, begun as begun_there, introduced_now, not_late}
@@ -143,7 +144,7 @@ module _ (before : Past) (questions : Questions) (lives : Lives) (bound : Bound)
   pub number_is : (i : Id) → number_by (bound_at bound) lives i ≡ view_of_number i before
   number_is i = ap (λ o. option_and_then (view_from (bound_at bound) i.ours) o) (held_known before questions lives tabled i) ∙ by_number i before
 
-  module _ (begun : Lives) where
+  module _ (begun : Begun) where
     module _ (e : Event) (starts : AreBegun (origins before e) begun) (i : Id) (keeps : gives_back i before e ≡ 0) where
       out_of_life : is_in_life i before ≡ false → first_in i (origins before e) ≡ option_map origin_of (birth i (e ∷ before))
       out_of_life out = elim (cases_Bool (is_in_life i (e ∷ before))) [
@@ -160,17 +161,17 @@ module _ (before : Past) (questions : Questions) (lives : Lives) (bound : Bound)
             ∙ sym (ap (λ b. option_map origin_of (if b then option_or (begins i before e) (last_answer (begins i) before) else None)) gone)
       ]
 
-      pub origin_after : option_or (held_origin lives i) (held_origin begun i) ≡ option_map origin_of (birth i (e ∷ before))
+      pub origin_after : option_or (held_origin lives i) (begun_origin begun i) ≡ option_map origin_of (birth i (e ∷ before))
       origin_after = elim (cases_Bool (is_in_life i before)) [
         | inl alive ↦
             let some : 0 < held i before = ltb-true 0 (held i before) alive in
             let below = tabled.balanced i in
             let now : is_in_life i (e ∷ before) ≡ true = lt-ltb 0 (held i (e ∷ before)) (omega (arith, some, below, keeps)) in
             let b = birth_of i before alive in
-            ap (λ o. option_or o (held_origin begun i)) (held_known before questions lives tabled i ∙ ap (λ o. option_map origin_of o) b.1)
+            ap (λ o. option_or o (begun_origin begun i)) (held_known before questions lives tabled i ∙ ap (λ o. option_map origin_of o) b.1)
             ∙ sym (ap (λ o. option_map origin_of o) (birth_kept i e before alive now ∙ b.1))
         | inr out ↦
-            ap (λ o. option_or o (held_origin begun i)) (held_known before questions lives tabled i ∙ ap (λ b. option_map origin_of (if b then last_answer (begins i) before else None)) out)
+            ap (λ o. option_or o (begun_origin begun i)) (held_known before questions lives tabled i ∙ ap (λ b. option_map origin_of (if b then last_answer (begins i) before else None)) out)
             ∙ starts i ∙ out_of_life out
       ]
 

@@ -4,6 +4,7 @@ use Rattle.std.specs.Prelude.{Result, Ok, Err, OnErr, is_err}
 use Rattle.std.proofs.lemmas.Bool.{false≢true}
 use Rattle.vat_view.specs.declared.questions.Questions.{Questions}
 use Rattle.vat_view.specs.declared.lives.Lives.{Lives}
+use Rattle.vat_view.specs.declared.begun.Begun.{Begun}
 use Rattle.vat_view.specs.declared.bound.Bound.{Bound}
 use Rattle.vat_view.specs.Types.{Event, View}
 use Rattle.vat_view.specs.Past.{Past}
@@ -18,12 +19,12 @@ err_gives (Err x) e p = p
 err_gives (Ok x) e p = absurd (false≢true e)
 
 -- a table of what the record introduces
-pub begun_now : (before : Past) (e : Event) (questions : Questions) (lives begun : Lives) (late : Bool) (number : ℕ) → IsTabled before questions lives → UsesQuestions before e →
+pub begun_now : (before : Past) (e : Event) (questions : Questions) (lives : Lives) (begun : Begun) (late : Bool) (number : ℕ) → IsTabled before questions lives → UsesQuestions before e →
     late ≡ late_by (question_at questions) e → number ≡ length before → AreBegun (origins_if late number e) begun → AreBegun (origins before e) begun
 begun_now before e questions lives begun late number tabled uses is_late place starts i =
     starts i ∙ ap₂ (λ b n. first_in i (origins_if b n e)) (is_late ∙ late_known (question_at questions) before tabled.known e uses) place
 
-module _ (before : Past) (e : Event) (questions : Questions) (lives begun : Lives) (bound : Bound) (kept : AreTabled before questions lives bound) (fit : IsFit before e)
+module _ (before : Past) (e : Event) (questions : Questions) (lives : Lives) (begun : Begun) (bound : Bound) (kept : AreTabled before questions lives bound) (fit : IsFit before e)
     (starts : AreBegun (origins before e) begun) (list : List (ℕ × View)) (listed : list ≡ bindings (bound_at bound) lives begun (question_at questions) e) where
   -- it was told
   pub learned : (told : Questions) (counted : Lives) (more : Bound) → IsTabled (e ∷ before) told counted → ((q : ℕ) → bound_at more q ≡ bound_by q list (bound_at bound q)) →

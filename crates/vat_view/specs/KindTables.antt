@@ -4,12 +4,13 @@ use Rattle.std.specs.Bool.{beq}
 use Rattle.std.specs.BTreeMap.{get}
 use Rattle.std.specs.Option.{option_or, option_map_or}
 use Rattle.vat_view.specs.declared.lives.Lives.{Lives}
+use Rattle.vat_view.specs.declared.begun.Begun.{Begun}
 use Rattle.vat_view.specs.declared.origin.Origin.{Origin}
 use Rattle.vat_view.specs.declared.resolves.Resolves.{Resolves}
 use Rattle.vat_view.specs.Types.{Descriptor, Event, Id}
 use Rattle.vat_view.specs.Past.{Past, Point, names, number_of, last_where}
 use Rattle.vat_view.specs.Lives.{descriptors, introduced, is_promised, resolved}
-use Rattle.vat_view.specs.Tables.{id_cmp, held_origin}
+use Rattle.vat_view.specs.Tables.{id_cmp, held_origin, begun_origin}
 
 -- the record that the table has for a promise
 abbrev pub resolve_at : Resolves → Id → Option ℕ
@@ -48,7 +49,7 @@ abbrev pub of_kind_by : List Event → Event → Descriptor → Option Origin �
 of_kind_by events next d origin = option_map_or (λ origin. beq (promised_by events next origin) (is_promised (Some d))) origin true
 
 -- whether the number that a descriptor of the record that comes next introduces keeps its kind, by the tables before
--- it and the one of what it introduces
-abbrev pub keeps_by : List Event → Lives → Lives → Resolves → Event → Descriptor → Bool
+-- it and what it introduces
+abbrev pub keeps_by : List Event → Lives → Begun → Resolves → Event → Descriptor → Bool
 keeps_by events lives begun resolves next d =
-    option_map_or (λ i. of_kind_by events next d (option_or (held_origin lives i) (held_origin begun i)) && not (resolved_since (held_origin lives i) (resolve_at resolves i))) (introduced next d) true
+    option_map_or (λ i. of_kind_by events next d (option_or (held_origin lives i) (begun_origin begun i)) && not (resolved_since (held_origin lives i) (resolve_at resolves i))) (introduced next d) true

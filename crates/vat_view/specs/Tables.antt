@@ -10,6 +10,8 @@ use Rattle.rising_table.specs.Entries.{entry_at}
 use Rattle.vat_view.specs.declared.question.Question.{Question}
 use Rattle.vat_view.specs.declared.questions.Questions.{Questions}
 use Rattle.vat_view.specs.declared.lives.Lives.{Lives}
+use Rattle.vat_view.specs.declared.begun.Begun.{Begun}
+use Rattle.vat_view.specs.declared.begun.Begun.TheVariants.{Few, Many}
 use Rattle.vat_view.specs.declared.bound.Bound.{Bound}
 use Rattle.vat_view.specs.declared.origin.Life.{Life}
 use Rattle.vat_view.specs.declared.origin.Origin.{Origin}
@@ -206,16 +208,21 @@ call_by None = None
 abbrev pub first_in : Id → List (Id × Origin) → Option Origin
 first_in i introduced = option_map (λ x. x.1) (find (λ x. same_id i x.0) introduced)
 
--- a table of what these introduce
-abbrev pub AreBegun : List (Id × Origin) → Lives → Type 0
-AreBegun introduced begun = (i : Id) → held_origin begun i ≡ first_in i introduced
+-- where the life of a number would begin by what a record introduces
+abbrev pub begun_origin : Begun → Id → Option Origin
+begun_origin (Few introduced) i = first_in i introduced.items
+begun_origin (Many lives) i = held_origin lives i
+
+-- these are what a record introduces
+abbrev pub AreBegun : List (Id × Origin) → Begun → Type 0
+AreBegun introduced begun = (i : Id) → begun_origin begun i ≡ first_in i introduced
 
 -- what a number of the sender stands for with a record counted: its life began before, or begins there
-abbrev pub sender_view : (ℕ → Option View) → Lives → Lives → Id → Option View
-sender_view named lives begun i = option_and_then (view_from named i.ours) (option_or (held_origin lives i) (held_origin begun i))
+abbrev pub sender_view : (ℕ → Option View) → Lives → Begun → Id → Option View
+sender_view named lives begun i = option_and_then (view_from named i.ours) (option_or (held_origin lives i) (begun_origin begun i))
 
--- what a descriptor of a record stands for, by the tables before it and the one of what it introduces
-abbrev pub view_by : (ℕ → Option View) → Lives → Lives → (Id → Option Question) → Event → Descriptor → Option View
+-- what a descriptor of a record stands for, by the tables before it and what it introduces
+abbrev pub view_by : (ℕ → Option View) → Lives → Begun → (Id → Option Question) → Event → Descriptor → Option View
 view_by named lives begun known (Wire s k c rs m) (SenderHosted n) = sender_view named lives begun (id k s n)
 view_by named lives begun known (Wire s k c rs m) (SenderPromise n) = sender_view named lives begun (id k s n)
 view_by named lives begun known (Wire s k c rs m) (ReceiverHosted n) = number_by named lives (id k (not s) n)
@@ -237,7 +244,7 @@ bound_from view rs before [] = []
 bound_from view rs before (d ∷ ds) = cons_option (bound_one view d (reference_by rs before d)) (bound_from view rs (before + (if is_cap d then 1 else 0)) ds)
 
 -- the references that a record binds, with their views
-abbrev pub bindings : (ℕ → Option View) → Lives → Lives → (Id → Option Question) → Event → List (ℕ × View)
+abbrev pub bindings : (ℕ → Option View) → Lives → Begun → (Id → Option Question) → Event → List (ℕ × View)
 bindings named lives begun known (Host r object) = (r, Object object) ∷ []
 bindings named lives begun known (Vow r) = (r, Promise r) ∷ []
 bindings named lives begun known (Field r call path) = (r, FieldOf call path) ∷ []

@@ -6,6 +6,7 @@ ghost use Rattle.vat_view.specs.Views.{references};
 ghost use Rattle.vat_view.specs.Bindings.{new_references};
 ghost use Rattle.vat_view.specs.Tables.{bound_at, question_at, origins_if, AreBegun, sender_view, view_by, reference_by, bound_one, bound_from, bindings};
 
+use crate::begun::{Begun, FEW};
 use crate::bound::Bound;
 use crate::event::Event;
 use crate::id::Id;
@@ -18,27 +19,30 @@ use rpc_view::Descriptor;
 use std::alloc::{AllocError, Global};
 use std::slice;
 
-/// A table of what a record of this number introduces, with the places of the first of each; a late Return's
-/// introductions aren't counted.
+/// What a record of this number introduces, with the place of the first of each; a late Return's introductions aren't
+/// counted.
 pub(crate) fn begun(
     alloc: Global,
     late: bool,
     number: usize,
     event: &Event,
-) -> Result<Lives, AllocError>
+) -> Result<Begun, AllocError>
     ensures { IfOk result (λ begun. AreBegun (origins_if late number event.now) begun) }
 {
     let origins = origins(alloc, late, number, event)?;
+    if origins.len() <= FEW {
+        return Ok(Begun::Few(origins));
+    }
     let mut begun = Lives::new(alloc);
     begun.raise_each(origins.as_slice())?;
-    Ok(begun)
+    Ok(Begun::Many(begun))
 }
 
 /// What a number of the sender stands for with a record counted: its life began before, or begins there.
 fn sender_view(
     bound: &Bound,
     lives: &Lives,
-    begun: &Lives,
+    begun: &Begun,
     number: Id,
 ) -> Result<Option<View>, AllocError>
     ensures { IfOk result (λ v. v ≡ sender_view (bound_at bound.now) lives.now begun.now number) }
@@ -49,11 +53,11 @@ fn sender_view(
     }
 }
 
-/// What a descriptor of a record stands for, by the tables before it and the one of what it introduces.
+/// What a descriptor of a record stands for, by the tables before it and what it introduces.
 pub(crate) fn view_by(
     bound: &Bound,
     lives: &Lives,
-    begun: &Lives,
+    begun: &Begun,
     questions: &Questions,
     event: &Event,
     descriptor: &Descriptor,
@@ -116,7 +120,7 @@ pub(crate) fn reference_by(
 fn bound_one(
     bound: &Bound,
     lives: &Lives,
-    begun: &Lives,
+    begun: &Begun,
     questions: &Questions,
     event: &Event,
     descriptor: &Descriptor,
@@ -138,7 +142,7 @@ fn noted(
     alloc: Global,
     bound: &Bound,
     lives: &Lives,
-    begun: &Lives,
+    begun: &Begun,
     questions: &Questions,
     event: &Event,
 ) -> Result<Vec<(u64, View)>, AllocError>
@@ -175,7 +179,7 @@ pub(crate) fn bindings(
     alloc: Global,
     bound: &Bound,
     lives: &Lives,
-    begun: &Lives,
+    begun: &Begun,
     questions: &Questions,
     event: &Event,
 ) -> Result<Vec<(u64, View)>, AllocError>

@@ -8,6 +8,7 @@ ghost use Rattle.vat_view.specs.Tables.{question_at, count_at, bound_at, view_by
 ghost use Rattle.vat_view.specs.Asking.{free_in, unfinished_in, finished_in, unreturned_in, opening_call_in, targeted_by, let_go_of, given_by};
 
 use crate::arrivals::view_by;
+use crate::begun::Begun;
 use crate::bound::Bound;
 use crate::event::Event;
 use crate::id::Id;
@@ -109,12 +110,12 @@ pub(crate) fn view_of_target(
     }
 }
 
-/// What the descriptors of a record stand for, by place, by the tables before it and the one of what it introduces.
+/// What the descriptors of a record stand for, by place, by the tables before it and what it introduces.
 pub(crate) fn views_of_descriptors(
     alloc: Global,
     bound: &Bound,
     lives: &Lives,
-    begun: &Lives,
+    begun: &Begun,
     questions: &Questions,
     event: &Event,
 ) -> Result<Vec<Option<View>>, AllocError>

@@ -5,6 +5,7 @@ ghost use Rattle.std.specs.List.{list_all};
 ghost use Rattle.vat_view.specs.Lives.{descriptors, is_promised};
 ghost use Rattle.vat_view.specs.KindTables.{promised_at, promised_by, resolved_since, of_kind_by, keeps_by};
 
+use crate::begun::Begun;
 use crate::event::Event;
 use crate::lives::Lives;
 use crate::origin::Origin;
@@ -76,11 +77,11 @@ fn is_of_kind(
 }
 
 /// Whether the number that a descriptor of the record that comes next introduces keeps its kind, by the tables before
-/// it and the one of what it introduces.
+/// it and what it introduces.
 fn keeps_kind(
     events: &[Event],
     lives: &Lives,
-    begun: &Lives,
+    begun: &Begun,
     resolves: &Resolves,
     next: &Event,
     descriptor: &Descriptor,
@@ -100,7 +101,7 @@ fn keeps_kind(
 pub(crate) fn keeps_kinds(
     events: &[Event],
     lives: &Lives,
-    begun: &Lives,
+    begun: &Begun,
     resolves: &Resolves,
     next: &Event,
 ) -> bool

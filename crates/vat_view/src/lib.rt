@@ -15,6 +15,7 @@ mod applying;
 mod arrivals;
 mod asked;
 mod asking;
+mod begun;
 mod bound;
 mod calls;
 mod connections;

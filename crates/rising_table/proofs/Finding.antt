@@ -1,5 +1,5 @@
 -- What look-ups find in entries: of two lists, of a row whose numbers rise, and where a number isn't.
-use Rattle.std.proofs.Common.{◌≡◌, ℕ, zero, suc, ◌<◌, ◌≢◌, List, [], ◌∷◌, ◌++◌, length, get_or, Some, None, Option, Result, Ok, Err, IfOk, IfErr, Bool, true, false, refl, sym, ap, subst, ◌∙◌, ◌==◌, if◌then◌else◌, arith}
+use Rattle.std.proofs.Common.{◌≡◌, ℕ, zero, suc, ◌<◌, ◌-◌, inl, inr, ◌≢◌, List, [], ◌∷◌, ◌++◌, length, get_or, Some, None, Option, Result, Ok, Err, IfOk, IfErr, Bool, true, false, refl, sym, ap, subst, ◌∙◌, ◌==◌, if◌then◌else◌, arith}
 use Rattle.std.specs.List.Sorted.{IsSearchInRange, IsBinarySearchResult, IsNonDecreasingBy}
 use Rattle.std.specs.Ordering.{nat_cmp, ordering_index}
 use Rattle.std.specs.Cmp.{unsigned_ties}
@@ -9,7 +9,10 @@ use Rattle.std.proofs.lemmas.Cmp.{ranked}
 use Rattle.std.proofs.lemmas.List.{get_or-map}
 use Rattle.std.proofs.lemmas.Map.Keys.{below_from_sorted}
 use Rattle.std.proofs.lemmas.Map.Entries.{length-keys_of}
+use Rattle.std.proofs.lemmas.Option.{get_or_from_slice_get}
+use Rattle.std.proofs.lemmas.Bool.{cases_lt}
 use Rattle.std.proofs.lemmas.Bool.Decides.{nat_tests}
+use Rattle.std.specs.Prelude.{slice_get}
 use Rattle.rising_table.specs.Entries.{entry_at, key_at, AreRising, IsAt, IsGapFor}
 
 same_test : (a b : ℕ) → (b == a) ≡ (a == b)
@@ -91,3 +94,18 @@ module _ {X : Type 0} where
 
   pub present : (es : List (ℕ × X)) → AreRising es → (k i : ℕ) (d : ℕ × X) → IsAt es k i → entry_at es k ≡ Some (get_or es i d).1
   present es rising k i d there = entry_plain es k ∙ plain_present es k i d there.in_range there.has_key (none_before es rising k i there)
+
+  -- a number above the last one is above all
+  pub above_last : (es : List (ℕ × X)) → AreRising es → (k : ℕ) (last : ℕ × X) → Some last ≡ slice_get es (length es - 1) → last.0 < k → IsGapFor es k (length es)
+  above_last [] rising k last is_last lt = record { in_range = omega arith; smaller_before = λ j l. absurd (let no : ⊥ = omega (arith, l) in no); greater_after = λ j le l. absurd (let no : ⊥ = omega (arith, le, l) in no) }
+  above_last (e ∷ es) rising k last is_last lt =
+      let whole = e ∷ es in
+      let top : key_at whole (length whole - 1) ≡ last.0 =
+      key_of whole (length whole - 1) last (omega arith) ∙ ap (λ x. x.0) (get_or_from_slice_get whole (length whole - 1) last last (sym is_last)) in record {
+        in_range = omega arith;
+        smaller_before = λ j l. elim (cases_lt j (length whole - 1)) [
+          | inl before ↦ let less = rises whole rising j (length whole - 1) before (omega arith) in omega (arith, less, top, lt)
+          | inr there ↦ let place : j ≡ length whole - 1 = omega (arith, there, l) in omega (arith, ap (λ i. key_at whole i) place, top, lt)
+        ];
+        greater_after = λ j le l. absurd (let no : ⊥ = omega (arith, le, l) in no);
+      }

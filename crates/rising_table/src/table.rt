@@ -1,6 +1,6 @@
 //! Values by numbers, most of which come in rising order.
 
-ghost use Rattle.std.specs.Prelude.{◌≡◌, ◌==◌, ℕ, [], None, Some, OnOk, OnErr, IfOk, IfErr, length, is_some, MatchOption, if◌then◌else◌};
+ghost use Rattle.std.specs.Prelude.{◌≡◌, ◌==◌, ℕ, [], None, Some, OnOk, OnErr, IfOk, IfErr, IfSome, IsTrue, length, is_some, MatchOption, if◌then◌else◌};
 ghost use Rattle.std.specs.Option.{option_copied};
 ghost use Rattle.rising_table.specs.Entries.{entry_at, AreRising, IsAt, IsGapFor};
 
@@ -28,12 +28,40 @@ impl<V> Model for RisingTable<V> {
     ghost invariant = { λ table. AreRising table.row.items };
 }
 
-/// Where a number is in a row, or where it would go.
+/// The place of a number in a row that has all numbers from its first one up to this.
+fn counted<V>(row: &[(u64, V)], key: u64) -> Option<usize>
+    ensures { IfSome result (IsAt row.now key) }
+{
+    let (first, _) = row.first()?;
+    let place = usize::try_from(key.checked_sub(*first)?).ok()?;
+    let (number, _) = row.get(place)?;
+    if *number == key { Some(place) } else { None }
+}
+
+/// Whether a number is above all of a row.
+fn is_above<V>(row: &[(u64, V)], key: u64) -> bool
+    requires { AreRising row.now }
+    ensures { IsTrue result → IsGapFor row.now key (length row.now) }
+{
+    match row.last() {
+        Some((last, _)) => *last < key,
+        None => true,
+    }
+}
+
+/// Where a number is in a row, or where it would go. Mostly it is where it would be if none were left out before it, or
+/// above all.
 fn search<V>(row: &[(u64, V)], key: u64) -> Result<usize, usize>
     requires { AreRising row.now }
     ensures found { IfOk result (IsAt row.now key) }
     ensures absent { IfErr result (IsGapFor row.now key) }
 {
+    if let Some(place) = counted(row, key) {
+        return Ok(place);
+    }
+    if is_above(row, key) {
+        return Err(row.len());
+    }
     row.binary_search_by_key(&key, |entry| entry.0)
 }
 

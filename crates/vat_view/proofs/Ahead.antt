@@ -8,6 +8,7 @@ use Rattle.vat_view.specs.declared.lives.Lives.{Lives}
 use Rattle.vat_view.specs.declared.calls.Calls.{Calls}
 use Rattle.vat_view.specs.declared.turns.Turns.{Turns}
 use Rattle.vat_view.specs.declared.bound.Bound.{Bound}
+use Rattle.vat_view.specs.declared.bound.Leap.{Leap}
 use Rattle.vat_view.specs.declared.pending.Pending.{Pending}
 use Rattle.vat_view.specs.declared.pending.Pending.TheVariants.{Promise as PromiseToKeep, Results as ResultsOf, Import as ImportToResolve}
 use Rattle.vat_view.specs.Types.{Event, View}
@@ -15,7 +16,7 @@ use Rattle.vat_view.specs.Past.{Past}
 use Rattle.vat_view.specs.Views.{view_of_reference}
 use Rattle.vat_view.specs.Bindings.{Refers}
 use Rattle.vat_view.specs.Tables.{bound_at, AreBound}
-use Rattle.vat_view.specs.TurnTables.{same_pending, is_this, awaited, path_of, landing, settler_at, settler_by, landed_by, turns_of, ahead_at, IsOwnOrOld, HaveAhead}
+use Rattle.vat_view.specs.TurnTables.{same_pending, is_this, awaited, path_of, landing, settler_at, settler_by, landed_by, turns_of, own_leap, ahead_at, IsOwnOrOld, HaveAhead}
 use Rattle.vat_view.specs.Kept.{AreKept}
 use Rattle.vat_view.proofs.Walking.{cases_option, none_some}
 use Rattle.vat_view.proofs.Lasting.{view_step}
@@ -98,7 +99,7 @@ module _ (items other pushed : List Event) (e : Event) (number : ℕ) (s : Optio
 
   pub ahead_applied : (old mid new : Bound) (again : Bool) → again ≡ is_some (option_and_then (settler_at room) s) → Refers (reverse items) e → AreBound (reverse items) old →
       AreBound (reverse pushed) mid → ((r : ℕ) → bound_at new r ≡ bound_at mid r) → IsOwnOrOld old mid → IsOwnOrOld mid new →
-      (IsTrue again → (r q : ℕ) → ahead_at new r ≡ Some q → q ≡ r) → HaveAhead items table old → HaveAhead pushed more new
+      (IsTrue again → (r : ℕ) (q : Leap) → ahead_at new r ≡ Some q → q ≡ own_leap r) → HaveAhead items table old → HaveAhead pushed more new
   ahead_applied old mid new again is_again refers was is views first second own ahead = elim (cases_Bool again) [
     | inl so ↦ λ r q h. own_ahead (turns_of pushed more new) new r q h (own so r q h)
     | inr once ↦

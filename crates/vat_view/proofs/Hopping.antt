@@ -1,19 +1,20 @@
 -- Hops to references ahead.
-use Rattle.std.proofs.Common.{◌≡◌, ◌⊎◌, ◌≤◌, refl, sym, ◌∙◌, ap, ℕ, zero, suc, ◌+◌, ◌-◌, inl, inr, List, Option, Some, None, option_map, option_and_then, arith}
+use Rattle.std.proofs.Common.{◌≡◌, ◌⊎◌, ◌<◌, ◌≤◌, refl, sym, ◌∙◌, ap, subst, ℕ, zero, suc, ◌+◌, ◌-◌, inl, inr, List, Option, Some, None, option_map, option_and_then, arith}
 use Rattle.std.proofs.lemmas.Bool.{cases_lt}
 use Rattle.rising_table.specs.Entries.{entry_at}
 use Rattle.vat_view.specs.declared.turns.Turns.{Turns}
 use Rattle.vat_view.specs.declared.bound.Bound.{Bound}
 use Rattle.vat_view.specs.declared.bound.Binding.{Binding}
+use Rattle.vat_view.specs.declared.bound.Leap.{Leap}
 use Rattle.vat_view.specs.Types.{Event, View}
 use Rattle.vat_view.specs.Tables.{bound_at}
-use Rattle.vat_view.specs.TurnTables.{path_of, landed_by, settler_by, turns_of, reached, Reaches, ReachesByTurns, ahead_in, ahead_at, IsOwnOrOld, IsAhead, AreAhead, HaveAhead}
+use Rattle.vat_view.specs.TurnTables.{path_of, landed_by, settler_by, turns_of, reached, Reaches, TurnsAndThen, TurnsOn, ReachesByTurns, own_leap, ahead_in, ahead_at, onward_by, IsOwnOrOld, IsAhead, AreAhead, HaveAhead}
 use Rattle.vat_view.proofs.Walking.{cases_option, none_some, some_same, dead, reached_more, reached_at, reached_none}
 use Rattle.vat_view.proofs.Settled.{turn_landing}
 
 -- ---- what is bound has a reference ahead, and no other
 
-pub ahead_bound : (table : Bound) (r q : ℕ) → ahead_at table r ≡ Some q → (a : View) × (bound_at table r ≡ Some a)
+pub ahead_bound : (table : Bound) (r : ℕ) (q : Leap) → ahead_at table r ≡ Some q → (a : View) × (bound_at table r ≡ Some a)
 ahead_bound table r q some = inner (entry_at table.entries r) some
   where
     inner : (o : Option Binding) → option_map (λ binding. ahead_in table.dropped r binding) o ≡ Some q → (a : View) × (option_map (λ binding. binding.view) o ≡ Some a)
@@ -21,8 +22,10 @@ ahead_bound table r q some = inner (entry_at table.entries r) some
     inner (Some b) e = (b.view, refl)
 
 -- a reference is ahead of itself
-pub own_ahead : (turn : View → Option View) (table : Bound) (r q : ℕ) → ahead_at table r ≡ Some q → q ≡ r → IsAhead turn table r q
-own_ahead turn table r q some own = let it = ahead_bound table r q some in rw own (it.0, it.0, it.1, it.1, (0, refl))
+pub own_ahead : (turn : View → Option View) (table : Bound) (r : ℕ) (q : Leap) → ahead_at table r ≡ Some q → q ≡ own_leap r → IsAhead turn table r q
+own_ahead turn table r q some own =
+    let it = ahead_bound table r q some in
+    let here : IsAhead turn table r (own_leap r) = (it.0, it.0, it.1, it.1, refl) in subst (λ l. IsAhead turn table r l) (sym own) here
 
 pub none_is_ahead : (turn : View → Option View) (table : Bound) → ((r : ℕ) → bound_at table r ≡ None) → AreAhead turn table
 none_is_ahead turn table empty r q some = let it = ahead_bound table r q some in absurd (none_some it.0 (sym (empty r) ∙ it.1))
@@ -84,21 +87,72 @@ module _ {A : Type 0} (f : A → Option A) where
       (reached_at f m (suc hop.0) (k + suc (m - k + hop.0)) (Some a) (omega (arith, behind)) ∙ ap (λ o. reached f (suc hop.0) o) there ∙ hop.1 ∙ ap (λ x. Some x) same)
       ends.1 last
 
--- what is ahead of the landing of the one ahead is further ahead
-pub further_ahead : (events : List Event) (table : Turns) (bound : Bound) → HaveAhead events table bound → (r near next far : ℕ) (v : View) →
-    ahead_at bound r ≡ Some near → bound_at bound near ≡ Some v → landed_by events table v ≡ Some next → ahead_at bound next ≡ Some far → IsAhead (turns_of events table bound) bound r far
-further_ahead events table bound ahead r near next far v is_near view lands is_far =
+-- what is ahead of the landing of the one ahead is further ahead, by the turns to it, the one of the landing and its own
+pub further_ahead : (events : List Event) (table : Turns) (bound : Bound) → HaveAhead events table bound → (r next count : ℕ) (near far : Leap) →
+    onward_by events table bound r ≡ Some next → ahead_at bound r ≡ Some near → ahead_at bound next ≡ Some far → count ≡ near.turns + far.turns + 1 →
+    IsAhead (turns_of events table bound) bound r (record { to = far.to; turns = count })
+further_ahead events table bound ahead r next count near far lands is_near is_far sum =
+    let f : View → Option View = λ v. turns_of events table bound v in
     let first = ahead r near is_near in
     let second = ahead next far is_far in
-    let turn : turns_of events table bound v ≡ Some second.0 = lands_turn events table bound v ∙ ap (λ o. option_and_then (bound_at bound) o) lands ∙ second.2 in
-    let same : first.1 ≡ v = some_same first.1 v (sym first.3 ∙ view) in (
+    let v : View = first.1 in
+    let landed : landed_by events table v ≡ Some next =
+    ap (λ o. option_and_then (landed_by events table) o) (sym first.3) ∙ ap (λ o. option_and_then (landed_by events table) (option_and_then (λ leap. bound_at bound leap.to) o)) (sym is_near) ∙ lands in
+    let turn : f v ≡ Some second.0 = lands_turn events table bound v ∙ ap (λ o. option_and_then (bound_at bound) o) landed ∙ second.2 in (
       first.0,
       second.1,
       first.2,
       second.3,
-      on_from (turns_of events table bound) first.0 v second.1 (first.4.0, first.4.1 ∙ ap (λ x. Some x) same)
-          (suc second.4.0, ap (λ o. reached (turns_of events table bound) second.4.0 o) turn ∙ second.4.1),
+      reached_at f near.turns (suc far.turns) count (Some first.0) (omega (arith, sum)) ∙ ap (λ o. reached f (suc far.turns) o) first.4
+          ∙ ap (λ o. reached f far.turns o) turn ∙ second.4,
     )
+
+-- ---- counted walks
+
+module _ {A : Type 0} (f : A → Option A) where
+  -- walks to where it turns no more make one number of turns
+  one_count : (a v w : A) (t n : ℕ) → reached f t (Some a) ≡ Some v → f v ≡ None → reached f n (Some a) ≡ Some w → f w ≡ None → t ≡ n
+  one_count a v w t n there none e last = elim (cases_lt n t) [
+    | inl lt ↦ absurd (dead f t n (Some a) v there lt (reached_more f n (Some a) ∙ ap (λ o. option_and_then f o) e ∙ last))
+    | inr le ↦ elim (cases_lt t n) [
+      | inl past ↦ absurd (dead f n t (Some a) w e past (reached_more f t (Some a) ∙ ap (λ o. option_and_then f o) there ∙ none))
+      | inr back ↦ omega arith
+    ]
+  ]
+
+  -- a walk goes on by one turn and then so many
+  pub steps_on : (a at next : A) (made more total : ℕ) → reached f made (Some a) ≡ Some at → TurnsAndThen f at more next → total ≡ made + more + 1 → reached f total (Some a) ≡ Some next
+  steps_on a at next made more total there on sum =
+      reached_at f made (suc more) total (Some a) (omega (arith, sum)) ∙ ap (λ o. reached f (suc more) o) there ∙ on
+
+  -- so many turns are left from there, where it goes on by some of them
+  pub steps_left : (at next : A) (more left rest : ℕ) → TurnsAndThen f at more next → rest + (more + 1) ≡ left → reached f left (Some at) ≡ reached f rest (Some next)
+  steps_left at next more left rest on sum = reached_at f (suc more) rest left (Some at) (omega (arith, sum)) ∙ ap (λ o. reached f rest o) on
+
+  -- where turns are left and none is made, nothing is reached
+  pub no_step : (at : A) (left : ℕ) → 0 < left → f at ≡ None → reached f left (Some at) ≡ None
+  no_step at zero some none = absurd (let no : ⊥ = omega (arith, some) in no)
+  no_step at (suc n) some none = ap (λ o. reached f n o) none ∙ reached_none f n
+
+  -- a view that turns on further leads to none that makes more turns
+  pub too_far : (a b last end : A) (most whole rest : ℕ) → TurnsOn f a most last whole → whole ≤ most → TurnsOn f b whole end rest → whole < rest → Reaches f a b → ⊥
+  too_far a b last end most whole rest first fits second far l =
+      dead f (l.0 + rest) whole (Some a) end (reached_at f l.0 rest (l.0 + rest) (Some a) refl ∙ ap (λ o. reached f rest o) l.1 ∙ second.0) (omega (arith, far))
+      (reached_more f whole (Some a) ∙ ap (λ o. option_and_then f o) first.0 ∙ first.1 fits)
+
+  -- one that leads to another does so by the turns that it makes more
+  pub at_place : (a b last end : A) (most whole rest : ℕ) → TurnsOn f a most last whole → whole ≤ most → TurnsOn f b whole end rest → rest ≤ whole → Reaches f a b → reached f (whole - rest) (Some a) ≡ Some b
+  at_place a b last end most whole rest first fits second near l =
+      let count : l.0 + rest ≡ whole =
+      one_count a end last (l.0 + rest) whole (reached_at f l.0 rest (l.0 + rest) (Some a) refl ∙ ap (λ o. reached f rest o) l.1 ∙ second.0) (second.1 near) first.0 (first.1 fits) in
+      let place : whole - rest ≡ l.0 = omega (arith, count) in rw place l.1
+
+  -- one that leads to another that makes no turn ends there
+  pub at_end : (a b last end : A) (most whole rest : ℕ) → TurnsOn f a most last whole → whole ≤ most → TurnsOn f b whole end rest → rest ≡ 0 → Reaches f a b → last ≡ b
+  at_end a b last end most whole rest first fits second none l =
+      some_same last b
+      (sym first.0 ∙ ap (λ n. reached f n (Some a)) (let same : whole ≡ whole - rest = omega (arith, none) in same)
+      ∙ at_place a b last end most whole rest first fits second (omega (arith, none)) l)
 
 -- ---- references ahead, where what they lead to is kept
 
@@ -127,8 +181,8 @@ turns_more events after table other old new named lands v w e = elim (cases_opti
 
 module _ (f g : View → Option View) (old new : Bound) (more : (v w : View) → f v ≡ Some w → g v ≡ Some w)
     (named : (r : ℕ) (w : View) → bound_at old r ≡ Some w → bound_at new r ≡ Some w) where
-  carried : (r q : ℕ) → IsAhead f old r q → IsAhead g new r q
-  carried r q it = (it.0, it.1, named r it.0 it.2, named q it.1 it.3, (it.4.0, more_reached f g more it.4.0 it.0 it.1 it.4.1))
+  carried : (r : ℕ) (q : Leap) → IsAhead f old r q → IsAhead g new r q
+  carried r q it = (it.0, it.1, named r it.0 it.2, named q.to it.1 it.3, more_reached f g more q.turns it.0 it.1 it.4)
 
   pub ahead_carried : IsOwnOrOld old new → AreAhead f old → AreAhead g new
   ahead_carried less ahead r q e = elim (less r q e) [
@@ -136,7 +190,7 @@ module _ (f g : View → Option View) (old new : Bound) (more : (v w : View) →
     | inr own ↦ own_ahead g new r q e own
   ]
 
-  pub ahead_remembered : (reference far : ℕ) → ((r q : ℕ) → ahead_at new r ≡ Some q → (ahead_at old r ≡ Some q) ⊎ ((r ≡ reference) × (q ≡ far))) → IsAhead f old reference far → AreAhead f old → AreAhead g new
+  pub ahead_remembered : (reference : ℕ) (far : Leap) → ((r : ℕ) (q : Leap) → ahead_at new r ≡ Some q → (ahead_at old r ≡ Some q) ⊎ ((r ≡ reference) × (q ≡ far))) → IsAhead f old reference far → AreAhead f old → AreAhead g new
   ahead_remembered reference far less it ahead r q e = elim (less r q e) [
     | inl was ↦ carried r q (ahead r q was)
     | inr same ↦ rw same.0 (rw same.1 (carried reference far it))

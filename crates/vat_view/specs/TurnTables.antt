@@ -1,6 +1,6 @@
 -- For the code's contracts, and no part of the meaning: the table of turns, what looking back finds for its keys, and
 -- walks by so many turns.
-use Rattle.std.specs.Prelude.{◌≡◌, ◌⊎◌, ℕ, zero, suc, ◌==◌, ◌&&◌, List, ◌∷◌, [], Bool, true, false, Option, Some, None, option_map, option_and_then, find, slice_get, is_some, length}
+use Rattle.std.specs.Prelude.{◌≡◌, ◌⊎◌, ◌≤◌, ℕ, zero, suc, ◌==◌, ◌&&◌, List, ◌∷◌, [], Bool, true, false, Option, Some, None, option_map, option_and_then, find, slice_get, is_some, length}
 use Rattle.std.specs.declared.cmp.Ordering.{Ordering}
 use Rattle.std.specs.BTreeMap.{get}
 use Rattle.std.specs.Str.{bytes_eq as same_path}
@@ -9,6 +9,7 @@ use Rattle.vat_view.specs.declared.question.Question.{Question}
 use Rattle.vat_view.specs.declared.lives.Lives.{Lives}
 use Rattle.vat_view.specs.declared.bound.Bound.{Bound}
 use Rattle.vat_view.specs.declared.bound.Binding.{Binding}
+use Rattle.vat_view.specs.declared.bound.Leap.{Leap}
 use Rattle.vat_view.specs.declared.origin.Origin.{Origin}
 use Rattle.vat_view.specs.declared.pending.Pending.{Pending}
 use Rattle.vat_view.specs.declared.pending.Pending.TheVariants.{Promise as PromiseToKeep, Results as ResultsOf, Import as ImportToResolve}
@@ -164,18 +165,26 @@ landed_by events table v = option_and_then (landing (path_of v)) (settler_by tab
 abbrev pub bound_len : Bound → ℕ
 bound_len table = length table.entries
 
--- the reference that is ahead of this one, by what is kept of it: itself, where the references ahead are dropped
-abbrev pub ahead_in : Bool → ℕ → Binding → ℕ
-ahead_in true r binding = r
+-- from a reference to itself
+abbrev pub own_leap : ℕ → Leap
+own_leap r = record { to = r; turns = 0 }
+
+-- what is ahead of a reference, by what is kept of it: itself, where the references ahead are dropped
+abbrev pub ahead_in : Bool → ℕ → Binding → Leap
+ahead_in true r binding = own_leap r
 ahead_in false r binding = binding.ahead
 
--- the reference that is ahead of a bound one
-abbrev pub ahead_at : Bound → ℕ → Option ℕ
+-- what is ahead of a bound reference, and by how many turns
+abbrev pub ahead_at : Bound → ℕ → Option Leap
 ahead_at table r = option_map (λ binding. ahead_in table.dropped r binding) (entry_at table.entries r)
 
 -- what is ahead of a reference was so before, or is itself
 abbrev pub IsOwnOrOld : Bound → Bound → Type 0
-IsOwnOrOld before after = (r q : ℕ) → ahead_at after r ≡ Some q → (ahead_at before r ≡ Some q) ⊎ (q ≡ r)
+IsOwnOrOld before after = (r : ℕ) (q : Leap) → ahead_at after r ≡ Some q → (ahead_at before r ≡ Some q) ⊎ (q ≡ own_leap r)
+
+-- where the reference ahead of this one lands
+abbrev pub onward_by : List Event → Turns → Bound → ℕ → Option ℕ
+onward_by events table bound r = option_and_then (landed_by events table) (option_and_then (λ leap. bound_at bound leap.to) (ahead_at bound r))
 
 -- ---- walks
 
@@ -201,17 +210,25 @@ Reaches turn a b = (n : ℕ) × (reached turn n (Some a) ≡ Some b)
 abbrev pub ReachesByTurns : {A : Type 0} → (A → Option A) → A → A → Type 0
 ReachesByTurns turn a c = (n : ℕ) × (reached turn n (turn a) ≡ Some c)
 
+-- it is so by one turn and then so many
+abbrev pub TurnsAndThen : {A : Type 0} → (A → Option A) → A → ℕ → A → Type 0
+TurnsAndThen turn a n c = reached turn n (turn a) ≡ Some c
+
+-- so many turns are made, to this view; and where they are at most so many, none after them
+abbrev pub TurnsOn : {A : Type 0} → (A → Option A) → A → ℕ → A → ℕ → Type 0
+TurnsOn turn a most last n = (reached turn n (Some a) ≡ Some last) × (n ≤ most → turn last ≡ None)
+
 -- the last that is reached, where it stays
 abbrev pub EndsBy : (View → Next) → View → View → Type 0
 EndsBy goes a end = Reaches (λ v. turned_to (goes v)) a end × (goes end ≡ stays)
 
--- a reference is ahead of another: the other's view leads, by these turns, to its view
-abbrev pub IsAhead : (View → Option View) → Bound → ℕ → ℕ → Type 0
-IsAhead turn table r q = (a : View) × (b : View) × (bound_at table r ≡ Some a) × (bound_at table q ≡ Some b) × Reaches turn a b
+-- a reference is ahead of another: the other's view leads, by exactly so many of these turns, to its view
+abbrev pub IsAhead : (View → Option View) → Bound → ℕ → Leap → Type 0
+IsAhead turn table r q = (a : View) × (b : View) × (bound_at table r ≡ Some a) × (bound_at table q.to ≡ Some b) × (reached turn q.turns (Some a) ≡ Some b)
 
 -- what the table has beside each bound reference is ahead of it
 abbrev pub AreAhead : (View → Option View) → Bound → Type 0
-AreAhead turn table = (r q : ℕ) → ahead_at table r ≡ Some q → IsAhead turn table r q
+AreAhead turn table = (r : ℕ) (q : Leap) → ahead_at table r ≡ Some q → IsAhead turn table r q
 
 -- the turns by the tables
 abbrev pub turns_of : List Event → Turns → Bound → View → Option View

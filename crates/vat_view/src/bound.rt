@@ -2,21 +2,41 @@
 
 ghost use Rattle.std.specs.Prelude.{◌≡◌, ◌==◌, ◌⊎◌, ℕ, None, Some, OnOk, OnErr, true, false, map, is_some, if◌then◌else◌, IsTrue};
 ghost use Rattle.std.specs.Option.{option_copied};
+ghost use Rattle.vat_view.specs.declared.bound.Leap.{Leap};
 ghost use Rattle.vat_view.specs.Bindings.{contains};
 ghost use Rattle.vat_view.specs.Tables.{bound_at, bound_by};
-ghost use Rattle.vat_view.specs.TurnTables.{bound_len, ahead_at, IsOwnOrOld};
+ghost use Rattle.vat_view.specs.TurnTables.{bound_len, own_leap, ahead_at, IsOwnOrOld};
 
 use crate::view::View;
 use rising_table::RisingTable;
 use std::alloc::{AllocError, Global};
+
+/// A reference that is ahead of another: to whose view the other's view leads.
+#[derive(Clone, Copy, Debug)]
+pub(crate) struct Leap {
+    /// The one that is ahead.
+    pub(crate) to: u64,
+    /// By how many turns.
+    pub(crate) turns: u64,
+}
 
 /// What is kept of a reference.
 #[derive(Debug, Drop)]
 pub(crate) struct Binding {
     /// What it stands for.
     pub(crate) view: View,
-    /// A reference that is ahead of it: to whose view its own view leads.
-    pub(crate) ahead: u64,
+    /// One that is ahead of it.
+    pub(crate) ahead: Leap,
+}
+
+/// From a reference to itself, by no turn.
+fn own_leap(reference: u64) -> Leap
+    ensures { result ≡ own_leap reference }
+{
+    Leap {
+        to: reference,
+        turns: 0,
+    }
 }
 
 /// The view of each reference that is bound, and for each one that is ahead of it, so that a walk needn't make each
@@ -49,21 +69,21 @@ impl Bound {
     }
 
     /// The reference that is ahead of this one, if this one is bound.
-    pub(crate) fn ahead(&self, reference: u64) -> Option<u64>
+    pub(crate) fn ahead(&self, reference: u64) -> Option<Leap>
         ensures { result ≡ ahead_at self.now reference }
     {
         match self.entries.get(reference) {
-            Some(_) if self.dropped => Some(reference),
+            Some(_) if self.dropped => Some(own_leap(reference)),
             Some(binding) => Some(binding.ahead),
             None => None,
         }
     }
 
-    /// From now on this reference is ahead of that one, if that one is bound.
-    pub(crate) fn remember(&mut self, reference: u64, ahead: u64)
+    /// From now on this is ahead of a reference, if that one is bound.
+    pub(crate) fn remember(&mut self, reference: u64, ahead: Leap)
         ensures views { (q : ℕ) → bound_at self.new q ≡ bound_at self.old q }
         ensures len { bound_len self.new ≡ bound_len self.old }
-        ensures ahead { (q a : ℕ) → ahead_at self.new q ≡ Some a → (ahead_at self.old q ≡ Some a) ⊎ ((q ≡ reference) × (a ≡ ahead)) }
+        ensures ahead { (q : ℕ) (a : Leap) → ahead_at self.new q ≡ Some a → (ahead_at self.old q ≡ Some a) ⊎ ((q ≡ reference) × (a ≡ ahead)) }
     {
         if self.dropped {
             return;
@@ -81,7 +101,7 @@ impl Bound {
     pub(crate) fn drop_ahead(&mut self, drops: bool)
         ensures views { (q : ℕ) → bound_at self.new q ≡ bound_at self.old q }
         ensures ahead { IsOwnOrOld self.old self.new }
-        ensures own { IsTrue drops → (q a : ℕ) → ahead_at self.new q ≡ Some a → a ≡ q }
+        ensures own { IsTrue drops → (q : ℕ) (a : Leap) → ahead_at self.new q ≡ Some a → a ≡ own_leap q }
     {
         if drops {
             self.dropped = true;
@@ -110,7 +130,7 @@ impl Bound {
     {
         let binding = Binding {
             view,
-            ahead: reference,
+            ahead: own_leap(reference),
         };
         self.entries.put(reference, binding)
     }

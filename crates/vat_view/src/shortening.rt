@@ -1,10 +1,10 @@
 //! References ahead, which are remembered so that later walks are shorter.
 
-ghost use Rattle.std.specs.Prelude.{◌≡◌, ℕ, IfSome};
+ghost use Rattle.std.specs.Prelude.{◌≡◌, ℕ, Some, IfSome};
 ghost use Rattle.vat_view.specs.Tables.{bound_at};
-ghost use Rattle.vat_view.specs.TurnTables.{turns_of, HaveAhead, IsAhead};
+ghost use Rattle.vat_view.specs.TurnTables.{turns_of, onward_by, HaveAhead, IsAhead};
 
-use crate::bound::Bound;
+use crate::bound::{Bound, Leap};
 use crate::event::Event;
 use crate::id::Id;
 use crate::landing::landing;
@@ -16,35 +16,82 @@ use crate::view::View;
 use crate::walk::{event_at, landed};
 use rpc_view::Target;
 
-/// Where the reference ahead of this one lands, and behind it the one that is ahead of that, which so is further ahead
-/// of this one; none where it isn't further.
-fn onward(events: &[Event], turns: &Turns, bound: &Bound, reference: u64) -> Option<(u64, u64)>
-    requires { HaveAhead events.now turns.now bound.now }
-    ensures { IfSome result (λ found. IsAhead (turns_of events.now turns.now bound.now) bound.now reference found.1) }
+/// How high a reference stands among others: half of all stand at 0, a quarter at 1, and so on, in no order.
+fn level(reference: u64) -> u32 {
+    reference
+        .wrapping_mul(0x9E37_79B9_7F4A_7C15)
+        .leading_zeros()
+}
+
+/// Where the reference ahead of this one lands.
+fn onward(events: &[Event], turns: &Turns, bound: &Bound, reference: u64) -> Option<u64>
+    ensures { result ≡ onward_by events.now turns.now bound.now reference }
 {
     let near = bound.ahead(reference)?;
-    let view = bound.of(near)?;
-    let next = landed(events, turns, view)?;
+    let view = bound.of(near.to)?;
+    landed(events, turns, view)
+}
+
+/// What is further ahead of a reference than the one now ahead of it, which lands on `next`: what is ahead of `next`. A
+/// reference passes by those alone that don't stand higher, and only once these pass by all that they can.
+fn longer(events: &[Event], turns: &Turns, bound: &Bound, reference: u64, next: u64) -> Option<Leap>
+    requires ahead { HaveAhead events.now turns.now bound.now }
+    requires lands { onward_by events.now turns.now bound.now reference ≡ Some next }
+    ensures { IfSome result (λ leap. IsAhead (turns_of events.now turns.now bound.now) bound.now reference leap) }
+{
+    if level(next) > level(reference) {
+        return None;
+    }
+    let after = onward(events, turns, bound, next)?;
+    if level(after) <= level(next) {
+        return None;
+    }
+    let near = bound.ahead(reference)?;
     let far = bound.ahead(next)?;
-    if far == near { None } else { Some((next, far)) }
+    let count = near.turns.checked_add(far.turns)?.checked_add(1)?;
+    Some(Leap {
+        to: far.to,
+        turns: count,
+    })
+}
+
+/// Remembers of a reference what is further ahead of it than the one now ahead of it, which lands on `next`, if there is
+/// one that suits it.
+fn lengthen(events: &[Event], turns: &Turns, bound: &mut Bound, reference: u64, next: u64)
+    requires ahead { HaveAhead events.now turns.now bound.old }
+    requires lands { onward_by events.now turns.now bound.old reference ≡ Some next }
+    ensures views { (r : ℕ) → bound_at bound.new r ≡ bound_at bound.old r }
+    ensures ahead { HaveAhead events.now turns.now bound.new }
+{
+    let Some(leap) = longer(events, turns, bound, reference, next) else {
+        return;
+    };
+    bound.remember(reference, leap);
 }
 
 /// Makes the walk from this reference shorter: on its way each reference where it lands is given one that is further
-/// ahead. So a walk that is made again and again takes few hops. It takes no memory.
+/// ahead, if there is one that suits it. So a walk that is made again and again takes few hops, and so does one from
+/// each view that it passes by. It marks a reference now and then, and ends in a circle where it meets the last one
+/// marked. It takes no memory.
 pub(crate) fn shorten(events: &[Event], turns: &Turns, bound: &mut Bound, from: u64)
     requires { HaveAhead events.now turns.now bound.old }
     ensures views { (r : ℕ) → bound_at bound.new r ≡ bound_at bound.old r }
     ensures ahead { HaveAhead events.now turns.now bound.new }
 {
     let mut reference = from;
-    for _step in 0..bound.len() {
-        match onward(events, turns, bound, reference) {
-            Some((next, far)) => {
-                bound.remember(reference, far);
-                reference = next;
-            }
-            None => return,
+    let mut mark = from;
+    for step in 0..bound.len() {
+        let Some(next) = onward(events, turns, bound, reference) else {
+            return;
+        };
+        lengthen(events, turns, bound, reference, next);
+        if next == mark {
+            return;
         }
+        if step.is_power_of_two() {
+            mark = next;
+        }
+        reference = next;
     }
 }
 

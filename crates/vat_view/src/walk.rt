@@ -1,10 +1,10 @@
 //! Walks from view to view.
 
-ghost use Rattle.std.specs.Prelude.{◌≡◌, ◌↔◌, IsTrue, Some, MatchOption, None, if◌then◌else◌, is_none, slice_get};
+ghost use Rattle.std.specs.Prelude.{◌≡◌, ◌↔◌, ◌<◌, ◌^◌, IsTrue, Some, IfSome, MatchOption, None, if◌then◌else◌, is_none, slice_get};
 ghost use Rattle.std.specs.Option.{option_copied};
 ghost use Rattle.vat_view.specs.Types.{View};
 ghost use Rattle.vat_view.specs.Tables.{bound_at};
-ghost use Rattle.vat_view.specs.TurnTables.{awaited, path_of, settler_by, goes_by, turn_by, landed_by, turns_of, Reaches, ReachesByTurns, EndsBy, HaveAhead};
+ghost use Rattle.vat_view.specs.TurnTables.{awaited, path_of, settler_by, goes_by, turn_by, landed_by, turns_of, reached, Reaches, TurnsAndThen, TurnsOn, ReachesByTurns, EndsBy, HaveAhead};
 
 use crate::bound::Bound;
 use crate::event::Event;
@@ -100,8 +100,25 @@ pub(crate) fn turned<'a>(
     bound.of(reference)
 }
 
-/// A view to which a view leads by 1 or more turns, if it turns: it lands on a reference, and then the one ahead of
-/// that one is looked up.
+/// A hop from a view, if it turns: it lands on a reference, and then the one ahead of that one is looked up. Beside the
+/// view to which it leads so stands by how many turns after the first.
+fn hop<'a>(
+    events: &[Event],
+    turns: &Turns,
+    bound: &'a Bound,
+    view: &View,
+) -> Option<(&'a View, u64)>
+    requires { HaveAhead events.now turns.now bound.now }
+    ensures { MatchOption result (turns_of events.now turns.now bound.now view.now ≡ None)
+        (λ made. TurnsAndThen (turns_of events.now turns.now bound.now) view.now made.1 made.0.now) }
+{
+    let reference = landed(events, turns, view)?;
+    let leap = bound.ahead(reference)?;
+    let next = bound.of(leap.to)?;
+    Some((next, leap.turns))
+}
+
+/// A view to which a view leads by 1 or more turns, if it turns: by a hop.
 pub(crate) fn hopped<'a>(
     events: &[Event],
     turns: &Turns,
@@ -112,9 +129,10 @@ pub(crate) fn hopped<'a>(
     ensures { MatchOption result (turns_of events.now turns.now bound.now view.now ≡ None)
         (λ next. ReachesByTurns (turns_of events.now turns.now bound.now) view.now next.now) }
 {
-    let reference = landed(events, turns, view)?;
-    let ahead = bound.ahead(reference)?;
-    bound.of(ahead)
+    match hop(events, turns, bound, view) {
+        Some((next, _)) => Some(next),
+        None => None,
+    }
 }
 
 /// A view to which a view leads: by a hop, where it turns.
@@ -133,9 +151,122 @@ pub(crate) fn further<'a>(
     }
 }
 
+/// The view where a view's turns end, and how many they are. Where they are more than so many, it is some view that is
+/// reached, and by what number of turns above that. The count is given up in a circle, which is seen as [`end`] sees it.
+fn remaining<'a>(
+    events: &[Event],
+    turns: &Turns,
+    bound: &'a Bound,
+    view: &'a View,
+    most: u64,
+) -> Option<(&'a View, u64)>
+    requires { HaveAhead events.now turns.now bound.now }
+    ensures count { IfSome result (λ made. TurnsOn (turns_of events.now turns.now bound.now) view.now most made.0.now made.1) }
+    ensures fits { IfSome result (λ made. made.1 < 2 ^ 64) }
+{
+    let mut at = view;
+    let mut mark = view;
+    let mut made: u64 = 0;
+    for hops in 0..bound.len() {
+        let Some((next, more)) = hop(events, turns, bound, at) else {
+            return Some((at, made));
+        };
+        at = next;
+        made = made.checked_add(more)?.checked_add(1)?;
+        if made > most {
+            return Some((at, made));
+        }
+        if same(at, mark) {
+            return None;
+        }
+        if hops.is_power_of_two() {
+            mark = at;
+        }
+    }
+    None
+}
+
+/// The view where a hop leads that makes at most so many turns, or else one turn, and beside it by how many turns after
+/// the first.
+fn stride<'a>(
+    events: &[Event],
+    turns: &Turns,
+    bound: &'a Bound,
+    view: &View,
+    left: u64,
+) -> Option<(&'a View, u64)>
+    requires ahead { HaveAhead events.now turns.now bound.now }
+    requires left { 0 < left }
+    ensures { MatchOption result (turns_of events.now turns.now bound.now view.now ≡ None)
+        (λ made. (made.1 < left) × TurnsAndThen (turns_of events.now turns.now bound.now) view.now made.1 made.0.now) }
+{
+    match hop(events, turns, bound, view) {
+        Some((next, more)) if more < left => Some((next, more)),
+        _ => match turned(events, turns, bound, view) {
+            Some(next) => Some((next, 0)),
+            None => None,
+        },
+    }
+}
+
+/// The view that a view reaches by exactly so many turns, if it makes so many.
+fn nth<'a>(
+    events: &[Event],
+    turns: &Turns,
+    bound: &'a Bound,
+    view: &'a View,
+    count: u64,
+) -> Option<&'a View>
+    requires { HaveAhead events.now turns.now bound.now }
+    ensures { option_copied result ≡ reached (turns_of events.now turns.now bound.now) count (Some view.now) }
+{
+    let mut at = view;
+    let mut left = count;
+    while left > 0 {
+        match stride(events, turns, bound, at, left) {
+            Some((next, more)) => {
+                at = next;
+                left -= more + 1;
+            }
+            None => return None,
+        }
+    }
+    Some(at)
+}
+
+/// Whether a view leads to another by 0 or more turns, where both turns can be counted: there is one view at the place
+/// where that other would stand.
+fn leads_by_count(
+    events: &[Event],
+    turns: &Turns,
+    bound: &Bound,
+    from: &View,
+    to: &View,
+) -> Option<bool>
+    requires { HaveAhead events.now turns.now bound.now }
+    ensures { IfSome result (λ led. IsTrue led ↔ Reaches (turns_of events.now turns.now bound.now) from.now to.now) }
+{
+    let (last, whole) = remaining(events, turns, bound, from, u64::MAX)?;
+    let (_, rest) = remaining(events, turns, bound, to, whole)?;
+    if rest == 0 {
+        return Some(same(last, to));
+    }
+    if whole < rest {
+        return Some(false);
+    }
+    let there = nth(events, turns, bound, from, whole - rest)?;
+    Some(same(there, to))
+}
+
 /// Whether a view leads to another by 0 or more turns. Of two walks side by side one makes each turn, and at most as many
 /// as references are bound; the other hops, and may pass a view by.
-pub(crate) fn leads(events: &[Event], turns: &Turns, bound: &Bound, from: &View, to: &View) -> bool
+fn leads_turn_by_turn(
+    events: &[Event],
+    turns: &Turns,
+    bound: &Bound,
+    from: &View,
+    to: &View,
+) -> bool
     requires { HaveAhead events.now turns.now bound.now }
     ensures { IsTrue result ↔ Reaches (turn_by events.now turns.now (bound_at bound.now)) from.now to.now }
 {
@@ -152,6 +283,18 @@ pub(crate) fn leads(events: &[Event], turns: &Turns, bound: &Bound, from: &View,
         far = further(events, turns, bound, far);
     }
     same(view, to)
+}
+
+/// Whether a view leads to another by 0 or more turns. Their turns are counted by hops; where a view goes in a circle
+/// each turn is made.
+pub(crate) fn leads(events: &[Event], turns: &Turns, bound: &Bound, from: &View, to: &View) -> bool
+    requires { HaveAhead events.now turns.now bound.now }
+    ensures { IsTrue result ↔ Reaches (turn_by events.now turns.now (bound_at bound.now)) from.now to.now }
+{
+    match leads_by_count(events, turns, bound, from, to) {
+        Some(led) => led,
+        None => leads_turn_by_turn(events, turns, bound, from, to),
+    }
 }
 
 /// Whether a view leads to another by 1 or more turns.

@@ -5,7 +5,7 @@ use Rattle.vat_view.specs.TurnTables.{turn_by}
 use Rattle.vat_view.proofs.Walking.{ended, met, reached_more, some_same}
 use Rattle.vat_view.proofs.Settled.{few, place_of, view_there}
 use Rattle.vat_view.proofs.Hopping.{on_from}
-use Rattle.vat_view.proofs.walk.leads.Goals as goal
+use Rattle.vat_view.proofs.walk.leads_turn_by_turn.Goals as goal
 
 pub returns-in-None : goal.returns-in-None
 returns-in-None c =

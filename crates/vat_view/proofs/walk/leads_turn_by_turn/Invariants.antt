@@ -2,7 +2,7 @@ use Rattle.std.proofs.Common.{◌≡◌, ◌<◌, ℕ}
 use Rattle.std.specs.Prelude.{Some}
 use Rattle.vat_view.specs.Tables.{bound_at}
 use Rattle.vat_view.specs.TurnTables.{reached, turn_by, Reaches}
-use Rattle.vat_view.proofs.walk.leads.Given as goal
+use Rattle.vat_view.proofs.walk.leads_turn_by_turn.Given as goal
 
 abbrev pub invariant-loop-made : goal.invariant-loop-made
 invariant-loop-made l = record {

@@ -3,3 +3,4 @@ pub mod Fits
 pub mod Spelling
 pub mod Reading
 pub mod Parsed
+pub mod Glue

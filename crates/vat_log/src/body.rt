@@ -5,7 +5,9 @@ ghost use Rattle.std.specs.Prelude.{◌≡◌, IfOk};
 use bytes::Bytes;
 use cap_frame::Path;
 use std::alloc::AllocError;
+use std::fmt::{self, Debug, Formatter, Write};
 use std::marker::Model;
+use std::slice;
 
 /// References noted beside a frame, in the order of the descriptors that aren't none (docs/FORMATS.md).
 #[derive(Debug, Drop)]
@@ -45,44 +47,85 @@ impl References {
     }
 }
 
-/// The results of a call: references, each with the path at which it stands (docs/FORMATS.md).
+/// Results as they are kept: a single one, as most calls have, takes no memory of its own.
 #[derive(Debug, Drop)]
+enum Kept {
+    /// A single one.
+    One((u64, Path)),
+    /// None or several.
+    Several(Vec<(u64, Path)>),
+}
+
+/// The results of a call: references, each with the path at which it stands (docs/FORMATS.md).
+#[derive(Drop)]
 pub struct Results {
-    items: Vec<(u64, Path)>,
+    kept: Kept,
 }
 
 impl Model for Results {
     ghost use Rattle.std.specs.Prelude.{List, ℕ};
+    ghost use Rattle.vat_log.specs.Glue.{results_of};
 
     ghost Value = { List (ℕ × List ℕ) };
 
-    ghost view = { λ results. results.items.items };
+    ghost view = { λ results. results_of results.kept };
+}
+
+impl Debug for Results {
+    fn fmt<W: Write>(&self, f: &mut Formatter<W>) -> fmt::Result {
+        f.debug_struct("Results")
+            .field("items", &self.as_slice())
+            .finish()
+    }
+}
+
+/// A second list of the same results.
+fn copied(items: &Vec<(u64, Path)>) -> Result<Vec<(u64, Path)>, AllocError>
+    ensures { IfOk result (λ copied. copied.items ≡ items.now.items) }
+{
+    let mut copied = Vec::with_capacity(*items.allocator(), items.len())?;
+    for (reference, path) in items {
+        copied.push((*reference, path.copy()?))?;
+    }
+    Ok(copied)
 }
 
 impl Results {
     /// The list of these. It takes no memory.
-    pub fn new(items: Vec<(u64, Path)>) -> Results
+    pub fn new(mut items: Vec<(u64, Path)>) -> Results
         ensures { result ≡ items.items }
     {
-        Results { items }
+        if items.len() == 1 {
+            if let Some(answered) = items.pop() {
+                return Results {
+                    kept: Kept::One(answered),
+                };
+            }
+        }
+        Results {
+            kept: Kept::Several(items),
+        }
     }
 
     /// The results, each a reference with its path, in their order.
     pub fn as_slice(&self) -> &[(u64, Path)]
         ensures { result.now ≡ self.now }
     {
-        self.items.as_slice()
+        match &self.kept {
+            Kept::One(answered) => slice::from_ref(answered),
+            Kept::Several(items) => items.as_slice(),
+        }
     }
 
     /// A second list of the same results. The only error is want of memory.
     pub fn copy(&self) -> Result<Results, AllocError>
         ensures { IfOk result (λ copied. copied ≡ self.now) }
     {
-        let mut items = Vec::with_capacity(*self.items.allocator(), self.items.len())?;
-        for (reference, path) in &self.items {
-            items.push((*reference, path.copy()?))?;
-        }
-        Ok(Results { items })
+        let kept = match &self.kept {
+            Kept::One((reference, path)) => Kept::One((*reference, path.copy()?)),
+            Kept::Several(items) => Kept::Several(copied(items)?),
+        };
+        Ok(Results { kept })
     }
 }
 

@@ -85,6 +85,8 @@ enum Kept {
     Nothing,
     /// One reference alone.
     Reference(Option<View>),
+    /// References alone.
+    References(Views),
     /// One reference and one descriptor, which stand for the same.
     Both(Option<View>),
     /// A question alone.
@@ -271,7 +273,7 @@ impl Seen {
         }
         let kept = match references.alone() {
             Ok(view) => Kept::Reference(view),
-            Err(references) => kept_listed(alloc, references, standing)?,
+            Err(references) => Kept::References(references),
         };
         Ok(Seen { kept })
     }
@@ -282,6 +284,7 @@ impl Seen {
     {
         match &self.kept {
             Kept::Reference(view) => slice::from_ref(view),
+            Kept::References(views) => views.as_slice(),
             Kept::Both(view) => slice::from_ref(view),
             Kept::QuestionBoth(_, both) | Kept::PromiseBoth(_, both) | Kept::TargetBoth(_, both) =>
                 slice::from_ref(&**both),

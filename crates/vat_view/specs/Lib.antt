@@ -12,6 +12,8 @@ pub mod Bindings
 pub mod Sound
 pub mod Numbers
 pub mod Laws
+pub mod Ids
+pub mod Sides
 pub mod Tables
 pub mod Asking
 pub mod CallTables

@@ -1,11 +1,9 @@
 -- For the code's contracts, and no part of the meaning: the tables, and what looking back finds for each of their
 -- keys.
-use Rattle.std.specs.Prelude.{◌≡◌, ℕ, ◌+◌, ◌*◌, ◌≤◌, ◌==◌, ◌&&◌, length, List, [], ◌∷◌, Bool, true, false, not, Option, Some, None, if◌then◌else◌, option_map, option_and_then, unwrap_or, find, slice_get}
+use Rattle.std.specs.Prelude.{◌≡◌, ℕ, ◌+◌, ◌≤◌, ◌==◌, ◌&&◌, length, List, [], ◌∷◌, Bool, true, false, not, Option, Some, None, if◌then◌else◌, option_map, option_and_then, unwrap_or, find, slice_get}
 use Rattle.std.specs.List.{cons_option}
 use Rattle.std.specs.Option.{option_or}
 use Rattle.std.specs.declared.cmp.Ordering.{Ordering}
-use Rattle.std.specs.Ordering.{nat_cmp}
-use Rattle.std.specs.BTreeMap.{get}
 use Rattle.rising_table.specs.Entries.{entry_at}
 use Rattle.vat_view.specs.declared.question.Question.{Question}
 use Rattle.vat_view.specs.declared.questions.Questions.{Questions}
@@ -17,6 +15,7 @@ use Rattle.vat_view.specs.declared.origin.Life.{Life}
 use Rattle.vat_view.specs.declared.origin.Origin.{Origin}
 use Rattle.vat_view.specs.contracts.id.IdOrd.TheImpl as id_order
 use Rattle.vat_view.specs.Types.{Descriptor, NoCap, SenderHosted, SenderPromise, ReceiverHosted, ReceiverAnswer, Return, Finish, Release, Event, Host, Vow, Field, Wire, View, Object, Promise, FieldOf, Import, Id}
+use Rattle.vat_view.specs.Sides.{value_at}
 use Rattle.vat_view.specs.Past.{Past, id, same_id, names, number_of, last_answer}
 use Rattle.vat_view.specs.Questions.{is_late, returned, finished, released, noted_call, opening, return_of, is_returned, is_finished, is_released}
 use Rattle.vat_view.specs.Uses.{UsesQuestions}
@@ -30,7 +29,7 @@ id_cmp = (id_order.ghosts).cmp
 
 -- what the table has of a question
 abbrev pub question_at : Questions → Id → Option Question
-question_at table q = get id_cmp table.entries q
+question_at table q = value_at table.entries q
 
 -- one question has this, and every other what it had
 abbrev pub IsPut : Id → Question → Questions → Questions → Type 0
@@ -55,13 +54,9 @@ question_known q past = option_map (λ p. record {
   brought = introductions_at (return_of q past);
 }) (opening q past)
 
--- which of the tables has a number: that of its connection and of who gave it out
-abbrev pub side_of : Id → ℕ
-side_of i = i.connection * 2 + (if i.ours then 1 else 0)
-
 -- what the table has of a number
 abbrev pub life_at : Lives → Id → Option Life
-life_at table i = option_and_then (λ lives. entry_at lives i.number) (get nat_cmp table.sides (side_of i))
+life_at table i = value_at table.entries i
 
 -- where a number's life began, by what is kept of it
 abbrev pub begun_at : Life → Origin

@@ -1,37 +1,76 @@
 //! Lists of numbers of connections.
 
-ghost use Rattle.std.specs.Prelude.{◌≡◌};
+ghost use Rattle.std.specs.Prelude.{◌≡◌, [], IfOk};
 
 use crate::id::Id;
+use std::alloc::{AllocError, Global};
 use std::marker::Model;
+use std::slice;
+
+/// Numbers as they are kept: most records introduce one at most, which takes no memory of its own.
+#[derive(Debug, Drop)]
+enum Kept {
+    /// None.
+    Nothing,
+    /// A single one.
+    One(Id),
+    /// Several.
+    Several(Box<Vec<Id>>),
+}
 
 /// Numbers, in the order of the descriptors that introduced them.
 #[derive(Debug, Drop)]
 pub(crate) struct Ids {
-    items: Vec<Id>,
+    kept: Kept,
 }
 
 impl Model for Ids {
     ghost use Rattle.std.specs.Prelude.{List};
     ghost use Rattle.vat_view.specs.declared.id.Id.{Id};
+    ghost use Rattle.vat_view.specs.Ids.{ids_of};
 
     ghost Value = { List Id };
 
-    ghost view = { λ ids. ids.items.items };
+    ghost view = { λ ids. ids_of ids.kept };
 }
 
 impl Ids {
-    /// The list of these. It takes no memory.
-    pub(crate) fn new(items: Vec<Id>) -> Ids
-        ensures { result ≡ items.items }
+    /// No numbers. It takes no memory.
+    pub(crate) fn none() -> Ids
+        ensures { result ≡ [] }
     {
-        Ids { items }
+        Ids {
+            kept: Kept::Nothing,
+        }
+    }
+
+    /// The list of these.
+    pub(crate) fn new(alloc: Global, mut items: Vec<Id>) -> Result<Ids, AllocError>
+        ensures { IfOk result (λ ids. ids ≡ items.items) }
+    {
+        if items.is_empty() {
+            return Ok(Ids::none());
+        }
+        if items.len() == 1 {
+            if let Some(number) = items.pop() {
+                return Ok(Ids {
+                    kept: Kept::One(number),
+                });
+            }
+        }
+        Ok(Ids {
+            kept: Kept::Several(Box::new(alloc, items)?),
+        })
     }
 
     /// The numbers, in their order.
     pub(crate) fn as_slice(&self) -> &[Id]
         ensures { result.now ≡ self.now }
     {
-        &self.items
+        match &self.kept {
+            Kept::Nothing => &[],
+            Kept::One(number) => slice::from_ref(number),
+            Kept::Several(items) => items.as_slice(),
+        }
     }
 }

@@ -45,6 +45,7 @@ mod rules;
 mod seen;
 mod settling;
 mod shortening;
+mod sides;
 mod sought;
 mod standing;
 mod state;

@@ -1,35 +1,20 @@
 //! The table of export and import numbers.
 
-ghost use Rattle.std.specs.Prelude.{◌≡◌, ◌+◌, ◌-◌, ◌<◌, ◌==◌, ◌&&◌, ℕ, Some, count_by, find, option_map, OnOk, OnErr, if◌then◌else◌};
-ghost use Rattle.std.specs.Option.{option_copied, option_or};
+ghost use Rattle.std.specs.Prelude.{◌≡◌, ◌+◌, ◌-◌, ◌<◌, ◌==◌, ◌&&◌, ℕ, Some, count_by, find, OnOk, OnErr, if◌then◌else◌};
+ghost use Rattle.std.specs.Option.{option_or};
 ghost use Rattle.vat_view.specs.declared.id.Id.{Id};
 ghost use Rattle.vat_view.specs.Past.{same_id};
-ghost use Rattle.vat_view.specs.Tables.{side_of, life_at, count_at, origin_at, kept_origin, held_origin, raised_origin};
+ghost use Rattle.vat_view.specs.Tables.{life_at, count_at, origin_at, kept_origin, held_origin, raised_origin};
 
 use crate::id::Id;
 use crate::origin::{Life, Origin};
-use rising_table::RisingTable;
+use crate::sides::Sides;
 use std::alloc::{AllocError, Global};
-use std::collections::BTreeMap;
 
-/// Which of the tables has this number.
-fn side(number: Id) -> u64
-    ensures { result ≡ side_of number }
-{
-    let connection = u64::from(number.connection) * 2;
-    if number.ours {
-        connection + 1
-    } else {
-        connection
-    }
-}
-
-/// How often each number is held, and where its life began: for each connection and who gave the number out a table, by
-/// the number, since most numbers come in rising order there.
+/// How often each number is held, and where its life began.
 #[derive(Debug, Drop)]
 pub(crate) struct Lives {
-    alloc: Global,
-    sides: BTreeMap<u64, RisingTable<Life>>,
+    entries: Sides<Life>,
 }
 
 impl Lives {
@@ -38,18 +23,7 @@ impl Lives {
         ensures { (i : Id) → count_at result i ≡ 0 }
     {
         Lives {
-            alloc,
-            sides: BTreeMap::new(alloc),
-        }
-    }
-
-    /// What is known of this number.
-    fn of(&self, number: Id) -> Option<&Life>
-        ensures { option_copied result ≡ life_at self.now number }
-    {
-        match self.sides.get(&side(number)) {
-            Some(table) => table.get(u64::from(number.number)),
-            None => None,
+            entries: Sides::new(alloc),
         }
     }
 
@@ -57,7 +31,7 @@ impl Lives {
     pub(crate) fn count_of(&self, number: Id) -> u64
         ensures { result ≡ count_at self.now number }
     {
-        match self.of(number) {
+        match self.entries.get(number) {
             Some(life) => u64::from(life.count),
             None => 0,
         }
@@ -67,7 +41,7 @@ impl Lives {
     pub(crate) fn origin_of(&self, number: Id) -> Option<Origin>
         ensures { result ≡ held_origin self.now number }
     {
-        match self.of(number) {
+        match self.entries.get(number) {
             Some(life) if life.count > 0 => Some(life.origin()),
             _ => None,
         }
@@ -77,34 +51,9 @@ impl Lives {
     fn origin_or(&self, number: Id, origin: Origin) -> Origin
         ensures { result ≡ kept_origin (life_at self.now number) origin }
     {
-        match self.of(number) {
+        match self.entries.get(number) {
             Some(life) if life.count > 0 => life.origin(),
             _ => origin,
-        }
-    }
-
-    /// This is known of this number from now on. Where memory is refused, nothing changes.
-    fn put(&mut self, number: Id, life: Life) -> Result<(), AllocError>
-        ensures ok { OnOk result ((i : Id) → life_at self.new i ≡ (if same_id number i then Some life else life_at self.old i)) }
-        ensures err { OnErr result ((i : Id) → life_at self.new i ≡ life_at self.old i) }
-    {
-        let side = side(number);
-        let key = u64::from(number.number);
-        if let Some(table) = self.sides.get_mut(&side) {
-            return table.put(key, life);
-        }
-        let mut table = RisingTable::new(self.alloc);
-        table.put(key, life)?;
-        self.sides.insert(side, table)?;
-        Ok(())
-    }
-
-    /// This is known of this number from now on, if anything was.
-    fn set(&mut self, number: Id, life: Life)
-        ensures { (i : Id) → life_at self.new i ≡ (if same_id number i then option_map (λ _. life) (life_at self.old i) else life_at self.old i) }
-    {
-        if let Some(table) = self.sides.get_mut(&side(number)) {
-            let _ = table.replace(u64::from(number.number), life);
         }
     }
 
@@ -119,7 +68,7 @@ impl Lives {
         let count = self.count_of(number).checked_add(1).ok_or(AllocError)?;
         let origin = self.origin_or(number, origin);
         let life = Life::new(count, origin)?;
-        self.put(number, life)?;
+        self.entries.put(number, life)?;
         Ok(())
     }
 
@@ -128,9 +77,9 @@ impl Lives {
         ensures counts { (i : Id) → count_at self.new i ≡ count_at self.old i - (if same_id i number then by else 0) }
         ensures origins { (i : Id) → origin_at self.new i ≡ origin_at self.old i }
     {
-        if let Some(life) = self.of(number) {
+        if let Some(life) = self.entries.get(number) {
             let lowered = life.less(by);
-            self.set(number, lowered);
+            let _ = self.entries.replace(number, lowered);
         }
     }
 

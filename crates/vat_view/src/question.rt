@@ -18,3 +18,17 @@ pub(crate) struct Question {
     /// The numbers that its Return introduced.
     pub(crate) brought: Ids,
 }
+
+impl Question {
+    /// What holds the place of what is known while that is changed. It takes no memory.
+    pub(crate) fn blank() -> Question {
+        Question {
+            call: 0,
+            returned: false,
+            finished: false,
+            released: false,
+            asked: Ids::none(),
+            brought: Ids::none(),
+        }
+    }
+}

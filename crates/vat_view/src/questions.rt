@@ -1,6 +1,6 @@
 //! The table of questions.
 
-ghost use Rattle.std.specs.Prelude.{◌≡◌, None, OnOk, OnErr, IfErr};
+ghost use Rattle.std.specs.Prelude.{◌≡◌, None, OnOk, OnErr};
 ghost use Rattle.std.specs.Option.{option_copied};
 ghost use Rattle.vat_view.specs.declared.id.Id.{Id};
 ghost use Rattle.vat_view.specs.Tables.{question_at, asked_in, brought_in, with_return, with_finish, with_release, IsPut, IsSame, IsChanged};
@@ -8,13 +8,13 @@ ghost use Rattle.vat_view.specs.Tables.{question_at, asked_in, brought_in, with_
 use crate::id::Id;
 use crate::ids::Ids;
 use crate::question::Question;
-use std::alloc::Global;
-use std::collections::BTreeMap;
+use crate::sides::Sides;
+use std::alloc::{AllocError, Global};
 
 /// What is known of each question that was opened.
 #[derive(Debug, Drop)]
 pub(crate) struct Questions {
-    entries: BTreeMap<Id, Question>,
+    entries: Sides<Question>,
 }
 
 impl Questions {
@@ -23,7 +23,7 @@ impl Questions {
         ensures { (q : Id) → question_at result q ≡ None }
     {
         Questions {
-            entries: BTreeMap::new(alloc),
+            entries: Sides::new(alloc),
         }
     }
 
@@ -31,7 +31,7 @@ impl Questions {
     pub(crate) fn of(&self, question: Id) -> Option<&Question>
         ensures { option_copied result ≡ question_at self.now question }
     {
-        self.entries.get(&question)
+        self.entries.get(question)
     }
 
     /// What this question's opening introduced.
@@ -54,28 +54,22 @@ impl Questions {
         }
     }
 
-    /// This question was opened. Where memory is refused, nothing changes, and what is known of it is handed back.
-    pub(crate) fn open(&mut self, question: Id, opened: Question) -> Result<(), Question>
+    /// This question was opened. Where memory is refused, nothing changes.
+    pub(crate) fn open(&mut self, question: Id, opened: Question) -> Result<(), AllocError>
         ensures ok { OnOk result (IsPut question opened self.old self.new) }
         ensures err { OnErr result (IsSame self.old self.new) }
-        ensures back { IfErr result (λ known. known ≡ opened) }
     {
-        match self.entries.insert(question, opened) {
-            Ok(_) => Ok(()),
-            Err(refused) => {
-                let (_, opened) = refused.value;
-                Err(opened)
-            }
-        }
+        self.entries.put(question, opened)
     }
 
     /// This question was returned, and its Return introduced these numbers.
     pub(crate) fn note_return(&mut self, question: Id, brought: Ids)
         ensures { IsChanged question (with_return brought) self.old self.new }
     {
-        if let Some(known) = self.entries.get_mut(&question) {
+        if let Some(mut known) = self.entries.replace(question, Question::blank()) {
             known.returned = true;
             known.brought = brought;
+            let _ = self.entries.replace(question, known);
         }
     }
 
@@ -83,8 +77,9 @@ impl Questions {
     pub(crate) fn note_finish(&mut self, question: Id)
         ensures { IsChanged question with_finish self.old self.new }
     {
-        if let Some(known) = self.entries.get_mut(&question) {
+        if let Some(mut known) = self.entries.replace(question, Question::blank()) {
             known.finished = true;
+            let _ = self.entries.replace(question, known);
         }
     }
 
@@ -92,8 +87,9 @@ impl Questions {
     pub(crate) fn note_release(&mut self, question: Id)
         ensures { IsChanged question with_release self.old self.new }
     {
-        if let Some(known) = self.entries.get_mut(&question) {
+        if let Some(mut known) = self.entries.replace(question, Question::blank()) {
             known.released = true;
+            let _ = self.entries.replace(question, known);
         }
     }
 }

@@ -179,16 +179,16 @@ pub(crate) fn introduced(event: &Event, descriptor: &Descriptor) -> Option<Id>
 pub(crate) fn introductions(alloc: Global, late: bool, event: &Event) -> Result<Ids, AllocError>
     ensures { IfOk result (λ ids. ids ≡ (if late then [] else filter_map (introduced event.now) (descriptors event.now))) }
 {
-    let mut ids = Vec::new(alloc);
     if late {
-        return Ok(Ids::new(ids));
+        return Ok(Ids::none());
     }
+    let mut ids = Vec::new(alloc);
     for descriptor in descriptors(event) {
         if let Some(id) = introduced(event, descriptor) {
             ids.push(id)?;
         }
     }
-    Ok(Ids::new(ids))
+    Ids::new(alloc, ids)
 }
 
 /// The references noted beside a record.

@@ -143,7 +143,7 @@ pub(crate) fn open(
         finished: false,
         released: false,
         asked: numbers,
-        brought: Ids::new(Vec::new(alloc)),
+        brought: Ids::none(),
     };
     if questions.open(question, known).is_err() {
         lives.lower_raised(origins);

@@ -7,7 +7,7 @@ use Rattle.std.specs.declared.cmp.Ordering.{Ordering}
 use Rattle.std.specs.declared.cmp.Ordering.TheVariants.{Less, Equal, Greater}
 use Rattle.std.specs.declared.ops.Bound.TheVariants.{Included, Excluded}
 use Rattle.std.specs.Ordering.{nat_cmp, ordering_then, ordering_reverse, is_eq, is_le}
-use Rattle.std.specs.Cmp.{IsTotalOrder, Equal-is, nat_cmp_total, tied_itself, alike_right, unsigned_ties}
+use Rattle.std.specs.Cmp.{Equal-is, nat_cmp_total, tied_itself, alike_right, unsigned_ties}
 use Rattle.std.specs.BTreeMap.{get}
 use Rattle.std.specs.BTreeMap.Range.{range_contains}
 use Rattle.std.proofs.lemmas.Bool.{cases_Bool, or_left, or_right, false≢true, eqb-true, eq-eqb, lt-ltb}

@@ -1,5 +1,5 @@
 -- For the code's contracts, and no part of the meaning: the order in which received calls are asked.
-use Rattle.std.specs.Prelude.{◌≡◌, ◌==◌, ◌+◌, ◌*◌, ◌%◌, ◌^◌, ℕ, List, Bool, true, false, Option, Some, None, is_some}
+use Rattle.std.specs.Prelude.{◌≡◌, ◌+◌, ◌*◌, ◌%◌, ◌^◌, ℕ, List, Bool, true, false, Option, Some, None, is_some}
 use Rattle.std.specs.List.{fold}
 use Rattle.std.specs.BTreeMap.{get}
 use Rattle.std.specs.declared.cmp.Ordering.{Ordering}

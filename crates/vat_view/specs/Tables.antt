@@ -9,7 +9,7 @@ use Rattle.vat_view.specs.declared.question.Question.{Question}
 use Rattle.vat_view.specs.declared.questions.Questions.{Questions}
 use Rattle.vat_view.specs.declared.lives.Lives.{Lives}
 use Rattle.vat_view.specs.declared.begun.Begun.{Begun}
-use Rattle.vat_view.specs.declared.begun.Begun.TheVariants.{Few, Many}
+use Rattle.vat_view.specs.declared.begun.Begun.TheVariants.{Nothing, Few, Many}
 use Rattle.vat_view.specs.declared.bound.Bound.{Bound}
 use Rattle.vat_view.specs.declared.origin.Life.{Life}
 use Rattle.vat_view.specs.declared.origin.Origin.{Origin}
@@ -205,7 +205,8 @@ first_in i introduced = option_map (λ x. x.1) (find (λ x. same_id i x.0) intro
 
 -- where the life of a number would begin by what a record introduces
 abbrev pub begun_origin : Begun → Id → Option Origin
-begun_origin (Few introduced) i = first_in i introduced.items
+begun_origin Nothing i = None
+begun_origin (Few number event) i = first_in i (origins_from number event.now 0 0 (descriptors event.now))
 begun_origin (Many lives) i = held_origin lives i
 
 -- these are what a record introduces

@@ -21,18 +21,21 @@ use std::slice;
 
 /// What a record of this number introduces, with the place of the first of each; a late Return's introductions aren't
 /// counted.
-pub(crate) fn begun(
+pub(crate) fn begun<'a>(
     alloc: Global,
     late: bool,
     number: usize,
-    event: &Event,
-) -> Result<Begun, AllocError>
+    event: &'a Event,
+) -> Result<Begun<'a>, AllocError>
     ensures { IfOk result (λ begun. AreBegun (origins_if late number event.now) begun) }
 {
-    let origins = origins(alloc, late, number, event)?;
-    if origins.len() <= FEW {
-        return Ok(Begun::Few(origins));
+    if late {
+        return Ok(Begun::Nothing);
     }
+    if descriptors(event).len() <= FEW {
+        return Ok(Begun::Few(number, event));
+    }
+    let origins = origins(alloc, late, number, event)?;
     let mut begun = Lives::new(alloc);
     begun.raise_each(origins.as_slice())?;
     Ok(Begun::Many(begun))
@@ -42,7 +45,7 @@ pub(crate) fn begun(
 fn sender_view(
     bound: &Bound,
     lives: &Lives,
-    begun: &Begun,
+    begun: &Begun<'_>,
     number: Id,
 ) -> Result<Option<View>, AllocError>
     ensures { IfOk result (λ v. v ≡ sender_view (bound_at bound.now) lives.now begun.now number) }
@@ -57,7 +60,7 @@ fn sender_view(
 pub(crate) fn view_by(
     bound: &Bound,
     lives: &Lives,
-    begun: &Begun,
+    begun: &Begun<'_>,
     questions: &Questions,
     event: &Event,
     descriptor: &Descriptor,
@@ -120,7 +123,7 @@ pub(crate) fn reference_by(
 fn bound_one(
     bound: &Bound,
     lives: &Lives,
-    begun: &Begun,
+    begun: &Begun<'_>,
     questions: &Questions,
     event: &Event,
     descriptor: &Descriptor,
@@ -142,7 +145,7 @@ fn noted(
     alloc: Global,
     bound: &Bound,
     lives: &Lives,
-    begun: &Begun,
+    begun: &Begun<'_>,
     questions: &Questions,
     event: &Event,
 ) -> Result<Vec<(u64, View)>, AllocError>
@@ -179,7 +182,7 @@ pub(crate) fn bindings(
     alloc: Global,
     bound: &Bound,
     lives: &Lives,
-    begun: &Begun,
+    begun: &Begun<'_>,
     questions: &Questions,
     event: &Event,
 ) -> Result<Vec<(u64, View)>, AllocError>

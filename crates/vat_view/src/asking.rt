@@ -1,6 +1,6 @@
 //! What is asked of questions, numbers and records, by the tables.
 
-ghost use Rattle.std.specs.Prelude.{◌≡◌, ◌≤◌, ◌<◌, count_by, map, Decides, IfOk};
+ghost use Rattle.std.specs.Prelude.{◌≡◌, ◌≤◌, ◌<◌, ◌∷◌, [], count_by, map, Decides, IfOk};
 ghost use Rattle.vat_view.specs.Past.{same_id};
 ghost use Rattle.vat_view.specs.Types.{Id};
 ghost use Rattle.vat_view.specs.Lives.{descriptors};
@@ -115,7 +115,7 @@ pub(crate) fn views_of_descriptors(
     alloc: Global,
     bound: &Bound,
     lives: &Lives,
-    begun: &Begun,
+    begun: &Begun<'_>,
     questions: &Questions,
     event: &Event,
 ) -> Result<Vec<Option<View>>, AllocError>
@@ -152,10 +152,20 @@ fn let_go_of(event: &Event) -> Option<(Id, u64)>
     }
 }
 
+/// Whether a number is held.
+fn is_held(lives: &Lives, number: Id) -> bool
+    ensures { Decides result ((i : Id) → count_by (same_id i) (number ∷ []) ≤ count_at lives.now i) }
+{
+    lives.count_of(number) > 0
+}
+
 /// Whether each number is held at least as often as it is one of these.
 fn are_held(alloc: Global, lives: &Lives, numbers: &[Id]) -> Result<bool, AllocError>
     ensures { IfOk result (λ held. Decides held ((i : Id) → count_by (same_id i) numbers.now ≤ count_at lives.now i)) }
 {
+    if let [number] = numbers {
+        return Ok(is_held(lives, *number));
+    }
     let mut tally = Tally::new(alloc);
     for number in numbers {
         if tally.count(*number)? > lives.count_of(*number) {

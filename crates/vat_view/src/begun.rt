@@ -2,23 +2,28 @@
 
 ghost use Rattle.std.specs.Prelude.{◌≡◌};
 ghost use Rattle.vat_view.specs.Past.{same_id};
-ghost use Rattle.vat_view.specs.Tables.{first_in, begun_origin};
+ghost use Rattle.vat_view.specs.Lives.{descriptors};
+ghost use Rattle.vat_view.specs.Tables.{origins_from, first_in, begun_origin};
 
+use crate::event::Event;
 use crate::id::Id;
 use crate::lives::Lives;
 use crate::origin::Origin;
+use crate::records::{descriptors, is_cap, origin_by};
 
-/// The numbers that a record introduces, with their origins: in a list where they are few, which is searched from its
-/// beginning, and else in a table.
+/// The numbers that a record introduces, with their origins: where its descriptors are few these are searched from
+/// their beginning, and else a table is.
 #[derive(Debug, Drop)]
-pub(crate) enum Begun {
-    /// In the order of their places.
-    Few(Vec<(Id, Origin)>),
+pub(crate) enum Begun<'a> {
+    /// None.
+    Nothing,
+    /// Those of this record, which has this number in the log.
+    Few(usize, &'a Event),
     /// Each with its first origin.
     Many(Lives),
 }
 
-/// How many numbers are few.
+/// How many descriptors are few.
 pub(crate) const FEW: usize = 8;
 
 /// Whether two numbers are one.
@@ -28,25 +33,32 @@ fn is_same(a: Id, b: Id) -> bool
     a.connection == b.connection && a.ours == b.ours && a.number == b.number
 }
 
-/// The first origin of a number among these.
-fn first_in(introduced: &[(Id, Origin)], number: Id) -> Option<Origin>
-    ensures { result ≡ first_in number introduced.now }
+/// The first origin of a number among those that a record of this number in the log introduces.
+fn first_in(number: usize, event: &Event, id: Id) -> Option<Origin>
+    ensures { result ≡ first_in id (origins_from number event.now 0 0 (descriptors event.now)) }
 {
-    for (id, origin) in introduced {
-        if is_same(number, *id) {
-            return Some(*origin);
+    let mut before = 0;
+    for (place, descriptor) in descriptors(event).iter().enumerate() {
+        if let Some((found, origin)) = origin_by(number, event, place, before, descriptor) {
+            if is_same(id, found) {
+                return Some(origin);
+            }
+        }
+        if is_cap(descriptor) {
+            before += 1;
         }
     }
     None
 }
 
-impl Begun {
+impl Begun<'_> {
     /// The first origin of a number, if the record introduces it.
     pub(crate) fn origin_of(&self, number: Id) -> Option<Origin>
         ensures { result ≡ begun_origin self.now number }
     {
         match self {
-            Begun::Few(introduced) => first_in(introduced, number),
+            Begun::Nothing => None,
+            Begun::Few(place, event) => first_in(*place, event, number),
             Begun::Many(lives) => lives.origin_of(number),
         }
     }

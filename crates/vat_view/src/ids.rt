@@ -1,6 +1,6 @@
 //! Lists of numbers of connections.
 
-ghost use Rattle.std.specs.Prelude.{◌≡◌, [], IfOk};
+ghost use Rattle.std.specs.Prelude.{◌≡◌, ◌∷◌, [], IfOk};
 
 use crate::id::Id;
 use std::alloc::{AllocError, Global};
@@ -44,19 +44,24 @@ impl Ids {
         }
     }
 
+    /// This one alone. It takes no memory.
+    pub(crate) fn one(number: Id) -> Ids
+        ensures { result ≡ number ∷ [] }
+    {
+        Ids {
+            kept: Kept::One(number),
+        }
+    }
+
     /// The list of these.
-    pub(crate) fn new(alloc: Global, mut items: Vec<Id>) -> Result<Ids, AllocError>
+    pub(crate) fn new(alloc: Global, items: Vec<Id>) -> Result<Ids, AllocError>
         ensures { IfOk result (λ ids. ids ≡ items.items) }
     {
         if items.is_empty() {
             return Ok(Ids::none());
         }
-        if items.len() == 1 {
-            if let Some(number) = items.pop() {
-                return Ok(Ids {
-                    kept: Kept::One(number),
-                });
-            }
+        if let [number] = items.as_slice() {
+            return Ok(Ids::one(*number));
         }
         Ok(Ids {
             kept: Kept::Several(Box::new(alloc, items)?),

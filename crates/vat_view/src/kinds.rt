@@ -81,7 +81,7 @@ fn is_of_kind(
 fn keeps_kind(
     events: &[Event],
     lives: &Lives,
-    begun: &Begun,
+    begun: &Begun<'_>,
     resolves: &Resolves,
     next: &Event,
     descriptor: &Descriptor,
@@ -101,7 +101,7 @@ fn keeps_kind(
 pub(crate) fn keeps_kinds(
     events: &[Event],
     lives: &Lives,
-    begun: &Begun,
+    begun: &Begun<'_>,
     resolves: &Resolves,
     next: &Event,
 ) -> bool

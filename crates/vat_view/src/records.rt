@@ -182,8 +182,15 @@ pub(crate) fn introductions(alloc: Global, late: bool, event: &Event) -> Result<
     if late {
         return Ok(Ids::none());
     }
+    let described = descriptors(event);
+    if let [descriptor] = described {
+        return Ok(match introduced(event, descriptor) {
+            Some(id) => Ids::one(id),
+            None => Ids::none(),
+        });
+    }
     let mut ids = Vec::new(alloc);
-    for descriptor in descriptors(event) {
+    for descriptor in described {
         if let Some(id) = introduced(event, descriptor) {
             ids.push(id)?;
         }
@@ -210,7 +217,7 @@ pub(crate) fn is_cap(descriptor: &Descriptor) -> bool
 
 /// What a descriptor at a place of a record introduces, with its origin, where so many references were noted before
 /// it.
-fn origin_by(
+pub(crate) fn origin_by(
     number: usize,
     event: &Event,
     place: usize,

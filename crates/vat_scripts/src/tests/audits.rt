@@ -200,7 +200,7 @@ fn changed_log(
 }
 
 /// The case of a conversation, with what is changed in its logs.
-fn case_of(alloc: Global, given: Conversation<'_>, changes: &[&str]) -> Result<Case, Refused> {
+fn case_of(alloc: Global, given: &Conversation<'_>, changes: &[&str]) -> Result<Case, Refused> {
     let mut logs = Vec::new(alloc);
     for (number, records) in given.vats {
         logs.push(changed_log(alloc, number, records, changes)?)?;
@@ -215,18 +215,22 @@ impl Gate for Open {
     fn before_post(&self, _piece: u32) {}
 }
 
+/// The order of these steps, if one is given.
+fn order_of(alloc: Global, order: Option<&[u32]>) -> Result<Option<Order>, Refused> {
+    match order {
+        Some(vats) => Ok(Some(Order::new(Vec::from_slice(alloc, vats)?))),
+        None => Ok(None),
+    }
+}
+
 /// What is answered of a case and an order, or why it isn't audited. Want of memory is a failure.
 fn audited<R: Threads + Wait + Sync>(
     rt: &R,
     alloc: Global,
     case: Case,
-    order: Option<&[u32]>,
+    order: Option<Order>,
     workers: u32,
 ) -> Result<Result<Line, AuditError>, Refused> {
-    let order = match order {
-        Some(vats) => Some(Order::new(Vec::from_slice(alloc, vats)?)),
-        None => None,
-    };
     match audit(rt, alloc, case, order, workers, &Open) {
         Ok(report) => Ok(Ok(line_of(&report).ok_or("a run of all records")?)),
         Err(AuditError::OutOfMemory) => Err(Refused),
@@ -307,20 +311,21 @@ const ROWS: [Row; 19] = [
 fn is_answered<R: Threads + Wait + Sync>(
     rt: &R,
     alloc: Global,
-    row: Row,
+    row: &Row,
     workers: u32,
 ) -> Result<bool, Refused> {
     let (given, changes, order, answer) = row;
+    let order = order_of(alloc, *order)?;
     let case = case_of(alloc, given, changes)?;
-    Ok(audited(rt, alloc, case, order, workers)? == answer)
+    Ok(audited(rt, alloc, case, order, workers)? == *answer)
 }
 
 #[test]
 fn a_case_has_its_report(rt: HostRuntime) {
     for (place, row) in ROWS.iter().enumerate() {
-        let is_so = match is_answered(&rt, rt.alloc(), *row, 1) {
+        let is_so = match is_answered(&rt, rt.alloc(), row, 1) {
             Ok(is_so) => is_so,
-            Err(_) => is_answered(&rt, rt.alloc(), *row, 1).unwrap_or(false),
+            Err(_) => is_answered(&rt, rt.alloc(), row, 1).unwrap_or(false),
         };
         assert!(rt; is_so, "row {place}");
     }
@@ -346,8 +351,8 @@ fn is_the_same<R: Threads + Wait + Sync>(
         Some(error) => (Err(error), Err(error)),
         None => (Ok(Line::Yes(2, 28, 3, 0)), Err(AuditError::MissingLog(0))),
     };
-    let whole = is_answered(rt, alloc, (EMBARGOED_CALLS, &[], None, yes), workers)?;
-    Ok(whole && is_answered(rt, alloc, (MISSING_LOG, &[], None, missing), workers)?)
+    let whole = is_answered(rt, alloc, &(EMBARGOED_CALLS, &[], None, yes), workers)?;
+    Ok(whole && is_answered(rt, alloc, &(MISSING_LOG, &[], None, missing), workers)?)
 }
 
 #[test]
@@ -378,7 +383,7 @@ fn is_passed<R: Threads + Wait + Sync>(rt: &R, alloc: Global) -> Result<bool, Re
     let gate = Counting {
         passed: AtomicU64::new(0),
     };
-    let case = case_of(alloc, EMBARGOED_CALLS, &[])?;
+    let case = case_of(alloc, &EMBARGOED_CALLS, &[])?;
     audit(rt, alloc, case, None, 1, &gate)?;
     Ok(gate.passed.load(Ordering::SeqCst) == 3)
 }
@@ -398,36 +403,64 @@ fn found(alloc: Global, book: &Book, piece: Piece) -> Result<Finding, Refused> {
     Ok(found.ok_or("a piece of the case")?)
 }
 
-/// All findings of a case of three pieces that ties up.
-fn all_found(alloc: Global, case: Case) -> Result<Findings, Refused> {
+/// Posts what is found for a piece that isn't claimed yet.
+fn post_next(alloc: Global, book: &mut Book) -> Result<(), Refused> {
+    let piece = book.claim().ok_or("three pieces")?;
+    let found = found(alloc, book, piece)?;
+    Ok(book.post(found)?)
+}
+
+/// Posts what is found for each of three pieces.
+fn post_all(alloc: Global, book: &mut Book) -> Result<(), Refused> {
+    for _ in 0..3 {
+        post_next(alloc, book)?;
+    }
+    Ok(())
+}
+
+/// The book of a case that ties up.
+fn book_of(alloc: Global, case: Case) -> Result<Book, Refused> {
     if case.tie_fault().is_some() {
         return Err(Refused);
     }
-    let mut book = Book::new(alloc, case)?;
-    for _ in 0..3 {
-        let piece = book.claim().ok_or("three pieces")?;
-        let found = found(alloc, &book, piece)?;
-        if book.post(found).is_err() {
-            return Err(Refused);
-        }
-    }
-    match book.into_findings() {
-        Ok(findings) => Ok(findings),
-        Err(_) => Err(Refused),
-    }
+    Ok(Book::new(alloc, case)?)
+}
+
+/// All findings of a case of three pieces that ties up.
+fn all_found(alloc: Global, case: Case) -> Result<Findings, Refused> {
+    let mut book = book_of(alloc, case)?;
+    post_all(alloc, &mut book)?;
+    Ok(book.into_findings()?)
 }
 
 /// What is answered of pipelined_call.
 const YES: Option<Line> = Some(Line::Yes(2, 14, 1, 0));
 
+/// The order that is made of the logs of a case.
+fn made_order(alloc: Global, case: &Case) -> Result<Order, Refused> {
+    Ok(make_order(alloc, case.logs())?.ok_or("an order")?)
+}
+
+/// Whether all findings of pipelined_call are judged so by the order that is made.
+fn is_ordered(alloc: Global, case: Case) -> Result<bool, Refused> {
+    let order = made_order(alloc, &case)?;
+    let report = judge(alloc, all_found(alloc, case)?, order)?;
+    Ok(line_of(&report) == YES)
+}
+
+/// Whether they are judged so without an order.
+fn is_unordered(alloc: Global, case: Case) -> Result<bool, Refused> {
+    let report = judge_unordered(alloc, all_found(alloc, case)?)?;
+    Ok(line_of(&report) == YES)
+}
+
 /// Whether what was posted in a book is judged as the whole case is, by the order that is made and without one.
 fn is_judged(alloc: Global) -> Result<bool, Refused> {
-    let case = case_of(alloc, PIPELINED_CALL, &[])?;
+    let case = case_of(alloc, &PIPELINED_CALL, &[])?;
     let copy = case.copy(alloc)?;
-    let order = make_order(alloc, case.logs())?.ok_or("an order")?;
-    let ordered = judge(alloc, all_found(alloc, case)?, order)?;
-    let unordered = judge_unordered(alloc, all_found(alloc, copy)?)?;
-    Ok(line_of(&ordered) == YES && line_of(&unordered) == YES)
+    let ordered = is_ordered(alloc, case);
+    let unordered = is_unordered(alloc, copy);
+    Ok(ordered? && unordered?)
 }
 
 #[test]

@@ -2,12 +2,12 @@
 
 use super::given::{Refused, log};
 use case_book::{Book, Case, Finding, Link, Piece, Refused as Unposted};
-use link_check::{LinkOutcome, check_link};
+use link_check::{LinkFinding, LinkOutcome, check_link};
 use rpc_view::Limits;
 use std::alloc::Global;
 use std::sync::Arc;
 use vat_log::VatLog;
-use vat_rules::{Outcome, audit_vat};
+use vat_rules::{Outcome, VatFinding, audit_vat};
 
 /// The two logs of pipelined_call.
 const ASKING: &str = "S0 c1 boot q0; FIELD r1 c1 []; MAKE c2 r1; S0 c2 call q1 answer 0 []; \
@@ -31,26 +31,49 @@ const LINK: Link = Link {
     b: 2,
 };
 
-/// The logs of pipelined_call, and its case.
+/// The logs of pipelined_call.
 #[derive(Drop)]
-struct Conversation {
+struct Logs {
     asking: Arc<VatLog>,
     asked: Arc<VatLog>,
-    case: Case,
 }
 
-fn pipelined_call(alloc: Global) -> Result<Conversation, Refused> {
+/// Those that vats 1 and 2 recorded.
+fn given_logs(alloc: Global) -> Result<Logs, Refused> {
     let asking = log(alloc, "1", ASKING)?;
     let asked = log(alloc, "2", ASKED)?;
+    Ok(Logs { asking, asked })
+}
+
+/// Their case.
+fn case_of(alloc: Global, given: &Logs) -> Result<Case, Refused> {
     let mut logs = Vec::new(alloc);
-    logs.push(Arc::try_clone(&asked)?)?;
-    logs.push(Arc::try_clone(&asking)?)?;
-    let case = Case::new(logs, vec![in alloc; LINK]?)?;
-    Ok(Conversation {
-        asking,
-        asked,
-        case,
-    })
+    logs.push(Arc::try_clone(&given.asked)?)?;
+    logs.push(Arc::try_clone(&given.asking)?)?;
+    Ok(Case::new(logs, vec![in alloc; LINK]?)?)
+}
+
+/// The book of their case, where it ties up.
+fn book_of(alloc: Global, given: &Logs) -> Result<Book, Refused> {
+    let case = case_of(alloc, given)?;
+    if case.tie_fault().is_some() {
+        return Err(Refused);
+    }
+    Ok(Book::new(alloc, case)?)
+}
+
+/// A book, and the logs of its case.
+#[derive(Drop)]
+struct Keeper {
+    logs: Logs,
+    book: Book,
+}
+
+/// The keeper of a book of which nothing is claimed yet.
+fn new_keeper(alloc: Global) -> Result<Keeper, Refused> {
+    let logs = given_logs(alloc)?;
+    let book = book_of(alloc, &logs)?;
+    Ok(Keeper { logs, book })
 }
 
 /// The audit of a log where so many words may be read.
@@ -73,35 +96,139 @@ fn compared(one: &Arc<VatLog>, other: &Arc<VatLog>) -> Result<Finding, Refused> 
 /// The words that may be read by default.
 const WORDS: u64 = 8_388_608;
 
-/// The piece of a number.
-fn piece(number: u32) -> Option<Piece> {
-    Some(Piece { number })
+/// What is found of vat 1's log of the other conversation.
+fn strange_audit(alloc: Global) -> Result<Finding, Refused> {
+    let log = log(alloc, "1", STRANGE)?;
+    audited(alloc, &log, WORDS)
 }
 
-/// Whether pieces are claimed one after another, and each finding is posted once, or handed back.
-fn is_claimed_and_posted(alloc: Global) -> Result<bool, Refused> {
-    let Conversation { asking, case, .. } = pipelined_call(alloc)?;
-    if case.tie_fault().is_some() {
-        return Ok(false);
+/// A finding that is posted.
+#[derive(Clone, Copy)]
+enum Posted {
+    /// Of the asking vat's log, where so many words may be read.
+    Asking(u64),
+    /// Of the asked vat's log.
+    Asked,
+    /// Of the log of the other conversation.
+    Strange,
+    /// Of the link, from the asking vat's log to the asked one's.
+    Link,
+    /// Of the link, from the asked vat's log to the asking one's.
+    LinkBack,
+}
+
+/// What is asked of a book.
+#[derive(Clone, Copy)]
+enum Step {
+    /// To claim a piece.
+    Claim,
+    /// To claim the next piece that is missing.
+    Next,
+    /// To count the pieces that are missing.
+    Missing,
+    /// To post a finding.
+    Post(Posted),
+}
+
+/// What is told of a claim.
+fn claim_text(claimed: Option<Piece>) -> &'static str {
+    match claimed {
+        Some(Piece { number: 0 }) => "piece 0",
+        Some(Piece { number: 1 }) => "piece 1",
+        Some(Piece { number: 2 }) => "piece 2",
+        Some(_) => "another piece",
+        None => "no piece",
     }
-    let mut book = Book::new(alloc, case)?;
-    let all_missing = book.missing() == 3;
-    let claimed = [book.claim(), book.claim(), book.claim(), book.claim()];
-    let in_order = claimed == [piece(0), piece(1), piece(2), None];
-    let first = book.post(audited(alloc, &asking, WORDS)?).is_ok();
-    let again = matches!(
-        book.post(audited(alloc, &asking, WORDS)?),
-        Err(Unposted::Double(Finding::Vat(_)))
-    );
-    let strange = matches!(
-        book.post(audited(alloc, &log(alloc, "1", STRANGE)?, WORDS)?),
-        Err(Unposted::Stranger(Finding::Vat(_)))
-    );
-    let unfinished = match book.into_findings() {
+}
+
+/// What is told of a count of missing pieces.
+fn count_text(missing: usize) -> &'static str {
+    match missing {
+        0 => "0 missing",
+        3 => "3 missing",
+        _ => "some missing",
+    }
+}
+
+/// What is told of a finding that was posted, or handed back.
+fn post_text(posted: &Result<(), Unposted>) -> &'static str {
+    match posted {
+        Ok(()) => "posted",
+        Err(Unposted::Double(Finding::Vat(_))) => "double vat",
+        Err(Unposted::Stranger(Finding::Vat(_))) => "stranger vat",
+        Err(Unposted::Unclaimed(Finding::Link(_))) => "unclaimed link",
+        Err(_) => "another refusal",
+    }
+}
+
+/// The finding that is posted.
+fn finding_of(alloc: Global, logs: &Logs, posted: Posted) -> Result<Finding, Refused> {
+    match posted {
+        Posted::Asking(words) => audited(alloc, &logs.asking, words),
+        Posted::Asked => audited(alloc, &logs.asked, WORDS),
+        Posted::Strange => strange_audit(alloc),
+        Posted::Link => compared(&logs.asking, &logs.asked),
+        Posted::LinkBack => compared(&logs.asked, &logs.asking),
+    }
+}
+
+/// Posts a finding, and tells what comes of it.
+fn post(book: &mut Book, finding: Finding) -> &'static str {
+    let posted = book.post(finding);
+    post_text(&posted)
+}
+
+impl Keeper {
+    /// Takes a step, and tells what comes of it.
+    fn take(&mut self, alloc: Global, step: Step) -> Result<&'static str, Refused> {
+        match step {
+            Step::Claim => Ok(claim_text(self.book.claim())),
+            Step::Next => Ok(claim_text(self.book.next_missing())),
+            Step::Missing => Ok(count_text(self.book.missing())),
+            Step::Post(posted) => {
+                let finding = finding_of(alloc, &self.logs, posted)?;
+                Ok(post(&mut self.book, finding))
+            }
+        }
+    }
+
+    /// Whether each of these steps is told so.
+    fn take_each(&mut self, alloc: Global, rows: &[(Step, &str)]) -> Result<bool, Refused> {
+        for (step, told) in rows {
+            if self.take(alloc, *step)? != *told {
+                return Ok(false);
+            }
+        }
+        Ok(true)
+    }
+}
+
+/// Pieces are claimed one after another, and each finding is posted once, or handed back.
+const CLAIMED: [(Step, &str); 8] = [
+    (Step::Missing, "3 missing"),
+    (Step::Claim, "piece 0"),
+    (Step::Claim, "piece 1"),
+    (Step::Claim, "piece 2"),
+    (Step::Claim, "no piece"),
+    (Step::Post(Posted::Asking(WORDS)), "posted"),
+    (Step::Post(Posted::Asking(WORDS)), "double vat"),
+    (Step::Post(Posted::Strange), "stranger vat"),
+];
+
+/// Whether a book of which two pieces are missing isn't finished, and has its link still.
+fn is_unfinished(keeper: Keeper) -> bool {
+    match keeper.book.into_findings() {
         Ok(_) => false,
         Err(book) => book.missing() == 2 && book.case().links() == [LINK].as_slice(),
-    };
-    Ok(all_missing && in_order && first && again && strange && unfinished)
+    }
+}
+
+/// Whether those steps are told so, and leave the book unfinished.
+fn is_claimed_and_posted(alloc: Global) -> Result<bool, Refused> {
+    let mut keeper = new_keeper(alloc)?;
+    let told = keeper.take_each(alloc, &CLAIMED);
+    let left = is_unfinished(keeper);
+    Ok(told? && left)
 }
 
 #[test]
@@ -113,20 +240,36 @@ fn a_piece_is_claimed_and_posted_once(rt: HostRuntime) {
     assert!(rt; is_so);
 }
 
-/// Whether a whole book gives what is found of vats 1 and 2 and of their link: two good logs, 2 frames each way.
-fn is_whole(book: Book) -> bool {
-    let Ok(findings) = book.into_findings() else {
-        return false;
-    };
-    let vats = match findings.vats() {
+/// A book of which two pieces are claimed says what is missing, and is posted whole.
+const FINISHED: [(Step, &str); 11] = [
+    (Step::Claim, "piece 0"),
+    (Step::Claim, "piece 1"),
+    (Step::Next, "piece 0"),
+    (Step::Post(Posted::Link), "unclaimed link"),
+    (Step::Post(Posted::Asking(100)), "stranger vat"),
+    (Step::Claim, "piece 2"),
+    (Step::Post(Posted::LinkBack), "posted"),
+    (Step::Post(Posted::Asked), "posted"),
+    (Step::Post(Posted::Asking(WORDS)), "posted"),
+    (Step::Missing, "0 missing"),
+    (Step::Next, "no piece"),
+];
+
+/// Whether these are the findings of vats 1 and 2, two good logs.
+fn are_of_vats(vats: &[VatFinding]) -> bool {
+    match vats {
         [one, other] => {
             (one.log().vat(), other.log().vat()) == (1, 2)
                 && matches!(one.outcome(), Outcome::Good(_))
                 && matches!(other.outcome(), Outcome::Good(_))
         }
         _ => false,
-    };
-    let links = match findings.links() {
+    }
+}
+
+/// Whether this is what is found of their link: 2 frames each way.
+fn is_of_link(links: &[LinkFinding]) -> bool {
+    match links {
         [link] => {
             link.outcome()
                 == LinkOutcome::Good {
@@ -135,38 +278,23 @@ fn is_whole(book: Book) -> bool {
                 }
         }
         _ => false,
-    };
-    vats && links
+    }
 }
 
-/// Whether a book of which two pieces are claimed says what is missing, and gives all findings at last.
-fn is_finished(alloc: Global) -> Result<bool, Refused> {
-    let Conversation {
-        asking,
-        asked,
-        case,
-    } = pipelined_call(alloc)?;
-    if case.tie_fault().is_some() {
-        return Ok(false);
+/// Whether a whole book gives what is found of vats 1 and 2 and of their link.
+fn is_whole(keeper: Keeper) -> bool {
+    match keeper.book.into_findings() {
+        Ok(findings) => are_of_vats(findings.vats()) && is_of_link(findings.links()),
+        Err(_) => false,
     }
-    let mut book = Book::new(alloc, case)?;
-    let claimed = [book.claim(), book.claim()] == [piece(0), piece(1)];
-    let missing = book.next_missing() == piece(0);
-    let unclaimed = matches!(
-        book.post(compared(&asking, &asked)?),
-        Err(Unposted::Unclaimed(Finding::Link(_)))
-    );
-    let strange = matches!(
-        book.post(audited(alloc, &asking, 100)?),
-        Err(Unposted::Stranger(Finding::Vat(_)))
-    );
-    let third = book.claim() == piece(2);
-    let link = book.post(compared(&asked, &asking)?).is_ok();
-    let second = book.post(audited(alloc, &asked, WORDS)?).is_ok();
-    let first = book.post(audited(alloc, &asking, WORDS)?).is_ok();
-    let done = book.missing() == 0 && book.next_missing().is_none();
-    let all = claimed && missing && unclaimed && strange && third && link && second && first;
-    Ok(all && done && is_whole(book))
+}
+
+/// Whether those steps are told so, and the book gives all findings at last.
+fn is_finished(alloc: Global) -> Result<bool, Refused> {
+    let mut keeper = new_keeper(alloc)?;
+    let told = keeper.take_each(alloc, &FINISHED);
+    let whole = is_whole(keeper);
+    Ok(told? && whole)
 }
 
 #[test]
@@ -186,32 +314,58 @@ fn found(alloc: Global, case: &Case, number: u32) -> Result<Option<Finding>, Ref
     Ok(case.find(alloc, Piece { number })?)
 }
 
-/// Whether the audit of the first log is found, and the comparison of the link, and no more pieces.
-fn are_found(alloc: Global, case: &Case) -> Result<bool, Refused> {
+/// Whether the audit of the first log is found.
+fn is_audit_found(alloc: Global, case: &Case) -> Result<bool, Refused> {
     let audit = found(alloc, case, 0)?;
-    let first = match &audit {
+    Ok(match &audit {
         Some(Finding::Vat(found)) => {
             found.log().vat() == 1 && matches!(found.outcome(), Outcome::Good(_))
         }
         _ => false,
-    };
-    let comparison = found(alloc, case, 2)?;
-    let link = match &comparison {
-        Some(Finding::Link(found)) => found.connection() == 0,
-        _ => false,
-    };
-    Ok(first && link && found(alloc, case, 3)?.is_none())
+    })
 }
 
-/// Whether the copy of a case has the same logs and links, and its pieces are found.
-fn is_found(alloc: Global) -> Result<bool, Refused> {
-    let Conversation { case, .. } = pipelined_call(alloc)?;
-    let copy = case.copy(alloc)?;
+/// Whether the comparison of the link is found.
+fn is_link_found(alloc: Global, case: &Case) -> Result<bool, Refused> {
+    let comparison = found(alloc, case, 2)?;
+    Ok(match &comparison {
+        Some(Finding::Link(found)) => found.connection() == 0,
+        _ => false,
+    })
+}
+
+/// Whether no fourth piece is found.
+fn is_none_found(alloc: Global, case: &Case) -> Result<bool, Refused> {
+    let none = found(alloc, case, 3)?;
+    Ok(none.is_none())
+}
+
+/// Whether these have the same logs and links, and the pieces of the second are found.
+fn are_same(alloc: Global, case: &Case, copy: &Case) -> Result<bool, Refused> {
     let same = match (case.logs(), copy.logs()) {
         ([one, other], [a, b]) => one.bytes() == a.bytes() && other.bytes() == b.bytes(),
         _ => false,
     };
-    Ok(same && copy.links() == case.links() && are_found(alloc, &copy)?)
+    let found = is_audit_found(alloc, copy)? && is_link_found(alloc, copy)?;
+    Ok(same && copy.links() == case.links() && found && is_none_found(alloc, copy)?)
+}
+
+/// Whether the copy of a case has the same logs and links, and its pieces are found.
+fn is_copied(alloc: Global, case: &Case) -> Result<bool, Refused> {
+    let copy = case.copy(alloc)?;
+    are_same(alloc, case, &copy)
+}
+
+/// The case of pipelined_call.
+fn pipelined_call(alloc: Global) -> Result<Case, Refused> {
+    let logs = given_logs(alloc)?;
+    case_of(alloc, &logs)
+}
+
+/// Whether that case is copied so.
+fn is_found(alloc: Global) -> Result<bool, Refused> {
+    let case = pipelined_call(alloc)?;
+    is_copied(alloc, &case)
 }
 
 #[test]

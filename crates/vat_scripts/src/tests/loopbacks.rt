@@ -55,14 +55,24 @@ fn put_loopback(out: &mut String, state: &VatState, ours: bool) -> Result<(), Re
     Ok(())
 }
 
+/// Both of them.
+fn put_loopbacks(out: &mut String, state: &VatState) -> Result<(), Refused> {
+    put_loopback(out, state, false)?;
+    write!(out, "; ")?;
+    put_loopback(out, state, true)
+}
+
+/// Whether what is known of loopbacks is told so.
+fn are_loopbacks(alloc: Global, state: &VatState, told: &str) -> Result<bool, Refused> {
+    let mut out = String::new(alloc);
+    put_loopbacks(&mut out, state)?;
+    Ok(out.as_str() == told)
+}
+
 /// Whether what is known of loopbacks after these records is told so.
 fn is_told(alloc: Global, records: &str, told: &str) -> Result<bool, Refused> {
     let state = state_of(alloc, records)?;
-    let mut out = String::new(alloc);
-    put_loopback(&mut out, &state, false)?;
-    write!(out, "; ")?;
-    put_loopback(&mut out, &state, true)?;
-    Ok(out.as_str() == told)
+    are_loopbacks(alloc, &state, told)
 }
 
 #[test]

@@ -26,19 +26,31 @@ fn returned(alloc: Global) -> Result<Message, Refused> {
     })
 }
 
-/// The run in which vat 2 sends this message on connection 0, vat 1 receives it, and binds object 7 of vat 2.
-fn passed(alloc: Global, message: Message) -> Result<Run, Refused> {
-    let send = Step::Send {
+/// Vat 2 sends this message on connection 0.
+fn sent(message: &Message) -> Result<Step, Refused> {
+    let message = message.copy()?;
+    Ok(Step::Send {
         vat: 2,
         connection: 0,
-        message: message.copy()?,
-    };
-    let receive = Step::Receive {
+        message,
+    })
+}
+
+/// Vat 1 receives it, and binds object 7 of vat 2.
+fn received(alloc: Global, message: Message) -> Result<Step, Refused> {
+    let bound = Caps::new(vec![in alloc; Cap::Object(2, 7)]?);
+    Ok(Step::Receive {
         vat: 1,
         connection: 0,
         message,
-        bound: Caps::new(vec![in alloc; Cap::Object(2, 7)]?),
-    };
+        bound,
+    })
+}
+
+/// The run in which it is sent and received.
+fn passed(alloc: Global, message: Message) -> Result<Run, Refused> {
+    let send = sent(&message)?;
+    let receive = received(alloc, message)?;
     Ok(Run::new(vec![in alloc; send, receive]?))
 }
 
@@ -50,12 +62,18 @@ const PASSED: &str =
     results: Results { results: [(Path { fields: [3] }, Object(2, 7))] }, caps: Caps { caps: [Object(2, 7), Nothing] } }, \
     bound: Caps { caps: [Object(2, 7)] } }]";
 
+/// What a run tells.
+fn text_of(alloc: Global, run: &Run) -> Result<String, Refused> {
+    let mut out = String::new(alloc);
+    write!(out, "{:?}", run.steps())?;
+    Ok(out)
+}
+
 /// Whether the run of that Return is told so.
 fn is_told(alloc: Global) -> Result<bool, Refused> {
     let run = passed(alloc, returned(alloc)?)?;
-    let mut out = String::new(alloc);
-    write!(out, "{:?}", run.steps())?;
-    Ok(out.as_str() == PASSED)
+    let text = text_of(alloc, &run)?;
+    Ok(text.as_str() == PASSED)
 }
 
 /// How many capabilities the table of a Return has, and how many stand at paths of its results.

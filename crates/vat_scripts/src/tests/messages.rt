@@ -43,12 +43,22 @@ fn shown(alloc: Global, read: Result<RpcMessage, ViewError>) -> Result<String, R
     Ok(format!(in alloc; "{answer}")?)
 }
 
+/// What is shown of a frame that is read as a frame.
+fn shown_of_frame(alloc: Global, words: &str, limits: Limits) -> Result<String, Refused> {
+    let frame = frame(alloc, words)?;
+    shown(alloc, read_message(alloc, &frame, limits))
+}
+
+/// What is shown of a frame that is read as bytes.
+fn shown_of_bytes(alloc: Global, words: &str, limits: Limits) -> Result<String, Refused> {
+    let bytes = bytes_of_words(alloc, words)?;
+    shown(alloc, read_bytes(alloc, bytes, limits))
+}
+
 /// Whether a frame is shown so, read as a frame and as bytes.
 fn is_shown(alloc: Global, words: &str, limits: Limits, text: &str) -> Result<bool, Refused> {
-    let frame = frame(alloc, words)?;
-    let of_frame = shown(alloc, read_message(alloc, &frame, limits))?;
-    let bytes = bytes_of_words(alloc, words)?;
-    let of_bytes = shown(alloc, read_bytes(alloc, bytes, limits))?;
+    let of_frame = shown_of_frame(alloc, words, limits)?;
+    let of_bytes = shown_of_bytes(alloc, words, limits)?;
     Ok(of_frame.as_str() == text && of_bytes.as_str() == text)
 }
 

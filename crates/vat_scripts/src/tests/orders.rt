@@ -31,6 +31,16 @@ const CHECKED: [((&str, &str), &[u32], OrderFinding); 6] = [
     (("", ""), &[], OrderFinding::Fits),
 ];
 
+/// Whether this is found of an order of the logs of a case.
+fn has_finding(
+    alloc: Global,
+    case: &Case,
+    order: &Order,
+    finding: OrderFinding,
+) -> Result<bool, Refused> {
+    Ok(check_order(alloc, case.logs(), order)? == finding)
+}
+
 /// Whether this is found of an order of the logs of vats 1 and 2.
 fn is_found(
     alloc: Global,
@@ -38,9 +48,9 @@ fn is_found(
     vats: &[u32],
     finding: OrderFinding,
 ) -> Result<bool, Refused> {
-    let case = case(alloc, recorded.0, recorded.1)?;
     let order = Order::new(Vec::from_slice(alloc, vats)?);
-    Ok(check_order(alloc, case.logs(), &order)? == finding)
+    let case = case(alloc, recorded.0, recorded.1)?;
+    has_finding(alloc, &case, &order, finding)
 }
 
 #[test]
@@ -66,13 +76,18 @@ const MADE: [((&str, &str), &[u32]); 2] = [
     ),
 ];
 
-/// Whether just this order is made of the logs of vats 1 and 2, which aren't both empty.
-fn is_made(alloc: Global, recorded: (&str, &str), vats: &[u32]) -> Result<bool, Refused> {
-    let case = case(alloc, recorded.0, recorded.1)?;
+/// Whether just this order is made of the logs of a case, which aren't all empty.
+fn makes(alloc: Global, case: &Case, vats: &[u32]) -> Result<bool, Refused> {
     Ok(match make_order(alloc, case.logs())? {
         Some(order) => !vats.is_empty() && order.as_slice() == vats,
         None => vats.is_empty(),
     })
+}
+
+/// Whether just this order is made of the logs of vats 1 and 2, which aren't both empty.
+fn is_made(alloc: Global, recorded: (&str, &str), vats: &[u32]) -> Result<bool, Refused> {
+    let case = case(alloc, recorded.0, recorded.1)?;
+    makes(alloc, &case, vats)
 }
 
 #[test]
@@ -121,12 +136,29 @@ const SPELLED: [(&str, &[u32]); 2] = [
     ("5641544f52443031 01000000 02010000", &[1, 258]),
 ];
 
+/// The order that these bytes spell.
+fn order_of(alloc: Global, digits: &str) -> Result<Order, Refused> {
+    let bytes = Bytes::from_vec(bytes_of_digits(alloc, digits)?)?;
+    Ok(read_order(alloc, bytes)?)
+}
+
+/// Whether an order is written with these bytes.
+fn is_written(alloc: Global, order: &Order, bytes: &[u8]) -> Result<bool, Refused> {
+    let written = write_order(alloc, order)?;
+    Ok(written.as_slice() == bytes)
+}
+
+/// Whether an order has these steps, and is written with these bytes.
+fn has_steps(alloc: Global, order: &Order, vats: &[u32], digits: &str) -> Result<bool, Refused> {
+    let bytes = bytes_of_digits(alloc, digits)?;
+    let is_written = is_written(alloc, order, bytes.as_slice())?;
+    Ok(is_written && order.as_slice() == vats)
+}
+
 /// Whether an order is read so, and written again with the same bytes.
 fn is_spelled(alloc: Global, digits: &str, vats: &[u32]) -> Result<bool, Refused> {
-    let bytes = Bytes::from_vec(bytes_of_digits(alloc, digits)?)?;
-    let order = read_order(alloc, bytes.clone()?)?;
-    let written = write_order(alloc, &order)?;
-    Ok(order.as_slice() == vats && written.as_slice() == bytes.as_slice())
+    let order = order_of(alloc, digits)?;
+    has_steps(alloc, &order, vats, digits)
 }
 
 #[test]

@@ -388,29 +388,49 @@ impl Walk {
             Fields(n) => self.tell_fields(alloc, n),
         }
     }
+
+    /// Takes these steps, one after another.
+    fn take_each(&mut self, alloc: Global, steps: &[Step]) -> Result<(), Refused> {
+        for step in steps {
+            self.take(alloc, *step)?;
+        }
+        Ok(())
+    }
+}
+
+/// The walk that begins at this root.
+fn begun(alloc: Global, frame: Frame, place: StructAt, limits: Limits) -> Result<Walk, Refused> {
+    let left = limits.words;
+    let text = format!(in alloc; "root, {left} left")?;
+    Ok(Walk {
+        frame,
+        place,
+        list: None,
+        limits,
+        text,
+    })
+}
+
+/// What is told of a walk once it has taken these steps.
+fn text_behind(alloc: Global, walk: Walk, steps: &[Step]) -> Result<String, Refused> {
+    let mut walk = walk;
+    walk.take_each(alloc, steps)?;
+    Ok(walk.text)
+}
+
+/// What is told where no root is reached.
+fn fault_text(alloc: Global, fault: ReadError, left: u64) -> Result<String, Refused> {
+    Ok(format!(in alloc; "{fault:?}, {left} left")?)
 }
 
 /// What is told of a walk through the frame of these words.
 fn walked(alloc: Global, words: &str, limits: Limits, steps: &[Step]) -> Result<String, Refused> {
     let frame = frame(alloc, words)?;
     let mut limits = limits;
-    let came = root(&frame, &mut limits);
-    let left = limits.words;
-    let place = match came {
-        Ok(place) => place,
-        Err(fault) => return Ok(format!(in alloc; "{fault:?}, {left} left")?),
-    };
-    let mut walk = Walk {
-        frame,
-        place,
-        list: None,
-        limits,
-        text: format!(in alloc; "root, {left} left")?,
-    };
-    for step in steps {
-        walk.take(alloc, *step)?;
+    match root(&frame, &mut limits) {
+        Ok(place) => text_behind(alloc, begun(alloc, frame, place, limits)?, steps),
+        Err(fault) => fault_text(alloc, fault, limits.words),
     }
-    Ok(walk.text)
 }
 
 /// Whether this is told of a walk, also where memory was refused once.

@@ -8,7 +8,8 @@ use rpc_view::{RpcMessage, read_bytes};
 use std::alloc::Global;
 use std::fmt::Write;
 use std::process::Abort;
-use vat_log::{Body, References};
+use std::sync::Arc;
+use vat_log::{Body, References, VatLog};
 use vat_view::{Event, Id, Number, VatState, View};
 
 /// Records, and what is known after them.
@@ -194,29 +195,37 @@ fn event_of(alloc: Global, body: &Body) -> Result<Event, Refused> {
 
 /// Applies a record that is as it should be.
 fn apply(state: &mut VatState, event: Event) -> Result<(), Refused> {
-    if !state.refers(&event)? || !state.gives_back_held(&event)? {
-        return Err(Refused);
+    match (state.refers(&event), state.gives_back_held(&event)) {
+        (Ok(true), Ok(true))
+            if state.opens_free(&event)
+                && state.uses_questions(&event)
+                && state.uses_numbers(&event)
+                && state.notes_each(&event) => { Ok(state.apply(event)?) }
+        _ => Err(Refused),
     }
-    if state.opens_free(&event)
-        && state.uses_questions(&event)
-        && state.uses_numbers(&event)
-        && state.notes_each(&event)
-    {
-        return Ok(state.apply(event)?);
-    }
-    Err(Refused)
 }
 
-/// The state after the records of this log.
-pub fn state_of(alloc: Global, records: &str) -> Result<VatState, Refused> {
-    let log = log(alloc, "2", records)?;
-    let mut state = VatState::new(alloc);
+/// Applies each record of a log.
+fn apply_each(alloc: Global, state: &mut VatState, log: &Arc<VatLog>) -> Result<(), Refused> {
     for at in 0..log.len() {
         if let Some(record) = log.get(at) {
-            apply(&mut state, event_of(alloc, record.body())?)?;
+            apply(state, event_of(alloc, record.body())?)?;
         }
     }
+    Ok(())
+}
+
+/// The state after the records of a log.
+fn state_after(alloc: Global, log: &Arc<VatLog>) -> Result<VatState, Refused> {
+    let mut state = VatState::new(alloc);
+    apply_each(alloc, &mut state, log)?;
     Ok(state)
+}
+
+/// The state after these records.
+pub fn state_of(alloc: Global, records: &str) -> Result<VatState, Refused> {
+    let log = log(alloc, "2", records)?;
+    state_after(alloc, &log)
 }
 
 /// Export and answer 0 of connection 0, and reference 1.
@@ -267,32 +276,49 @@ fn put_lives(out: &mut String, state: &VatState) -> Result<(), Refused> {
     Ok(())
 }
 
-/// Where call 1's whole result leads.
-fn put_walk(out: &mut String, state: &VatState, path: Path) -> Result<(), Refused> {
-    let field = View::Field(1, path);
+/// Whether a view stays, and whether it leads to object 7, and by turns that object to itself.
+fn ways_of(state: &VatState, field: &View) -> (bool, bool, bool) {
     let object = View::Object(7);
-    write!(
-        out,
-        "stays {} leads {} by turns {} ",
-        state.stays(&field),
-        state.leads(&field, &object),
-        state.leads_by_turns(&object, &object)
-    )?;
-    let end = state.end(&field);
+    let stays = state.stays(field);
+    let leads = state.leads(field, &object);
+    (stays, leads, state.leads_by_turns(&object, &object))
+}
+
+/// Where a view leads.
+fn put_walk(out: &mut String, state: &VatState, field: &View) -> Result<(), Refused> {
+    let (stays, leads, turns) = ways_of(state, field);
+    write!(out, "stays {stays} leads {leads} by turns {turns} ")?;
+    let end = state.end(field);
     write!(out, "end {end:?}")?;
     Ok(())
+}
+
+/// All that is asked of a state, where the whole result of call 1 is this field and has this path.
+fn put_state(out: &mut String, state: &VatState, field: &View, path: &Path) -> Result<(), Refused> {
+    put_numbers(out, state, path)?;
+    put_call(out, state)?;
+    put_lives(out, state)?;
+    put_walk(out, state, field)
+}
+
+/// What is told of a state.
+fn text_of(alloc: Global, state: &VatState) -> Result<String, Refused> {
+    let path = Path::new(Vec::new(alloc));
+    let field = View::Field(1, Path::new(Vec::new(alloc)));
+    let mut out = String::new(alloc);
+    put_state(&mut out, state, &field, &path)?;
+    Ok(out)
+}
+
+/// Whether a state is told so.
+fn is_text_of(alloc: Global, state: &VatState, told: &str) -> Result<bool, Refused> {
+    Ok(text_of(alloc, state)?.as_str() == told)
 }
 
 /// Whether what is known after these records is told so.
 fn is_told(alloc: Global, records: &str, told: &str) -> Result<bool, Refused> {
     let state = state_of(alloc, records)?;
-    let mut out = String::new(alloc);
-    let path = Path::new(Vec::new(alloc));
-    put_numbers(&mut out, &state, &path)?;
-    put_call(&mut out, &state)?;
-    put_lives(&mut out, &state)?;
-    put_walk(&mut out, &state, path)?;
-    Ok(out.as_str() == told)
+    is_text_of(alloc, &state, told)
 }
 
 #[test]
@@ -304,12 +330,21 @@ fn states(rt: HostRuntime) {
     }
 }
 
-/// What is said of the first record of this log where it comes next.
-fn put_next(alloc: Global, out: &mut String, state: &VatState, next: &str) -> Result<(), Refused> {
-    let log = log(alloc, "2", next)?;
+/// The first record of a log.
+fn first_of(alloc: Global, log: &Arc<VatLog>) -> Result<Event, Refused> {
     let record = log.get(0).ok_or(Refused)?;
-    let event = event_of(alloc, record.body())?;
-    let keeps = state.keeps_kinds(&event)?;
+    event_of(alloc, record.body())
+}
+
+/// The first of these records.
+fn first_event(alloc: Global, records: &str) -> Result<Event, Refused> {
+    let log = log(alloc, "2", records)?;
+    first_of(alloc, &log)
+}
+
+/// What is said of a record where it comes next.
+fn put_event(out: &mut String, state: &VatState, event: &Event) -> Result<(), Refused> {
+    let keeps = state.keeps_kinds(event)?;
     let descriptors = event.descriptors();
     let new = event.new_references();
     write!(
@@ -319,12 +354,23 @@ fn put_next(alloc: Global, out: &mut String, state: &VatState, next: &str) -> Re
     Ok(())
 }
 
-/// The records that are given back, how many and the first.
-fn put_events(out: &mut String, state: VatState) -> Result<(), Refused> {
-    let events = state.into_events();
+/// What is said of the first of these records where it comes next.
+fn put_next(alloc: Global, out: &mut String, state: &VatState, next: &str) -> Result<(), Refused> {
+    let event = first_event(alloc, next)?;
+    put_event(out, state, &event)
+}
+
+/// How many records there are, and the first.
+fn put_count(out: &mut String, events: &[Event]) -> Result<(), Refused> {
     let (count, first) = (events.len(), events.first());
     write!(out, "{count} {first:?}")?;
     Ok(())
+}
+
+/// The records that are given back, how many and the first.
+fn put_events(out: &mut String, state: VatState) -> Result<(), Refused> {
+    let events = state.into_events();
+    put_count(out, &events)
 }
 
 /// Whether what is said of a record that comes next is told so.
@@ -345,21 +391,43 @@ fn records_that_come_next(rt: HostRuntime) {
     }
 }
 
+/// Whether a view leads over connections 0 and 1, and elsewhere than over each.
+fn put_leads(out: &mut String, state: &VatState, from: &View) -> Result<(), Refused> {
+    let over = (state.leads_over(from, 0), state.leads_over(from, 1));
+    let elsewhere = (
+        state.leads_elsewhere(from, 0),
+        state.leads_elsewhere(from, 1),
+    );
+    write!(out, "over {} {}; ", over.0, over.1)?;
+    write!(out, "elsewhere {} {}; ", elsewhere.0, elsewhere.1)?;
+    Ok(())
+}
+
+/// What is known of connections 0 and 1.
+fn put_connections(out: &mut String, state: &VatState, from: &View) -> Result<(), Refused> {
+    put_leads(out, state, from)?;
+    let aborted = (state.is_aborted(0), state.is_aborted(1));
+    write!(out, "aborted {} {}", aborted.0, aborted.1)?;
+    Ok(())
+}
+
+/// What is told of connections.
+fn text_of_connections(alloc: Global, state: &VatState) -> Result<String, Refused> {
+    let from = View::Field(1, Path::new(Vec::new(alloc)));
+    let mut out = String::new(alloc);
+    put_connections(&mut out, state, &from)?;
+    Ok(out)
+}
+
+/// Whether connections are told so.
+fn are_connections(alloc: Global, state: &VatState, told: &str) -> Result<bool, Refused> {
+    Ok(text_of_connections(alloc, state)?.as_str() == told)
+}
+
 /// Whether what is known of connections after these records is told so.
 fn is_over(alloc: Global, records: &str, told: &str) -> Result<bool, Refused> {
     let state = state_of(alloc, records)?;
-    let from = View::Field(1, Path::new(Vec::new(alloc)));
-    let over = (state.leads_over(&from, 0), state.leads_over(&from, 1));
-    let elsewhere = (
-        state.leads_elsewhere(&from, 0),
-        state.leads_elsewhere(&from, 1),
-    );
-    let aborted = (state.is_aborted(0), state.is_aborted(1));
-    let mut out = String::new(alloc);
-    write!(out, "over {} {}; ", over.0, over.1)?;
-    write!(out, "elsewhere {} {}; ", elsewhere.0, elsewhere.1)?;
-    write!(out, "aborted {} {}", aborted.0, aborted.1)?;
-    Ok(out.as_str() == told)
+    are_connections(alloc, &state, told)
 }
 
 #[test]

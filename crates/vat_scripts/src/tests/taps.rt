@@ -3,15 +3,15 @@
 ghost use Rattle.std.specs.Prelude.{◌≡◌, ◌≢◌, ◌≤◌, IfOk};
 ghost use Rattle.vat_tap.specs.Tickets.{IsLaneOf, SameLane, SameTap};
 
-use super::given::{Refused, bytes_of_digits, bytes_of_log};
-use super::logs::{SAMPLES, copied};
+use super::given::{Refused, bytes_of_digits};
+use super::logs::{SAMPLES, copied, log_of_records};
 use cap_reader::Limits;
 use std::alloc::Global;
 use std::sync::atomic::{AtomicBool, Ordering};
 use std::sync::{Arc, Wait};
 use std::thread;
 use std::thread::Threads;
-use vat_log::{Body, LogWriter, Record, VatLog, parse_log, write_lent_log};
+use vat_log::{Body, LogWriter, Record, VatLog, write_lent_log};
 use vat_rules::{Outcome, audit_vat};
 use vat_tap::{CloseError, Full, Lane, Tap};
 
@@ -35,16 +35,31 @@ fn lent(alloc: Global, log: &VatLog) -> Result<VatLog, Refused> {
     Ok(write_lent_log(alloc, log.vat(), &records)?)
 }
 
+/// Whether a log has these bytes where its records are pushed.
+fn is_pushed(alloc: Global, log: &VatLog, wanted: &[u8]) -> Result<bool, Refused> {
+    let pushed = pushed(alloc, log)?;
+    Ok(pushed.bytes().as_slice() == wanted)
+}
+
+/// Whether a log has these bytes where its records are lent.
+fn is_lent(alloc: Global, log: &VatLog, wanted: &[u8]) -> Result<bool, Refused> {
+    let lent = lent(alloc, log)?;
+    Ok(lent.bytes().as_slice() == wanted)
+}
+
+/// Whether a log has these 474 bytes either way.
+fn has_bytes(alloc: Global, log: &VatLog, wanted: &[u8]) -> Result<bool, Refused> {
+    let is_pushed = is_pushed(alloc, log, wanted)?;
+    let is_lent = is_lent(alloc, log, wanted)?;
+    Ok(is_pushed && is_lent && wanted.len() == 474)
+}
+
 /// Whether vat 2's log of pipelined_call is written so.
 fn is_written(alloc: Global) -> Result<bool, Refused> {
     let (vat, records, digits) = &SAMPLES[1];
     let wanted = bytes_of_digits(alloc, digits)?;
-    let log = parse_log(alloc, bytes_of_log(alloc, vat, records)?)?;
-    let pushed = pushed(alloc, &log)?;
-    let lent = lent(alloc, &log)?;
-    let are_same = pushed.bytes().as_slice() == wanted.as_slice()
-        && lent.bytes().as_slice() == wanted.as_slice();
-    Ok(are_same && wanted.len() == 474)
+    let log = log_of_records(alloc, vat, records)?;
+    has_bytes(alloc, &log, wanted.as_slice())
 }
 
 #[test]
@@ -160,17 +175,28 @@ fn a_full_ring_goes_on_once_it_is_drained(rt: HostRuntime) {
     assert!(rt; is_so);
 }
 
-/// Whether a lane of 64 records its share and no more, also once its ring is empty.
+/// Records a share of 16,384 VOWs.
+fn record_share(lane: &mut Lane) -> Result<(), Refused> {
+    for reference in 1..=16_384 {
+        vow(lane, reference)?;
+    }
+    Ok(())
+}
+
+/// Whether a lane records its share and no more, also once its ring is empty.
+fn has_its_share(tap: &mut Tap, lane: &mut Lane) -> Result<bool, Refused> {
+    record_share(lane)?;
+    let is_before = is_full(lane, 16_385)?;
+    let is_drained = tap.drain()? == 16_384;
+    Ok(is_before && is_drained && is_full(lane, 16_385)?)
+}
+
+/// Whether a lane of 64 does so.
 fn is_shared(alloc: Global) -> Result<bool, Refused> {
     let (opened, lanes) = Tap::open(alloc, 1, 64, 16_384)?;
     let (mut tap, mut lanes) = (opened, lanes);
     let mut lane = lanes.pop().ok_or("lane 63")?;
-    for reference in 1..=16_384 {
-        vow(&mut lane, reference)?;
-    }
-    let is_before = is_full(&mut lane, 16_385)?;
-    let is_drained = tap.drain()? == 16_384;
-    Ok(is_before && is_drained && is_full(&mut lane, 16_385)?)
+    has_its_share(&mut tap, &mut lane)
 }
 
 #[test]

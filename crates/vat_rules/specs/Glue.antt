@@ -46,7 +46,7 @@ no_sight = record { references = []; question = None; promise = None; target = N
 abbrev pub sight_of : Kept → Sight
 sight_of kept.Nothing = no_sight
 sight_of (kept.Reference v) = record { references = v ∷ []; question = None; promise = None; target = None; caps = [] }
-sight_of (kept.References vs) = record { references = vs; question = None; promise = None; target = None; caps = [] }
+sight_of (kept.References vs) = record { references = vs.items; question = None; promise = None; target = None; caps = [] }
 sight_of (kept.Both v) = record { references = v ∷ []; question = None; promise = None; target = None; caps = v ∷ [] }
 sight_of (kept.Question v) = record { references = []; question = Some v; promise = None; target = None; caps = [] }
 sight_of (kept.Target v) = record { references = []; question = None; promise = None; target = Some v; caps = [] }

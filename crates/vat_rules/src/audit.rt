@@ -13,7 +13,7 @@ use crate::judge::broken;
 use crate::outcome::Outcome;
 use crate::reading::event_of;
 use crate::rule::Rule;
-use crate::seeing::{references_of, standing_of, views_of};
+use crate::seeing::{standing_of, views_of_references};
 use crate::standing::Standing;
 use crate::story::{Seen, Story};
 use rpc_view::Limits;
@@ -53,12 +53,15 @@ fn take_in(
 ) -> Result<(), AllocError>
     requires good { IsGood state.old event }
     requires standing { standing ≡ standing_of state.old event }
+    requires as_many { length state.old ≡ length seen.old.items }
     ensures state { OnOk result (state.new ≡ event ∷ state.old) }
     ensures seen { OnOk result (seen.new.items ≡ seen.old.items ++ seen_of state.old event ∷ []) }
 {
-    let references = references_of(alloc, &event)?;
     state.apply(event)?;
-    let references = views_of(alloc, state, &references)?;
+    let Some(event) = state.event_at(seen.len()) else {
+        unreachable!()
+    };
+    let references = views_of_references(alloc, state, event)?;
     seen.push(Seen::new(alloc, references, standing)?)?;
     Ok(())
 }
@@ -71,6 +74,7 @@ fn judge_next(
     seen: &mut Vec<Seen>,
     event: Event,
 ) -> Result<Option<Rule>, AllocError>
+    requires { length state.old ≡ length seen.old.items }
     ensures { IfOk result (λ r. MatchOption r
         (IsGood state.old event × (state.new ≡ event ∷ state.old) × (seen.new.items ≡ seen.old.items ++ seen_of state.old event ∷ []))
         (λ rule. BreaksFirst rules state.old event rule)) }

@@ -24,6 +24,7 @@ mod rule;
 mod seeing;
 mod standing;
 mod story;
+mod views;
 mod ways;
 
 pub use audit::audit_vat;

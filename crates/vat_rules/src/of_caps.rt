@@ -1,6 +1,6 @@
 //! The rules on capability tables: what is given away is what is noted, and what comes in is noted.
 
-ghost use Rattle.std.specs.Prelude.{◌≡◌, ◌&&◌, true, Decides, IfOk, IsTrue, slice_get, option_and_then};
+ghost use Rattle.std.specs.Prelude.{◌≡◌, ◌∷◌, [], ◌&&◌, ⊤, true, Decides, IfOk, IsTrue, MatchOption, slice_get, option_and_then};
 ghost use Rattle.std.specs.List.{AllByRecursion, zip};
 ghost use Rattle.std.specs.Option.{option_copied};
 ghost use Rattle.vat_view.specs.Questions.{is_late};
@@ -173,6 +173,38 @@ fn notes_views(
     Ok(true)
 }
 
+/// The reference that a record notes for the one descriptor that it has, if it is so.
+fn only_noted(event: &Event) -> Option<u64>
+    ensures { MatchOption result ⊤ (λ reference. noted event.now ≡ (reference, 0) ∷ []) }
+{
+    let Event::Wire { references, .. } = event else {
+        return None;
+    };
+    let ([reference], [descriptor]) = (references.as_slice(), event.descriptors()) else {
+        return None;
+    };
+    match descriptor {
+        Descriptor::NoCap => None,
+        _ => Some(*reference),
+    }
+}
+
+/// Whether each reference that a record notes leads to what the descriptor at its place stands for.
+fn notes_each_view(
+    alloc: Global,
+    state: &VatState,
+    event: &Event,
+    caps: &[Option<View>],
+) -> Result<bool, AllocError>
+    requires { caps.now ≡ views_of_descriptors state.now event.now }
+    ensures { IfOk result (λ b. Decides b (AllByRecursion (NotesView state.now event.now) (noted event.now))) }
+{
+    match only_noted(event) {
+        Some(reference) => notes_view(state, event, caps, reference, 0),
+        None => notes_views(state, event, caps, &noted(alloc, event)?),
+    }
+}
+
 /// Whether a sent record notes one reference for each descriptor that isn't none, each leading to what that stands
 /// for, and a record introduces numbers by the kind of their lives. `caps` is what its descriptors stand for.
 pub(crate) fn describes(
@@ -188,10 +220,13 @@ pub(crate) fn describes(
     if sent && !state.notes_each(event) {
         return Ok(false);
     }
+    if event.descriptors().is_empty() {
+        return Ok(true);
+    }
     if state.is_late(event) {
         return Ok(true);
     }
-    if sent && !notes_views(state, event, caps, &noted(alloc, event)?)? {
+    if sent && !notes_each_view(alloc, state, event, caps)? {
         return Ok(false);
     }
     state.keeps_kinds(event)

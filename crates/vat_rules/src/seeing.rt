@@ -2,12 +2,12 @@
 
 ghost use Rattle.std.specs.Prelude.{◌≡◌, ◌++◌, map, IfOk};
 ghost use Rattle.vat_view.specs.Bindings.{new_references, named_references};
-ghost use Rattle.vat_view.specs.Views.{view_of_reference};
+ghost use Rattle.vat_view.specs.Views.{view_of_reference, views_of_descriptors};
 ghost use Rattle.vat_rules.specs.Telling.{seen_question, seen_promise};
 ghost use Rattle.vat_rules.specs.Glue.{standing_of};
 
 use crate::standing::Standing;
-use crate::story::Views;
+use crate::views::Views;
 use cap_frame::Path;
 use rpc_view::RpcMessage;
 use std::alloc::{AllocError, Global};
@@ -57,6 +57,16 @@ fn seen_promise(alloc: Global, state: &VatState, event: &Event) -> Result<Option
     state.stands_for(*connection, number, &Path::new(Vec::new(alloc)))
 }
 
+/// What the descriptors of a record stand for that may be applied next. Most records have none.
+fn views_of_descriptors(alloc: Global, state: &VatState, event: &Event) -> Result<Views, AllocError>
+    ensures { IfOk result (λ views. views ≡ views_of_descriptors state.now event.now) }
+{
+    if event.descriptors().is_empty() {
+        return Ok(Views::new(Vec::new(alloc)));
+    }
+    Ok(Views::new(state.views_of_descriptors(event)?))
+}
+
 /// What the numbers of a record stand for that may be applied next, apart from its references.
 pub(crate) fn standing_of(
     alloc: Global,
@@ -69,43 +79,57 @@ pub(crate) fn standing_of(
         question: seen_question(alloc, state, event)?,
         promise: seen_promise(alloc, state, event)?,
         target: state.view_of_target(event)?,
-        caps: Views::new(state.views_of_descriptors(event)?),
+        caps: views_of_descriptors(alloc, state, event)?,
     })
 }
 
-/// The references that a record binds or names, in its order.
-pub(crate) fn references_of(alloc: Global, event: &Event) -> Result<Vec<u64>, AllocError>
-    ensures { IfOk result (λ references. references.items ≡ new_references event.now ++ named_references event.now) }
-{
-    match event {
-        Event::Answer { results, .. } => {
-            let references = results.as_slice().iter().map(|answer| answer.0);
-            references.collect(alloc)
-        }
-        Event::Fulfil { reference, to } => Vec::from_slice(alloc, &[*reference, *to]),
-        Event::Break { reference } | Event::Make { reference, .. } => {
-            Vec::from_slice(alloc, &[*reference])
-        }
-        Event::Wire {
-            sent: true,
-            references,
-            ..
-        } => Vec::from_slice(alloc, references.as_slice()),
-        _ => Vec::from_slice(alloc, event.new_references()),
-    }
-}
-
 /// What references stand for.
-pub(crate) fn views_of(
-    alloc: Global,
-    state: &VatState,
-    references: &[u64],
-) -> Result<Views, AllocError>
+fn views_of(alloc: Global, state: &VatState, references: &[u64]) -> Result<Views, AllocError>
     ensures { IfOk result (λ views. views ≡ map (view_of_reference state.now) references.now) }
 {
+    if let [reference] = references {
+        return Ok(Views::one(state.view_of_reference(*reference)?));
+    }
     let mut views = Vec::with_capacity(alloc, references.len())?;
     for reference in references {
         views.push(state.view_of_reference(*reference)?)?;
     }
     Ok(Views::new(views))
+}
+
+/// What the references of a call's results stand for.
+fn answered(alloc: Global, state: &VatState, results: &[(u64, Path)]) -> Result<Views, AllocError>
+    ensures { IfOk result (λ views. views ≡ map (view_of_reference state.now) (map (λ answer. answer.0) results.now)) }
+{
+    if let [answer] = results {
+        return Ok(Views::one(state.view_of_reference(answer.0)?));
+    }
+    let mut views = Vec::with_capacity(alloc, results.len())?;
+    for answer in results {
+        views.push(state.view_of_reference(answer.0)?)?;
+    }
+    Ok(Views::new(views))
+}
+
+/// What the references stand for that a record binds or names, in its order.
+pub(crate) fn views_of_references(
+    alloc: Global,
+    state: &VatState,
+    event: &Event,
+) -> Result<Views, AllocError>
+    ensures { IfOk result (λ views. views ≡ map (view_of_reference state.now) (new_references event.now ++ named_references event.now)) }
+{
+    match event {
+        Event::Answer { results, .. } => answered(alloc, state, results.as_slice()),
+        Event::Fulfil { reference, to } => views_of(alloc, state, &[*reference, *to]),
+        Event::Break { reference } | Event::Make { reference, .. } => {
+            Ok(Views::one(state.view_of_reference(*reference)?))
+        }
+        Event::Wire {
+            sent: true,
+            references,
+            ..
+        } => views_of(alloc, state, references.as_slice()),
+        _ => views_of(alloc, state, event.new_references()),
+    }
 }

@@ -2,7 +2,7 @@
 
 ghost use Rattle.std.specs.Prelude.{◌≡◌, ◌&&◌, is_none};
 
-use crate::story::Views;
+use crate::views::Views;
 use vat_view::View;
 
 /// What the numbers of a record stand for, apart from its references.

@@ -1,67 +1,16 @@
 //! What a good log tells.
 
-ghost use Rattle.std.specs.Prelude.{◌≡◌, ◌↔◌, ◌∷◌, [], IsTrue, IfOk, IfErr, length, map};
+ghost use Rattle.std.specs.Prelude.{◌≡◌, ◌∷◌, [], IfOk, length, map};
 ghost use Rattle.std.specs.Option.{option_copied};
 ghost use Rattle.vat_rules.specs.Glue.{entries_with, sight_of, sight_with};
 
 use crate::alike::are_one;
 use crate::standing::Standing;
+use crate::views::Views;
 use std::alloc::{AllocError, Global};
 use std::marker::Model;
 use std::slice;
 use vat_view::{Event, View};
-
-/// What several numbers stand for; `None` where one stands for nothing.
-#[derive(Debug, Drop)]
-pub(crate) struct Views {
-    items: Vec<Option<View>>,
-}
-
-impl Model for Views {
-    ghost use Rattle.std.specs.Prelude.{List, Option};
-    ghost use Rattle.vat_view.specs.declared.view.View.{View};
-
-    ghost Value = { List (Option View) };
-
-    ghost view = { λ views. views.items.items };
-}
-
-impl Views {
-    pub(crate) fn new(items: Vec<Option<View>>) -> Views
-        ensures { result ≡ items.items }
-    {
-        Views { items }
-    }
-
-    /// What they stand for, in their order.
-    pub(crate) fn as_slice(&self) -> &[Option<View>]
-        ensures { result.now ≡ self.now }
-    {
-        &self.items
-    }
-
-    /// Whether there are none.
-    pub(crate) fn is_empty(&self) -> bool
-        ensures { IsTrue result ↔ (self.now ≡ []) }
-    {
-        self.items.is_empty()
-    }
-
-    /// What one number stands for that is alone, or else all of them again.
-    fn alone(self) -> Result<Option<View>, Views>
-        ensures one { IfOk result (λ view. self ≡ view ∷ []) }
-        ensures other { IfErr result (λ views. views ≡ self) }
-    {
-        let Views { mut items } = self;
-        if items.len() != 1 {
-            return Err(Views { items });
-        }
-        match items.pop() {
-            Some(view) => Ok(view),
-            None => Err(Views { items }),
-        }
-    }
-}
 
 /// What a record's references stand for, and its descriptors.
 #[derive(Debug, Drop)]
@@ -86,7 +35,7 @@ enum Kept {
     /// One reference alone.
     Reference(Option<View>),
     /// References alone.
-    References(Views),
+    References(Vec<Option<View>>),
     /// One reference and one descriptor, which stand for the same.
     Both(Option<View>),
     /// A question alone.
@@ -196,15 +145,6 @@ fn kept_listed(alloc: Global, references: Views, standing: Standing) -> Result<K
     }
 }
 
-/// What one number stands for, as a list.
-fn listed(alloc: Global, view: Option<View>) -> Result<Views, AllocError>
-    ensures { IfOk result (λ views. views ≡ view ∷ []) }
-{
-    let mut items = Vec::with_capacity(alloc, 1)?;
-    items.push(view)?;
-    Ok(Views::new(items))
-}
-
 /// What is kept of a record with one reference and one descriptor that stand for the same.
 fn kept_both(alloc: Global, both: Option<View>, standing: Standing) -> Result<Kept, AllocError>
     requires { standing.caps ≡ both ∷ [] }
@@ -229,7 +169,7 @@ fn kept_both(alloc: Global, both: Option<View>, standing: Standing) -> Result<Ke
                 caps,
             };
             let parts = Parts {
-                references: listed(alloc, both)?,
+                references: Views::one(both),
                 standing,
             };
             Ok(Kept::Several(Box::new(alloc, parts)?))
@@ -246,7 +186,7 @@ fn kept_described(alloc: Global, references: Views, standing: Standing) -> Resul
     }
     match references.alone() {
         Ok(view) => kept_both(alloc, view, standing),
-        Err(references) => kept_listed(alloc, references, standing),
+        Err(references) => kept_listed(alloc, Views::new(references), standing),
     }
 }
 

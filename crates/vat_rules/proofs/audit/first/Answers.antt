@@ -33,5 +33,8 @@ returns c =
     is_first-Good (reads_within c.args.limits) c.args.log.now.records c.loop-at.at c.loop-at.state c.loop-at.seen.items c.told.result len
     c.loop-at.invariant.read c.loop-at.invariant.seen c.told.ensures c.loop-at.invariant.good
 
+pub judge_next-requires : goal.judge_next-requires
+judge_next-requires c = as_many c.loop-at.state c.loop-at.seen.items c.loop-at.invariant.seen
+
 pub told-requires : goal.told-requires
 told-requires c = as_many c.loop-at.state c.loop-at.seen.items c.loop-at.invariant.seen

@@ -1,5 +1,5 @@
 -- What look-ups find in entries: of two lists, of a row whose numbers rise, and where a number isn't.
-use Rattle.std.proofs.Common.{◌≡◌, ℕ, zero, suc, ◌<◌, ◌-◌, inl, inr, ◌≢◌, List, [], ◌∷◌, ◌++◌, length, get_or, Some, None, Option, Result, Ok, Err, IfOk, IfErr, Bool, true, false, refl, sym, ap, subst, ◌∙◌, ◌==◌, if◌then◌else◌, arith}
+use Rattle.std.proofs.Common.{◌≡◌, ℕ, zero, suc, ◌+◌, ◌<◌, ◌-◌, inl, inr, ◌≢◌, List, [], ◌∷◌, ◌++◌, length, get_or, Some, None, Option, Result, Ok, Err, IfOk, IfErr, Bool, true, false, refl, sym, ap, subst, ◌∙◌, ◌==◌, if◌then◌else◌, arith}
 use Rattle.std.specs.List.Sorted.{IsSearchInRange, IsBinarySearchResult, IsNonDecreasingBy}
 use Rattle.std.specs.Ordering.{nat_cmp, ordering_index}
 use Rattle.std.specs.Cmp.{unsigned_ties}
@@ -109,3 +109,22 @@ module _ {X : Type 0} where
         ];
         greater_after = λ j le l. absurd (let no : ⊥ = omega (arith, le, l) in no);
       }
+
+  -- behind an entry with a smaller number, where all after it have greater ones
+  pub gap_behind : (es : List (ℕ × X)) → AreRising es → (k i n : ℕ) → i < length es → key_at es i ≡ n → n < k → ((j : ℕ) → i < j → j < length es → k < key_at es j) → IsGapFor es k (i + 1)
+  gap_behind es rising k i n within is less above = record {
+    in_range = omega (arith, within);
+    smaller_before = λ j lt. elim (cases_lt j i) [
+      | inl before ↦ let below = rises es rising j i before within in omega (arith, below, is, less)
+      | inr there ↦ let place : j ≡ i = omega (arith, there, lt) in omega (arith, ap (λ p. key_at es p) place, is, less)
+    ];
+    greater_after = λ j le lt. above j (omega (arith, le)) lt;
+  }
+
+  -- one entry more from the end has a greater number
+  pub greater_more : (es : List (ℕ × X)) (k i n back : ℕ) → i + back ≡ length es → key_at es i ≡ n → k < n → ((j : ℕ) → length es < j + back → j < length es → k < key_at es j) →
+      (j : ℕ) → length es < j + (back + 1) → j < length es → k < key_at es j
+  greater_more es k i n back place is less above j behind lt = elim (cases_lt i j) [
+    | inl after ↦ above j (omega (arith, place, after)) lt
+    | inr there ↦ let here : j ≡ i = omega (arith, there, place, behind) in omega (arith, ap (λ p. key_at es p) here, is, less)
+  ]

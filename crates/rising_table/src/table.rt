@@ -49,8 +49,29 @@ fn is_above<V>(row: &[(u64, V)], key: u64) -> bool
     }
 }
 
+/// How many of a row's last entries are asked one by one.
+const LAST: usize = 8;
+
+/// Where a number is among the last entries of a row, or where it would go there.
+fn near_the_end<V>(row: &[(u64, V)], key: u64) -> Option<Result<usize, usize>>
+    requires { AreRising row.now }
+    ensures { IfSome result (λ place. IfOk place (IsAt row.now key) × IfErr place (IsGapFor row.now key)) }
+{
+    for back in 1..=LAST {
+        let place = row.len().checked_sub(back)?;
+        let (number, _) = row.get(place)?;
+        if *number == key {
+            return Some(Ok(place));
+        }
+        if *number < key {
+            return Some(Err(place + 1));
+        }
+    }
+    None
+}
+
 /// Where a number is in a row, or where it would go. Mostly it is where it would be if none were left out before it, or
-/// above all.
+/// above all, or among the last.
 fn search<V>(row: &[(u64, V)], key: u64) -> Result<usize, usize>
     requires { AreRising row.now }
     ensures found { IfOk result (IsAt row.now key) }
@@ -61,6 +82,9 @@ fn search<V>(row: &[(u64, V)], key: u64) -> Result<usize, usize>
     }
     if is_above(row, key) {
         return Err(row.len());
+    }
+    if let Some(place) = near_the_end(row, key) {
+        return place;
     }
     row.binary_search_by_key(&key, |entry| entry.0)
 }

@@ -5,12 +5,13 @@ use rising_table::RisingTable;
 use std::alloc::Global;
 
 /// Numbers in the order in which they come.
-const COME: [&[u64]; 5] = [
+const COME: [&[u64]; 6] = [
     &[],
     &[1, 2, 3],
     &[3, 2, 1],
     &[2, 9, 4, 9, 3, 10],
     &[0, u64::MAX, 5],
+    &[1, 3, 5, 9, 11, 13, 15, 17, 19, 21, 23, 25, 26, 6],
 ];
 
 /// A table in which each number has its place among these, counted from 0, with the last place where it comes twice.

@@ -13,7 +13,7 @@ use crate::records::{descriptors, is_cap, origin_by};
 
 /// The numbers that a record introduces, with their origins: where its descriptors are few these are searched from
 /// their beginning, and else a table is.
-#[derive(Debug, Drop)]
+#[derive(Drop)]
 pub(crate) enum Begun<'a> {
     /// None.
     Nothing,

@@ -12,7 +12,7 @@ use rising_table::RisingTable;
 use std::alloc::{AllocError, Global};
 
 /// A reference that is ahead of another: to whose view the other's view leads.
-#[derive(Clone, Copy, Debug)]
+#[derive(Clone, Copy)]
 pub(crate) struct Leap {
     /// The one that is ahead.
     pub(crate) to: u64,
@@ -21,7 +21,7 @@ pub(crate) struct Leap {
 }
 
 /// What is kept of a reference.
-#[derive(Debug, Drop)]
+#[derive(Drop)]
 pub(crate) struct Binding {
     /// What it stands for.
     pub(crate) view: View,
@@ -41,7 +41,7 @@ fn own_leap(reference: u64) -> Leap
 
 /// The view of each reference that is bound, and for each one that is ahead of it, so that a walk needn't make each
 /// turn anew. At first each is ahead of itself; and again once the references ahead are dropped.
-#[derive(Debug, Drop)]
+#[derive(Drop)]
 pub(crate) struct Bound {
     entries: RisingTable<Binding>,
     dropped: bool,

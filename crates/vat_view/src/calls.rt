@@ -13,7 +13,7 @@ use rising_table::RisingTable;
 use std::alloc::{AllocError, Global};
 
 /// How far each call that is bound has come.
-#[derive(Debug, Drop)]
+#[derive(Drop)]
 pub(crate) struct Calls {
     entries: RisingTable<CallEntry>,
 }

@@ -14,7 +14,7 @@ use std::collections::BTreeMap;
 
 /// The connection on which this vat asked its question for each call, and the connections that were aborted. A call's
 /// entry without a connection says nothing, and neither does a connection's false: they hold room.
-#[derive(Debug, Drop)]
+#[derive(Drop)]
 pub(crate) struct Connections {
     asked: RisingTable<Option<u32>>,
     aborted: BTreeMap<u32, bool>,

@@ -9,7 +9,7 @@ use crate::view::View;
 /// A call's goal with a digest in the place of a path, so that it takes no memory. Goals that are one have one
 /// heading. Two goals with one heading differ in their paths at most, and no two paths of up to three fields have one
 /// digest.
-#[derive(Clone, Copy, Debug, PartialEq, Eq, PartialOrd, Ord)]
+#[derive(Clone, Copy, PartialEq, Eq, PartialOrd, Ord)]
 pub(crate) enum Heading {
     /// Of a call without a goal.
     Nowhere,

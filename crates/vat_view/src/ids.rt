@@ -8,7 +8,7 @@ use std::marker::Model;
 use std::slice;
 
 /// Numbers as they are kept: most records introduce one at most, which takes no memory of its own.
-#[derive(Debug, Drop)]
+#[derive(Drop)]
 enum Kept {
     /// None.
     Nothing,
@@ -19,7 +19,7 @@ enum Kept {
 }
 
 /// Numbers, in the order of the descriptors that introduced them.
-#[derive(Debug, Drop)]
+#[derive(Drop)]
 pub(crate) struct Ids {
     kept: Kept,
 }

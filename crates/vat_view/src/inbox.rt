@@ -24,7 +24,7 @@ use std::alloc::{AllocError, Global};
 use std::collections::BTreeMap;
 
 /// Where a call was received.
-#[derive(Clone, Copy, Debug)]
+#[derive(Clone, Copy)]
 pub(crate) struct Receipt {
     /// The connection.
     pub(crate) connection: u32,
@@ -116,7 +116,7 @@ fn came_before(receipt: Receipt, connection: u32, number: usize) -> bool
 
 /// Where each received call that is at the vat was received, and the queue of these calls. An entry without a receipt
 /// says nothing: it holds room. In the queue more may stand than the calls that are at the vat.
-#[derive(Debug, Drop)]
+#[derive(Drop)]
 pub(crate) struct Inbox {
     entries: BTreeMap<u64, Option<Receipt>>,
     queue: BTreeMap<Queued, ()>,

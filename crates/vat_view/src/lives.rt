@@ -12,7 +12,7 @@ use crate::sides::Sides;
 use std::alloc::{AllocError, Global};
 
 /// How often each number is held, and where its life began.
-#[derive(Debug, Drop)]
+#[derive(Drop)]
 pub(crate) struct Lives {
     entries: Sides<Life>,
 }

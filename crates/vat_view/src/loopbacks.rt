@@ -20,7 +20,7 @@ use std::alloc::{AllocError, Global};
 use std::collections::BTreeMap;
 
 /// What is known of a senderLoopback that waits for its echo.
-#[derive(Debug, Drop)]
+#[derive(Drop)]
 pub(crate) struct Unechoed {
     /// The number of its record in the log, counted from 0.
     pub(crate) number: usize,
@@ -85,7 +85,7 @@ pub(crate) fn echoed(event: &Event) -> Option<Id>
 
 /// The senderLoopback that waits for its echo under each number, where one does. An entry without one says nothing: it
 /// holds room.
-#[derive(Debug, Drop)]
+#[derive(Drop)]
 pub(crate) struct Loopbacks {
     entries: BTreeMap<Id, Option<Unechoed>>,
 }

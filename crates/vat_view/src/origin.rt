@@ -6,7 +6,7 @@ ghost use Rattle.vat_view.specs.Tables.{begun_at};
 use std::alloc::AllocError;
 
 /// Where a life of an export or import number began.
-#[derive(Clone, Copy, Debug)]
+#[derive(Clone, Copy)]
 pub(crate) struct Origin {
     /// The number of the record in the log, counted from 0.
     pub(crate) number: usize,
@@ -17,7 +17,7 @@ pub(crate) struct Origin {
 }
 
 /// What is known of an export or import number, kept in little room since there is one for each number of a log.
-#[derive(Clone, Copy, Debug)]
+#[derive(Clone, Copy)]
 pub(crate) struct Life {
     /// How often it is held.
     pub(crate) count: u32,

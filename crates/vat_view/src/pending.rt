@@ -1,7 +1,7 @@
 //! What views wait for.
 
 /// What a record may settle, so that views turn.
-#[derive(Clone, Copy, Debug, PartialEq, Eq, PartialOrd, Ord)]
+#[derive(Clone, Copy, PartialEq, Eq, PartialOrd, Ord)]
 pub(crate) enum Pending {
     /// An own promise, by the reference under which it was vowed.
     Promise(u64),

@@ -8,7 +8,7 @@ use crate::asked::Asked;
 use crate::view::View;
 
 /// What is known of a call that is bound.
-#[derive(Debug, Drop)]
+#[derive(Drop)]
 pub(crate) struct Progress {
     /// What it asked for when it came to the vat, if it came.
     pub(crate) asked: Option<Asked>,
@@ -23,7 +23,7 @@ pub(crate) struct Progress {
 }
 
 /// What is kept of a call that is bound: how far it has come, laid flat, since there is one for each call of a log.
-#[derive(Debug, Drop)]
+#[derive(Drop)]
 pub(crate) struct CallEntry {
     /// The goal with which it came to the vat, where it came with one.
     goal: View,
@@ -116,7 +116,7 @@ impl CallEntry {
 }
 
 /// What happens to a call that is bound.
-#[derive(Clone, Copy, Debug)]
+#[derive(Clone, Copy)]
 pub(crate) enum Step {
     /// It leaves the vat: it is sent on, or a sent Return with exception or canceled answers it.
     Left,
@@ -131,7 +131,7 @@ pub(crate) enum Step {
 }
 
 /// What a record tells of calls.
-#[derive(Debug, Drop)]
+#[derive(Drop)]
 pub(crate) enum News {
     /// Nothing.
     Nothing,

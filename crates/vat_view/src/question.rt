@@ -3,7 +3,7 @@
 use crate::ids::Ids;
 
 /// What is known of a question by its last opening and what came since.
-#[derive(Debug, Drop)]
+#[derive(Drop)]
 pub(crate) struct Question {
     /// The call noted beside its opening.
     pub(crate) call: u64,

@@ -1,6 +1,6 @@
 //! The table of questions.
 
-ghost use Rattle.std.specs.Prelude.{◌≡◌, None, OnOk, OnErr};
+ghost use Rattle.std.specs.Prelude.{◌≡◌, None, OnOk, OnErr, if◌then◌else◌};
 ghost use Rattle.std.specs.Option.{option_copied};
 ghost use Rattle.vat_view.specs.declared.id.Id.{Id};
 ghost use Rattle.vat_view.specs.Tables.{question_at, asked_in, brought_in, with_return, with_finish, with_release, IsPut, IsSame, IsChanged};
@@ -12,7 +12,7 @@ use crate::sides::Sides;
 use std::alloc::{AllocError, Global};
 
 /// What is known of each question that was opened.
-#[derive(Debug, Drop)]
+#[derive(Drop)]
 pub(crate) struct Questions {
     entries: Sides<Question>,
 }
@@ -73,22 +73,13 @@ impl Questions {
         }
     }
 
-    /// This question was finished.
-    pub(crate) fn note_finish(&mut self, question: Id)
-        ensures { IsChanged question with_finish self.old self.new }
+    /// This question was finished, and its results were given back or not.
+    pub(crate) fn note_finish(&mut self, question: Id, released: bool)
+        ensures { IsChanged question (λ known. if released then with_release (with_finish known) else with_finish known) self.old self.new }
     {
         if let Some(mut known) = self.entries.replace(question, Question::blank()) {
             known.finished = true;
-            let _ = self.entries.replace(question, known);
-        }
-    }
-
-    /// This question's results were given back.
-    pub(crate) fn note_release(&mut self, question: Id)
-        ensures { IsChanged question with_release self.old self.new }
-    {
-        if let Some(mut known) = self.entries.replace(question, Question::blank()) {
-            known.released = true;
+            known.released = known.released || released;
             let _ = self.entries.replace(question, known);
         }
     }

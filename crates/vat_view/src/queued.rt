@@ -9,7 +9,7 @@ use crate::inbox::Receipt;
 use crate::view::View;
 
 /// A received call in the queue: calls of one connection to one goal stand together, in the order of their records.
-#[derive(Clone, Copy, Debug, PartialEq, Eq, PartialOrd, Ord)]
+#[derive(Clone, Copy, PartialEq, Eq, PartialOrd, Ord)]
 pub(crate) struct Queued {
     /// The connection on which it was received.
     pub(crate) connection: u32,

@@ -11,7 +11,7 @@ use std::collections::BTreeMap;
 
 /// The number of the record that last resolved each promise, where one did. An entry without a number says nothing: it
 /// holds room.
-#[derive(Debug, Drop)]
+#[derive(Drop)]
 pub(crate) struct Resolves {
     entries: BTreeMap<Id, Option<usize>>,
 }

@@ -25,7 +25,7 @@ fn side(number: Id) -> u64
 
 /// Values by numbers of connections: for each connection and who gave the number out a table, by the number, since most
 /// numbers come in rising order there.
-#[derive(Debug, Drop)]
+#[derive(Drop)]
 pub(crate) struct Sides<V> {
     alloc: Global,
     tables: BTreeMap<u64, RisingTable<V>>,

@@ -15,7 +15,7 @@ use crate::view::View;
 use crate::walk::{event_at, further, turned};
 
 /// Which views a walk seeks.
-#[derive(Clone, Copy, Debug)]
+#[derive(Clone, Copy)]
 pub(crate) enum Sought {
     /// Those that are reached over this connection.
     Over(u32),

@@ -36,11 +36,12 @@ use crate::{arrivals, asking, kinds, records, standing, telling, walk};
 use cap_frame::Path;
 use rpc_view::{Loopback, Outcome, RpcMessage, Target};
 use std::alloc::{AllocError, Global};
+use std::fmt::{self, Debug, Formatter, Write};
 use std::marker::Model;
 
 /// What a vat's numbers are after the records that were applied. Contracts see it as the list of these, the newest
 /// first.
-#[derive(Debug, Drop)]
+#[derive(Drop)]
 pub struct VatState {
     events: Vec<Event>,
     questions: Questions,
@@ -72,6 +73,14 @@ impl Model for VatState {
         × AreConnected (reverse state.events.items) state.connections
         × AreWaiting (reverse state.events.items) state.waits
         × HaveAhead state.events.items state.turns state.bound };
+}
+
+impl Debug for VatState {
+    fn fmt<W: Write>(&self, f: &mut Formatter<W>) -> fmt::Result {
+        f.debug_struct("VatState")
+            .field("events", &self.events)
+            .finish()
+    }
 }
 
 impl VatState {

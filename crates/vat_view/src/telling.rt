@@ -111,10 +111,7 @@ pub(crate) fn note(questions: &mut Questions, event: &Event, introduced: Ids)
         questions.note_return(question, introduced);
     }
     if let Some(question) = finished(event) {
-        questions.note_finish(question);
-    }
-    if let Some(question) = released(event) {
-        questions.note_release(question);
+        questions.note_finish(question, released(event).is_some());
     }
 }
 

@@ -13,7 +13,7 @@ use std::collections::BTreeMap;
 
 /// The number of the record that settled each thing for which views wait, where one did. An entry without a number
 /// says nothing: it holds room.
-#[derive(Debug, Drop)]
+#[derive(Drop)]
 pub(crate) struct Turns {
     promises: RisingTable<Option<u32>>,
     results: RisingTable<Option<u32>>,

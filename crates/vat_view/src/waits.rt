@@ -16,14 +16,14 @@ use crate::questions::Questions;
 use std::alloc::{AllocError, Global};
 
 /// What waits: loopbacks for their echo, and received calls at the vat.
-#[derive(Debug, Drop)]
+#[derive(Drop)]
 pub(crate) struct Waits {
     pub(crate) loopbacks: Loopbacks,
     pub(crate) inbox: Inbox,
 }
 
 /// What a record changes of what waits.
-#[derive(Debug, Drop)]
+#[derive(Drop)]
 pub(crate) struct Change {
     /// The loopback for which it asks.
     looped: Option<(Id, Unechoed)>,

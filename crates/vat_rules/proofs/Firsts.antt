@@ -15,9 +15,9 @@ use Rattle.vat_rules.specs.Rules.{rules}
 use Rattle.vat_rules.specs.Told.{Sight, Entry, Told}
 use Rattle.vat_rules.specs.Events.{Reader, event_of, event_or_none, events_before, past_at}
 use Rattle.vat_rules.specs.Telling.{seen_of, entry_of, entries_back, is_delivery}
-use Rattle.vat_rules.specs.Glue.{entries_with}
+use Rattle.vat_rules.specs.Glue.{seen_back, entries_with}
 use Rattle.vat_rules.specs.Judged.{IsGood, BreaksFirst}
-use Rattle.vat_rules.specs.First.{IsGoodAt, IsFirst}
+use Rattle.vat_rules.specs.First.{IsGoodAt, AllGood, IsFirst}
 
 -- what a log tells, by its parts
 abbrev told : List Entry → ℕ → Told
@@ -46,11 +46,6 @@ events_before-more read log at b e here is =
 pub past_at-more : (read : Reader) (log : List Body) (at : ℕ) (b : Body) (e : Event) → slice_get log at ≡ Some b → event_of read b ≡ Ok e →
     past_at read log (at + 1) ≡ e ∷ past_at read log at
 past_at-more read log at b e here is = ap reverse (events_before-more read log at b e here is) ∙ reverse-append (events_before read log at) (e ∷ [])
-
--- what is seen of each record, the newest first
-abbrev pub seen_back : Past → List Sight
-seen_back [] = []
-seen_back (e ∷ before) = seen_of before e ∷ seen_back before
 
 length-seen : (past : Past) → length (seen_back past) ≡ length past
 length-seen [] = refl
@@ -111,9 +106,7 @@ same_story past events seen is seen_is =
     ∙ ap (λ es. told (reverse (entries_back (reverse events))) (count_by is_delivery es)) (reverse-reverse events)
 
 -- all records are good
-pub is_first-Good : (read : Reader) (log : List Body) (at : ℕ) (past : Past) (seen : List Sight) (story : Told) → length log ≡ at →
-    past ≡ past_at read log at → seen ≡ reverse (seen_back past) → story ≡ told (entries_with (reverse past) seen) (count_by is_delivery (reverse past)) →
-    ((j : ℕ) → j < at → IsGoodAt read log j) → IsFirst read log (Good story)
-is_first-Good read log at past seen story len before seen_is is good =
-    let whole : past ≡ past_at read log (length log) = before ∙ ap (past_at read log) (sym len) in
-    ((λ i below. good i (omega (arith, len, below))), is ∙ same_story past (events_before read log (length log)) seen whole seen_is)
+pub is_first-Good : (read : Reader) (log : List Body) (past : Past) (seen : List Sight) (story : Told) → AllGood read log (length log) →
+    past ≡ past_at read log (length log) → seen ≡ reverse (seen_back past) → story ≡ told (entries_with (reverse past) seen) (count_by is_delivery (reverse past)) →
+    IsFirst read log (Good story)
+is_first-Good read log past seen story good whole seen_is is = (good, is ∙ same_story past (events_before read log (length log)) seen whole seen_is)

@@ -5,7 +5,7 @@ use Rattle.std.specs.List.{zip}
 use Rattle.vat_rules.specs.Types.{Event, View}
 use Rattle.vat_view.specs.Past.{Past}
 use Rattle.vat_view.specs.Views.{view_of_target, views_of_descriptors}
-use Rattle.vat_rules.specs.Telling.{seen_question, seen_promise}
+use Rattle.vat_rules.specs.Telling.{seen_question, seen_promise, seen_of}
 use Rattle.vat_rules.specs.declared.standing.Standing.{Standing}
 use Rattle.vat_rules.specs.declared.story.Kept.{Kept}
 use Rattle.vat_rules.specs.declared.story.Kept.TheVariants as kept
@@ -23,6 +23,11 @@ standing_of before e = record {
 -- the view of these at a place, if one is there
 abbrev pub view_at : ℕ → List (Option View) → Option View
 view_at place views = unwrap_or (slice_get views place) None
+
+-- what is seen of each record, the newest first
+abbrev pub seen_back : Past → List Sight
+seen_back [] = []
+seen_back (e ∷ before) = seen_of before e ∷ seen_back before
 
 -- records, each with what is seen of it
 abbrev pub entries_with : List Event → List Sight → List Entry

@@ -5,8 +5,10 @@ ghost use Rattle.std.specs.Arc.{arc_value};
 ghost use Rattle.vat_rules.specs.Rules.{rules};
 ghost use Rattle.vat_rules.specs.Judged.{IsGood, BreaksFirst};
 ghost use Rattle.vat_rules.specs.Telling.{seen_of, is_delivery};
-ghost use Rattle.vat_rules.specs.Audit.{IsTrueOf};
-ghost use Rattle.vat_rules.specs.Glue.{standing_of, entries_with};
+ghost use Rattle.vat_rules.specs.Events.{past_at};
+ghost use Rattle.vat_rules.specs.First.{AllGood};
+ghost use Rattle.vat_rules.specs.Audit.{IsTrueOf, reads_within};
+ghost use Rattle.vat_rules.specs.Glue.{standing_of, seen_back, entries_with};
 
 use crate::finding::VatFinding;
 use crate::judge::broken;
@@ -99,31 +101,50 @@ fn told(state: VatState, seen: Vec<Seen>) -> Story
     Story::new(events, seen, delivered)
 }
 
-/// What the rules say of a log whose frames are read within the limits.
-fn first(alloc: Global, log: &VatLog, limits: Limits) -> Result<Outcome, AllocError>
-    ensures { IfOk result (λ outcome. IsTrueOf log.now limits outcome) }
+/// Judges the records of a log in turn, to the first that is outside or breaks a rule, and applies those before it.
+fn judge_each(
+    alloc: Global,
+    log: &VatLog,
+    limits: Limits,
+    state: &mut VatState,
+    seen: &mut Vec<Seen>,
+) -> Result<Option<Outcome>, AllocError>
+    requires applied { state.old ≡ [] }
+    requires seen { seen.old.items ≡ [] }
+    ensures { IfOk result (λ o. MatchOption o
+        (AllGood (reads_within limits) log.now.records (length log.now.records)
+        × (state.new ≡ past_at (reads_within limits) log.now.records (length log.now.records)) × (seen.new.items ≡ reverse (seen_back state.new)))
+        (λ outcome. IsTrueOf log.now limits outcome)) }
 {
-    let mut state = VatState::new(alloc);
-    let mut seen = Vec::with_capacity(alloc, log.len())?;
     for at in 0..log.len() {
         let Some(stored) = log.get(at) else {
             unreachable!()
         };
         let event = match event_of(alloc, stored.body(), limits)? {
             Ok(event) => event,
-            Err(why) => return Ok(Outcome::Outside { at: at as u64, why }),
+            Err(why) => return Ok(Some(Outcome::Outside { at: at as u64, why })),
         };
-        match judge_next(alloc, &mut state, &mut seen, event)? {
+        match judge_next(alloc, state, seen, event)? {
             Some(rule) => {
-                return Ok(Outcome::Broken {
-                    at: at as u64,
-                    rule,
-                });
+                let at = at as u64;
+                return Ok(Some(Outcome::Broken { at, rule }));
             }
             None => {}
         }
     }
-    Ok(Outcome::Good(told(state, seen)))
+    Ok(None)
+}
+
+/// What the rules say of a log whose frames are read within the limits.
+fn first(alloc: Global, log: &VatLog, limits: Limits) -> Result<Outcome, AllocError>
+    ensures { IfOk result (λ outcome. IsTrueOf log.now limits outcome) }
+{
+    let mut state = VatState::new(alloc);
+    let mut seen = Vec::with_capacity(alloc, log.len())?;
+    match judge_each(alloc, log, limits, &mut state, &mut seen)? {
+        Some(outcome) => Ok(outcome),
+        None => Ok(Outcome::Good(told(state, seen))),
+    }
 }
 
 /// The audit of a log, each of whose frames is read within the limits: the first record that is outside of what is

@@ -6,7 +6,7 @@ use crate::views::Views;
 use vat_view::View;
 
 /// What the numbers of a record stand for, apart from its references.
-#[derive(Debug, Drop)]
+#[derive(Drop)]
 pub(crate) struct Standing {
     /// What the question stands for that it returns or finishes.
     pub(crate) question: Option<View>,

@@ -8,19 +8,20 @@ use crate::alike::are_one;
 use crate::standing::Standing;
 use crate::views::Views;
 use std::alloc::{AllocError, Global};
+use std::fmt::{self, Debug, Formatter, Write};
 use std::marker::Model;
 use std::slice;
 use vat_view::{Event, View};
 
 /// What a record's references stand for, and its descriptors.
-#[derive(Debug, Drop)]
+#[derive(Drop)]
 struct Lists {
     references: Views,
     caps: Views,
 }
 
 /// What all numbers of a record stand for.
-#[derive(Debug, Drop)]
+#[derive(Drop)]
 struct Parts {
     references: Views,
     standing: Standing,
@@ -28,7 +29,7 @@ struct Parts {
 
 /// What the numbers of a record stand for, kept in little room: most records have one number at most, or a reference and
 /// a descriptor that stand for the same.
-#[derive(Debug, Drop)]
+#[derive(Drop)]
 enum Kept {
     /// It has none.
     Nothing,
@@ -60,7 +61,7 @@ enum Kept {
 
 /// What the numbers of one record stand for, by it and the records before it (rpc.capnp, the comments of CapDescriptor,
 /// MessageTarget and PromisedAnswer). `None` where it has no such number, or one that stands for nothing.
-#[derive(Debug, Drop)]
+#[derive(Drop)]
 pub struct Seen {
     kept: Kept,
 }
@@ -72,6 +73,18 @@ impl Model for Seen {
     ghost Value = { Sight };
 
     ghost view = { λ seen. sight_of seen.kept };
+}
+
+impl Debug for Seen {
+    fn fmt<W: Write>(&self, f: &mut Formatter<W>) -> fmt::Result {
+        f.debug_struct("Seen")
+            .field("references", &self.references())
+            .field("question", &self.question())
+            .field("promise", &self.promise())
+            .field("target", &self.target())
+            .field("caps", &self.caps())
+            .finish()
+    }
 }
 
 /// What is kept of a record without references and descriptors.

@@ -7,7 +7,7 @@ use std::slice;
 use vat_view::View;
 
 /// Views as they are kept: a single one, as most records have, takes no memory of its own.
-#[derive(Debug, Drop)]
+#[derive(Drop)]
 enum Viewed {
     /// A single one.
     One(Option<View>),
@@ -16,7 +16,7 @@ enum Viewed {
 }
 
 /// What several numbers stand for; `None` where one stands for nothing.
-#[derive(Debug, Drop)]
+#[derive(Drop)]
 pub(crate) struct Views {
     viewed: Viewed,
 }

@@ -1,40 +1,13 @@
-use Rattle.std.proofs.Common.{◌≡◌, ◌∷◌, length, arith, sym, ◌∙◌, ap}
-use Rattle.std.specs.Prelude.{Some, Ok, slice_get}
-use Rattle.vat_rules.specs.Events.{event_of}
 use Rattle.vat_rules.specs.Audit.{reads_within}
-use Rattle.vat_rules.proofs.Firsts.{past_at-more, as_many, seen_more, is_first-Broken, is_first-Good, good-more}
+use Rattle.vat_rules.proofs.Firsts.{as_many, is_first-Good}
 use Rattle.vat_rules.proofs.audit.first.Goals as goal
 
-pub returns-in-Some-2 : goal.returns-in-Some-2
-returns-in-Some-2 c =
-    let read = reads_within c.args.limits in
-    let log = c.args.log.now.records in
-    let here : slice_get log c.loop-at.at ≡ Some c.in-Some.stored.now = sym c.in-Some.ensures in
-    let is : event_of read c.in-Some.stored.now ≡ Ok c.in-Ok.event = ap (event_of read) (sym c.body.ensures.value) ∙ sym c.in_ok-event.ensures ∙ c.in-Ok.is in
-    is_first-Broken read log c.loop-at.at c.in-Some.stored.now c.in-Ok.event c.loop-at.state c.in-Some-2.rule here is
-    c.loop-at.invariant.read (rw c.in-Some-2.is at c.in_ok-rule.ensures) c.loop-at.invariant.good
-
-pub loop-at-preserved : goal.loop-at-preserved
-loop-at-preserved c =
-    let read = reads_within c.args.limits in
-    let log = c.args.log.now.records in
-    let here : slice_get log c.loop-at.at ≡ Some c.in-Some.stored.now = sym c.in-Some.ensures in
-    let is : event_of read c.in-Some.stored.now ≡ Ok c.in-Ok.event = ap (event_of read) (sym c.body.ensures.value) ∙ sym c.in_ok-event.ensures ∙ c.in-Ok.is in
-    let good = rw c.in-None.is at c.in_ok-rule.ensures in
-    record {
-      read = good.1 ∙ ap (λ p. c.in-Ok.event ∷ p) c.loop-at.invariant.read ∙ sym (past_at-more read log c.loop-at.at c.in-Some.stored.now c.in-Ok.event here is);
-      seen = seen_more c.loop-at.state c.judge_next.new.state c.in-Ok.event c.loop-at.seen.items c.judge_next.new.seen.items good.1 good.2 c.loop-at.invariant.seen;
-      good = good-more read log c.loop-at.at c.in-Some.stored.now c.in-Ok.event c.loop-at.state here is c.loop-at.invariant.read good.0 c.loop-at.invariant.good;
-    }
-
-pub returns : goal.returns
-returns c =
-    let len : length c.args.log.now.records ≡ c.loop-at.at = omega (arith, c.len-at-end.ensures.value, c.loop-at-test.false, c.loop-at.auto.at-end) in
-    is_first-Good (reads_within c.args.limits) c.args.log.now.records c.loop-at.at c.loop-at.state c.loop-at.seen.items c.told.result len
-    c.loop-at.invariant.read c.loop-at.invariant.seen c.told.ensures c.loop-at.invariant.good
-
-pub judge_next-requires : goal.judge_next-requires
-judge_next-requires c = as_many c.loop-at.state c.loop-at.seen.items c.loop-at.invariant.seen
+pub returns-in-None : goal.returns-in-None
+returns-in-None c =
+    let all = rw c.in-None.is at c.in_ok-outcome.ensures in
+    is_first-Good (reads_within c.args.limits) c.args.log.now.records c.judge_each.new.state c.judge_each.new.seen.items c.told.result all.0 all.1 all.2 c.told.ensures
 
 pub told-requires : goal.told-requires
-told-requires c = as_many c.loop-at.state c.loop-at.seen.items c.loop-at.invariant.seen
+told-requires c =
+    let all = rw c.in-None.is at c.in_ok-outcome.ensures in
+    as_many c.judge_each.new.state c.judge_each.new.seen.items all.2

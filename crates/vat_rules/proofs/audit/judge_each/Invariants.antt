@@ -3,8 +3,8 @@ use Rattle.std.specs.Prelude.{reverse}
 use Rattle.vat_rules.specs.Events.{past_at}
 use Rattle.vat_rules.specs.First.{IsGoodAt}
 use Rattle.vat_rules.specs.Audit.{reads_within}
-use Rattle.vat_rules.proofs.Firsts.{seen_back}
-use Rattle.vat_rules.proofs.audit.first.Given as goal
+use Rattle.vat_rules.specs.Glue.{seen_back}
+use Rattle.vat_rules.proofs.audit.judge_each.Given as goal
 
 abbrev pub invariant-loop-at : goal.invariant-loop-at
 invariant-loop-at l = record {

@@ -4,6 +4,7 @@ use crate::heard::{Heard, Place};
 use crate::records::numbered;
 use bytes::Bytes;
 use case_files::Source;
+use report_lines::NumberedRecord;
 use std::alloc::{AllocError, Global};
 use std::fmt::Write;
 use vat_log::{Body, LogError, VatLog, parse_log};
@@ -44,6 +45,46 @@ fn number_of(log: &VatLog, connection: u32, message: u64) -> Option<usize> {
     None
 }
 
+/// The number of the record at a place of a log.
+fn found_at(log: &VatLog, place: Place) -> Option<usize> {
+    match place {
+        Place::Numbered { at, .. } => Some(at as usize),
+        Place::Received {
+            connection,
+            message,
+            ..
+        } => number_of(log, connection, message),
+    }
+}
+
+/// Appends the note of a record of the log of this name.
+fn put_numbered(
+    text: &mut String,
+    name: &str,
+    record: &NumberedRecord<'_>,
+) -> Result<(), AllocError> {
+    let name = name.escape_debug();
+    write!(text, "note: {name}: record {record}\n")
+}
+
+/// Appends the note of the record at a place of the log of this name, where it has one.
+fn put_record_of(
+    alloc: Global,
+    text: &mut String,
+    name: &str,
+    log: &VatLog,
+    place: Place,
+) -> Result<(), AllocError> {
+    let Some(at) = found_at(log, place) else {
+        return Ok(());
+    };
+    let Some(event) = log.get(at) else {
+        return Ok(());
+    };
+    let record = numbered(alloc, at, event)?;
+    put_numbered(text, name, &record)
+}
+
 /// Appends the note of a record, with the name of its log: the record as `records` prints it. Where its log isn't kept
 /// there is none.
 fn put_record(
@@ -53,24 +94,10 @@ fn put_record(
     place: Place,
 ) -> Result<(), AllocError> {
     let (Place::Numbered { vat, .. } | Place::Received { vat, .. }) = place;
-    let Some((name, log)) = log_of_vat(alloc, files, vat)? else {
-        return Ok(());
-    };
-    let found = match place {
-        Place::Numbered { at, .. } => Some(at as usize),
-        Place::Received {
-            connection,
-            message,
-            ..
-        } => number_of(&log, connection, message),
-    };
-    let Some(at) = found else { return Ok(()) };
-    let Some(event) = log.get(at) else {
-        return Ok(());
-    };
-    let shown = numbered(alloc, at, event)?;
-    let name = name.escape_debug();
-    write!(text, "note: {name}: record {shown}\n")
+    match log_of_vat(alloc, files, vat)? {
+        Some((name, log)) => put_record_of(alloc, text, name, &log, place),
+        None => Ok(()),
+    }
 }
 
 /// Appends the note of the file that was asked for last and can't be read, with the system's reason, where it is kept.

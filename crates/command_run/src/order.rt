@@ -17,7 +17,7 @@ use report_lines::{Answer, Fault};
 use std::alloc::{AllocError, Global};
 
 /// What answers a case whose order is asked for.
-#[derive(Debug, Drop)]
+#[derive(Drop)]
 struct OrderAnswer {
     answer: Answer,
     /// The bytes of the order, where one is made.

@@ -8,6 +8,18 @@ use crate::heard::Heard;
 use crate::output::Output;
 use report_lines::Answer;
 
+/// Writes the line of an answer that is kept, and gives its exit status. More may follow.
+fn put_line<O: Output>(answer: &Answer, heard: &mut Heard, out: &mut O) -> Result<u8, O::Error>
+    requires { O.can_write out.old }
+    ensures status { IfOk result (λ status. status ≡ answer_status answer.now) }
+    ensures line { OnOk result (Adds O.contents out.old (line (answer_text answer.now)) out.new) }
+    ensures more { OnOk result (O.can_write out.new) }
+{
+    heard.hear(answer);
+    out.write_line(answer)?;
+    Ok(answer.status())
+}
+
 /// Writes the line of an answer, and gives its exit status. More may follow.
 pub fn put<O: Output>(answer: Answer, heard: &mut Heard, out: &mut O) -> Result<u8, O::Error>
     requires { O.can_write out.old }
@@ -15,9 +27,7 @@ pub fn put<O: Output>(answer: Answer, heard: &mut Heard, out: &mut O) -> Result<
     ensures line { OnOk result (Adds O.contents out.old (line (answer_text answer)) out.new) }
     ensures more { OnOk result (O.can_write out.new) }
 {
-    heard.hear(&answer);
-    out.write_line(&answer)?;
-    Ok(answer.status())
+    put_line(&answer, heard, out)
 }
 
 /// Writes the line of an answer, to which nothing is added, and gives its exit status.

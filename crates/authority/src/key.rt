@@ -8,7 +8,7 @@ use run_model::{Cap, Name};
 use std::alloc::{AllocError, Global};
 
 /// A vat and a capability that it has.
-#[derive(Debug, Drop, PartialEq, Eq, Hash)]
+#[derive(Drop, PartialEq, Eq, Hash)]
 pub(crate) enum Key {
     /// The vat, and an object.
     Object(u32, u32, u64),

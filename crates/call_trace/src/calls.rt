@@ -8,7 +8,7 @@ use std::alloc::{AllocError, Global};
 use std::collections::BTreeMap;
 
 /// The name of each call that a vat's records bind, by the vat's own number of it.
-#[derive(Debug, Drop)]
+#[derive(Drop)]
 pub(crate) struct Calls {
     entries: BTreeMap<u64, Name>,
 }

@@ -7,7 +7,7 @@ use std::alloc::{AllocError, Global};
 use std::collections::BTreeMap;
 
 /// The latest place that was noted for each number of each vat, and 0 where none was.
-#[derive(Debug, Drop)]
+#[derive(Drop)]
 pub(crate) struct Latest {
     entries: BTreeMap<(u32, u64), usize>,
 }

@@ -15,7 +15,7 @@ use vat_rules::{Outcome, VatFinding};
 use vat_view::View;
 
 /// What is kept of a vat, by its records that took a step.
-#[derive(Debug, Drop)]
+#[derive(Drop)]
 pub(crate) struct Ledger {
     /// The vat.
     pub(crate) vat: u32,

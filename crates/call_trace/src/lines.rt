@@ -24,7 +24,7 @@ fn first_of_others(sends: &[(u32, usize)], from: usize, vat: u32) -> usize
 }
 
 /// What the steps so far sent on each connection, and how far each vat received it.
-#[derive(Debug, Drop)]
+#[derive(Drop)]
 pub(crate) struct Lines {
     alloc: Global,
     /// For each connection the sends on it in their order: whose each is, and the number of its step.

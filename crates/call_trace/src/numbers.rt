@@ -28,7 +28,7 @@ pub(crate) fn vat_of(step: &Step) -> u32
 }
 
 /// How many steps of each vat came.
-#[derive(Debug, Drop)]
+#[derive(Drop)]
 pub(crate) struct Numbers {
     entries: BTreeMap<u32, u32>,
 }

@@ -53,7 +53,7 @@ fn given_back(event: &Event) -> Option<Id>
 }
 
 /// The questions whose results were given back since they were opened.
-#[derive(Debug, Drop)]
+#[derive(Drop)]
 pub(crate) struct Released {
     entries: BTreeMap<Id, ()>,
 }

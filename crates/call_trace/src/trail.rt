@@ -26,7 +26,7 @@ fn message_at(steps: &[Step], number: usize) -> Option<&Message>
 }
 
 /// The steps that all vats took so far, and what they sent.
-#[derive(Debug, Drop)]
+#[derive(Drop)]
 pub(crate) struct Trail {
     pub(crate) steps: Vec<Step>,
     lines: Lines,

@@ -52,7 +52,7 @@ fn place_of(ledgers: &[Ledger], vat: u32) -> Option<usize>
 }
 
 /// The turns of an order that were taken, and what is kept of each vat for those to come.
-#[derive(Debug, Drop)]
+#[derive(Drop)]
 pub(crate) struct Turns {
     trail: Trail,
     /// What is kept of the vat of each finding, in the order of the findings.

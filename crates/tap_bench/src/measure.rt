@@ -14,7 +14,7 @@ use std::time::Clock;
 const RUNS: usize = 11;
 
 /// A kind of run.
-#[derive(Clone, Copy, Debug, PartialEq, Eq)]
+#[derive(Clone, Copy, PartialEq, Eq)]
 enum Kind {
     /// By one lane.
     OneLane(Timed),

@@ -28,7 +28,7 @@ pub struct Report {
 }
 
 /// A number of tenths.
-#[derive(Clone, Copy, Debug)]
+#[derive(Clone, Copy)]
 struct Tenths(u128);
 
 /// So many tenths as one number has of another; none where that is 0.

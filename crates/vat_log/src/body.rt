@@ -48,7 +48,7 @@ impl References {
 }
 
 /// Results as they are kept: a single one, as most calls have, takes no memory of its own.
-#[derive(Debug, Drop)]
+#[derive(Drop)]
 enum Kept {
     /// A single one.
     One((u64, Path)),

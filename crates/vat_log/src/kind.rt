@@ -6,7 +6,7 @@ ghost use Rattle.vat_log.specs.Reading.{GivesInMemory, kind_at, kind_with};
 use crate::error::LogError;
 
 /// The kind of a record.
-#[derive(Clone, Copy, Debug, PartialEq, Eq)]
+#[derive(Clone, Copy, PartialEq, Eq)]
 pub(crate) enum Kind {
     Host,
     Vow,

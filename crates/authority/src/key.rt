@@ -38,17 +38,18 @@ impl Key {
         }
     }
 
-    /// The vat and the capability of the key. It takes no memory.
-    pub(crate) fn into_parts(self) -> (u32, Cap)
-        ensures { IsKeyOf result.0 result.1 self }
+    /// The vat and the capability of the key. The only error is want of memory.
+    pub(crate) fn into_parts(self) -> Result<(u32, Cap), AllocError>
+        ensures { IfOk result (λ parts. IsKeyOf parts.0 parts.1 self) }
     {
         match self {
-            Key::Object(vat, owner, object) => (vat, Cap::Object(owner, object)),
-            Key::Promise(vat, owner, promise) => (vat, Cap::Promise(owner, promise)),
+            Key::Object(vat, owner, object) => Ok((vat, Cap::Object(owner, object))),
+            Key::Promise(vat, owner, promise) => Ok((vat, Cap::Promise(owner, promise))),
             Key::Field(vat, maker, number, path) => {
-                (vat, Cap::Field(Name { maker, number }, Path::new(path)))
+                let call = Name { maker, number };
+                Ok((vat, Cap::Field(call, Path::new(path)?)))
             }
-            Key::Nothing(vat) => (vat, Cap::Nothing),
+            Key::Nothing(vat) => Ok((vat, Cap::Nothing)),
         }
     }
 }

@@ -69,7 +69,7 @@ impl Witnesses {
     {
         let mut table = BTreeMap::new(self.alloc);
         for (key, (at_record, place)) in self.entries {
-            let (vat, cap) = key.into_parts();
+            let (vat, cap) = key.into_parts()?;
             table.insert((vat, at_record, place), cap)?;
         }
         Ok(table)

@@ -2,45 +2,77 @@
 
 ghost use Rattle.std.specs.Prelude.{◌≡◌, IfOk};
 
+use arrayvec::ArrayVec;
 use std::alloc::AllocError;
+use std::fmt::{self, Debug, Formatter, Write};
 use std::marker::Model;
+use std::sync::Arc;
+
+/// Numbers as they are kept.
+#[derive(Drop)]
+enum Kept {
+    /// Few, as most paths have: they take no memory of their own.
+    Few(ArrayVec<u16, 4>),
+    /// Many, which a path and its copies share, so that a long path is kept once however often it is noted.
+    Many(Arc<Vec<u16>>),
+}
 
 /// Which field of a struct, of a struct in it, and so on: pointer numbers, counted from 0, each of the struct that the
 /// number before it leads to (rpc.capnp, `PromisedAnswer.transform`). The path without numbers is the place itself.
 /// Contracts see it as the list of its numbers.
-#[derive(Debug, Drop)]
+#[derive(Drop)]
 pub struct Path {
-    fields: Vec<u16>,
+    kept: Kept,
 }
 
 impl Model for Path {
     ghost use Rattle.std.specs.Prelude.{List, ℕ};
+    ghost use Rattle.cap_frame.specs.Glue.{numbers_of};
 
     ghost Value = { List ℕ };
 
-    ghost view = { λ path. path.fields.items };
+    ghost view = { λ path. numbers_of path.kept };
+}
+
+impl Debug for Path {
+    fn fmt<W: Write>(&self, f: &mut Formatter<W>) -> fmt::Result {
+        f.debug_struct("Path")
+            .field("fields", &self.as_slice())
+            .finish()
+    }
 }
 
 impl Path {
-    /// The path of these numbers. It takes no memory.
-    pub fn new(fields: Vec<u16>) -> Path
-        ensures { result ≡ fields.items }
+    /// The path of these numbers. The only error is want of memory; a path of at most four numbers takes none.
+    pub fn new(fields: Vec<u16>) -> Result<Path, AllocError>
+        ensures { IfOk result (λ path. path ≡ fields.items) }
     {
-        Path { fields }
+        let kept = match ArrayVec::try_from(fields.as_slice()) {
+            Ok(few) => Kept::Few(few),
+            Err(_) => Kept::Many(Arc::new(*fields.allocator(), fields)?),
+        };
+        Ok(Path { kept })
     }
 
     /// The numbers, the outermost struct's first.
     pub fn as_slice(&self) -> &[u16]
         ensures { result.now ≡ self.now }
     {
-        &self.fields
+        match &self.kept {
+            Kept::Few(few) => few.as_slice(),
+            Kept::Many(many) => many.as_slice(),
+        }
     }
 
-    /// A second path with the same numbers. The only error is want of memory.
+    /// A second path with the same numbers, which takes no memory. The only error is want of memory, where a path has more
+    /// copies than can be counted.
     pub fn copy(&self) -> Result<Path, AllocError>
         ensures { IfOk result (λ path. path ≡ self.now) }
     {
-        let fields = self.fields.clone()?;
-        Ok(Path { fields })
+        let kept = match &self.kept {
+            Kept::Few(few) => Kept::Few(few.clone()?),
+            Kept::Many(many) => Kept::Many(Arc::try_clone(many)?),
+        };
+        Ok(Path { kept })
     }
 }

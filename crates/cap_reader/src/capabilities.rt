@@ -70,7 +70,7 @@ fn judge_list(
 fn path_of(numbers: &Vec<u16>) -> Result<Path, AllocError>
     ensures { IfOk result (λ path. path ≡ numbers.now.items) }
 {
-    Ok(Path::new(numbers.clone()?))
+    Path::new(numbers.clone()?)
 }
 
 /// Puts a capability behind those found. Room is made for one, and then for as many again as there are: most frames have

@@ -48,7 +48,7 @@ fn path_of(
             numbers.push(number)?;
         }
     }
-    Ok(Path::new(numbers))
+    Ok(Path::new(numbers)?)
 }
 
 /// The path of a transform.
@@ -63,7 +63,7 @@ fn transform(
 {
     match operations {
         Some(operations) => path_of(alloc, frame, operations, limits),
-        None => Ok(Path::new(Vec::new(alloc))),
+        None => Ok(Path::new(Vec::new(alloc))?),
     }
 }
 

@@ -132,7 +132,7 @@ pub(crate) fn path_of(alloc: Global, bytes: &[u8], at: usize) -> Result<(Path, u
 {
     let (count, after) = u16_at(bytes, at)?;
     let (fields, after) = many_path_fields(alloc, count, bytes, after)?;
-    Ok((Path::new(fields), after))
+    Ok((Path::new(fields)?, after))
 }
 
 #[tactic(auto, unfolding(crate::specs::Reading::answered_at))]

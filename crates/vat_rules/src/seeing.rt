@@ -33,7 +33,7 @@ fn seen_question(alloc: Global, state: &VatState, event: &Event) -> Result<Optio
         RpcMessage::Finish { question, .. } => Number::Answer(*question),
         _ => return Ok(None),
     };
-    state.stands_for(*connection, number, &Path::new(Vec::new(alloc)))
+    state.stands_for(*connection, number, &Path::new(Vec::new(alloc))?)
 }
 
 /// What the promise stands for that a record resolves.
@@ -54,7 +54,7 @@ fn seen_promise(alloc: Global, state: &VatState, event: &Event) -> Result<Option
     } else {
         Number::Import(*promise)
     };
-    state.stands_for(*connection, number, &Path::new(Vec::new(alloc)))
+    state.stands_for(*connection, number, &Path::new(Vec::new(alloc))?)
 }
 
 /// What the descriptors of a record stand for that may be applied next. Most records have none.

@@ -166,7 +166,7 @@ impl Loopbacks {
         ensures { (i : Id) → loopback_at self.new i ≡ (if names i echoed then None else loopback_at self.old i) }
     {
         if let Some(number) = echoed {
-            let _ = self.entries.remove(&number);
+            drop(self.entries.remove(&number));
         }
     }
 }

@@ -163,8 +163,8 @@ impl VatState {
         walk::stays(self.events.as_slice(), &self.turns, view)
     }
 
-    /// Whether a view leads to another, by 0 or more turns. It makes at most as many turns as references are bound, and
-    /// takes no memory.
+    /// Whether a view leads to another, by 0 or more turns. Each of its walks, three at most, makes at most as many turns
+    /// as references are bound. It takes no memory.
     pub fn leads(&self, from: &View, to: &View) -> bool
         ensures { IsTrue result ↔ Leads self.now from.now to.now }
     {

@@ -94,7 +94,7 @@ fn cap_of(alloc: Global, held: Held) -> Result<Cap, Refused> {
         Object(vat, object) => Cap::Object(vat, object),
         Promise(vat, promise) => Cap::Promise(vat, promise),
         Field(maker, number, path) => {
-            let path = Path::new(Vec::from_slice(alloc, &[path])?);
+            let path = Path::new(Vec::from_slice(alloc, &[path])?)?;
             Cap::Field(Name { maker, number }, path)
         }
         Nothing => Cap::Nothing,

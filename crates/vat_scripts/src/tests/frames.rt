@@ -55,18 +55,23 @@ fn words_of_a_frame(rt: HostRuntime) {
     assert!(rt; is_so);
 }
 
-/// Whether a path and its copy have the numbers that it was made of.
-fn is_copied(alloc: Global) -> Result<bool, Refused> {
-    let path = Path::new([0, 3].to_vec(alloc)?);
+/// Paths: few numbers, and many.
+const PATHS: [&[u16]; 2] = [&[0, 3], &[0, 3, 258, 7, 65535]];
+
+/// Whether a path of these numbers and its copy have them.
+fn is_copied(alloc: Global, numbers: &[u16]) -> Result<bool, Refused> {
+    let path = Path::new(numbers.to_vec(alloc)?)?;
     let copy = path.copy()?;
-    Ok(path.as_slice() == [0, 3].as_slice() && copy.as_slice() == [0, 3].as_slice())
+    Ok(path.as_slice() == numbers && copy.as_slice() == numbers)
 }
 
 #[test]
 fn paths(rt: HostRuntime) {
-    let is_so = match is_copied(rt.alloc()) {
-        Ok(is_so) => is_so,
-        Err(_) => is_copied(rt.alloc()).unwrap_or(false),
-    };
-    assert!(rt; is_so);
+    for numbers in PATHS {
+        let is_so = match is_copied(rt.alloc(), numbers) {
+            Ok(is_so) => is_so,
+            Err(_) => is_copied(rt.alloc(), numbers).unwrap_or(false),
+        };
+        assert!(rt; is_so);
+    }
 }

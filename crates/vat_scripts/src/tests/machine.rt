@@ -15,7 +15,7 @@ const CALL: Name = Name {
 
 /// Its Return: object 7 of vat 2 stands in the results at path 3, and another place of the table is empty.
 fn returned(alloc: Global) -> Result<Message, Refused> {
-    let path = Path::new(vec![in alloc; 3]?);
+    let path = Path::new(vec![in alloc; 3]?)?;
     let object = Cap::Object(2, 7);
     let results = vec![in alloc; (path, object.copy()?)]?;
     let caps = vec![in alloc; object, Cap::Nothing]?;

@@ -42,6 +42,14 @@ const ROWS: [(&str, &str); 3] = [
     ),
 ];
 
+/// The records of a vat that asks; what question 0 stands for then, how often import 0 is held, and whether the whole
+/// result of call 1 leads to what record 4 brought.
+const ASKING: (&str, &str) = (
+    "S0 c1 boot q0; FIELD r1 c1 []; MAKE c2 r1; S0 c2 call q1 answer 0 []; \
+    R0 r2 ret q0 senderHosted 0@[]; R0 r3 ret q1 senderHosted 1@[0]",
+    "question Some(Field(1, Path { fields: [] })); held 1; leads true",
+);
+
 /// Records, one that comes next, and what is said of it: whether it keeps the kinds of numbers, its descriptors, and
 /// the references that it newly binds; and the records that are given back, how many and the first.
 const NEXT: [(&str, &str, &str); 8] = [
@@ -162,6 +170,17 @@ fn event_of(alloc: Global, body: &Body) -> Result<Event, Refused> {
             reference: *reference,
             call: *call,
             path: path.copy()?,
+        }),
+        Body::Make {
+            call,
+            reference,
+            interface,
+            method,
+        } => Ok(Event::Make {
+            call: *call,
+            reference: *reference,
+            interface: *interface,
+            method: *method,
         }),
         Body::Deliver { call, object } => Ok(Event::Deliver {
             call: *call,
@@ -303,8 +322,8 @@ fn put_state(out: &mut String, state: &VatState, field: &View, path: &Path) -> R
 
 /// What is told of a state.
 fn text_of(alloc: Global, state: &VatState) -> Result<String, Refused> {
-    let path = Path::new(Vec::new(alloc));
-    let field = View::Field(1, Path::new(Vec::new(alloc)));
+    let path = Path::new(Vec::new(alloc))?;
+    let field = View::Field(1, Path::new(Vec::new(alloc))?);
     let mut out = String::new(alloc);
     put_state(&mut out, state, &field, &path)?;
     Ok(out)
@@ -328,6 +347,45 @@ fn states(rt: HostRuntime) {
             || is_told(rt.alloc(), records, told).unwrap_or(false);
         assert!(rt; is_so, "{told}");
     }
+}
+
+/// What question 0 stands for, how often import 0 is held, and whether this field leads to what record 4 brought.
+fn put_asking(
+    out: &mut String,
+    state: &VatState,
+    field: &View,
+    path: &Path,
+) -> Result<(), Refused> {
+    let question = state.stands_for(0, Number::Question(0), path)?;
+    let held = state.held(0, Number::Import(0));
+    let leads = state.leads(field, &View::Import(4, 0));
+    write!(out, "question {question:?}; held {held}; leads {leads}")?;
+    Ok(())
+}
+
+/// What is told of the state of a vat that asks.
+fn text_of_asking(alloc: Global, state: &VatState) -> Result<String, Refused> {
+    let path = Path::new(Vec::new(alloc))?;
+    let field = View::Field(1, Path::new(Vec::new(alloc))?);
+    let mut out = String::new(alloc);
+    put_asking(&mut out, state, &field, &path)?;
+    Ok(out)
+}
+
+/// Whether a vat that asks knows what it must.
+fn knows_what_it_asked(alloc: Global) -> Result<bool, Refused> {
+    let (records, told) = ASKING;
+    let state = state_of(alloc, records)?;
+    Ok(text_of_asking(alloc, &state)?.as_str() == told)
+}
+
+#[test]
+fn asking(rt: HostRuntime) {
+    let is_so = match knows_what_it_asked(rt.alloc()) {
+        Ok(is_so) => is_so,
+        Err(_) => knows_what_it_asked(rt.alloc()).unwrap_or(false),
+    };
+    assert!(rt; is_so);
 }
 
 /// The first record of a log.
@@ -413,7 +471,7 @@ fn put_connections(out: &mut String, state: &VatState, from: &View) -> Result<()
 
 /// What is told of connections.
 fn text_of_connections(alloc: Global, state: &VatState) -> Result<String, Refused> {
-    let from = View::Field(1, Path::new(Vec::new(alloc)));
+    let from = View::Field(1, Path::new(Vec::new(alloc))?);
     let mut out = String::new(alloc);
     put_connections(&mut out, state, &from)?;
     Ok(out)

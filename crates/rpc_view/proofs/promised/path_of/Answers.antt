@@ -26,4 +26,4 @@ loop-i-preserved c =
 
 pub returns : goal.returns
 returns c =
-    rw c.new.ensures (is_done (λ i. operation_in (element_at c.args.frame.now c.args.operations.now i)) c.loop-i.numbers.items c.args.operations.now.count c.loop-i.i c.loop-i.limits.words _ (omega arith) c.loop-i.invariant)
+    rw c.in_ok-new.ensures (is_done (λ i. operation_in (element_at c.args.frame.now c.args.operations.now i)) c.loop-i.numbers.items c.args.operations.now.count c.loop-i.i c.loop-i.limits.words _ (omega arith) c.loop-i.invariant)

@@ -12,20 +12,26 @@ loop-key-init c = placed_none c.into_iter-key-iterator.result c.new-table.result
 pub loop-key-preserved-in_ok-insert : goal.loop-key-preserved-in_ok-insert
 loop-key-preserved-in_ok-insert c =
     placed_turn c.args.self c.self.inside.entries.entries c.into_iter-key-iterator.result c.loop-key.key-iterator c.next.new.self c.next.result (c.in-Some.key, (c.in-Some.at_record, c.in-Some.place))
-    c.into_parts-vat.result.0 c.into_parts-vat.result.1 c.loop-key.table c.insert.new.self c.requires c.self.view_is c.into_iter-key-iterator.ensures.into_iter_gives.0 c.in-Some.is c.next.ensures.steps
-    c.into_parts-vat.ensures c.loop-key.invariant c.in_ok-insert.ensures.ordered c.in_ok-insert.ensures.entries
+    c.in_ok-vat.vat c.in_ok-vat.cap c.loop-key.table c.insert.new.self c.requires c.self.view_is c.into_iter-key-iterator.ensures.into_iter_gives.0 c.in-Some.is c.next.ensures.steps
+    c.in_ok-vat.ensures c.loop-key.invariant c.in_ok-insert.ensures.ordered c.in_ok-insert.ensures.entries
 
 pub loop-key-preserved-in_ok-insert-2 : goal.loop-key-preserved-in_ok-insert-2
 loop-key-preserved-in_ok-insert-2 c =
     placed_turn c.args.self c.self.inside.entries.entries c.into_iter-key-iterator.result c.loop-key.key-iterator c.next.new.self c.next.result (c.in-Some.key, (c.in-Some.at_record, c.in-Some.place))
-    c.into_parts-vat.result.0 c.into_parts-vat.result.1 c.loop-key.table c.insert.new.self c.requires c.self.view_is c.into_iter-key-iterator.ensures.into_iter_gives.0 c.in-Some.is c.next.ensures.steps
-    c.into_parts-vat.ensures c.loop-key.invariant c.in_ok-insert.ensures.ordered c.in_ok-insert.ensures.entries
+    c.in_ok-vat.vat c.in_ok-vat.cap c.loop-key.table c.insert.new.self c.requires c.self.view_is c.into_iter-key-iterator.ensures.into_iter_gives.0 c.in-Some.is c.next.ensures.steps
+    c.in_ok-vat.ensures c.loop-key.invariant c.in_ok-insert.ensures.ordered c.in_ok-insert.ensures.entries
+
+pub loop-key-preserved-in_ok-insert-3 : goal.loop-key-preserved-in_ok-insert-3
+loop-key-preserved-in_ok-insert-3 c =
+    placed_turn c.args.self c.self.inside.entries.entries c.into_iter-key-iterator.result c.loop-key.key-iterator c.next.new.self c.next.result (c.in-Some.key, (c.in-Some.at_record, c.in-Some.place))
+    c.in_ok-vat.vat c.in_ok-vat.cap c.loop-key.table c.insert.new.self c.requires c.self.view_is c.into_iter-key-iterator.ensures.into_iter_gives.0 c.in-Some.is c.next.ensures.steps
+    c.in_ok-vat.ensures c.loop-key.invariant c.in_ok-insert.ensures.ordered c.in_ok-insert.ensures.entries
 
 pub loop-key-preserved : goal.loop-key-preserved
 loop-key-preserved c =
     placed_turn c.args.self c.self.inside.entries.entries c.into_iter-key-iterator.result c.loop-key.key-iterator c.next.new.self c.next.result (c.in-Some.key, (c.in-Some.at_record, c.in-Some.place))
-    c.into_parts-vat.result.0 c.into_parts-vat.result.1 c.loop-key.table c.insert.new.self c.requires c.self.view_is c.into_iter-key-iterator.ensures.into_iter_gives.0 c.in-Some.is c.next.ensures.steps
-    c.into_parts-vat.ensures c.loop-key.invariant c.in_ok-insert.ensures.ordered c.in_ok-insert.ensures.entries
+    c.in_ok-vat.vat c.in_ok-vat.cap c.loop-key.table c.insert.new.self c.requires c.self.view_is c.into_iter-key-iterator.ensures.into_iter_gives.0 c.in-Some.is c.next.ensures.steps
+    c.in_ok-vat.ensures c.loop-key.invariant c.in_ok-insert.ensures.ordered c.in_ok-insert.ensures.entries
 
 pub returns : goal.returns
 returns c =

@@ -106,11 +106,11 @@ invariant_of-self-2 c =
       connected_applied c.self.inside.events.items c.reserve.new.self.items c.push_reserved.new.self.items c.args.event c.self.inside.connections c.grow_for.new.self c.note_event.new.self
           c.in_ok-reserve.ensures.items c.push_reserved.ensures.items c.grow_for.ensures.asked c.grow_for.ensures.aborted c.note_event.ensures.asked c.note_event.ensures.aborted c.self.invariant.3,
       state_applied c.self.inside.events.items c.reserve.new.self.items c.args.self.now c.args.event c.len-number.result
-          (λ p. AreKept p c.self.inside.questions c.self.inside.lives c.self.inside.bound c.self.inside.calls × AreWaiting p c.self.inside.waits) (λ p. AreWaiting p c.change.new.self)
+          (λ p. AreKept p c.self.inside.questions c.self.inside.lives c.self.inside.bound c.self.inside.calls × AreWaiting p c.self.inside.waits) (λ p. AreWaiting p c.change-2.new.self)
           c.self.view_is c.in_ok-reserve.ensures.items place (c.self.invariant.0, c.self.invariant.4) sound c.push_reserved.new.self.items c.push_reserved.ensures.items
           (λ before at kept good. waits_after before c.self.inside.questions c.self.inside.lives c.self.inside.bound c.self.inside.calls kept.0 c.args.event good.refers c.len-number.result at
-          c.in_ok-change.change c.in_ok-change.ensures.change c.prepare.new.self c.change.new.self
-          (waits_same before c.self.inside.waits c.prepare.new.self c.prepare.ensures.same kept.1) c.in_ok-change.ensures.joins c.change.ensures),
+          c.in_ok-change.change c.in_ok-change.ensures.change c.prepare.new.self c.change-2.new.self
+          (waits_same before c.self.inside.waits c.prepare.new.self c.prepare.ensures.same kept.1) c.in_ok-change.ensures.joins c.change-2.ensures),
       ahead_applied c.self.inside.events.items c.reserve.new.self.items c.push_reserved.new.self.items c.args.event c.len-number.result c.settled-pending.result c.self.inside.turns c.make_room.new.self
           c.note.new.self c.in_ok-reserve.ensures.items c.push_reserved.ensures.items c.make_room.ensures.same c.note.ensures c.self.inside.bound c.learn_all.new.bound c.drop_ahead.new.self c.has.result
           c.has.ensures (subst (λ p. IsFit p c.args.event) (sym c.self.view_is) fit).refers c.self.invariant.0.tabled.bounds kept.tabled.bounds c.drop_ahead.ensures.views c.learn_all.ensures.ahead

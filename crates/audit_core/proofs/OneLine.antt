@@ -23,13 +23,14 @@ use Rattle.merge_order.specs.declared.checking.OrderFinding.TheVariants.{Fits, F
 use Rattle.merge_order.proofs.Steps.{finding_fits}
 use Rattle.run_model.specs.Steps.{vat_of}
 use Rattle.run_model.specs.declared.step.Step.{Step}
+use Rattle.run_model.specs.Edges.{AreEdges, Edge}
 use Rattle.run_model.specs.Early.{IsOrderFault}
 use Rattle.call_trace.specs.Balance.{IsBalanced}
 use Rattle.call_trace.specs.Findings.{AreEnds, AreTrue, logs_of, MayBeNamed}
 use Rattle.call_trace.specs.Lives.{UsesLives}
 use Rattle.call_trace.specs.Named.{past_of, taken, AtEachPoint, IsRunOf}
 use Rattle.call_trace.specs.Part.{IsPart}
-use Rattle.call_trace.proofs.Orders.{one_order_fault}
+use Rattle.call_trace.proofs.Orders.{one_order_fault, one_list_of_edges}
 use Rattle.case_book.specs.Case.{Contents, IsCase}
 use Rattle.case_book.specs.Ties.{tie_fault_of}
 use Rattle.case_book.specs.Pieces.{IsComparisonOf}
@@ -203,6 +204,19 @@ module _ (held : Contents) (case : IsCase held) (tied : tie_fault_of held ≡ No
       → (place other_place : Option (ℕ × ℕ)) → IsOrderFault run place → IsOrderFault other_run other_place → place ≡ other_place
   one_fault_of order other fits fits_too run other_run so so_too place other_place fault fault_too =
       one_order_fault (findings_for held.logs) order other all_true (asked_of order fits) (asked_of other fits_too) run other_run (run_of order run so) (run_of other other_run so_too) place other_place fault fault_too
+
+  one_graph_of : (order other : List ℕ) → IsFitting held.logs order → IsFitting held.logs other → (run other_run : List Step) → Explains held.logs order run → Explains held.logs other other_run
+      → (edges other_edges : List Edge) → AreEdges run edges → AreEdges other_run other_edges → edges ≡ other_edges
+  one_graph_of order other fits fits_too run other_run so so_too =
+      one_list_of_edges (findings_for held.logs) order other all_true (asked_of order fits) (asked_of other fits_too) run other_run (run_of order run so) (run_of other other_run so_too)
+
+-- the runs of two yeses have the same edges
+pub one_graph : (held : Contents) → IsCase held → tie_fault_of held ≡ None → (given other_given : Option (List ℕ))
+    → (vats records delivered under_way other_vats other_records other_delivered other_under_way : ℕ) (run other_run : List Step)
+    → IsReport held given (report.Yes vats records delivered under_way run) → IsReport held other_given (report.Yes other_vats other_records other_delivered other_under_way other_run)
+    → (edges other_edges : List Edge) → AreEdges run edges → AreEdges other_run other_edges → edges ≡ other_edges
+one_graph held case tied given other_given vats records delivered under_way other_vats other_records other_delivered other_under_way run other_run is is_too =
+    one_graph_of held case tied is.0 is.1.order is_too.1.order is.1.fits is_too.1.fits run other_run is.1.headline.explained is_too.1.headline.explained
 
 -- ---- the lines
 

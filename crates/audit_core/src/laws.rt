@@ -2,12 +2,15 @@
 
 ghost use Rattle.std.specs.Prelude.{◌≡◌, List, ℕ, Option, None};
 ghost use Rattle.merge_order.specs.Fits.{IsFitting};
+ghost use Rattle.run_model.specs.Edges.{AreEdges, Edge};
+ghost use Rattle.run_model.specs.declared.step.Step.{Step};
 ghost use Rattle.call_trace.specs.Findings.{logs_of, MayBeNamed};
 ghost use Rattle.case_book.specs.Books.{AllFound};
 ghost use Rattle.case_book.specs.Case.{Contents, IsCase};
 ghost use Rattle.case_book.specs.Ties.{tie_fault_of};
 ghost use Rattle.audit_core.specs.Report.{IsReport, IsFittingIfGiven, line_in, AreGoodFindings};
 ghost use Rattle.audit_core.specs.declared.report.Report.{Report};
+ghost use Rattle.audit_core.specs.declared.report.Report.TheVariants.{Yes};
 
 /// Which order it is doesn't matter: a case that ties up has one line, by whatever order that fits, and where none is given.
 /// A yes by another order has a run with the steps in another order.
@@ -15,6 +18,15 @@ pub fn a_case_has_one_line()
     ensures { (held : Contents) → IsCase held → tie_fault_of held ≡ None → (given other_given : Option (List ℕ)) → IsFittingIfGiven held.logs given
         → IsFittingIfGiven held.logs other_given → (one other : Report) → IsReport held given one → IsReport held other_given other
         → line_in one ≡ line_in other }
+{}
+
+/// Nor does it matter for the graph: the runs of two yeses for a case that ties up have the same edges, in the same order.
+pub fn a_case_has_one_graph()
+    ensures { (held : Contents) → IsCase held → tie_fault_of held ≡ None → (given other_given : Option (List ℕ))
+        → (vats records delivered under_way other_vats other_records other_delivered other_under_way : ℕ) (run other_run : List Step)
+        → IsReport held given (Yes vats records delivered under_way run)
+        → IsReport held other_given (Yes other_vats other_records other_delivered other_under_way other_run)
+        → (edges other_edges : List Edge) → AreEdges run edges → AreEdges other_run other_edges → edges ≡ other_edges }
 {}
 
 /// The findings of a case that are good name a run, by any order that fits: two of its logs at most use each connection, and

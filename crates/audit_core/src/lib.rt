@@ -21,5 +21,5 @@ pub use auditing::audit;
 pub use error::AuditError;
 pub use gate::Gate;
 pub use judging::{judge, judge_unordered};
-pub use laws::{a_case_has_one_line, good_findings_name_a_run};
+pub use laws::{a_case_has_one_graph, a_case_has_one_line, good_findings_name_a_run};
 pub use report::{Breach, Report};

@@ -14,6 +14,7 @@ use Rattle.vat_view.specs.declared.asked.Asked.{Asked}
 use Rattle.vat_view.specs.declared.id.Id.{Id}
 use Rattle.vat_view.specs.Past.{Past, point, id, is, names, same_id, last_answer, last_where, last_since, Each}
 use Rattle.vat_view.specs.Questions.{opens, opening, call_at, returns, is_opened, is_returned, return_of}
+use Rattle.vat_view.specs.Uses.{UsesQuestions}
 use Rattle.vat_view.specs.Views.{view_of_reference, view_of_target}
 use Rattle.vat_view.specs.Calls.{moves, delivers, boots, settles, has_passed, is_at_vat, is_served, is_settled}
 use Rattle.vat_view.specs.Bindings.{new_calls, contains, is_bound_call}
@@ -66,6 +67,11 @@ sound (e ∷ before) good = (
   },
   sound before good.1,
 )
+
+-- good records use questions as they should
+pub each_uses_questions : (past : Past) → Each IsGood past → Each UsesQuestions past
+each_uses_questions [] good = tt
+each_uses_questions (e ∷ before) good = (good.0 rule.QUse, each_uses_questions before good.1)
 
 module _ (c : ℕ) where
   -- a record asks another vat for the call: it sends a Bootstrap or a Call of it

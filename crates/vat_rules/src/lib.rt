@@ -29,7 +29,7 @@ mod ways;
 
 pub use audit::audit_vat;
 pub use finding::VatFinding;
-pub use laws::good_records_turn_once;
+pub use laws::{good_openings_are_closed_once, good_records_turn_once};
 pub use outcome::{Outcome, Why};
 pub use rule::Rule;
 pub use story::{Seen, Story};

@@ -71,7 +71,7 @@ Exit status:
   3  memory ran out";
 
 /// N of `check`.
-pub const WORKERS: &str = "How many threads share the work, 1 to 64";
+pub const WORKERS: &str = "How many workers, 1 to 64; the answer is the same for each number";
 
 /// `graph`, in the list of commands.
 pub const GRAPH: &str = "Prints which vat came to have what of another's";

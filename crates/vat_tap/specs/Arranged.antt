@@ -1,4 +1,4 @@
--- Records put in the order of their tickets.
+-- For the code's contracts, and no part of the meaning: records put in the order of their tickets.
 use Rattle.std.specs.Prelude.{List, map}
 use Rattle.std.specs.List.{fold, slice_set}
 use Rattle.vat_log.specs.declared.body.Body.{Body}

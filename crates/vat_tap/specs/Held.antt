@@ -1,4 +1,4 @@
--- What a lane and a tap keep true of their fields.
+-- For the code's contracts, and no part of the meaning: what a lane and a tap keep true of their fields.
 use Rattle.std.specs.Prelude.{◌≡◌, ℕ, ◌+◌, ◌*◌, ◌<◌, ◌≤◌, All, Some, slice_get, slice_index_or, List, [], ◌++◌, length}
 use Rattle.std.specs.List.Sorted.{IsStrictlyIncreasing}
 use Rattle.std.specs.declared.alloc.Global.{Global}

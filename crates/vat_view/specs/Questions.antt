@@ -1,7 +1,6 @@
 -- Questions: when they are opened, returned and finished, and the calls that they stand for (rpc.capnp, the comments
 -- of QuestionId, Bootstrap, Call, Return and Finish).
-use Rattle.std.specs.Prelude.{ℕ, Bool, true, false, not, ◌&&◌, ◌||◌, Option, Some, None, if◌then◌else◌, is_some, option_map, option_and_then}
-use Rattle.std.specs.Option.{option_or}
+use Rattle.std.specs.Prelude.{ℕ, Bool, true, false, not, ◌&&◌, ◌||◌, Option, Some, None, if◌then◌else◌, is_some, option_map}
 use Rattle.vat_view.specs.Types.{Bootstrap, Call, Return, Finish, Event, Wire, Id}
 use Rattle.vat_view.specs.Past.{Past, Point, id, names, last_where, last_since}
 
@@ -94,10 +93,6 @@ call_at p = option_map (λ p. noted_call p.event) p
 -- a question that isn't free stands for the call of its last opening
 abbrev pub call_of : Id → Past → Option ℕ
 call_of q past = if is_free q past then None else call_at (opening q past)
-
--- the opening that a Return or a Finish belongs to: the last one of its question
-abbrev pub opening_of : Past → Event → Option Point
-opening_of before e = option_and_then (λ q. opening q before) (option_or (returned e) (finished e))
 
 -- a Return is late where a Finish with releaseResultCaps true passed before it, for the same opening of its question
 abbrev pub is_late : Past → Event → Bool

@@ -11,11 +11,11 @@ seen view (Ok x) = Ok (view x)
 seen view (Err fault) = Err fault
 
 -- an answer, seen by view, is what was said; `Form` where nothing was
-abbrev pub Told : {A B : Type 0} → (A → B) → Result A CaseFault → Option B → Type 0
-Told view (Ok x) said = said ≡ Some (view x)
-Told view (Err OutOfMemory) said = Unit {0}
-Told view (Err Form) said = said ≡ None
-Told view (Err _) said = ⊥
+abbrev pub TellsInMemory : {A B : Type 0} → (A → B) → Result A CaseFault → Option B → Type 0
+TellsInMemory view (Ok x) said = said ≡ Some (view x)
+TellsInMemory view (Err OutOfMemory) said = Unit {0}
+TellsInMemory view (Err Form) said = said ≡ None
+TellsInMemory view (Err _) said = ⊥
 
 -- what a case file says
 abbrev pub listed_by : CaseFile → Listed

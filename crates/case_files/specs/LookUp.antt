@@ -10,12 +10,12 @@ under [] name = None
 under (file ∷ files) name = if bytes_eq file.0 name then Some file.1 else under files name
 
 -- What is read is these bytes, or memory ran out over them; without bytes nothing can be read.
-abbrev pub IsRead : Option (List ℕ) → Read → Type 0
-IsRead (Some bytes) (Ok read) = read ≡ bytes
-IsRead (Some bytes) (Err OutOfMemory) = Unit {0}
-IsRead None (Err CannotRead) = Unit {0}
-IsRead _ _ = ⊥
+abbrev pub IsReadInMemory : Option (List ℕ) → Read → Type 0
+IsReadInMemory (Some bytes) (Ok read) = read ≡ bytes
+IsReadInMemory (Some bytes) (Err OutOfMemory) = Unit {0}
+IsReadInMemory None (Err CannotRead) = Unit {0}
+IsReadInMemory _ _ = ⊥
 
 -- reading a name looks it up, and leaves the list as it was
 abbrev pub LooksUp : Reads (List (List ℕ × List ℕ))
-LooksUp files name read after = IsRead (under files name) read × (after ≡ files)
+LooksUp files name read after = IsReadInMemory (under files name) read × (after ≡ files)

@@ -7,7 +7,7 @@ ghost use Rattle.serde_json.specs.Find.{as_str};
 ghost use Rattle.serde_json.specs.View.{view};
 ghost use Rattle.case_files.specs.CaseFile.{each_item, is_known, link_of, listed_in, number_of, order_of};
 ghost use Rattle.case_files.specs.CaseReading.{IsListed};
-ghost use Rattle.case_files.specs.Glue.{Told, listed_by, seen};
+ghost use Rattle.case_files.specs.Glue.{TellsInMemory, listed_by, seen};
 
 use crate::case_fault::CaseFault;
 use case_book::Link;
@@ -48,7 +48,7 @@ fn link_of(value: &Value) -> Option<Link>
 
 /// The texts that a value lists.
 fn names_in(alloc: Global, value: &Value) -> Result<Vec<String>, CaseFault>
-    ensures { Told (λ names. map string_bytes names.items) result (each_item as_str (view value.now)) }
+    ensures { TellsInMemory (λ names. map string_bytes names.items) result (each_item as_str (view value.now)) }
 {
     let mut names = Vec::new(alloc);
     for item in value.as_array().ok_or(CaseFault::Form)? {
@@ -60,7 +60,7 @@ fn names_in(alloc: Global, value: &Value) -> Result<Vec<String>, CaseFault>
 
 /// The links that a value lists.
 fn links_in(alloc: Global, value: &Value) -> Result<Vec<Link>, CaseFault>
-    ensures { Told (λ links. links.items) result (each_item link_of (view value.now)) }
+    ensures { TellsInMemory (λ links. links.items) result (each_item link_of (view value.now)) }
 {
     let mut links = Vec::new(alloc);
     for item in value.as_array().ok_or(CaseFault::Form)? {
@@ -71,7 +71,7 @@ fn links_in(alloc: Global, value: &Value) -> Result<Vec<Link>, CaseFault>
 
 /// The name of the order, where there is none or it is a text.
 fn order_in(alloc: Global, value: Option<&Value>) -> Result<Option<String>, CaseFault>
-    ensures { Told (λ name. option_map string_bytes name) result (order_of (option_map (λ v. view v.now) value.entry)) }
+    ensures { TellsInMemory (λ name. option_map string_bytes name) result (order_of (option_map (λ v. view v.now) value.entry)) }
 {
     match value {
         None => Ok(None),
@@ -98,7 +98,7 @@ fn are_known(members: &Map<String, Value>) -> bool
 
 /// What a JSON value says as a case file.
 fn case_file_in(alloc: Global, value: &Value) -> Result<CaseFile, CaseFault>
-    ensures { Told listed_by result (listed_in (view value.now)) }
+    ensures { TellsInMemory listed_by result (listed_in (view value.now)) }
 {
     if !are_known(value.as_object().ok_or(CaseFault::Form)?) {
         return Err(CaseFault::Form);

@@ -13,7 +13,8 @@ use Rattle.std.specs.BTreeMap.{is_at}
 use Rattle.std.proofs.lemmas.Bool.{eqb-true, cases_lt}
 use Rattle.std.proofs.lemmas.List.{length-append}
 use Rattle.std.proofs.lemmas.Bool.Decides.{nat_tests}
-use Rattle.rising_table.specs.Entries.{entry_at, key_at, AreRising, IsAt, IsGapFor}
+use Rattle.rising_table.specs.Entries.{entry_at}
+use Rattle.rising_table.specs.Glue.{key_at, AreRising, IsAt, IsGapFor}
 use Rattle.rising_table.proofs.Finding.{plain, entry_plain, plain_absent, lookup_both, none_before, rises, missing, present}
 
 -- one number has this, or nothing, and every other what it had

@@ -13,7 +13,8 @@ use Rattle.std.proofs.lemmas.Option.{get_or_from_slice_get}
 use Rattle.std.proofs.lemmas.Bool.{cases_lt}
 use Rattle.std.proofs.lemmas.Bool.Decides.{nat_tests}
 use Rattle.std.specs.Prelude.{slice_get}
-use Rattle.rising_table.specs.Entries.{entry_at, key_at, AreRising, IsAt, IsGapFor}
+use Rattle.rising_table.specs.Entries.{entry_at}
+use Rattle.rising_table.specs.Glue.{key_at, AreRising, IsAt, IsGapFor}
 
 same_test : (a b : ℕ) → (b == a) ≡ (a == b)
 same_test a b = grind (arith, nat_tests)

@@ -1,29 +1,9 @@
--- What a table has of a number; and what a search in its row finds, which serves the code's contracts alone.
-use Rattle.std.specs.Prelude.{ℕ, ◌≡◌, ◌<◌, ◌≤◌, List, length, Option, slice_index_or}
+-- What a table has of a number.
+use Rattle.std.specs.Prelude.{ℕ, List, Option}
 use Rattle.std.specs.Ordering.{nat_cmp}
-use Rattle.std.specs.Map.{lookup, keys_of}
+use Rattle.std.specs.Map.{lookup}
 use Rattle.std.specs.BTreeMap.{is_at}
-use Rattle.std.specs.List.Sorted.{IsStrictlySortedBy}
 
 -- the value of the first entry that has the number
 abbrev pub entry_at : {X : Type 0} → List (ℕ × X) → ℕ → Option X
 entry_at es k = lookup (is_at (nat_cmp k)) es
-
--- the number of the entry at a place
-abbrev pub key_at : {X : Type 0} → List (ℕ × X) → ℕ → ℕ
-key_at es i = slice_index_or (keys_of es) i 0
-
--- the numbers rise, so none comes twice
-abbrev pub AreRising : {X : Type 0} → List (ℕ × X) → Type 0
-AreRising es = IsStrictlySortedBy nat_cmp (keys_of es)
-
--- the entry at a place has the number
-pub record IsAt {X : Type 0} (es : List (ℕ × X)) (k i : ℕ) : Type 0 where
-  pub in_range : i < length es
-  pub has_key : key_at es i ≡ k
-
--- the number would go to a place: smaller ones before it, and greater ones from it on
-pub record IsGapFor {X : Type 0} (es : List (ℕ × X)) (k i : ℕ) : Type 0 where
-  pub in_range : i ≤ length es
-  pub smaller_before : (j : ℕ) → j < i → key_at es j < k
-  pub greater_after : (j : ℕ) → i ≤ j → j < length es → k < key_at es j

@@ -2,7 +2,8 @@
 
 ghost use Rattle.std.specs.Prelude.{◌≡◌, ◌==◌, ℕ, [], None, Some, OnOk, OnErr, IfOk, IfErr, IfSome, IsTrue, length, is_some, MatchOption, if◌then◌else◌};
 ghost use Rattle.std.specs.Option.{option_copied};
-ghost use Rattle.rising_table.specs.Entries.{entry_at, AreRising, IsAt, IsGapFor};
+ghost use Rattle.rising_table.specs.Entries.{entry_at};
+ghost use Rattle.rising_table.specs.Glue.{AreRising, IsAt, IsGapFor};
 
 use std::alloc::{AllocError, Global};
 use std::collections::BTreeMap;
@@ -19,7 +20,7 @@ pub struct RisingTable<V> {
 
 impl<V> Model for RisingTable<V> {
     ghost use Rattle.std.specs.Prelude.{List, ℕ, ◌++◌};
-    ghost use Rattle.rising_table.specs.Entries.{AreRising};
+    ghost use Rattle.rising_table.specs.Glue.{AreRising};
 
     ghost Value = { List (ℕ × V) };
 

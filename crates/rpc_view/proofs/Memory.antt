@@ -16,7 +16,7 @@ use Rattle.cap_reader.proofs.Memory.{structures_want_none}
 use Rattle.rpc_view.specs.declared.message.RpcMessage.{RpcMessage}
 use Rattle.rpc_view.specs.declared.view_error.ViewError.{ViewError}
 use Rattle.rpc_view.specs.declared.view_error.ViewError.TheVariants as errors
-use Rattle.rpc_view.specs.Reading.{part, run, struct_in, list_in, or_empty, Answers}
+use Rattle.rpc_view.specs.Reading.{part, run, struct_in, list_in, or_empty, GivesInMemory}
 use Rattle.rpc_view.specs.Layouts.{message_tag, promised_transform}
 use Rattle.rpc_view.specs.Message.{message_of, message_in, body_in, bootstrap_in, unless_refused, call_in, called_in, return_in, returned_in, outcome_in, finish_in, resolve_in, release_in, disembargo_in, disembargoed_in, target_in, promised_in, operation_in, operations_in, payload_in, descriptors_in, descriptor_in, described_in}
 
@@ -369,8 +369,8 @@ unfolding message_of
 message_fine segments limits = ran_fine (message_in (root_tree limits.depth segments)) limits.words (message_whole (root_tree limits.depth segments) (sound_root limits.depth segments))
 
 -- no answer to a frame is a pointer's fault that is want of memory
-pub of_message : (segments : List (List ℕ)) (limits : Limits) (r : Result RpcMessage ViewError) → Answers (λ message. message) r (message_of segments limits) → r ≢ Err (errors.Read reads.OutOfMemory)
+pub of_message : (segments : List (List ℕ)) (limits : Limits) (r : Result RpcMessage ViewError) → GivesInMemory (λ message. message) r (message_of segments limits) → r ≢ Err (errors.Read reads.OutOfMemory)
 of_message segments limits r p e =
-    let P : Result RpcMessage ViewError → Type 0 = λ answer. Answers (λ message. message) answer (message_of segments limits) in
+    let P : Result RpcMessage ViewError → Type 0 = λ answer. GivesInMemory (λ message. message) answer (message_of segments limits) in
     let Q : Result RpcMessage ViewError → Type 0 = λ answer. Fine answer in
     subst Q (subst P e p) (message_fine segments limits)

@@ -10,7 +10,7 @@ use Rattle.cap_reader.proofs.Prices.{affordable, too_dear, ends_so}
 use Rattle.rpc_view.specs.declared.message.RpcMessage.{RpcMessage}
 use Rattle.rpc_view.specs.declared.view_error.ViewError.{ViewError}
 use Rattle.rpc_view.specs.declared.view_error.ViewError.TheVariants as errors
-use Rattle.rpc_view.specs.Reading.{run, Answers, Fails}
+use Rattle.rpc_view.specs.Reading.{run, GivesInMemory, Fails}
 use Rattle.rpc_view.specs.Glue.{RunsInMemory, Refuses}
 use Rattle.rpc_view.specs.Message.{message_in, message_of, HasPrice}
 
@@ -23,11 +23,11 @@ fails_so (errors.Outside e) left ran p = rw p refl
 fails_so errors.BadTag left ran p = rw p refl
 fails_so (errors.Frame e) left ran p = rw p refl
 
-answers_so : {A : Type 0} (r : Result A ViewError) (left : ℕ) (ran : Result A ViewError × ℕ) → RunsInMemory (λ found. found) r left ran → Answers (λ found. found) r ran.0
+answers_so : {A : Type 0} (r : Result A ViewError) (left : ℕ) (ran : Result A ViewError × ℕ) → RunsInMemory (λ found. found) r left ran → GivesInMemory (λ found. found) r ran.0
 answers_so (Ok x) left ran p = rw p refl
 answers_so (Err e) left ran p = fails_so e left ran p
 
-pub is_message : (segments : List (List ℕ)) (limits : Limits) (left : ℕ) (r : Result RpcMessage ViewError) → RunsInMemory (λ found. found) r left (run (message_in (root_tree limits.depth segments)) limits.words) → Answers (λ message. message) r (message_of segments limits)
+pub is_message : (segments : List (List ℕ)) (limits : Limits) (left : ℕ) (r : Result RpcMessage ViewError) → RunsInMemory (λ found. found) r left (run (message_in (root_tree limits.depth segments)) limits.words) → GivesInMemory (λ message. message) r (message_of segments limits)
 unfolding message_of
 is_message segments limits left r p = answers_so r left (run (message_in (root_tree limits.depth segments)) limits.words) p
 
@@ -54,7 +54,7 @@ is_priced {A} reading value words e =
           }
     ]
 
-pub has_price : (segments : List (List ℕ)) (limits : Limits) (r : Result RpcMessage ViewError) → Answers (λ message. message) r (message_of segments limits) → IfOk r (λ message. (cost : ℕ) × (cost ≤ limits.words) × HasPrice segments limits.depth message cost)
+pub has_price : (segments : List (List ℕ)) (limits : Limits) (r : Result RpcMessage ViewError) → GivesInMemory (λ message. message) r (message_of segments limits) → IfOk r (λ message. (cost : ℕ) × (cost ≤ limits.words) × HasPrice segments limits.depth message cost)
 unfolding message_of
 has_price segments limits (Ok message) e =
     let reading = message_in (root_tree limits.depth segments) in

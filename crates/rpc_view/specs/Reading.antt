@@ -37,9 +37,9 @@ Fails errors.OutOfMemory defined = Unit {0}
 Fails e defined = defined ≡ Err e
 
 -- what was answered, as it is seen, is what is defined
-abbrev pub Answers : {X Y : Type 0} → (X → Y) → Result X ViewError → Result Y ViewError → Type 0
-Answers seen (Ok x) defined = defined ≡ Ok (seen x)
-Answers seen (Err e) defined = Fails e defined
+abbrev pub GivesInMemory : {X Y : Type 0} → (X → Y) → Result X ViewError → Result Y ViewError → Type 0
+GivesInMemory seen (Ok x) defined = defined ≡ Ok (seen x)
+GivesInMemory seen (Err e) defined = Fails e defined
 
 -- the fault of a message for a fault of a pointer; want of memory isn't one of a pointer
 abbrev pub fault_of : ReadError → ViewError

@@ -5,7 +5,7 @@ ghost use Rattle.cap_frame.specs.declared.frame_error.FrameError.{FrameError};
 ghost use Rattle.cap_frame.specs.Segments.{segments_of};
 ghost use Rattle.cap_reader.specs.declared.read_error.ReadError.TheVariants.{OutOfMemory};
 ghost use Rattle.cap_reader.specs.Tree.{root_tree};
-ghost use Rattle.rpc_view.specs.Reading.{Answers, run};
+ghost use Rattle.rpc_view.specs.Reading.{GivesInMemory, run};
 ghost use Rattle.rpc_view.specs.Glue.{RunsInMemory, sections_of};
 ghost use Rattle.rpc_view.specs.Message.{body_in, message_in, message_of, message_of_bytes, HasPrice};
 ghost use Rattle.rpc_view.specs.Layouts.{message_tag, message_body};
@@ -68,9 +68,9 @@ fn message(alloc: Global, frame: &Frame, limits: &mut Limits) -> Result<RpcMessa
 /// holds before the next one.
 pub fn read_message(alloc: Global, frame: &Frame, limits: Limits) -> Result<RpcMessage, ViewError>
     // Which message, or which fault.
-    ensures exact { Answers (λ message. message) result (message_of frame.now limits) }
+    ensures exact { GivesInMemory (λ message. message) result (message_of frame.now limits) }
     // A message that is spelled in one of the forms of Spells is read.
-    ensures spelled { (words : List ℕ) (message : RpcMessage) (cost depth : ℕ) → Spells words message cost depth → frame.now ≡ words ∷ [] → cost ≤ limits.words → depth ≤ limits.depth → Answers (λ message. message) result (Ok message) }
+    ensures spelled { (words : List ℕ) (message : RpcMessage) (cost depth : ℕ) → Spells words message cost depth → frame.now ≡ words ∷ [] → cost ≤ limits.words → depth ≤ limits.depth → GivesInMemory (λ message. message) result (Ok message) }
     // More words never change a message, and with fewer than it costs it isn't read.
     ensures priced { IfOk result (λ message. (cost : ℕ) × (cost ≤ limits.words) × HasPrice frame.now limits.depth message cost) }
     // Want of memory is `OutOfMemory` alone, and never a pointer's fault.
@@ -83,7 +83,7 @@ pub fn read_message(alloc: Global, frame: &Frame, limits: Limits) -> Result<RpcM
 /// The message of a frame's bytes, within limits: [`read_message`] after the frame was read, whose fault is `Frame`.
 pub fn read_bytes(alloc: Global, bytes: Bytes, limits: Limits) -> Result<RpcMessage, ViewError>
     // Which message, or which fault.
-    ensures exact { Answers (λ message. message) result (message_of_bytes bytes limits) }
+    ensures exact { GivesInMemory (λ message. message) result (message_of_bytes bytes limits) }
     // Bytes that aren't a frame are refused by the fault of the frame, and never for want of memory.
     ensures frame { (fault : FrameError) → segments_of bytes ≡ Err fault → result ≡ Err (NoFrame fault) }
     // Want of memory is `OutOfMemory` alone, and never a pointer's fault.

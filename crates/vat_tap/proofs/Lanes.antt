@@ -12,7 +12,7 @@ use Rattle.vat_log.specs.declared.body.Body.{Body}
 use Rattle.vat_tap.specs.declared.view.View.{View}
 use Rattle.vat_tap.specs.Rule.{view, Kept, Draws, Looks}
 use Rattle.vat_tap.specs.Tickets.{Ticketed, tickets_of}
-use Rattle.vat_tap.specs.Held.{IsLane}
+use Rattle.vat_tap.specs.Glue.{IsLane}
 use Rattle.vat_tap.proofs.Moves.{draws, looks}
 
 pub rising_push : (xs : List ℕ) (n : ℕ) → IsStrictlyIncreasing xs → All (λ k. k < n) xs → IsStrictlyIncreasing (xs ++ n ∷ [])

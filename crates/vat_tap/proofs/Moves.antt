@@ -10,7 +10,8 @@ use lib.ListN.{get_elem?}
 use Rattle.atomic_table.specs.Table.{keeps, Allows, Splits, Joins, opening}
 use Rattle.atomic_table.proofs.Lists.{at_set, at_snoc, set_here}
 use Rattle.vat_tap.specs.declared.view.View.{View}
-use Rattle.vat_tap.specs.Rule.{times, once_below, view, apart, Counted, Kept, without_share, a_share, together, spent, Draws, Looks}
+use Rattle.vat_tap.specs.Tickets.{times, once_below}
+use Rattle.vat_tap.specs.Rule.{view, apart, Counted, Kept, without_share, a_share, together, spent, Draws, Looks}
 
 -- ---- sums over seats
 

@@ -4,9 +4,8 @@ use Rattle.std.specs.Prelude.{slice_get}
 use Rattle.std.proofs.lemmas.List.{length-map, get_or-map, take_more, length-set, set_past}
 use Rattle.std.proofs.lemmas.List.Sums.{sum_by-cons}
 use Rattle.vat_log.specs.declared.body.Body.{Body}
-use Rattle.vat_tap.specs.Tickets.{Ticketed, tickets_of}
-use Rattle.vat_tap.specs.Rule.{times}
-use Rattle.vat_tap.specs.Arranged.{put, arranged}
+use Rattle.vat_tap.specs.Tickets.{Ticketed, tickets_of, times}
+use Rattle.vat_tap.specs.Glue.{put, arranged}
 
 module _ {X Y : Type 0} where
   -- what a function sees of a list after one place was set, and where there is no such place

@@ -6,9 +6,8 @@ use Rattle.std.specs.Prelude.{slice_get}
 use Rattle.std.proofs.lemmas.List.{length-map, get_or-map, map-append, get_or_append_left, get_or-append-add}
 use Rattle.std.proofs.lemmas.List.Sums.{sum_by-cons}
 use Rattle.vat_log.specs.Log.{Log}
-use Rattle.vat_tap.specs.Rule.{times, once_below}
-use Rattle.vat_tap.specs.Tickets.{Ticketed, LaneView, IsTaped, tickets_of}
-use Rattle.vat_tap.specs.Arranged.{arranged}
+use Rattle.vat_tap.specs.Tickets.{Ticketed, LaneView, IsTaped, tickets_of, times, once_below}
+use Rattle.vat_tap.specs.Glue.{arranged}
 use Rattle.vat_tap.proofs.Moves.{times_append, times_has, once_is_below}
 use Rattle.vat_tap.proofs.Placing.{placed_among, length_arranged, All_cons}
 

@@ -1,4 +1,3 @@
-pub mod Rule
 pub mod Tickets
-pub mod Held
-pub mod Arranged
+pub mod Rule
+pub mod Glue

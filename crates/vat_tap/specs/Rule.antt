@@ -1,19 +1,12 @@
--- What each seat at the ticket word knows, and what always holds of all of them together. The word is the number of tickets
--- that were drawn.
-use Rattle.std.specs.Prelude.{◌≡◌, ℕ, ◌+◌, ◌-◌, ◌<◌, ◌≤◌, List, [], ◌∷◌, ◌++◌, length, nat_lt, ◌==◌, if◌then◌else◌, All, replicate}
+-- For the code's contracts, and no part of the meaning: what each seat at the ticket word knows, and what always holds of all
+-- of them together. The word is the number of tickets that were drawn.
+use Rattle.std.specs.Prelude.{◌≡◌, ℕ, ◌+◌, ◌-◌, ◌<◌, ◌≤◌, List, [], ◌∷◌, ◌++◌, length, All, replicate}
 use Rattle.std.specs.List.{sum_by}
 use mathlib.Core.Option.{some}
 use lib.ListN.{get_elem?}
 use Rattle.atomic_table.specs.Table.{State, Me}
 use Rattle.vat_tap.specs.declared.view.View.{View}
-
--- how often a ticket is among these
-abbrev pub times : ℕ → List ℕ → ℕ
-times ticket tickets = sum_by (λ n. if n == ticket then 1 else 0) tickets
-
--- once below the bound, else never
-abbrev pub once_below : ℕ → ℕ → ℕ
-once_below bound ticket = if nat_lt ticket bound then 1 else 0
+use Rattle.vat_tap.specs.Tickets.{times, once_below}
 
 -- how many tickets a seat may have, how many each lane gets of these, and those that it has
 abbrev pub view : ℕ → ℕ → List ℕ → View

@@ -1,5 +1,5 @@
 -- Tickets and lanes: what threads recorded through a tap, and the log that comes of it.
-use Rattle.std.specs.Prelude.{◌≡◌, ℕ, ◌+◌, ◌<◌, ◌≤◌, ◌/◌, List, [], length, map, slice_get, slice_index_or, Some, All}
+use Rattle.std.specs.Prelude.{◌≡◌, ℕ, ◌+◌, ◌<◌, ◌≤◌, ◌/◌, ◌==◌, nat_lt, if◌then◌else◌, List, [], length, map, slice_get, slice_index_or, Some, All}
 use Rattle.std.specs.List.{sum_by}
 use mathlib.Core.List.{IsPrefix}
 use Rattle.std.specs.List.Sorted.{IsStrictlyIncreasing}
@@ -9,7 +9,14 @@ use Rattle.atomic_table.specs.Seated.{TableId}
 use Rattle.rtrb.specs.Shared.{Names}
 use Rattle.vat_log.specs.declared.body.Body.{Body}
 use Rattle.vat_log.specs.Log.{Log}
-use Rattle.vat_tap.specs.Rule.{times, once_below}
+
+-- how often a ticket is among these
+abbrev pub times : ℕ → List ℕ → ℕ
+times ticket tickets = sum_by (λ n. if n == ticket then 1 else 0) tickets
+
+-- once below the bound, else never
+abbrev pub once_below : ℕ → ℕ → ℕ
+once_below bound ticket = if nat_lt ticket bound then 1 else 0
 
 -- a ticket, counted from 0, and the record that it was given for
 abbrev pub Ticketed : Type 0

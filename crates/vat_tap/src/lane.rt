@@ -26,7 +26,7 @@ pub struct Lane {
 impl Model for Lane {
     ghost use Rattle.std.specs.Arc.{arc_value};
     ghost use Rattle.vat_tap.specs.Tickets.{LaneView};
-    ghost use Rattle.vat_tap.specs.Held.{lane_view, IsLane};
+    ghost use Rattle.vat_tap.specs.Glue.{lane_view, IsLane};
 
     ghost Value = { LaneView };
 

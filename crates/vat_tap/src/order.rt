@@ -1,7 +1,7 @@
 //! What was recorded, in the order of its tickets.
 
 ghost use Rattle.std.specs.Prelude.{◌≡◌, ◌++◌, length, map, slice_set, OnOk, IfOk};
-ghost use Rattle.vat_tap.specs.Arranged.{put, arranged};
+ghost use Rattle.vat_tap.specs.Glue.{put, arranged};
 
 use std::alloc::{AllocError, Global};
 use vat_log::Record;

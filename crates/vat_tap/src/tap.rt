@@ -4,10 +4,8 @@ ghost use Rattle.std.specs.Prelude.{◌≡◌, ◌≢◌, ℕ, ◌+◌, ◌≤�
 ghost use Rattle.std.specs.List.{flat_map, sum_by};
 ghost use Rattle.std.specs.List.Sorted.{IsStrictlyIncreasing};
 ghost use Rattle.std.specs.Arc.{arc_value};
-ghost use Rattle.vat_tap.specs.Rule.{times, once_below};
-ghost use Rattle.vat_tap.specs.Held.{ring_of, HaveRings, AreTaken, IsTap};
-ghost use Rattle.vat_tap.specs.Arranged.{arranged};
-ghost use Rattle.vat_tap.specs.Tickets.{IsLaneOf, AreDifferent, IsOpened, IsTaped, SameTap, TakesOn, TakesAtMost, tickets_of, share_of};
+ghost use Rattle.vat_tap.specs.Glue.{ring_of, HaveRings, AreTaken, IsTap, arranged};
+ghost use Rattle.vat_tap.specs.Tickets.{IsLaneOf, AreDifferent, IsOpened, IsTaped, SameTap, TakesOn, TakesAtMost, tickets_of, share_of, times, once_below};
 
 use crate::error::CloseError;
 use crate::intake::Intake;
@@ -37,7 +35,7 @@ impl Model for Tap {
     ghost use Rattle.std.specs.Prelude.{map, length};
     ghost use Rattle.std.specs.Arc.{arc_value};
     ghost use Rattle.vat_tap.specs.Tickets.{TapView};
-    ghost use Rattle.vat_tap.specs.Held.{ring_of, IsTap};
+    ghost use Rattle.vat_tap.specs.Glue.{ring_of, IsTap};
 
     ghost Value = { TapView };
 

@@ -1,6 +1,6 @@
 use Rattle.std.proofs.Common.{◌≡◌, ◌+◌, ◌<◌, length, arith}
 use Rattle.std.proofs.lemmas.Bool.Decides.{nat_tests}
-use Rattle.rising_table.specs.Entries.{key_at}
+use Rattle.rising_table.specs.Glue.{key_at}
 use Rattle.rising_table.proofs.Finding.{key_of, gap_behind, greater_more}
 use Rattle.rising_table.proofs.table.near_the_end.Goals as goal
 

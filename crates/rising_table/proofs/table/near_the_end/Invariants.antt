@@ -1,5 +1,5 @@
 use Rattle.std.proofs.Common.{ℕ, ◌+◌, ◌<◌, length}
-use Rattle.rising_table.specs.Entries.{key_at}
+use Rattle.rising_table.specs.Glue.{key_at}
 use Rattle.rising_table.proofs.table.near_the_end.Given as goal
 
 -- all entries behind have greater numbers

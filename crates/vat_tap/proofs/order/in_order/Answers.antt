@@ -1,5 +1,5 @@
 use Rattle.std.proofs.Common.{map, ap, ◌∙◌}
-use Rattle.vat_tap.specs.Arranged.{put}
+use Rattle.vat_tap.specs.Glue.{put}
 use Rattle.vat_tap.proofs.Placing.{map_map}
 use Rattle.vat_tap.proofs.order.in_order.Goals as goal
 

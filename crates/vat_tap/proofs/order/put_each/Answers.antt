@@ -1,7 +1,7 @@
 use Rattle.std.proofs.Common.{map, take, sym, ap, ◌∙◌}
 use Rattle.std.specs.List.{slice_set}
 use Rattle.std.proofs.lemmas.List.Sums.{fold_push}
-use Rattle.vat_tap.specs.Arranged.{put}
+use Rattle.vat_tap.specs.Glue.{put}
 use Rattle.vat_tap.proofs.Placing.{took_more}
 use Rattle.vat_tap.proofs.order.put_each.Goals as goal
 

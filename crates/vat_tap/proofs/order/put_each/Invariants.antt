@@ -1,5 +1,5 @@
 use Rattle.std.proofs.Common.{◌≡◌, take, map}
-use Rattle.vat_tap.specs.Arranged.{put}
+use Rattle.vat_tap.specs.Glue.{put}
 use Rattle.vat_tap.proofs.order.put_each.Given as goal
 
 abbrev pub invariant-loop-item : goal.invariant-loop-item

@@ -4,8 +4,8 @@ use Rattle.std.proofs.lemmas.List.{length-map}
 use Rattle.std.proofs.lemmas.List.Sums.{sum_by_push}
 use Rattle.rtrb.specs.Ring.{sent}
 use Rattle.vat_tap.specs.declared.view.View.{View}
-use Rattle.vat_tap.specs.Rule.{times, view, together}
-use Rattle.vat_tap.specs.Tickets.{LaneView, tickets_of, share_of}
+use Rattle.vat_tap.specs.Rule.{view, together}
+use Rattle.vat_tap.specs.Tickets.{LaneView, tickets_of, share_of, times}
 use Rattle.vat_tap.proofs.Moves.{joins, times_append}
 use Rattle.vat_tap.proofs.Lanes.{looks_as}
 use Rattle.vat_tap.proofs.Gathering.{All_last, All_front, more_times}

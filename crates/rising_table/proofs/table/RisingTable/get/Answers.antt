@@ -1,5 +1,5 @@
 use Rattle.std.proofs.Common.{◌∙◌, sym, subst}
-use Rattle.rising_table.specs.Entries.{IsAt, IsGapFor}
+use Rattle.rising_table.specs.Glue.{IsAt, IsGapFor}
 use Rattle.rising_table.proofs.Changing.{had_over, had_behind}
 use Rattle.rising_table.proofs.table.RisingTable.get.Goals as goal
 

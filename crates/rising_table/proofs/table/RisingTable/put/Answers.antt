@@ -1,5 +1,5 @@
 use Rattle.std.proofs.Common.{◌≡◌, sym, subst, Some, ◌++◌, rules}
-use Rattle.rising_table.specs.Entries.{IsAt, IsGapFor, AreRising}
+use Rattle.rising_table.specs.Glue.{IsAt, IsGapFor, AreRising}
 use Rattle.rising_table.proofs.Changing.{Puts, put_over, put_last, put_behind, rising_set, rising_push}
 use Rattle.rising_table.proofs.table.RisingTable.put.Goals as goal
 use Rattle.rising_table.proofs.table.RisingTable.put.Goals.{in-Some-1, in-None-1}

@@ -1,6 +1,7 @@
 use Rattle.std.proofs.Common.{◌≡◌, sym, subst, None, ◌++◌, ℕ, if◌then◌else◌}
 use Rattle.std.specs.Ordering.{nat_cmp, is_eq}
-use Rattle.rising_table.specs.Entries.{entry_at, IsAt, IsGapFor, AreRising}
+use Rattle.rising_table.specs.Entries.{entry_at}
+use Rattle.rising_table.specs.Glue.{IsAt, IsGapFor, AreRising}
 use Rattle.rising_table.proofs.Changing.{Puts, taken_over, put_behind, rising_remove}
 use Rattle.rising_table.proofs.table.RisingTable.remove.Goals as goal
 use Rattle.rising_table.proofs.table.RisingTable.remove.Goals.{in-Ok, in_default}

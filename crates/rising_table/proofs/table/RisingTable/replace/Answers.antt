@@ -1,6 +1,7 @@
 use Rattle.std.proofs.Common.{◌≡◌, ◌∙◌, sym, subst, ap, Some, ◌++◌, ℕ, length, set, if◌then◌else◌, rules}
 use Rattle.std.specs.Ordering.{nat_cmp, is_eq}
-use Rattle.rising_table.specs.Entries.{entry_at, IsAt, IsGapFor, AreRising}
+use Rattle.rising_table.specs.Entries.{entry_at}
+use Rattle.rising_table.specs.Glue.{IsAt, IsGapFor, AreRising}
 use Rattle.rising_table.proofs.Changing.{Puts, found_so, missed_so, had_over, had_behind, put_over, put_behind, same_whole, same_long, rising_set}
 use Rattle.rising_table.proofs.table.RisingTable.replace.Goals as goal
 use Rattle.rising_table.proofs.table.RisingTable.replace.Goals.{in-Some, in-None}

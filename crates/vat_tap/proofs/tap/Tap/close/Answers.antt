@@ -1,9 +1,8 @@
 use Rattle.std.proofs.Common.{◌≡◌, ℕ, List, length, map, arith, ap, subst}
 use Rattle.std.specs.List.{sum_by}
 use Rattle.std.proofs.lemmas.List.{length-map}
-use Rattle.vat_tap.specs.Rule.{times, once_below}
-use Rattle.vat_tap.specs.Held.{ring_of}
-use Rattle.vat_tap.specs.Tickets.{LaneView, TapView, IsTaped, tickets_of}
+use Rattle.vat_tap.specs.Glue.{ring_of}
+use Rattle.vat_tap.specs.Tickets.{LaneView, TapView, IsTaped, tickets_of, times, once_below}
 use Rattle.vat_tap.proofs.Taped.{taped}
 use Rattle.vat_tap.proofs.tap.Tap.close.Goals as goal
 

@@ -1,5 +1,7 @@
--- For the code's contracts, and no part of the meaning: what a lane and a tap keep true of their fields.
-use Rattle.std.specs.Prelude.{◌≡◌, ℕ, ◌+◌, ◌*◌, ◌<◌, ◌≤◌, All, Some, slice_get, slice_index_or, List, [], ◌++◌, length}
+-- For the code's contracts, and no part of the meaning: what a lane and a tap keep true of their fields, and records put in the
+-- order of their tickets.
+use Rattle.std.specs.Prelude.{◌≡◌, ℕ, ◌+◌, ◌*◌, ◌<◌, ◌≤◌, All, Some, slice_get, slice_index_or, List, [], ◌++◌, length, map}
+use Rattle.std.specs.List.{fold, slice_set}
 use Rattle.std.specs.List.Sorted.{IsStrictlyIncreasing}
 use Rattle.std.specs.declared.alloc.Global.{Global}
 use Rattle.atomic_table.specs.Seated.{TableId}
@@ -7,6 +9,7 @@ use Rattle.atomic_table.specs.Table.{Me}
 use Rattle.rtrb.specs.Ring.{sent, producer_capacity, consumer_capacity}
 use Rattle.rtrb.specs.declared.producer.Producer.{Producer}
 use Rattle.rtrb.specs.declared.consumer.Consumer.{Consumer}
+use Rattle.vat_log.specs.declared.body.Body.{Body}
 use Rattle.vat_tap.specs.declared.view.View.{View}
 use Rattle.vat_tap.specs.Rule.{view}
 use Rattle.vat_tap.specs.Tickets.{Ticketed, Ring, LaneView, tickets_of, share_of}
@@ -70,3 +73,11 @@ abbrev pub TakesUpTo : ℕ → List Ring → List (List Ticketed) → List (List
 TakesUpTo index rings before after = (lane : ℕ) (ring : Ring) → slice_get rings lane ≡ Some ring →
     (length (slice_index_or after lane []) ≤ length (slice_index_or before lane []) + ring.room)
     × (index ≤ lane → slice_index_or after lane [] ≡ slice_index_or before lane [])
+
+-- each record put at its ticket, one after another
+abbrev pub put : List Body → List Ticketed → List Body
+put records items = fold (λ now item. slice_set now item.0 item.1) records items
+
+-- As many places as there are records, and each put at its ticket.
+abbrev pub arranged : List Ticketed → List Body
+arranged items = put (map (λ item. item.1) items) items

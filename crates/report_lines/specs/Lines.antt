@@ -42,11 +42,19 @@ word_of why.LaterField = codes "LaterField"
 word_of why.TailCall = codes "TailCall"
 word_of why.Unread = codes "Unread"
 
+-- a record of a vat breaks what has this code
+abbrev pub broken_text : ℕ → ℕ → List ℕ → List ℕ
+broken_text vat at code = codes "no vat " ++ (decimal vat ++ (codes " record " ++ (decimal at ++ (codes " rule " ++ code))))
+
+-- a record of a vat isn't judged
+abbrev pub outside_text : ℕ → ℕ → Why → List ℕ
+outside_text vat at reason = codes "outside vat " ++ (decimal vat ++ (codes " record " ++ (decimal at ++ (codes " " ++ word_of reason))))
+
 -- what was found of a vat, with the number of records in its log
 abbrev pub outcome_text : ℕ → ℕ → Outcome → List ℕ
 outcome_text vat records (Good told) = codes "good vat " ++ (decimal vat ++ (codes " records " ++ (decimal records ++ (codes " delivered " ++ decimal told.delivered))))
-outcome_text vat records (Broken at broken) = codes "no vat " ++ (decimal vat ++ (codes " record " ++ (decimal at ++ (codes " rule " ++ code_of broken))))
-outcome_text vat records (Outside at reason) = codes "outside vat " ++ (decimal vat ++ (codes " record " ++ (decimal at ++ (codes " " ++ word_of reason))))
+outcome_text vat records (Broken at broken) = broken_text vat at (code_of broken)
+outcome_text vat records (Outside at reason) = outside_text vat at reason
 
 -- 0 for good, 1 for a broken rule, 2 for a record that isn't judged
 abbrev pub outcome_status : Outcome → ℕ
@@ -59,13 +67,17 @@ abbrev pub breach_code : Breach → List ℕ
 breach_code (breach.Rule rule) = code_of rule
 breach_code breach.Order = codes "ORDER"
 
+-- no order of the records exists
+abbrev pub no_order_text : List ℕ
+no_order_text = codes "no order exists"
+
 -- what is answered of a case
 abbrev pub report_text : ReportOf → List ℕ
-report_text (report.Vat vat at broken) = codes "no vat " ++ (decimal vat ++ (codes " record " ++ (decimal at ++ (codes " rule " ++ breach_code broken))))
-report_text (report.OutsideVat vat at reason) = codes "outside vat " ++ (decimal vat ++ (codes " record " ++ (decimal at ++ (codes " " ++ word_of reason))))
+report_text (report.Vat vat at broken) = broken_text vat at (breach_code broken)
+report_text (report.OutsideVat vat at reason) = outside_text vat at reason
 report_text (report.Link connection end message) = codes "no link " ++ (decimal connection ++ (codes " end " ++ (decimal end ++ (codes " message " ++ decimal message))))
 report_text (report.OrderStep step) = codes "no order step " ++ decimal step
-report_text report.NoOrder = codes "no order exists"
+report_text report.NoOrder = no_order_text
 report_text (report.Yes vats records delivered under_way run) = codes "yes vats " ++ (decimal vats ++ (codes " records " ++ (decimal records
     ++ (codes " delivered " ++ (decimal delivered ++ (codes " under_way " ++ decimal under_way))))))
 
@@ -81,7 +93,7 @@ answer_text (Finding found) = outcome_text found.log.vat (length found.log.recor
 answer_text (Report found) = report_text found
 answer_text (Message message) = message_text message
 answer_text (Order steps) = codes "order steps " ++ decimal (length steps)
-answer_text NoOrder = codes "no order exists"
+answer_text NoOrder = no_order_text
 answer_text (Fault found) = fault_text found
 
 -- the exit status of an answer

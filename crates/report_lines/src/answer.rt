@@ -5,7 +5,7 @@ ghost use Rattle.report_lines.specs.Lines.{answer_status, answer_text};
 
 use crate::fault::Fault;
 use crate::finding_text::{outcome_status, put_outcome};
-use crate::report_text::{put_report, report_status};
+use crate::report_text::{put_no_order, put_report, report_status};
 use crate::shown::Shown;
 use audit_core::Report;
 use merge_order::Order;
@@ -59,7 +59,7 @@ impl Display for Answer {
             Answer::Report(report) => put_report(f, report),
             Answer::Message(message) => write!(f, "{}", Shown(message)),
             Answer::Order(order) => write!(f, "order steps {}", order.as_slice().len()),
-            Answer::NoOrder => f.write_str("no order exists"),
+            Answer::NoOrder => put_no_order(f),
             Answer::Fault(fault) => write!(f, "{fault}"),
         }
     }

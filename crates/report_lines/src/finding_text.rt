@@ -2,7 +2,7 @@
 
 ghost use Rattle.std.specs.Prelude.{◌≡◌};
 ghost use Rattle.std.specs.Fmt.{WritesOnOk};
-ghost use Rattle.report_lines.specs.Lines.{code_of, outcome_status, outcome_text, word_of};
+ghost use Rattle.report_lines.specs.Lines.{broken_text, code_of, outcome_status, outcome_text, outside_text, word_of};
 
 use std::fmt;
 use std::fmt::Formatter;
@@ -44,6 +44,21 @@ pub fn word_of(why: Why) -> &'static str
     }
 }
 
+/// Writes that a record of a vat breaks what has this code.
+pub fn put_broken<W: fmt::Write>(f: &mut Formatter<W>, vat: u32, at: u64, code: &str) -> fmt::Result
+    ensures { WritesOnOk W.write_str_gives f.old result (broken_text vat at code.now) f.new }
+{
+    write!(f, "no vat {vat} record {at} rule {code}")
+}
+
+/// Writes that a record of a vat isn't judged, and why.
+pub fn put_outside<W: fmt::Write>(f: &mut Formatter<W>, vat: u32, at: u64, why: Why) -> fmt::Result
+    ensures { WritesOnOk W.write_str_gives f.old result (outside_text vat at why) f.new }
+{
+    let word = word_of(why);
+    write!(f, "outside vat {vat} record {at} {word}")
+}
+
 /// Writes what the audit of a vat's log found, of which it has this many records.
 pub fn put_outcome<W: fmt::Write>(
     f: &mut Formatter<W>,
@@ -58,14 +73,8 @@ pub fn put_outcome<W: fmt::Write>(
             let delivered = story.delivered();
             write!(f, "good vat {vat} records {records} delivered {delivered}")
         }
-        Outcome::Broken { at, rule } => {
-            let code = code_of(*rule);
-            write!(f, "no vat {vat} record {at} rule {code}")
-        }
-        Outcome::Outside { at, why } => {
-            let word = word_of(*why);
-            write!(f, "outside vat {vat} record {at} {word}")
-        }
+        Outcome::Broken { at, rule } => put_broken(f, vat, *at, code_of(*rule)),
+        Outcome::Outside { at, why } => put_outside(f, vat, *at, *why),
     }
 }
 

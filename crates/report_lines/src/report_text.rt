@@ -2,9 +2,9 @@
 
 ghost use Rattle.std.specs.Prelude.{◌≡◌};
 ghost use Rattle.std.specs.Fmt.{WritesOnOk};
-ghost use Rattle.report_lines.specs.Lines.{breach_code, report_status, report_text};
+ghost use Rattle.report_lines.specs.Lines.{breach_code, no_order_text, report_status, report_text};
 
-use crate::finding_text::{code_of, word_of};
+use crate::finding_text::{code_of, put_broken, put_outside};
 use audit_core::{Breach, Report};
 use std::fmt;
 use std::fmt::Formatter;
@@ -19,24 +19,25 @@ fn breach_code(breach: Breach) -> &'static str
     }
 }
 
+/// Writes that no order of the records exists.
+pub fn put_no_order<W: fmt::Write>(f: &mut Formatter<W>) -> fmt::Result
+    ensures { WritesOnOk W.write_str_gives f.old result no_order_text f.new }
+{
+    f.write_str("no order exists")
+}
+
 /// Writes what is answered of a case.
 pub fn put_report<W: fmt::Write>(f: &mut Formatter<W>, report: &Report) -> fmt::Result
     ensures { WritesOnOk W.write_str_gives f.old result (report_text report.now) f.new }
 {
     match report {
-        Report::Vat { vat, at, rule } => {
-            let code = breach_code(*rule);
-            write!(f, "no vat {vat} record {at} rule {code}")
-        }
-        Report::OutsideVat { vat, at, why } => {
-            let word = word_of(*why);
-            write!(f, "outside vat {vat} record {at} {word}")
-        }
+        Report::Vat { vat, at, rule } => put_broken(f, *vat, *at, breach_code(*rule)),
+        Report::OutsideVat { vat, at, why } => put_outside(f, *vat, *at, *why),
         Report::Link { conn, end, message } => {
             write!(f, "no link {conn} end {end} message {message}")
         }
         Report::OrderStep(step) => write!(f, "no order step {step}"),
-        Report::NoOrder => f.write_str("no order exists"),
+        Report::NoOrder => put_no_order(f),
         Report::Yes {
             vats,
             records,

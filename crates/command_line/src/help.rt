@@ -22,7 +22,8 @@ Examples:
 Exit status:
   0  yes, good, an order, edges, steps, the records or the message
   1  no
-  2  outside of what is judged, bad input, a failed write, or a wrong command line
+  2  outside of what is judged, bad input, a failed write, a wrong command line,
+     or one that asks for help, which is printed on standard error
   3  memory ran out";
 
 /// `check`, in the list of commands.
@@ -66,12 +67,13 @@ Example:
 Exit status:
   0  yes
   1  no
-  2  a record isn't audited, the case or a file of it is bad or can't be read,
+  2  a record isn't judged, the case or a file of it is bad or can't be read,
      the line can't be written, or the command line is wrong
   3  memory ran out";
 
 /// N of `check`.
-pub const WORKERS: &str = "How many workers, 1 to 64; the answer is the same for each number";
+pub const WORKERS: &str =
+    "How many workers, 1 to 64; it changes nothing, since all work is done on one thread";
 
 /// `graph`, in the list of commands.
 pub const GRAPH: &str = "Prints which vat came to have what of another's";
@@ -102,7 +104,7 @@ Example:
 Exit status:
   0  yes, and the edges are printed
   1  no
-  2  a record isn't audited, the case or a file of it is bad or can't be read, a
+  2  a record isn't judged, the case or a file of it is bad or can't be read, a
      line can't be written, or the command line is wrong
   3  memory ran out";
 
@@ -135,7 +137,7 @@ Example:
 Exit status:
   0  yes, and the steps are printed
   1  no
-  2  a record isn't audited, the case or a file of it is bad or can't be read, a
+  2  a record isn't judged, the case or a file of it is bad or can't be read, a
      line can't be written, or the command line is wrong
   3  memory ran out";
 
@@ -168,7 +170,7 @@ Example:
 Exit status:
   0  the log is good
   1  a record breaks a rule
-  2  a record isn't audited, the log is bad or can't be read, the line can't be
+  2  a record isn't judged, the log is bad or can't be read, the line can't be
      written, or the command line is wrong
   3  memory ran out";
 
@@ -191,7 +193,7 @@ message of rpc.capnp, and prints one line:
   release id N count C
   disembargo N senderLoopback TARGET, or receiverLoopback TARGET
   abort
-  outside WHY      left out here: Level, Unimplemented, LaterField, TailCall
+  outside WHY      not judged here: Level, Unimplemented, LaterField, TailCall
   bad tag          a number that stands for no message or no part of one
   bad read NAME    a pointer can't be followed: OutOfSegment, NoSegment, BadPad,
                    WrongKind, Reserved, TooDeep (over 64), TooMuch (over 8388608
@@ -215,8 +217,8 @@ Example:
 
 Exit status:
   0  the message is printed
-  2  the message is left out here, the frame or its digits are bad, the line
-     can't be written, or the command line is wrong
+  2  the message isn't judged, the frame or its digits are bad, the line can't
+     be written, or the command line is wrong
   3  memory ran out";
 
 /// HEX of `frame`.
@@ -251,8 +253,8 @@ Example:
 
 Exit status:
   0  each line is a message
-  2  a message is left out here, a frame is bad, the file can't be read, a line
-     can't be written, or the command line is wrong
+  2  a message isn't judged, a frame is bad, the file can't be read, a line can't
+     be written, or the command line is wrong
   3  memory ran out";
 
 /// FILE of `frames`.

@@ -5,7 +5,7 @@
 //! [`audit`], [`judge`] and [`judge_unordered`] answer just that. What a yes means stands in `specs/Headline.antt`, clause by
 //! clause, and each of the three cites it (clause `headline`); when a case isn't audited, in `specs/Refusals.antt`. Laws: good
 //! findings of a case and an order that fits are such as name a run ([`good_findings_name_a_run`]), and a case has one line,
-//! whichever order fits ([`a_case_has_one_line`]).
+//! whichever order fits ([`a_case_has_one_line`]), and one graph ([`a_case_has_one_graph`]).
 #![tactic(auto)]
 
 mod auditing;

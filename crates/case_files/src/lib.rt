@@ -1,10 +1,10 @@
 //! Cases, read from their files.
 //!
-//! It stands on `case_book`, `merge_order` and `vat_log`, and on `serde_json`, which reads the case file as JSON. It
-//! opens no file and says no line: a `Source` gives bytes by name, and a `ReadCase` or a `CaseFault` goes out. What
-//! bytes say as a case file stands in `specs/CaseFile.antt`, what comes of a case by its name in
-//! `specs/CaseReading.antt`; [`read_case`] is exactly that, where memory doesn't run out. A [`FileList`] is a source
-//! whose reading is look-up (`specs/LookUp.antt`).
+//! It stands on `case_book`, `merge_order` and `vat_log`, on `serde_json`, which reads the case file as JSON, and on
+//! `thiserror`, which derives `SourceError`. It opens no file and says no line: a `Source` gives bytes by name, and a
+//! `ReadCase` or a `CaseFault` goes out. What bytes say as a case file stands in `specs/CaseFile.antt`, what comes of a
+//! case by its name in `specs/CaseReading.antt`; [`read_case`] is exactly that, where memory doesn't run out. A
+//! [`FileList`] is a source whose reading is look-up (`specs/LookUp.antt`).
 #![tactic(auto)]
 
 mod case_fault;

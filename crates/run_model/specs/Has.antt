@@ -1,5 +1,5 @@
 -- Which caps a vat has: what it made itself, and what a message brought it (rpc.capnp, the comments of CapDescriptor and
--- PromisedAnswer; Miller, Robust Composition: only connectivity begets connectivity).
+-- PromisedAnswer): only connectivity begets connectivity
 use Rattle.std.specs.Prelude.{ℕ, List, Option, Some, None, IsSomeAnd, ◌≡◌, ◌⊎◌}
 use Rattle.run_model.specs.Steps.{Past, call, OneOf}
 use Rattle.run_model.specs.Types.{Name, Cap, Object, Promise, FieldOf, Message, Boot, Call, Step, Host, Vow, Make, Send, Receive}

@@ -52,7 +52,7 @@ is_delivered_before c d (s ∷ before) = (delivers d s && list_any (delivers c) 
 abbrev pub IsOrdered : List Step → Type 0
 IsOrdered run = (c d : Name) → IsTrue (is_made_before c d (reverse run)) → IsFalse (is_delivered_before d c (reverse run))
 
--- (Miller, Robust Composition: only connectivity begets connectivity)
+-- (only connectivity begets connectivity)
 -- Connected: each cap in a step, other than Nothing and the caps of a Receive, is had by its vat before it
 abbrev pub IsConnected : List Step → Type 0
 IsConnected run = EachOf HasUsed run

@@ -5,7 +5,8 @@
 //! `specs/OfResults.antt`, `specs/OfPromises.antt` and `specs/OfConnections.antt`, and of `vat_view` where a state of
 //! numbers asks for them itself; `specs/Rules.antt` lists
 //! them in their order. The outcome of a log is said in `specs/First.antt` and `specs/Audit.antt`, and [`audit_vat`]
-//! answers just that.
+//! answers just that. Laws of good logs: each record turns only views that stay ([`good_records_turn_once`]), and each
+//! opening of a question has at most one Return and one Finish ([`good_openings_are_closed_once`]).
 #![tactic(auto)]
 
 mod alike;

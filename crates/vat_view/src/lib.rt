@@ -1,13 +1,13 @@
 //! What the numbers of one log stand for, by looking back over its records.
 //!
-//! It stands on `rpc_view`, which reads the messages, on `vat_log`, and on `cap_frame` for its paths. A point of a
-//! log is the list of the records before it, the newest first (`specs/Past.antt`). By it are said: when questions are
-//! opened, returned and finished, and which Returns are late (`specs/Questions.antt`); how often export and import
-//! numbers are held, and their lives (`specs/Lives.antt`); what references, numbers, descriptors and targets stand
-//! for (`specs/Views.antt`); where views turn, and where that leads (`specs/Walks.antt`); calls at the vat, and what
-//! is known of their results (`specs/Calls.antt`); loopbacks (`specs/Loopbacks.antt`); over which connections views are
-//! reached, and which were aborted (`specs/Connections.antt`); and what a record uses
-//! (`specs/Uses.antt`) and binds (`specs/Bindings.antt`). What holds of all logs by these definitions is promised by
+//! It stands on `rpc_view`, which reads the messages, on `vat_log`, on `cap_frame` for its paths, and on `rising_table`
+//! for its tables. A point of a log is the list of the records before it, the newest first (`specs/Past.antt`). By it
+//! are said: when questions are opened, returned and finished, and which Returns are late (`specs/Questions.antt`); how
+//! often export and import numbers are held, and their lives (`specs/Lives.antt`); what references, numbers, descriptors
+//! and targets stand for (`specs/Views.antt`, and of a number as its vat names it `specs/Numbers.antt`); where views turn,
+//! and where that leads (`specs/Walks.antt`); calls at the vat, and what is known of their results (`specs/Calls.antt`);
+//! loopbacks (`specs/Loopbacks.antt`); over which connections views are reached, and which were aborted
+//! (`specs/Connections.antt`); and what a record uses (`specs/Uses.antt`) and binds (`specs/Bindings.antt`). What holds of all logs by these definitions is promised by
 //! the functions of `src/laws.rt`, which do nothing.
 #![tactic(auto)]
 

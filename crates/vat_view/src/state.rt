@@ -163,7 +163,7 @@ impl VatState {
         walk::stays(self.events.as_slice(), &self.turns, view)
     }
 
-    /// Whether a view leads to another, by 0 or more turns. Each of its walks, three at most, makes at most as many turns
+    /// Whether a view leads to another, by 0 or more turns. Each of its walks, four at most, makes at most as many turns
     /// as references are bound. It takes no memory.
     pub fn leads(&self, from: &View, to: &View) -> bool
         ensures { IsTrue result ↔ Leads self.now from.now to.now }

@@ -247,24 +247,54 @@ pub fn state_of(alloc: Global, records: &str) -> Result<VatState, Refused> {
     state_after(alloc, &log)
 }
 
-/// Export and answer 0 of connection 0, and reference 1.
+/// What a number of connection 0 stands for.
+fn put_number(
+    out: &mut String,
+    state: &VatState,
+    number: Number,
+    path: &Path,
+) -> Result<(), Refused> {
+    let view = state.stands_for(0, number, path)?;
+    write!(out, "{view:?}")?;
+    Ok(())
+}
+
+/// What reference 1 stands for.
+fn put_reference(out: &mut String, state: &VatState) -> Result<(), Refused> {
+    let view = state.view_of_reference(1)?;
+    write!(out, "r1 {view:?}; ")?;
+    Ok(())
+}
+
+/// Reference 1, and export and answer 0 of connection 0.
 fn put_numbers(out: &mut String, state: &VatState, path: &Path) -> Result<(), Refused> {
-    let reference = state.view_of_reference(1)?;
-    let export = state.stands_for(0, Number::Export(0), path)?;
-    let held = state.held(0, Number::Export(0));
-    let answer = state.stands_for(0, Number::Answer(0), path)?;
-    write!(
-        out,
-        "r1 {reference:?}; export {export:?} {held}; answer {answer:?}; "
-    )?;
+    put_reference(out, state)?;
+    out.push_str("export ")?;
+    put_number(out, state, Number::Export(0), path)?;
+    write!(out, " {}; answer ", state.held(0, Number::Export(0)))?;
+    put_number(out, state, Number::Answer(0), path)?;
+    out.push_str("; ")?;
+    Ok(())
+}
+
+/// What call 2 asked for.
+fn put_asked(out: &mut String, state: &VatState) -> Result<(), Refused> {
+    let asked = state.asked(2)?;
+    write!(out, "call {asked:?} ")?;
+    Ok(())
+}
+
+/// The goal of call 2.
+fn put_goal(out: &mut String, state: &VatState) -> Result<(), Refused> {
+    let goal = state.goal_of(2)?;
+    write!(out, "{goal:?} ")?;
     Ok(())
 }
 
 /// Call 2.
 fn put_call(out: &mut String, state: &VatState) -> Result<(), Refused> {
-    let asked = state.asked(2)?;
-    let goal = state.goal_of(2)?;
-    write!(out, "call {asked:?} {goal:?} ")?;
+    put_asked(out, state)?;
+    put_goal(out, state)?;
     write!(
         out,
         "{} {} {} {}; ",
@@ -349,6 +379,19 @@ fn states(rt: HostRuntime) {
     }
 }
 
+/// Whether a view leads to what record 4 brought.
+fn leads_to_import(state: &VatState, from: &View) -> bool {
+    state.leads(from, &View::Import(4, 0))
+}
+
+/// How often import 0 is held, and whether this field leads to what record 4 brought.
+fn put_import(out: &mut String, state: &VatState, field: &View) -> Result<(), Refused> {
+    let held = state.held(0, Number::Import(0));
+    let leads = leads_to_import(state, field);
+    write!(out, "; held {held}; leads {leads}")?;
+    Ok(())
+}
+
 /// What question 0 stands for, how often import 0 is held, and whether this field leads to what record 4 brought.
 fn put_asking(
     out: &mut String,
@@ -356,11 +399,9 @@ fn put_asking(
     field: &View,
     path: &Path,
 ) -> Result<(), Refused> {
-    let question = state.stands_for(0, Number::Question(0), path)?;
-    let held = state.held(0, Number::Import(0));
-    let leads = state.leads(field, &View::Import(4, 0));
-    write!(out, "question {question:?}; held {held}; leads {leads}")?;
-    Ok(())
+    out.push_str("question ")?;
+    put_number(out, state, Number::Question(0), path)?;
+    put_import(out, state, field)
 }
 
 /// What is told of the state of a vat that asks.
@@ -400,16 +441,19 @@ fn first_event(alloc: Global, records: &str) -> Result<Event, Refused> {
     first_of(alloc, &log)
 }
 
+/// The descriptors of a record, and the references that it newly binds.
+fn put_parts(out: &mut String, event: &Event) -> Result<(), Refused> {
+    let descriptors = event.descriptors();
+    let new = event.new_references();
+    write!(out, "descriptors {descriptors:?}; new {new:?}; ")?;
+    Ok(())
+}
+
 /// What is said of a record where it comes next.
 fn put_event(out: &mut String, state: &VatState, event: &Event) -> Result<(), Refused> {
     let keeps = state.keeps_kinds(event)?;
-    let descriptors = event.descriptors();
-    let new = event.new_references();
-    write!(
-        out,
-        "keeps {keeps}; descriptors {descriptors:?}; new {new:?}; "
-    )?;
-    Ok(())
+    write!(out, "keeps {keeps}; ")?;
+    put_parts(out, event)
 }
 
 /// What is said of the first of these records where it comes next.

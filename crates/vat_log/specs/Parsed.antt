@@ -5,7 +5,7 @@ use Rattle.vat_log.specs.Log.{Log}
 use Rattle.vat_log.specs.Reading.{log_of}
 use Rattle.vat_log.specs.Spelling.{log_bytes}
 
--- The log was parsed from these bytes, and they are the one spelling of it.
+-- Parsing these bytes gives the log, and they are the one spelling of it.
 pub record IsParsed (bytes : List ℕ) (log : Log) : Type 0 where
   pub read : log_of bytes ≡ Ok log
   pub spelled : bytes ≡ log_bytes log

@@ -2,6 +2,7 @@
 
 ghost use Rattle.std.specs.Prelude.{◌≡◌, IfOk};
 
+use crate::passage::Passage;
 use bytes::Bytes;
 use cap_frame::Path;
 use std::alloc::AllocError;
@@ -218,4 +219,70 @@ pub enum Body {
         /// One message in stream framing, as it passed the wire.
         frame: Bytes,
     },
+}
+
+/// What a MAKE says.
+pub(crate) fn make_body(call: u64, reference: u64, interface: u64, method: u16) -> Body
+    ensures { result ≡ Body.Make call reference interface method }
+{
+    Body::Make {
+        call,
+        reference,
+        interface,
+        method,
+    }
+}
+
+/// What a FIELD says.
+pub(crate) fn field_body(reference: u64, call: u64, path: Path) -> Body
+    ensures { result ≡ Body.Field reference call path }
+{
+    Body::Field {
+        reference,
+        call,
+        path,
+    }
+}
+
+impl Body {
+    /// A second body that says the same; its frame is shared. The only error is want of memory.
+    pub(crate) fn copy(&self) -> Result<Body, AllocError>
+        ensures { IfOk result (λ copied. copied ≡ self.now) }
+    {
+        Ok(match self {
+            &Body::Host { reference, object } => Body::Host { reference, object },
+            &Body::Vow { reference } => Body::Vow { reference },
+            &Body::Fulfil { reference, to } => Body::Fulfil { reference, to },
+            &Body::Break { reference } => Body::Break { reference },
+            &Body::Make {
+                call,
+                reference,
+                interface,
+                method,
+            } => make_body(call, reference, interface, method),
+            Body::Field {
+                reference,
+                call,
+                path,
+            } => field_body(*reference, *call, path.copy()?),
+            &Body::Deliver { call, object } => Body::Deliver { call, object },
+            Body::Answer { call, results } => Body::Answer {
+                call: *call,
+                results: results.copy()?,
+            },
+            &Body::Fault { call } => Body::Fault { call },
+            Body::Send {
+                connection,
+                call,
+                references,
+                frame,
+            } => Passage::copied(*connection, *call, references, frame)?.sent(),
+            Body::Receive {
+                connection,
+                call,
+                references,
+                frame,
+            } => Passage::copied(*connection, *call, references, frame)?.received(),
+        })
+    }
 }

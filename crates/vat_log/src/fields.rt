@@ -76,7 +76,8 @@ fn many_references(
     at: usize,
 ) -> Result<(Vec<u64>, usize), LogError>
     requires { at ≤ length bytes.now }
-    ensures gives { GivesInMemory (λ x. (x.0.items, x.1)) result (many_at (nonzero_at bytes.now) count at) }
+    ensures gives { GivesInMemory (λ x. (x.0.items, x.1)) result
+        (many_at (nonzero_at bytes.now) count at) }
     ensures within { IfOk result (λ x. x.1 ≤ length bytes.now) }
 {
     let mut references = Vec::with_capacity(alloc, count as usize)?;
@@ -96,7 +97,8 @@ pub(crate) fn references_of(
     at: usize,
 ) -> Result<(References, usize), LogError>
     requires { at ≤ length bytes.now }
-    ensures gives { GivesInMemory (λ x. (x.0, x.1)) result (list_at (nonzero_at bytes.now) bytes.now at) }
+    ensures gives { GivesInMemory (λ x. (x.0, x.1)) result
+        (list_at (nonzero_at bytes.now) bytes.now at) }
     ensures within { IfOk result (λ x. x.1 ≤ length bytes.now) }
 {
     let (count, after) = u16_at(bytes, at)?;
@@ -111,7 +113,8 @@ fn many_path_fields(
     at: usize,
 ) -> Result<(Vec<u16>, usize), LogError>
     requires { at ≤ length bytes.now }
-    ensures gives { GivesInMemory (λ x. (x.0.items, x.1)) result (many_at (number_at w16 bytes.now) count at) }
+    ensures gives { GivesInMemory (λ x. (x.0.items, x.1)) result
+        (many_at (number_at w16 bytes.now) count at) }
     ensures within { IfOk result (λ x. x.1 ≤ length bytes.now) }
 {
     let mut fields = Vec::with_capacity(alloc, count as usize)?;
@@ -153,7 +156,8 @@ fn many_results(
     at: usize,
 ) -> Result<(Vec<(u64, Path)>, usize), LogError>
     requires { at ≤ length bytes.now }
-    ensures gives { GivesInMemory (λ x. (x.0.items, x.1)) result (many_at (answered_at bytes.now) count at) }
+    ensures gives { GivesInMemory (λ x. (x.0.items, x.1)) result
+        (many_at (answered_at bytes.now) count at) }
     ensures within { IfOk result (λ x. x.1 ≤ length bytes.now) }
 {
     let mut results = Vec::with_capacity(alloc, count as usize)?;
@@ -173,7 +177,8 @@ pub(crate) fn results_of(
     at: usize,
 ) -> Result<(Results, usize), LogError>
     requires { at ≤ length bytes.now }
-    ensures gives { GivesInMemory (λ x. (x.0, x.1)) result (list_at (answered_at bytes.now) bytes.now at) }
+    ensures gives { GivesInMemory (λ x. (x.0, x.1)) result
+        (list_at (answered_at bytes.now) bytes.now at) }
     ensures within { IfOk result (λ x. x.1 ≤ length bytes.now) }
 {
     let (count, after) = u16_at(bytes, at)?;

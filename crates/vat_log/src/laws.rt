@@ -11,7 +11,8 @@ ghost use Rattle.vat_log.specs.Spelling.{log_bytes};
 pub fn one_spelling()
     ensures read_is_spelled { (bytes : List ℕ) (log : Log) → All (λ octet. octet < 2 ^ 8) bytes
         → log_of bytes ≡ Ok log → bytes ≡ log_bytes log }
-    ensures spelled_is_read { (log : Log) → LogFits record_limit log → log_of (log_bytes log) ≡ Ok log }
-    ensures same_bytes { (a b : List ℕ) (log : Log) → All (λ octet. octet < 2 ^ 8) a → All (λ octet. octet < 2 ^ 8) b
-        → log_of a ≡ Ok log → log_of b ≡ Ok log → a ≡ b }
+    ensures spelled_is_read { (log : Log) → LogFits record_limit log
+        → log_of (log_bytes log) ≡ Ok log }
+    ensures same_bytes { (a b : List ℕ) (log : Log) → All (λ octet. octet < 2 ^ 8) a
+        → All (λ octet. octet < 2 ^ 8) b → log_of a ≡ Ok log → log_of b ≡ Ok log → a ≡ b }
 {}

@@ -3,7 +3,7 @@
 //! It stands on `bytes`, from which frames are cut without copying, and on `cap_frame` for its paths. How a log is
 //! spelled is said in `specs/Spelling.antt`, how bytes are read and which fault is first in `specs/Reading.antt`, what
 //! a log can hold in `specs/Fits.antt`. [`parse_log`] and [`write_log`] answer exactly what these say, and a [`VatLog`]
-//! was parsed from its bytes. A [`LogWriter`] is for a runtime of one thread, which writes its log record by record.
+//! is what its bytes spell. A [`LogWriter`] is for a runtime of one thread, which writes its log record by record.
 #![tactic(auto)]
 
 mod body;

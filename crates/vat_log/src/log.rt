@@ -13,12 +13,12 @@ use crate::fields::u32_at;
 use crate::kind::read_kind;
 use crate::limits::MAX_RECORDS;
 use crate::record::Record;
-use crate::writing::{written, written_of_lent};
+use crate::writing::written;
 use bytes::Bytes;
-use std::alloc::Global;
+use std::alloc::{AllocError, Global};
 use std::marker::Model;
 
-/// The log of one vat, as it was parsed from its bytes (docs/FORMATS.md).
+/// The log of one vat, and the bytes that spell it (docs/FORMATS.md).
 #[derive(Debug, Drop)]
 pub struct VatLog {
     bytes: Bytes,
@@ -63,7 +63,7 @@ impl VatLog {
         self.records.get(index)
     }
 
-    /// The bytes that the log was parsed from, which are the one spelling of it.
+    /// The bytes of the log: its one spelling, from which it was parsed or in which it was written.
     pub fn bytes(&self) -> &Bytes
         ensures spelled { result.now ≡ log_bytes self.now }
         ensures parsed { IsParsed result.now self.now }
@@ -99,8 +99,8 @@ fn records_of(
         if records.len() >= limit {
             return Err(LogError::TooLong);
         }
-        let (event, after) = Record::read(alloc, kind, bytes, at + 1)?;
-        records.push(event)?;
+        let (entry, after) = Record::read(alloc, kind, bytes, at + 1)?;
+        records.push(entry)?;
         at = after;
     }
     Ok(records)
@@ -112,7 +112,8 @@ fn parts_of(alloc: Global, bytes: &Bytes, limit: usize) -> Result<(u32, Vec<Reco
     ensures gives { GivesInMemory (λ x. record { vat = x.0; records = x.1.items }) result
         (log_within limit bytes.now) }
     ensures octets { All (λ octet. octet < 2 ^ 8) bytes.now }
-    ensures early { starts_with nat_eq bytes.now magic ≡ false → IfErr result (λ e. e ≡ LogError.BadMagic) }
+    ensures early { starts_with nat_eq bytes.now magic ≡ false
+        → IfErr result (λ e. e ≡ LogError.BadMagic) }
 {
     if !begins_log(bytes.as_slice()) {
         return Err(LogError::BadMagic);
@@ -140,7 +141,8 @@ pub fn parse_log(alloc: Global, bytes: Bytes) -> Result<VatLog, LogError>
     ensures only { (log : Log) → LogFits record_limit log → bytes ≡ log_bytes log
         → GivesInMemory (λ read. read) result (Ok log) }
     // Another magic is refused as such before memory is asked for.
-    ensures early { starts_with nat_eq bytes magic ≡ false → IfErr result (λ e. e ≡ LogError.BadMagic) }
+    ensures early { starts_with nat_eq bytes magic ≡ false
+        → IfErr result (λ e. e ≡ LogError.BadMagic) }
 {
     let (vat, records) = parts_of(alloc, &bytes, MAX_RECORDS)?;
     Ok(VatLog {
@@ -148,6 +150,55 @@ pub fn parse_log(alloc: Global, bytes: Bytes) -> Result<VatLog, LogError>
         vat,
         records,
     })
+}
+
+/// The log of this vat with these records, which are handed back where memory is refused.
+pub(crate) fn log_with(alloc: Global, vat: u32, records: Vec<Record>) -> Result<VatLog, Vec<Record>>
+    requires { length records.items ≤ record_limit }
+    ensures ok { IfOk result (λ log. log ≡ record { vat = vat; records = records.items }) }
+    ensures err { IfErr result (λ refused. refused.items ≡ records.items) }
+{
+    match written(alloc, vat, &records) {
+        Ok(bytes) => Ok(VatLog {
+            bytes,
+            vat,
+            records,
+        }),
+        Err(_) => Err(records),
+    }
+}
+
+/// Lends each of these.
+fn lend(alloc: Global, records: &[Record]) -> Result<Vec<&Record>, AllocError>
+    ensures { IfOk result (λ lent. map (λ entry. entry.now) lent.items ≡ records.now) }
+{
+    let mut lent = Vec::with_capacity(alloc, records.len())?;
+    for entry in records {
+        lent.push(entry)?;
+    }
+    Ok(lent)
+}
+
+/// A second list of the records that are lent.
+fn copied(alloc: Global, records: &[&Record]) -> Result<Vec<Record>, AllocError>
+    ensures { IfOk result (λ copied. copied.items ≡ map (λ entry. entry.now) records.now) }
+{
+    let mut copied = Vec::with_capacity(alloc, records.len())?;
+    for entry in records {
+        copied.push(entry.copy()?)?;
+    }
+    Ok(copied)
+}
+
+/// The log of this vat with the records that are lent. The only error is want of memory.
+fn log_with_lent(alloc: Global, vat: u32, records: &[&Record]) -> Result<VatLog, LogError>
+    requires { length records.now ≤ record_limit }
+    ensures ok { IfOk result (λ log.
+        log ≡ record { vat = vat; records = map (λ entry. entry.now) records.now }) }
+    ensures err { IfErr result (λ e. e ≡ LogError.OutOfMemory) }
+{
+    let copies = copied(alloc, records)?;
+    log_with(alloc, vat, copies).map_err(|_| LogError::OutOfMemory)
 }
 
 /// The log of this vat with these records, in their order.
@@ -158,15 +209,17 @@ pub fn parse_log(alloc: Global, bytes: Bytes) -> Result<VatLog, LogError>
 #[tactic(auto, unfolding(crate::specs::Fits::record_limit))]
 pub fn write_log(alloc: Global, vat: u32, records: &[Record]) -> Result<VatLog, LogError>
     // Which log, or that there are too many records.
-    ensures exact { GivesInMemory (λ log. log) result (stored (record { vat = vat; records = records.now })) }
+    ensures exact { GivesInMemory (λ log. log) result
+        (stored (record { vat = vat; records = records.now })) }
     // Too many records are refused as such before memory is asked for.
-    ensures too_many { record_limit < length records.now → IfErr result (λ e. e ≡ LogError.TooLong) }
+    ensures too_many { record_limit < length records.now
+        → IfErr result (λ e. e ≡ LogError.TooLong) }
 {
     if records.len() > MAX_RECORDS {
         return Err(LogError::TooLong);
     }
-    let bytes = Bytes::from_vec(written(alloc, vat, records)?)?;
-    parse_log(alloc, bytes)
+    let lent = lend(alloc, records)?;
+    log_with_lent(alloc, vat, &lent)
 }
 
 /// The same as [`write_log`], where the records lie apart from one another.
@@ -178,13 +231,13 @@ pub fn write_log(alloc: Global, vat: u32, records: &[Record]) -> Result<VatLog, 
 pub fn write_lent_log(alloc: Global, vat: u32, records: &[&Record]) -> Result<VatLog, LogError>
     // Which log, or that there are too many records.
     ensures exact { GivesInMemory (λ log. log) result
-        (stored (record { vat = vat; records = map (λ event. event.now) records.now })) }
+        (stored (record { vat = vat; records = map (λ entry. entry.now) records.now })) }
     // Too many records are refused as such before memory is asked for.
-    ensures too_many { record_limit < length records.now → IfErr result (λ e. e ≡ LogError.TooLong) }
+    ensures too_many { record_limit < length records.now
+        → IfErr result (λ e. e ≡ LogError.TooLong) }
 {
     if MAX_RECORDS < records.len() {
         return Err(LogError::TooLong);
     }
-    let bytes = Bytes::from_vec(written_of_lent(alloc, vat, records)?)?;
-    parse_log(alloc, bytes)
+    log_with_lent(alloc, vat, records)
 }

@@ -3,7 +3,7 @@
 ghost use Rattle.std.specs.Prelude.{◌≤◌, length, IfOk};
 ghost use Rattle.vat_log.specs.Reading.{GivesInMemory, passage_at, host_at, vow_at, fulfil_at, break_at, make_at, field_at, deliver_at, answer_at, fault_at, send_at, receive_at, fields_at};
 
-use crate::body::Body;
+use crate::body::{Body, field_body, make_body};
 use crate::error::LogError;
 use crate::fields::{
     frame_of, nonzero_of, path_of, references_of, results_of, u16_at, u32_at, u64_at,
@@ -84,13 +84,7 @@ fn make_of(bytes: &[u8], at: usize) -> Result<(Body, usize), LogError>
     let (reference, after) = nonzero_of(bytes, after)?;
     let (interface, after) = u64_at(bytes, after)?;
     let (method, after) = u16_at(bytes, after)?;
-    let body = Body::Make {
-        call,
-        reference,
-        interface,
-        method,
-    };
-    Ok((body, after))
+    Ok((make_body(call, reference, interface, method), after))
 }
 
 #[tactic(auto, unfolding(crate::specs::Reading::field_at))]
@@ -102,12 +96,7 @@ fn field_of(alloc: Global, bytes: &[u8], at: usize) -> Result<(Body, usize), Log
     let (reference, after) = nonzero_of(bytes, at)?;
     let (call, after) = nonzero_of(bytes, after)?;
     let (path, after) = path_of(alloc, bytes, after)?;
-    let body = Body::Field {
-        reference,
-        call,
-        path,
-    };
-    Ok((body, after))
+    Ok((field_body(reference, call, path), after))
 }
 
 #[tactic(auto, unfolding(crate::specs::Reading::deliver_at))]
@@ -149,13 +138,7 @@ fn send_of(alloc: Global, bytes: &Bytes, at: usize) -> Result<(Body, usize), Log
     ensures within { IfOk result (λ x. x.1 ≤ length bytes.now) }
 {
     let (passage, after) = passage_of(alloc, bytes, at)?;
-    let body = Body::Send {
-        connection: passage.connection,
-        call: passage.call,
-        references: passage.references,
-        frame: passage.frame,
-    };
-    Ok((body, after))
+    Ok((passage.sent(), after))
 }
 
 #[tactic(auto, unfolding(crate::specs::Reading::receive_at))]
@@ -165,13 +148,7 @@ fn receive_of(alloc: Global, bytes: &Bytes, at: usize) -> Result<(Body, usize), 
     ensures within { IfOk result (λ x. x.1 ≤ length bytes.now) }
 {
     let (passage, after) = passage_of(alloc, bytes, at)?;
-    let body = Body::Receive {
-        connection: passage.connection,
-        call: passage.call,
-        references: passage.references,
-        frame: passage.frame,
-    };
-    Ok((body, after))
+    Ok((passage.received(), after))
 }
 
 /// The fields of a record of this kind.

@@ -11,7 +11,7 @@ use crate::limits::{MAX_COUNT, MAX_FRAME};
 use crate::reading::body_of;
 use bytes::Bytes;
 use cap_frame::Path;
-use std::alloc::Global;
+use std::alloc::{AllocError, Global};
 use std::marker::Model;
 
 /// A record of a log: a body whose numbers and counts a log can hold (docs/FORMATS.md).
@@ -69,6 +69,15 @@ impl Record {
     {
         let (body, after) = body_of(alloc, kind, bytes, at)?;
         Ok((Record { body }, after))
+    }
+
+    /// A second record that says the same; its frame is shared. The only error is want of memory.
+    pub fn copy(&self) -> Result<Record, AllocError>
+        ensures { IfOk result (λ copied. copied ≡ self.now) }
+    {
+        Ok(Record {
+            body: self.body.copy()?,
+        })
     }
 
     /// What the record says.

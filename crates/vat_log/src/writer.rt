@@ -5,7 +5,7 @@ ghost use Rattle.vat_log.specs.Fits.{record_limit, NotPushed};
 
 use crate::error::LogError;
 use crate::limits::MAX_RECORDS;
-use crate::log::{VatLog, write_log};
+use crate::log::{VatLog, log_with};
 use crate::record::Record;
 use std::alloc::Global;
 use std::marker::Model;
@@ -46,19 +46,20 @@ impl LogWriter {
     ///
     /// `TooLong` where the log has 1,048,576 records; or `OutOfMemory`, where a growth was refused.
     #[tactic(auto, unfolding(crate::specs::Fits::record_limit))]
-    pub fn push(&mut self, event: Record) -> Result<(), (LogError, Record)>
+    pub fn push(&mut self, entry: Record) -> Result<(), (LogError, Record)>
         ensures vat { self.new.vat ≡ self.old.vat }
         // What is pushed.
-        ensures ok { OnOk result (self.new.records ≡ self.old.records ++ event ∷ []) }
+        ensures ok { OnOk result (self.new.records ≡ self.old.records ++ entry ∷ []) }
         // What is left of a refused push, and why it was refused.
-        ensures err { IfErr result (λ refused. (refused.1 ≡ event) × (self.new ≡ self.old) × NotPushed self.old refused.0) }
+        ensures err { IfErr result (λ refused.
+            (refused.1 ≡ entry) × (self.new ≡ self.old) × NotPushed self.old refused.0) }
         // A full log takes no more.
         ensures full { length self.new.records ≤ record_limit }
     {
         if self.records.len() >= MAX_RECORDS {
-            return Err((LogError::TooLong, event));
+            return Err((LogError::TooLong, entry));
         }
-        match self.records.push(event) {
+        match self.records.push(entry) {
             Ok(()) => Ok(()),
             Err(refused) => Err((LogError::OutOfMemory, refused.value)),
         }
@@ -72,11 +73,13 @@ impl LogWriter {
     #[tactic(auto, unfolding(crate::specs::Fits::record_limit))]
     pub fn finish(self) -> Result<VatLog, (LogError, LogWriter)>
         ensures ok { IfOk result (λ log. log ≡ self) }
-        ensures err { IfErr result (λ refused. (refused.0 ≡ LogError.OutOfMemory) × (refused.1 ≡ self)) }
+        ensures err { IfErr result (λ refused.
+            (refused.0 ≡ LogError.OutOfMemory) × (refused.1 ≡ self)) }
     {
-        match write_log(*self.records.allocator(), self.vat, &self.records) {
+        let LogWriter { vat, records } = self;
+        match log_with(*records.allocator(), vat, records) {
             Ok(log) => Ok(log),
-            Err(_) => Err((LogError::OutOfMemory, self)),
+            Err(records) => Err((LogError::OutOfMemory, LogWriter { vat, records })),
         }
     }
 }

@@ -1,12 +1,13 @@
 //! Writing records.
 
-ghost use Rattle.std.specs.Prelude.{◌≡◌, ◌<◌, ◌≤◌, ◌^◌, ◌++◌, length, map, All, OnOk, IfOk};
+ghost use Rattle.std.specs.Prelude.{◌≡◌, ◌<◌, ◌≤◌, ◌^◌, ◌++◌, length, All, OnOk, IfOk};
 ghost use Rattle.std.specs.Int.{w16, w32, w64};
 ghost use Rattle.vat_log.specs.Fits.{count_limit, frame_limit, Fits, IsWide};
 ghost use Rattle.vat_log.specs.Spelling.{number_bytes, references_bytes, path_bytes, answered_bytes, listed, passage_bytes, kind_byte, kind_in, fields_bytes, record_bytes, log_bytes};
 
-use crate::body::Body;
+use crate::body::{Body, References, Results};
 use crate::record::Record;
+use bytes::Bytes;
 use cap_frame::Path;
 use std::alloc::{AllocError, Global};
 
@@ -85,8 +86,8 @@ fn put_passage(
     out: &mut Vec<u8>,
     connection: u32,
     call: u64,
-    references: &[u64],
-    frame: &[u8],
+    references: &References,
+    frame: &Bytes,
 ) -> Result<(), AllocError>
     requires counted { length references.now ≤ count_limit }
     requires frame { length frame.now ≤ frame_limit }
@@ -97,17 +98,58 @@ fn put_passage(
 {
     put_u32(out, connection)?;
     put_u64(out, call)?;
-    put_references(out, references)?;
+    put_references(out, references.as_slice())?;
     put_u32(out, frame.len() as u32)?;
-    out.extend_from_slice(frame)
+    out.extend_from_slice(frame.as_slice())
 }
 
 /// Two numbers, one after the other.
 fn put_pair(out: &mut Vec<u8>, a: u64, b: u64) -> Result<(), AllocError>
-    ensures { OnOk result (out.new.items ≡ out.old.items ++ (number_bytes w64 a ++ number_bytes w64 b)) }
+    ensures { OnOk result (out.new.items
+        ≡ out.old.items ++ (number_bytes w64 a ++ number_bytes w64 b)) }
 {
     put_u64(out, a)?;
     put_u64(out, b)
+}
+
+/// The fields of a MAKE.
+fn put_make(
+    out: &mut Vec<u8>,
+    call: u64,
+    reference: u64,
+    interface: u64,
+    method: u16,
+) -> Result<(), AllocError>
+    ensures { OnOk result (out.new.items
+        ≡ out.old.items ++ fields_bytes (Body.Make call reference interface method)) }
+{
+    put_pair(out, call, reference)?;
+    put_u64(out, interface)?;
+    put_u16(out, method)
+}
+
+/// The fields of a FIELD.
+fn put_field(out: &mut Vec<u8>, reference: u64, call: u64, path: &Path) -> Result<(), AllocError>
+    requires { length path.now ≤ count_limit }
+    ensures ok { OnOk result (out.new.items
+        ≡ out.old.items ++ fields_bytes (Body.Field reference call path.now)) }
+    ensures wide { OnOk result (All (λ field. field < 2 ^ 16) path.now) }
+{
+    put_pair(out, reference, call)?;
+    put_path(out, path.as_slice())
+}
+
+/// The fields of an ANSWER.
+fn put_answer(out: &mut Vec<u8>, call: u64, results: &Results) -> Result<(), AllocError>
+    requires counted { length results.now ≤ count_limit }
+    requires paths { All (λ answered. length answered.1 ≤ count_limit) results.now }
+    ensures ok { OnOk result (out.new.items
+        ≡ out.old.items ++ fields_bytes (Body.Answer call results.now)) }
+    ensures wide { OnOk result (All (λ answered.
+        (answered.0 < 2 ^ 64) × All (λ field. field < 2 ^ 16) answered.1) results.now) }
+{
+    put_u64(out, call)?;
+    put_results(out, results.as_slice())
 }
 
 /// The byte of a body's kind.
@@ -129,6 +171,7 @@ fn byte_of(body: &Body) -> u8
     }
 }
 
+/// The fields of a record of any kind.
 fn put_fields(out: &mut Vec<u8>, body: &Body) -> Result<(), AllocError>
     requires { Fits body.now }
     ensures ok { OnOk result (out.new.items ≡ out.old.items ++ fields_bytes body.now) }
@@ -143,24 +186,14 @@ fn put_fields(out: &mut Vec<u8>, body: &Body) -> Result<(), AllocError>
             reference,
             interface,
             method,
-        } => {
-            put_pair(out, *call, *reference)?;
-            put_u64(out, *interface)?;
-            put_u16(out, *method)
-        }
+        } => put_make(out, *call, *reference, *interface, *method),
         Body::Field {
             reference,
             call,
             path,
-        } => {
-            put_pair(out, *reference, *call)?;
-            put_path(out, path.as_slice())
-        }
+        } => put_field(out, *reference, *call, path),
         Body::Deliver { call, object } => put_pair(out, *call, *object),
-        Body::Answer { call, results } => {
-            put_u64(out, *call)?;
-            put_results(out, results.as_slice())
-        }
+        Body::Answer { call, results } => put_answer(out, *call, results),
         Body::Fault { call } => put_u64(out, *call),
         Body::Send {
             connection,
@@ -173,13 +206,7 @@ fn put_fields(out: &mut Vec<u8>, body: &Body) -> Result<(), AllocError>
             call,
             references,
             frame,
-        } => put_passage(
-            out,
-            *connection,
-            *call,
-            references.as_slice(),
-            frame.as_slice(),
-        ),
+        } => put_passage(out, *connection, *call, references, frame),
     }
 }
 
@@ -193,37 +220,17 @@ fn put_body(out: &mut Vec<u8>, body: &Body) -> Result<(), AllocError>
 }
 
 /// The one spelling of the log with this vat and these records.
-pub(crate) fn written(alloc: Global, vat: u32, records: &[Record]) -> Result<Vec<u8>, AllocError>
-    ensures spelled { IfOk result (λ v. v.items
-        ≡ log_bytes (record { vat = vat; records = records.now })) }
-    ensures fit { IfOk result (λ v. All Fits records.now) }
-    ensures wide { IfOk result (λ v. All IsWide records.now) }
+pub(crate) fn written(alloc: Global, vat: u32, records: &[Record]) -> Result<Bytes, AllocError>
+    ensures spelled { IfOk result (λ bytes.
+        bytes ≡ log_bytes (record { vat = vat; records = records.now })) }
+    ensures fit { IfOk result (λ bytes. All Fits records.now) }
+    ensures wide { IfOk result (λ bytes. All IsWide records.now) }
 {
     let mut out = Vec::new(alloc);
     out.extend_from_slice(b"VATLOG01")?;
     put_u32(&mut out, vat)?;
-    for event in records {
-        put_body(&mut out, event.body())?;
+    for entry in records {
+        put_body(&mut out, entry.body())?;
     }
-    Ok(out)
-}
-
-/// The one spelling of the log with this vat and the records that are lent.
-pub(crate) fn written_of_lent(
-    alloc: Global,
-    vat: u32,
-    records: &[&Record],
-) -> Result<Vec<u8>, AllocError>
-    ensures spelled { IfOk result (λ v. v.items
-        ≡ log_bytes (record { vat = vat; records = map (λ event. event.now) records.now })) }
-    ensures fit { IfOk result (λ v. All Fits (map (λ event. event.now) records.now)) }
-    ensures wide { IfOk result (λ v. All IsWide (map (λ event. event.now) records.now)) }
-{
-    let mut out = Vec::new(alloc);
-    out.extend_from_slice(b"VATLOG01")?;
-    put_u32(&mut out, vat)?;
-    for lent in records {
-        put_body(&mut out, lent.body())?;
-    }
-    Ok(out)
+    Ok(Bytes::from_vec(out)?)
 }

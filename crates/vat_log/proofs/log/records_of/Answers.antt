@@ -18,13 +18,13 @@ returns-then-len-limit c =
     let kind = subst (λ bytes. kind_at bytes c.loop-at.at ≡ Ok c.in_ok-kind.kind) c.as_slice.ensures c.in_ok-kind.ensures in
     limit_ends c.args.bytes.now c.loop-at.records.items c.args.limit c.loop-at.at c.in_ok-kind.kind (records_at c.args.bytes.now c.args.limit c.args.begin) lt full kind c.loop-at.invariant.so_far
 
-pub returns-in_err-event : goal.returns-in_err-event
-returns-in_err-event c =
-    let p = err_from_is_err_and c.from_residual-in_err-event.result c.from_residual-in_err-event.ensures.1 in
+pub returns-in_err-entry : goal.returns-in_err-entry
+returns-in_err-entry c =
+    let p = err_from_is_err_and c.from_residual-in_err-entry.result c.from_residual-in_err-entry.ensures.1 in
     let lt : c.loop-at.at < length c.args.bytes.now = omega (arith, c.len.ensures.value) in
     let room : length c.loop-at.records.items < c.args.limit = omega (arith, c.len-in-loop-at.ensures) in
     let kind = subst (λ bytes. kind_at bytes c.loop-at.at ≡ Ok c.in_ok-kind.kind) c.as_slice.ensures c.in_ok-kind.ensures in
-    rw (p.1, p.2) (record_ends c.in_err-event.field-0.0 c.args.bytes.now c.loop-at.records.items c.args.limit c.loop-at.at c.in_ok-kind.kind (records_at c.args.bytes.now c.args.limit c.args.begin) lt room kind c.in_err-event.ensures.gives c.loop-at.invariant.so_far)
+    rw (p.1, p.2) (record_ends c.in_err-entry.field-0.0 c.args.bytes.now c.loop-at.records.items c.args.limit c.loop-at.at c.in_ok-kind.kind (records_at c.args.bytes.now c.args.limit c.args.begin) lt room kind c.in_err-entry.ensures.gives c.loop-at.invariant.so_far)
 
 pub loop-at-preserved : goal.loop-at-preserved
 loop-at-preserved c =
@@ -32,8 +32,8 @@ loop-at-preserved c =
     let room : length c.loop-at.records.items < c.args.limit = omega (arith, c.len-in-loop-at.ensures) in
     let kind = subst (λ bytes. kind_at bytes c.loop-at.at ≡ Ok c.in_ok-kind.kind) c.as_slice.ensures c.in_ok-kind.ensures in
     record {
-      within = c.in_ok-event.ensures.within;
-      so_far = rw c.in_ok-push.ensures.items (record_goes_on c.args.bytes.now c.loop-at.records.items c.args.limit c.loop-at.at c.in_ok-kind.kind c.in_ok-event.event c.in_ok-event.after (records_at c.args.bytes.now c.args.limit c.args.begin) lt room kind c.in_ok-event.ensures.gives c.loop-at.invariant.so_far);
+      within = c.in_ok-entry.ensures.within;
+      so_far = rw c.in_ok-push.ensures.items (record_goes_on c.args.bytes.now c.loop-at.records.items c.args.limit c.loop-at.at c.in_ok-kind.kind c.in_ok-entry.entry c.in_ok-entry.after (records_at c.args.bytes.now c.args.limit c.args.begin) lt room kind c.in_ok-entry.ensures.gives c.loop-at.invariant.so_far);
     }
 
 pub returns : goal.returns

@@ -5,9 +5,9 @@ use Rattle.vat_log.specs.Spelling.{number_bytes, record_bytes, magic}
 use Rattle.vat_log.specs.Fits.{Fits, IsWide}
 use Rattle.vat_log.proofs.writing.written.Given as goal
 
-abbrev pub invariant-loop-event : goal.invariant-loop-event
-invariant-loop-event l = record {
-  so_far : l.out.items ≡ magic ++ (number_bytes w32 l.vat ++ flat_map record_bytes (take l.event-index l.records));
-  fit : All Fits (take l.event-index l.records);
-  wide : All IsWide (take l.event-index l.records);
+abbrev pub invariant-loop-entry : goal.invariant-loop-entry
+invariant-loop-entry l = record {
+  so_far : l.out.items ≡ magic ++ (number_bytes w32 l.vat ++ flat_map record_bytes (take l.entry-index l.records));
+  fit : All Fits (take l.entry-index l.records);
+  wide : All IsWide (take l.entry-index l.records);
 }

@@ -23,8 +23,10 @@ impl Intake {
     /// Takes what the ring is known to have. Where memory is refused, nothing is taken.
     fn take_known(&mut self) -> Result<u64, AllocError>
         ensures ring { ring_of self.new.ring ≡ ring_of self.old.ring }
-        ensures ok { IfOk result (λ count. (self.new.taken.items ≡ self.old.taken.items ++ known_items self.old.ring)
-            × (count ≡ length (known_items self.old.ring)) × (count ≤ (ring_of self.old.ring).room) × (count ≤ 65536)) }
+        ensures ok { IfOk result (λ count.
+            (self.new.taken.items ≡ self.old.taken.items ++ known_items self.old.ring)
+            × (count ≡ length (known_items self.old.ring))
+            × (count ≤ (ring_of self.old.ring).room) × (count ≤ 65536)) }
         ensures err { OnErr result (self.new.taken.items ≡ self.old.taken.items) }
     {
         let Intake { ring, taken, .. } = self;
@@ -39,7 +41,8 @@ impl Intake {
     /// Takes what is found in the ring now, one ring's length at most, and answers how many records that is.
     pub(crate) fn take(&mut self) -> Result<u64, AllocError>
         ensures ring { ring_of self.new.ring ≡ ring_of self.old.ring }
-        ensures ok { IfOk result (λ count. Goes self.old.taken.items self.new.taken.items count × (count ≤ (ring_of self.old.ring).room) × (count ≤ 65536)) }
+        ensures ok { IfOk result (λ count. Goes self.old.taken.items self.new.taken.items count
+            × (count ≤ (ring_of self.old.ring).room) × (count ≤ 65536)) }
         ensures err { OnErr result (self.new.taken.items ≡ self.old.taken.items) }
     {
         self.ring.slots();

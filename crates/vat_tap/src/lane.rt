@@ -32,7 +32,8 @@ impl Model for Lane {
 
     ghost view = { λ lane. lane_view lane.seat.table_id lane.number lane.share lane.ring };
 
-    ghost invariant = { λ lane. IsLane (arc_value lane.word).shared.table_id lane.seat.table_id lane.seat.me lane.recorded lane.share lane.ring };
+    ghost invariant = { λ lane. IsLane (arc_value lane.word).shared.table_id lane.seat.table_id
+        lane.seat.me lane.recorded lane.share lane.ring };
 }
 
 impl Lane {
@@ -41,26 +42,27 @@ impl Lane {
     /// # Errors
     ///
     /// `Full`, with the record, where no slot of the ring is free or the lane has recorded its share. No ticket is drawn then.
-    pub fn record(&mut self, event: Record) -> Result<Ticket, Full>
+    pub fn record(&mut self, entry: Record) -> Result<Ticket, Full>
         ensures same { SameLane self.old self.new }
         // The record stands behind the others, at its ticket.
-        ensures ok { IfOk result (λ ticket. self.new.recorded ≡ self.old.recorded ++ (ticket, event) ∷ []) }
+        ensures ok { IfOk result (λ ticket.
+            self.new.recorded ≡ self.old.recorded ++ (ticket, entry) ∷ []) }
         // The record is handed back, and nothing was recorded.
-        ensures back { IfErr result (λ refused. (refused.0 ≡ event) × (self.new ≡ self.old)) }
+        ensures back { IfErr result (λ refused. (refused.0 ≡ entry) × (self.new ≡ self.old)) }
         // The lane has recorded its share, or as many records as its ring has slots, or more.
-        ensures full { IfErr result (λ refused.
-            (length self.old.recorded ≡ self.old.share) ⊎ (self.old.ring.room ≤ length self.old.recorded)) }
+        ensures full { IfErr result (λ refused. (length self.old.recorded ≡ self.old.share)
+            ⊎ (self.old.ring.room ≤ length self.old.recorded)) }
         // A lane never records more than its share.
         ensures share { length self.new.recorded ≤ self.new.share }
     {
         if self.recorded >= self.share || self.ring.is_full() {
-            return Err(Full(event));
+            return Err(Full(entry));
         }
         let number = self
             .word
             .shared
             .fetch_add::<Drawing>(&mut self.seat, TICKET, 1);
-        self.ring.push_reserved((number, event));
+        self.ring.push_reserved((number, entry));
         self.recorded += 1;
         Ok(Ticket::new(number))
     }

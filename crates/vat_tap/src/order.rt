@@ -11,7 +11,8 @@ pub(crate) fn lend<'a>(
     all: &mut Vec<&'a (u64, Record)>,
     taken: &'a [(u64, Record)],
 ) -> Result<(), AllocError>
-    ensures { OnOk result (map (λ item. item.now) all.new.items ≡ map (λ item. item.now) all.old.items ++ taken.now) }
+    ensures { OnOk result (map (λ item. item.now) all.new.items
+        ≡ map (λ item. item.now) all.old.items ++ taken.now) }
 {
     for item in taken {
         all.push(item)?;
@@ -21,7 +22,8 @@ pub(crate) fn lend<'a>(
 
 /// The records alone.
 fn records_of<'a>(alloc: Global, all: &[&'a (u64, Record)]) -> Result<Vec<&'a Record>, AllocError>
-    ensures { IfOk result (λ v. map (λ event. event.now) v.items ≡ map (λ item. item.now.1) all.now) }
+    ensures { IfOk result (λ v.
+        map (λ entry. entry.now) v.items ≡ map (λ item. item.now.1) all.now) }
 {
     let mut records = Vec::new(alloc);
     for item in all {
@@ -33,8 +35,8 @@ fn records_of<'a>(alloc: Global, all: &[&'a (u64, Record)]) -> Result<Vec<&'a Re
 /// Puts a record at its ticket, if that is one of the places.
 #[tactic(auto, using(crate::proofs::Placing::set_seen, crate::proofs::Placing::set_unseen))]
 fn put_one<'a>(records: &mut Vec<&'a Record>, item: &'a (u64, Record))
-    ensures { map (λ event. event.now) records.new.items
-        ≡ slice_set (map (λ event. event.now) records.old.items) item.now.0 item.now.1 }
+    ensures { map (λ entry. entry.now) records.new.items
+        ≡ slice_set (map (λ entry. entry.now) records.old.items) item.now.0 item.now.1 }
 {
     let place = item.0 as usize;
     if place < records.len() {
@@ -44,8 +46,8 @@ fn put_one<'a>(records: &mut Vec<&'a Record>, item: &'a (u64, Record))
 
 /// Puts each record at its ticket.
 fn put_each<'a>(records: &mut Vec<&'a Record>, all: &[&'a (u64, Record)])
-    ensures { map (λ event. event.now) records.new.items
-        ≡ put (map (λ event. event.now) records.old.items) (map (λ item. item.now) all.now) }
+    ensures { map (λ entry. entry.now) records.new.items
+        ≡ put (map (λ entry. entry.now) records.old.items) (map (λ item. item.now) all.now) }
 {
     for item in all {
         put_one(records, item);
@@ -57,7 +59,8 @@ pub(crate) fn in_order<'a>(
     alloc: Global,
     all: &[&'a (u64, Record)],
 ) -> Result<Vec<&'a Record>, AllocError>
-    ensures { IfOk result (λ v. map (λ event. event.now) v.items ≡ arranged (map (λ item. item.now) all.now)) }
+    ensures { IfOk result (λ v.
+        map (λ entry. entry.now) v.items ≡ arranged (map (λ item. item.now) all.now)) }
 {
     let mut records = records_of(alloc, all)?;
     put_each(&mut records, all);

@@ -46,7 +46,8 @@ impl Model for Tap {
       taken = map (λ intake. intake.taken.items) tap.intakes.items;
     } };
 
-    ghost invariant = { λ tap. IsTap (arc_value tap.word).shared.table_id tap.seat.table_id tap.seat.me (length tap.intakes.items) };
+    ghost invariant = { λ tap. IsTap (arc_value tap.word).shared.table_id tap.seat.table_id
+        tap.seat.me (length tap.intakes.items) };
 }
 
 impl Tap {
@@ -109,7 +110,8 @@ impl Tap {
         ensures taken { TakesOn self.old.taken self.new.taken }
         // One ring's length of each at most.
         ensures most { TakesAtMost self.old.rings self.old.taken self.new.taken }
-        ensures count { IfOk result (λ count. sum_by length self.new.taken ≡ sum_by length self.old.taken + count) }
+        ensures count { IfOk result (λ count.
+            sum_by length self.new.taken ≡ sum_by length self.old.taken + count) }
     {
         drain_all(&mut self.intakes)
     }
@@ -124,12 +126,16 @@ impl Tap {
         requires mine { All (IsLaneOf self) lanes.items }
         requires different { AreDifferent lanes.items }
         // With all lanes, what was recorded.
-        ensures ok { IfOk result (λ log. (length lanes.items ≡ length self.rings) × IsTaped self.vat lanes.items log) }
+        ensures ok { IfOk result (λ log.
+            (length lanes.items ≡ length self.rings) × IsTaped self.vat lanes.items log) }
         // Without, they are missing, and the tap is as it was.
-        ensures missing { length lanes.items ≢ length self.rings → IfErr result (λ refused. (refused.0 ≡ CloseError.Missing) × (refused.1 ≡ self)) }
-        ensures all { length lanes.items ≡ length self.rings → IfErr result (λ refused. refused.0 ≡ CloseError.OutOfMemory) }
+        ensures missing { length lanes.items ≢ length self.rings
+            → IfErr result (λ refused. (refused.0 ≡ CloseError.Missing) × (refused.1 ≡ self)) }
+        ensures all { length lanes.items ≡ length self.rings
+            → IfErr result (λ refused. refused.0 ≡ CloseError.OutOfMemory) }
         // What is handed back.
-        ensures back { IfErr result (λ refused. SameTap self refused.1 × TakesOn self.taken refused.1.taken × (refused.2.items ≡ lanes.items)) }
+        ensures back { IfErr result (λ refused. SameTap self refused.1
+            × TakesOn self.taken refused.1.taken × (refused.2.items ≡ lanes.items)) }
     {
         let mut tap = self;
         let mut lanes = lanes;
@@ -149,7 +155,7 @@ impl Tap {
                     seat,
                     intakes: _,
                 } = tap;
-                join_all(&word, seat, lanes);
+                close_ticket_word(&word, seat, lanes);
                 Ok(log)
             }
             Err(_) => Err((CloseError::OutOfMemory, tap, lanes)),
@@ -159,12 +165,16 @@ impl Tap {
 
 /// Takes all that a lane recorded.
 fn take_one(intakes: &mut Vec<Intake>, lane: &mut Lane) -> Result<(), AllocError>
-    requires { slice_get (map (λ intake. ring_of intake.ring) intakes.old.items) lane.old.number ≡ Some lane.old.ring }
-    ensures rings { map (λ intake. ring_of intake.ring) intakes.new.items ≡ map (λ intake. ring_of intake.ring) intakes.old.items }
+    requires { slice_get (map (λ intake. ring_of intake.ring) intakes.old.items) lane.old.number
+        ≡ Some lane.old.ring }
+    ensures rings { map (λ intake. ring_of intake.ring) intakes.new.items
+        ≡ map (λ intake. ring_of intake.ring) intakes.old.items }
     ensures lane { lane.new ≡ lane.old }
-    ensures longer { TakesOn (map (λ intake. intake.taken.items) intakes.old.items) (map (λ intake. intake.taken.items) intakes.new.items) }
+    ensures longer { TakesOn (map (λ intake. intake.taken.items) intakes.old.items)
+        (map (λ intake. intake.taken.items) intakes.new.items) }
     ensures ok { OnOk result (map (λ intake. intake.taken.items) intakes.new.items
-        ≡ slice_set (map (λ intake. intake.taken.items) intakes.old.items) lane.old.number lane.old.recorded) }
+        ≡ slice_set (map (λ intake. intake.taken.items) intakes.old.items)
+        lane.old.number lane.old.recorded) }
 {
     let intake = &mut intakes[lane.number];
     intake.take_all(lane)
@@ -172,12 +182,16 @@ fn take_one(intakes: &mut Vec<Intake>, lane: &mut Lane) -> Result<(), AllocError
 
 /// Takes all that the lanes recorded.
 fn gather(intakes: &mut Vec<Intake>, lanes: &mut Vec<Lane>) -> Result<(), AllocError>
-    requires rings { HaveRings (map (λ intake. ring_of intake.ring) intakes.old.items) lanes.old.items }
+    requires rings { HaveRings (map (λ intake. ring_of intake.ring) intakes.old.items)
+        lanes.old.items }
     requires different { AreDifferent lanes.old.items }
-    ensures rings { map (λ intake. ring_of intake.ring) intakes.new.items ≡ map (λ intake. ring_of intake.ring) intakes.old.items }
+    ensures rings { map (λ intake. ring_of intake.ring) intakes.new.items
+        ≡ map (λ intake. ring_of intake.ring) intakes.old.items }
     ensures lanes { lanes.new.items ≡ lanes.old.items }
-    ensures longer { TakesOn (map (λ intake. intake.taken.items) intakes.old.items) (map (λ intake. intake.taken.items) intakes.new.items) }
-    ensures ok { OnOk result (AreTaken (map (λ intake. intake.taken.items) intakes.new.items) lanes.old.items) }
+    ensures longer { TakesOn (map (λ intake. intake.taken.items) intakes.old.items)
+        (map (λ intake. intake.taken.items) intakes.new.items) }
+    ensures ok { OnOk result
+        (AreTaken (map (λ intake. intake.taken.items) intakes.new.items) lanes.old.items) }
 {
     for index in 0..lanes.len() {
         take_one(intakes, &mut lanes[index])?;
@@ -188,8 +202,12 @@ fn gather(intakes: &mut Vec<Intake>, lanes: &mut Vec<Lane>) -> Result<(), AllocE
 /// The log of what these lanes recorded.
 fn log_of(alloc: Global, vat: u32, intakes: &[Intake], lanes: &[Lane]) -> Result<VatLog, LogError>
     requires { AreTaken (map (λ intake. intake.taken.items) intakes.now) lanes.now }
-    ensures log { IfOk result (λ log. log ≡ record { vat = vat; records = arranged (flat_map (λ lane. lane.recorded) lanes.now) }) }
-    ensures rising { IfOk result (λ log. All (λ lane. IsStrictlyIncreasing (tickets_of lane.recorded)) lanes.now) }
+    ensures log { IfOk result (λ log. log ≡ record {
+      vat = vat;
+      records = arranged (flat_map (λ lane. lane.recorded) lanes.now);
+    }) }
+    ensures rising { IfOk result (λ log.
+        All (λ lane. IsStrictlyIncreasing (tickets_of lane.recorded)) lanes.now) }
 {
     let mut all = Vec::new(alloc);
     for lane in lanes {
@@ -206,13 +224,20 @@ fn taken_log(
     intakes: &mut Vec<Intake>,
     lanes: &mut Vec<Lane>,
 ) -> Result<VatLog, LogError>
-    requires rings { HaveRings (map (λ intake. ring_of intake.ring) intakes.old.items) lanes.old.items }
+    requires rings { HaveRings (map (λ intake. ring_of intake.ring) intakes.old.items)
+        lanes.old.items }
     requires different { AreDifferent lanes.old.items }
-    ensures rings { map (λ intake. ring_of intake.ring) intakes.new.items ≡ map (λ intake. ring_of intake.ring) intakes.old.items }
+    ensures rings { map (λ intake. ring_of intake.ring) intakes.new.items
+        ≡ map (λ intake. ring_of intake.ring) intakes.old.items }
     ensures lanes { lanes.new.items ≡ lanes.old.items }
-    ensures longer { TakesOn (map (λ intake. intake.taken.items) intakes.old.items) (map (λ intake. intake.taken.items) intakes.new.items) }
-    ensures log { IfOk result (λ log. log ≡ record { vat = vat; records = arranged (flat_map (λ lane. lane.recorded) lanes.old.items) }) }
-    ensures rising { IfOk result (λ log. All (λ lane. IsStrictlyIncreasing (tickets_of lane.recorded)) lanes.old.items) }
+    ensures longer { TakesOn (map (λ intake. intake.taken.items) intakes.old.items)
+        (map (λ intake. intake.taken.items) intakes.new.items) }
+    ensures log { IfOk result (λ log. log ≡ record {
+      vat = vat;
+      records = arranged (flat_map (λ lane. lane.recorded) lanes.old.items);
+    }) }
+    ensures rising { IfOk result (λ log.
+        All (λ lane. IsStrictlyIncreasing (tickets_of lane.recorded)) lanes.old.items) }
 {
     gather(intakes, lanes)?;
     log_of(alloc, vat, intakes, lanes)
@@ -221,10 +246,15 @@ fn taken_log(
 /// Takes what is found in the rings now, and answers how many records that is.
 fn drain_all(intakes: &mut Vec<Intake>) -> Result<u64, AllocError>
     requires { length intakes.old.items ≤ 64 }
-    ensures rings { map (λ intake. ring_of intake.ring) intakes.new.items ≡ map (λ intake. ring_of intake.ring) intakes.old.items }
-    ensures longer { TakesOn (map (λ intake. intake.taken.items) intakes.old.items) (map (λ intake. intake.taken.items) intakes.new.items) }
-    ensures most { TakesAtMost (map (λ intake. ring_of intake.ring) intakes.old.items) (map (λ intake. intake.taken.items) intakes.old.items) (map (λ intake. intake.taken.items) intakes.new.items) }
-    ensures count { IfOk result (λ count. sum_by length (map (λ intake. intake.taken.items) intakes.new.items)
+    ensures rings { map (λ intake. ring_of intake.ring) intakes.new.items
+        ≡ map (λ intake. ring_of intake.ring) intakes.old.items }
+    ensures longer { TakesOn (map (λ intake. intake.taken.items) intakes.old.items)
+        (map (λ intake. intake.taken.items) intakes.new.items) }
+    ensures most { TakesAtMost (map (λ intake. ring_of intake.ring) intakes.old.items)
+        (map (λ intake. intake.taken.items) intakes.old.items)
+        (map (λ intake. intake.taken.items) intakes.new.items) }
+    ensures count { IfOk result (λ count.
+        sum_by length (map (λ intake. intake.taken.items) intakes.new.items)
         ≡ sum_by length (map (λ intake. intake.taken.items) intakes.old.items) + count) }
 {
     let mut count = 0;
@@ -234,10 +264,13 @@ fn drain_all(intakes: &mut Vec<Intake>) -> Result<u64, AllocError>
     Ok(count)
 }
 
-/// Joins the seats of all lanes to the tap's, and looks: the tickets of these lanes are all that were drawn.
-fn join_all(word: &Arc<TicketWord>, seat: Seat<(), View>, lanes: Vec<Lane>)
-    requires tap { IsTap (arc_value word.now).shared.table_id seat.table_id seat.me (length lanes.items) }
-    requires mine { All (λ lane. (lane.word ≡ seat.table_id) × (lane.share ≡ share_of (length lanes.items))) lanes.items }
+/// Closes the ticket word: joins the seats of all lanes to the tap's, and then reads the word, which shows the proof that
+/// the tickets of these lanes are all that were drawn. The number that is read isn't used.
+fn close_ticket_word(word: &Arc<TicketWord>, seat: Seat<(), View>, lanes: Vec<Lane>)
+    requires tap { IsTap (arc_value word.now).shared.table_id seat.table_id seat.me
+        (length lanes.items) }
+    requires mine { All (λ lane. (lane.word ≡ seat.table_id)
+        × (lane.share ≡ share_of (length lanes.items))) lanes.items }
     ensures { (ticket : ℕ) → sum_by (λ lane. times ticket (tickets_of lane.recorded)) lanes.items
         ≡ once_below (sum_by (λ lane. length lane.recorded) lanes.items) ticket }
 {

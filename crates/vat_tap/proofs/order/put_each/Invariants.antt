@@ -3,4 +3,4 @@ use Rattle.vat_tap.specs.Glue.{put}
 use Rattle.vat_tap.proofs.order.put_each.Given as goal
 
 abbrev pub invariant-loop-item : goal.invariant-loop-item
-invariant-loop-item l = map (λ event. event.now) l.records.items ≡ put (map (λ event. event.now) l.initial.records.items) (take l.item-index (map (λ item. item.now) l.all))
+invariant-loop-item l = map (λ entry. entry.now) l.records.items ≡ put (map (λ entry. entry.now) l.initial.records.items) (take l.item-index (map (λ item. item.now) l.all))

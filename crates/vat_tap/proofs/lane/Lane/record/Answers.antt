@@ -18,5 +18,5 @@ pub invariant_of-self-2 : goal.invariant_of-self-2
 invariant_of-self-2 c =
     let i = c.self.invariant in
     let f = c.fetch_add-number.ensures in
-    let added = c.push_reserved.ensures.sent.0 ∙ ap (λ items. items ++ (c.fetch_add-number.result, c.args.event) ∷ []) c.is_full.ensures.looked.1 in
-    lane_after _ _ _ _ _ _ _ c.fetch_add-number.result c.args.event c.self.inside.ring _ i f.0 f.2 added (omega (arith, c.if-self.false))
+    let added = c.push_reserved.ensures.sent.0 ∙ ap (λ items. items ++ (c.fetch_add-number.result, c.args.entry) ∷ []) c.is_full.ensures.looked.1 in
+    lane_after _ _ _ _ _ _ _ c.fetch_add-number.result c.args.entry c.self.inside.ring _ i f.0 f.2 added (omega (arith, c.if-self.false))

@@ -11,7 +11,7 @@ returns-in-Ok-clause-ok c =
     let lanes = c.args.lanes.items in
     let rings : length (map (λ intake. ring_of intake.ring) c.tap.inside.intakes.items) ≡ length c.args.self.rings = ap (λ (t : TapView). length t.rings) c.tap.view_is in
     let Once = λ (ls : List LaneView). (ticket : ℕ) → sum_by (λ (lane : LaneView). times ticket (tickets_of lane.recorded)) ls ≡ once_below (sum_by (λ (lane : LaneView). length lane.recorded) ls) ticket in
-    let once : Once lanes = subst Once c.taken_log.ensures.lanes c.join_all.ensures in (
+    let once : Once lanes = subst Once c.taken_log.ensures.lanes c.close_ticket_word.ensures in (
       omega (arith, c.if-len.false, c.len.ensures, c.len-2.ensures, length-map c.tap.inside.intakes.items (λ intake. ring_of intake.ring), rings),
       subst (λ (v : ℕ). IsTaped v lanes c.in-Ok.log) (ap (λ (t : TapView). t.vat) c.tap.view_is) (taped c.tap.inside.vat lanes c.in-Ok.log c.in-Ok.ensures.log once c.in-Ok.ensures.rising),
     )

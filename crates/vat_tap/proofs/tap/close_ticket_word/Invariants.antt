@@ -1,7 +1,7 @@
 use Rattle.std.proofs.Common.{◌≡◌, ℕ, ◌+◌, ◌*◌, [], length, All}
 use Rattle.std.specs.List.{sum_by}
 use Rattle.vat_tap.specs.Tickets.{tickets_of, share_of, times}
-use Rattle.vat_tap.proofs.tap.join_all.Given as goal
+use Rattle.vat_tap.proofs.tap.close_ticket_word.Given as goal
 
 abbrev pub invariant-loop-lane : goal.invariant-loop-lane
 invariant-loop-lane l = record {

@@ -9,7 +9,7 @@ use Rattle.vat_tap.specs.Tickets.{LaneView, tickets_of, share_of, times}
 use Rattle.vat_tap.proofs.Moves.{joins, times_append}
 use Rattle.vat_tap.proofs.Lanes.{looks_as}
 use Rattle.vat_tap.proofs.Gathering.{All_last, All_front, more_times}
-use Rattle.vat_tap.proofs.tap.join_all.Goals as goal
+use Rattle.vat_tap.proofs.tap.close_ticket_word.Goals as goal
 
 pub join_seat-requires : goal.join_seat-requires
 join_seat-requires c =

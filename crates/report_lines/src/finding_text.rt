@@ -66,7 +66,8 @@ pub fn put_outcome<W: fmt::Write>(
     records: usize,
     outcome: &Outcome,
 ) -> fmt::Result
-    ensures { WritesOnOk W.write_str_gives f.old result (outcome_text vat records outcome.now) f.new }
+    ensures { WritesOnOk W.write_str_gives f.old result
+        (outcome_text vat records outcome.now) f.new }
 {
     match outcome {
         Outcome::Good(story) => {

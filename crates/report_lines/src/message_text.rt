@@ -1,7 +1,7 @@
 //! The text of a message, without an end of line: its kind, and each of its fields behind its name (docs/FORMATS.md).
 
 ghost use Rattle.std.specs.Prelude.{◌≡◌, Some, codes};
-ghost use Rattle.std.specs.Fmt.{decimal};
+ghost use Rattle.std.specs.Fmt.{WritesOnOk, decimal};
 ghost use Rattle.std.specs.List.{join_by};
 ghost use Rattle.report_lines.specs.MessageText.{path_text, target_text, descriptor_text, field_text, payload_text, outcome_text, resolution_text, loopback_text, hexadecimal, message_text};
 
@@ -144,6 +144,59 @@ impl Display for Interface {
     }
 }
 
+/// Writes a Call: its question, where it goes, what it calls there, and its parameters.
+fn put_call<W: fmt::Write>(
+    f: &mut Formatter<W>,
+    question: u32,
+    target: &Target,
+    interface: u64,
+    method: u16,
+    params: &Payload,
+) -> fmt::Result
+    ensures { WritesOnOk W.write_str_gives f.old result
+        (message_text (RpcMessage.Call question target.now interface method params.now)) f.new }
+{
+    let target = Shown(target);
+    let interface = Interface(interface);
+    let params = Shown(params);
+    write!(
+        f,
+        "call question {question} target {target} interface {interface} method {method} {params}"
+    )
+}
+
+/// Writes a Return: its answer, whether it gives back the parameters' capabilities, and what came of the call.
+fn put_return<W: fmt::Write>(
+    f: &mut Formatter<W>,
+    answer: u32,
+    releases: bool,
+    outcome: &Outcome,
+) -> fmt::Result
+    ensures { WritesOnOk W.write_str_gives f.old result
+        (message_text (RpcMessage.Return answer releases outcome.now)) f.new }
+{
+    let outcome = Shown(outcome);
+    write!(
+        f,
+        "return answer {answer} releaseParamCaps {releases} {outcome}"
+    )
+}
+
+/// Writes a Disembargo: its number, which end it is at, and what it goes to.
+fn put_disembargo<W: fmt::Write>(
+    f: &mut Formatter<W>,
+    number: u32,
+    loopback: Loopback,
+    target: &Target,
+) -> fmt::Result
+    ensures { WritesOnOk W.write_str_gives f.old result
+        (message_text (RpcMessage.Disembargo number loopback target.now)) f.new }
+{
+    let loopback = loopback_text(loopback);
+    let target = Shown(target);
+    write!(f, "disembargo {number} {loopback} {target}")
+}
+
 impl Display for Shown<&RpcMessage> {
     ghost output = { λ message. Some (message_text message.0.now) };
 
@@ -156,26 +209,12 @@ impl Display for Shown<&RpcMessage> {
                 interface,
                 method,
                 params,
-            } => {
-                let target = Shown(target);
-                let interface = Interface(*interface);
-                let params = Shown(params);
-                write!(
-                    f,
-                    "call question {question} target {target} interface {interface} method {method} {params}"
-                )
-            }
+            } => put_call(f, *question, target, *interface, *method, params),
             RpcMessage::Return {
                 answer,
                 release_param_caps,
                 outcome,
-            } => {
-                let outcome = Shown(outcome);
-                write!(
-                    f,
-                    "return answer {answer} releaseParamCaps {release_param_caps} {outcome}"
-                )
-            }
+            } => put_return(f, *answer, *release_param_caps, outcome),
             RpcMessage::Finish {
                 question,
                 release_result_caps,
@@ -194,11 +233,7 @@ impl Display for Shown<&RpcMessage> {
                 number,
                 loopback,
                 target,
-            } => {
-                let loopback = loopback_text(*loopback);
-                let target = Shown(target);
-                write!(f, "disembargo {number} {loopback} {target}")
-            }
+            } => put_disembargo(f, *number, *loopback, target),
             RpcMessage::Abort => f.write_str("abort"),
         }
     }

@@ -1,8 +1,8 @@
 //! The text of a record, without an end of line: its number, its kind, and each of its fields behind its name
 //! (docs/FORMATS.md).
 
-ghost use Rattle.std.specs.Prelude.{Some, codes};
-ghost use Rattle.std.specs.Fmt.{decimal};
+ghost use Rattle.std.specs.Prelude.{Some, codes, ◌++◌};
+ghost use Rattle.std.specs.Fmt.{WritesOnOk, decimal};
 ghost use Rattle.std.specs.List.{join_by};
 ghost use Rattle.report_lines.specs.RecordText.{answered_text, body_text, noted_call, noted_references, noted_text, record_text};
 
@@ -12,7 +12,7 @@ use crate::shown::Shown;
 use cap_frame::Path;
 use std::fmt;
 use std::fmt::{Display, Formatter};
-use vat_log::Body;
+use vat_log::{Body, References};
 
 /// References with a comma between each two.
 impl Display for Shown<&[u64]> {
@@ -91,9 +91,46 @@ impl Display for Noted<'_> {
     }
 }
 
+/// Writes what is noted beside a frame, behind the word for the frame's record.
+fn put_noted<W: fmt::Write>(
+    f: &mut Formatter<W>,
+    word: &str,
+    connection: u32,
+    call: u64,
+    references: &References,
+) -> fmt::Result
+    ensures { WritesOnOk W.write_str_gives f.old result
+        (word.now ++ noted_text connection call references.now) f.new }
+{
+    let noted = Noted {
+        connection,
+        call,
+        references: references.as_slice(),
+    };
+    write!(f, "{word}{noted}")
+}
+
+/// Writes a MAKE: its call, where that goes, and what it calls there.
+fn put_make<W: fmt::Write>(
+    f: &mut Formatter<W>,
+    call: u64,
+    reference: u64,
+    interface: u64,
+    method: u16,
+) -> fmt::Result
+    ensures { WritesOnOk W.write_str_gives f.old result
+        (body_text (Body.Make call reference interface method)) f.new }
+{
+    let interface = Interface(interface);
+    write!(
+        f,
+        "make call {call} reference {reference} interface {interface} method {method}"
+    )
+}
+
 /// What a record says, but for its frame.
 impl Display for Shown<&Body> {
-    ghost output = { λ event. Some (body_text event.0.now) };
+    ghost output = { λ said. Some (body_text said.0.now) };
 
     fn fmt<W: fmt::Write>(&self, f: &mut Formatter<W>) -> fmt::Result {
         match self.0 {
@@ -108,13 +145,7 @@ impl Display for Shown<&Body> {
                 reference,
                 interface,
                 method,
-            } => {
-                let interface = Interface(*interface);
-                write!(
-                    f,
-                    "make call {call} reference {reference} interface {interface} method {method}"
-                )
-            }
+            } => put_make(f, *call, *reference, *interface, *method),
             Body::Field {
                 reference,
                 call,
@@ -134,27 +165,13 @@ impl Display for Shown<&Body> {
                 call,
                 references,
                 ..
-            } => {
-                let noted = Noted {
-                    connection: *connection,
-                    call: *call,
-                    references: references.as_slice(),
-                };
-                write!(f, "send{noted}")
-            }
+            } => put_noted(f, "send", *connection, *call, references),
             Body::Receive {
                 connection,
                 call,
                 references,
                 ..
-            } => {
-                let noted = Noted {
-                    connection: *connection,
-                    call: *call,
-                    references: references.as_slice(),
-                };
-                write!(f, "receive{noted}")
-            }
+            } => put_noted(f, "receive", *connection, *call, references),
         }
     }
 }
@@ -171,7 +188,7 @@ pub struct NumberedRecord<'a> {
 }
 
 impl Display for NumberedRecord<'_> {
-    ghost output = { λ event. Some (record_text event.at event.body.now event.message) };
+    ghost output = { λ numbered. Some (record_text numbered.at numbered.body.now numbered.message) };
 
     fn fmt<W: fmt::Write>(&self, f: &mut Formatter<W>) -> fmt::Result {
         let at = self.at;

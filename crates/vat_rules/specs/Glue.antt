@@ -1,14 +1,13 @@
 -- For the code's contracts, and no part of the meaning: what a record's numbers stand for
--- before it is applied, looked up at once, and how what is seen of a record is kept.
+-- before it is applied, looked up at once.
 use Rattle.std.specs.Prelude.{ℕ, List, [], ◌∷◌, map, Option, Some, None, slice_get, unwrap_or}
 use Rattle.std.specs.List.{zip}
 use Rattle.vat_rules.specs.Types.{Event, View}
 use Rattle.vat_view.specs.Past.{Past}
 use Rattle.vat_view.specs.Views.{view_of_target, views_of_descriptors}
-use Rattle.vat_rules.specs.Telling.{seen_question, seen_promise, seen_of}
+use Rattle.vat_view.specs.Questions.{is_late}
+use Rattle.vat_rules.specs.Telling.{seen_question, seen_promise, seen_released, seen_of}
 use Rattle.vat_rules.specs.declared.standing.Standing.{Standing}
-use Rattle.vat_rules.specs.declared.story.Kept.{Kept}
-use Rattle.vat_rules.specs.declared.story.Kept.TheVariants as kept
 use Rattle.vat_rules.specs.Told.{Sight, Entry}
 
 -- what the numbers of a record stand for, apart from its references
@@ -17,7 +16,9 @@ standing_of before e = record {
   question = seen_question before e;
   promise = seen_promise before e;
   target = view_of_target before e;
+  released = seen_released before e;
   caps = views_of_descriptors before e;
+  late = is_late before e;
 }
 
 -- the view of these at a place, if one is there
@@ -40,25 +41,7 @@ sight_with references standing = record {
   question = standing.question;
   promise = standing.promise;
   target = standing.target;
+  released = standing.released;
   caps = standing.caps;
+  late = standing.late;
 }
-
--- no number
-abbrev pub no_sight : Sight
-no_sight = record { references = []; question = None; promise = None; target = None; caps = [] }
-
--- what is kept of what a record's numbers stand for, as it is seen
-abbrev pub sight_of : Kept → Sight
-sight_of kept.Nothing = no_sight
-sight_of (kept.Reference v) = record { references = v ∷ []; question = None; promise = None; target = None; caps = [] }
-sight_of (kept.References vs) = record { references = vs.items; question = None; promise = None; target = None; caps = [] }
-sight_of (kept.Both v) = record { references = v ∷ []; question = None; promise = None; target = None; caps = v ∷ [] }
-sight_of (kept.Question v) = record { references = []; question = Some v; promise = None; target = None; caps = [] }
-sight_of (kept.Target v) = record { references = []; question = None; promise = None; target = Some v; caps = [] }
-sight_of (kept.Listed lists) = record { references = lists.value.references; question = None; promise = None; target = None; caps = lists.value.caps }
-sight_of (kept.QuestionWith v lists) = record { references = lists.value.references; question = Some v; promise = None; target = None; caps = lists.value.caps }
-sight_of (kept.QuestionBoth v both) = record { references = both.value ∷ []; question = Some v; promise = None; target = None; caps = both.value ∷ [] }
-sight_of (kept.PromiseBoth v both) = record { references = both.value ∷ []; question = None; promise = Some v; target = None; caps = both.value ∷ [] }
-sight_of (kept.TargetBoth v both) = record { references = both.value ∷ []; question = None; promise = None; target = Some v; caps = both.value ∷ [] }
-sight_of (kept.TargetWith v lists) = record { references = lists.value.references; question = None; promise = None; target = Some v; caps = lists.value.caps }
-sight_of (kept.Several parts) = sight_with parts.value.references parts.value.standing

@@ -14,3 +14,4 @@ pub mod First
 pub mod Audit
 pub mod Viewed
 pub mod Glue
+pub mod Compact

@@ -1,10 +1,11 @@
 -- What a log tells whose records are all good.
-use Rattle.std.specs.Prelude.{List, [], ◌∷◌, ◌++◌, map, reverse, length, count_by, Bool, true, false, Option, option_and_then}
+use Rattle.std.specs.Prelude.{List, [], ◌∷◌, ◌++◌, map, reverse, length, count_by, Bool, true, false, not, Option, Some, None, option_and_then}
 use Rattle.std.specs.Option.{option_or}
 use Rattle.vat_log.specs.declared.body.Body.{Body}
-use Rattle.vat_rules.specs.Types.{Event, Deliver, View}
-use Rattle.vat_view.specs.Past.{Past}
-use Rattle.vat_view.specs.Questions.{returned, finished}
+use Rattle.vat_rules.specs.Types.{Release, Event, Deliver, Wire, View}
+use Rattle.vat_view.specs.declared.id.Id.{Id}
+use Rattle.vat_view.specs.Past.{Past, id}
+use Rattle.vat_view.specs.Questions.{returned, finished, is_late}
 use Rattle.vat_view.specs.Lives.{resolved}
 use Rattle.vat_view.specs.Views.{field_view, view_of_reference, view_of_number, view_of_target, views_of_descriptors}
 use Rattle.vat_view.specs.Bindings.{new_references, named_references}
@@ -23,14 +24,25 @@ seen_question before e = option_and_then (λ q. field_view q [] before) (option_
 abbrev pub seen_promise : Past → Event → Option View
 seen_promise before e = option_and_then (λ i. view_of_number i before) (resolved e)
 
--- what the numbers of a record stand for
+-- the number that a Release gives back: one of the receiver's exports
+abbrev pub released_number : Event → Option Id
+released_number (Wire sent k call references (Release n count)) = Some (id k (not sent) n)
+released_number _ = None
+
+-- what that stands for
+abbrev pub seen_released : Past → Event → Option View
+seen_released before e = option_and_then (λ i. view_of_number i before) (released_number e)
+
+-- what is seen of a record
 abbrev pub seen_of : Past → Event → Sight
 seen_of before e = record {
   references = seen_references before e;
   question = seen_question before e;
   promise = seen_promise before e;
   target = view_of_target before e;
+  released = seen_released before e;
   caps = views_of_descriptors before e;
+  late = is_late before e;
 }
 
 -- a record with what its numbers stand for

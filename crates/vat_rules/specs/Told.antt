@@ -1,14 +1,17 @@
 -- What a good log tells.
-use Rattle.std.specs.Prelude.{ℕ, List, Option}
+use Rattle.std.specs.Prelude.{ℕ, List, Bool, Option}
 use Rattle.vat_rules.specs.Types.{Event, View}
 
--- what the numbers of a record stand for: none where it has no such number, or one that stands for nothing
+-- what the numbers of a record stand for: none where it has no such number, or one that stands for nothing; and whether it
+-- is a Return that is late
 pub record Sight : Type 0 where
   pub references : List (Option View)
   pub question : Option View
   pub promise : Option View
   pub target : Option View
+  pub released : Option View
   pub caps : List (Option View)
+  pub late : Bool
 
 -- a record with what its numbers stand for
 pub record Entry : Type 0 where

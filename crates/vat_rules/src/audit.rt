@@ -10,6 +10,7 @@ ghost use Rattle.vat_rules.specs.First.{AllGood};
 ghost use Rattle.vat_rules.specs.Audit.{IsTrueOf, reads_within};
 ghost use Rattle.vat_rules.specs.Glue.{standing_of, seen_back, entries_with};
 
+use crate::compact::Seen;
 use crate::finding::VatFinding;
 use crate::judge::broken;
 use crate::outcome::Outcome;
@@ -17,7 +18,7 @@ use crate::reading::event_of;
 use crate::rule::Rule;
 use crate::seeing::{standing_of, views_of_references};
 use crate::standing::Standing;
-use crate::story::{Seen, Story};
+use crate::story::Story;
 use rpc_view::Limits;
 use std::alloc::{AllocError, Global};
 use std::sync::Arc;

@@ -53,13 +53,13 @@ pub(crate) fn broken(
     if !may_answer(state, event) {
         return Ok(Some(Rule::Answer));
     }
-    if !describes(alloc, state, event, standing.caps.as_slice())? {
+    if !describes(alloc, state, event, standing)? {
         return Ok(Some(Rule::Desc));
     }
     if !state.gives_back_held(event)? {
         return Ok(Some(Rule::Count));
     }
-    if !returns_known(state, event, standing.caps.as_slice())? {
+    if !returns_known(state, event, standing)? {
         return Ok(Some(Rule::Result));
     }
     if !resolves_promise(state, event, standing) {

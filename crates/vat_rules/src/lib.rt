@@ -11,6 +11,7 @@
 
 mod alike;
 mod audit;
+mod compact;
 mod finding;
 mod judge;
 mod laws;
@@ -29,8 +30,9 @@ mod views;
 mod ways;
 
 pub use audit::audit_vat;
+pub use compact::Seen;
 pub use finding::VatFinding;
 pub use laws::{good_openings_are_closed_once, good_records_turn_once};
 pub use outcome::{Outcome, Why};
 pub use rule::Rule;
-pub use story::{Seen, Story};
+pub use story::Story;

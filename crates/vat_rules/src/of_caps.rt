@@ -8,8 +8,9 @@ ghost use Rattle.vat_view.specs.Lives.{descriptors};
 ghost use Rattle.vat_view.specs.Views.{places, noted, view_of_reference, view_of_descriptor, views_of_descriptors};
 ghost use Rattle.vat_rules.specs.Ways.{EndsIn};
 ghost use Rattle.vat_rules.specs.OfCaps.{is_sent, is_received, is_cap_at, is_hosted, came_hosted, is_hosted_end, NotesView, Describes, BindsEach};
-ghost use Rattle.vat_rules.specs.Glue.{view_at};
+ghost use Rattle.vat_rules.specs.Glue.{view_at, standing_of};
 
+use crate::standing::Standing;
 use crate::ways::leads_to;
 use rpc_view::Descriptor;
 use std::alloc::{AllocError, Global};
@@ -206,14 +207,14 @@ fn notes_each_view(
 }
 
 /// Whether a sent record notes one reference for each descriptor that isn't none, each leading to what that stands
-/// for, and a record introduces numbers by the kind of their lives. `caps` is what its descriptors stand for.
+/// for, and a record introduces numbers by the kind of their lives.
 pub(crate) fn describes(
     alloc: Global,
     state: &VatState,
     event: &Event,
-    caps: &[Option<View>],
+    standing: &Standing,
 ) -> Result<bool, AllocError>
-    requires { caps.now ≡ views_of_descriptors state.now event.now }
+    requires { standing.now ≡ standing_of state.now event.now }
     ensures { IfOk result (λ b. Decides b (Describes state.now event.now)) }
 {
     let sent = is_sent(event);
@@ -223,10 +224,10 @@ pub(crate) fn describes(
     if event.descriptors().is_empty() {
         return Ok(true);
     }
-    if state.is_late(event) {
+    if standing.late {
         return Ok(true);
     }
-    if sent && !notes_each_view(alloc, state, event, caps)? {
+    if sent && !notes_each_view(alloc, state, event, standing.caps.as_slice())? {
         return Ok(false);
     }
     state.keeps_kinds(event)

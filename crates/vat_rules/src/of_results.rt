@@ -4,8 +4,10 @@ ghost use Rattle.std.specs.Prelude.{◌≡◌, Decides, IfOk};
 ghost use Rattle.std.specs.List.{AllByRecursion};
 ghost use Rattle.vat_view.specs.Views.{views_of_descriptors};
 ghost use Rattle.vat_rules.specs.OfResults.{ReturnsField, ReturnsFields, ReturnsKnown};
+ghost use Rattle.vat_rules.specs.Glue.{standing_of};
 
 use crate::of_caps::{is_cap_at, view_at};
+use crate::standing::Standing;
 use crate::ways::leads_on_to;
 use cap_frame::Path;
 use rpc_view::{Outcome, RpcMessage};
@@ -68,13 +70,13 @@ fn returns_fields(
 }
 
 /// Whether a sent Return that isn't late gives results that are known, and at each path what they lead to; and one that
-/// is canceled comes after a Finish. `caps` is what its descriptors stand for.
+/// is canceled comes after a Finish.
 pub(crate) fn returns_known(
     state: &VatState,
     event: &Event,
-    caps: &[Option<View>],
+    standing: &Standing,
 ) -> Result<bool, AllocError>
-    requires { caps.now ≡ views_of_descriptors state.now event.now }
+    requires { standing.now ≡ standing_of state.now event.now }
     ensures { IfOk result (λ b. Decides b (ReturnsKnown state.now event.now)) }
 {
     let Event::Wire {
@@ -92,8 +94,11 @@ pub(crate) fn returns_known(
     };
     let question = Number::Answer(*answer).on(*connection);
     match outcome {
-        Outcome::Results(payload) if !state.is_late(event) => match state.opening_call(question) {
-            Some(call) => returns_fields(state, event, caps, payload.fields.as_slice(), call),
+        Outcome::Results(payload) if !standing.late => match state.opening_call(question) {
+            Some(call) => {
+                let caps = standing.caps.as_slice();
+                returns_fields(state, event, caps, payload.fields.as_slice(), call)
+            }
             None => Ok(false),
         },
         Outcome::Canceled => Ok(state.is_finished(question)),

@@ -3,7 +3,7 @@
 ghost use Rattle.std.specs.Prelude.{◌≡◌, ◌++◌, map, IfOk};
 ghost use Rattle.vat_view.specs.Bindings.{new_references, named_references};
 ghost use Rattle.vat_view.specs.Views.{view_of_reference, views_of_descriptors};
-ghost use Rattle.vat_rules.specs.Telling.{seen_question, seen_promise};
+ghost use Rattle.vat_rules.specs.Telling.{seen_question, seen_promise, seen_released};
 ghost use Rattle.vat_rules.specs.Glue.{standing_of};
 
 use crate::standing::Standing;
@@ -57,6 +57,27 @@ fn seen_promise(alloc: Global, state: &VatState, event: &Event) -> Result<Option
     state.stands_for(*connection, number, &Path::new(Vec::new(alloc))?)
 }
 
+/// What the number stands for that a Release gives back.
+fn seen_released(alloc: Global, state: &VatState, event: &Event) -> Result<Option<View>, AllocError>
+    ensures { IfOk result (λ v. v ≡ seen_released state.now event.now) }
+{
+    let Event::Wire {
+        sent,
+        connection,
+        message: RpcMessage::Release { id, .. },
+        ..
+    } = event
+    else {
+        return Ok(None);
+    };
+    let number = if *sent {
+        Number::Import(*id)
+    } else {
+        Number::Export(*id)
+    };
+    state.stands_for(*connection, number, &Path::new(Vec::new(alloc))?)
+}
+
 /// What the descriptors of a record stand for that may be applied next. Most records have none.
 fn views_of_descriptors(alloc: Global, state: &VatState, event: &Event) -> Result<Views, AllocError>
     ensures { IfOk result (λ views. views ≡ views_of_descriptors state.now event.now) }
@@ -79,7 +100,9 @@ pub(crate) fn standing_of(
         question: seen_question(alloc, state, event)?,
         promise: seen_promise(alloc, state, event)?,
         target: state.view_of_target(event)?,
+        released: seen_released(alloc, state, event)?,
         caps: views_of_descriptors(alloc, state, event)?,
+        late: state.is_late(event),
     })
 }
 

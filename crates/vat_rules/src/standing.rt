@@ -1,7 +1,5 @@
 //! What the numbers of a record stand for before it is applied.
 
-ghost use Rattle.std.specs.Prelude.{◌≡◌, ◌&&◌, is_none};
-
 use crate::views::Views;
 use vat_view::View;
 
@@ -14,15 +12,10 @@ pub(crate) struct Standing {
     pub(crate) promise: Option<View>,
     /// What its target stands for.
     pub(crate) target: Option<View>,
+    /// What the number stands for that it releases.
+    pub(crate) released: Option<View>,
     /// What its descriptors stand for, by place.
     pub(crate) caps: Views,
-}
-
-impl Standing {
-    /// Whether it has no question, promise and target that stands for something.
-    pub(crate) fn is_empty(&self) -> bool
-        ensures { result ≡ (is_none self.now.question && is_none self.now.promise && is_none self.now.target) }
-    {
-        self.question.is_none() && self.promise.is_none() && self.target.is_none()
-    }
+    /// Whether it is a Return that is late.
+    pub(crate) late: bool,
 }

@@ -1,18 +1,19 @@
 -- The edges found, with one more step.
-use Rattle.std.proofs.Common.{◌≡◌, ◌∙◌, ◌⊎◌, ℕ, suc, ◌+◌, ◌<◌, ◌≤◌, inl, inr, refl, sym, ap, ap₂, subst, ◌==◌, List, [], ◌∷◌, ◌++◌, Bool, true, false, not, reverse, take, length, get_or, Some, None, arith, if◌then◌else◌}
+use Rattle.std.proofs.Common.{◌≡◌, ◌∙◌, ◌⊎◌, ℕ, ◌+◌, ◌<◌, ◌≤◌, inl, inr, refl, sym, ap, ap₂, subst, ◌==◌, List, ◌∷◌, true, false, not, reverse, take, length, get_or, Some, None, arith}
 use Rattle.std.specs.Prelude.{slice_get}
 use Rattle.std.proofs.lemmas.Bool.{cases_lt, eqb-false, false≢true, not-true, not-false, eqb-true}
-use Rattle.std.proofs.lemmas.List.{take_more, reverse-append, length-reverse, length-take-le}
 use Rattle.std.proofs.lemmas.Option.{slice_get-get_or, slice_get_past}
 use Rattle.run_model.specs.Edges.{Edge, IsForeign}
+use Rattle.run_model.specs.StepNumbers.{number_of}
 use Rattle.run_model.specs.Steps.{Past, count, vat_of}
 use Rattle.run_model.specs.declared.cap.Cap.{Cap}
 use Rattle.run_model.specs.declared.cap.Cap.TheVariants as cap
 use Rattle.run_model.specs.declared.message.Message.{Message}
 use Rattle.run_model.specs.declared.step.Step.{Step}
 use Rattle.run_model.specs.declared.step.Step.TheVariants.{Host, Receive}
-use Rattle.authority.specs.Tables.{AddsFirst, ComesBefore, IsBoundIn, IsFound, IsFoundBefore, IsNumber, edge_at, foreign, IsCounted, number_of}
-use Rattle.authority.specs.declared.numbers.Numbers.{Numbers}
+use Rattle.run_model.specs.declared.step_numbers.StepNumbers.{StepNumbers}
+use Rattle.run_model.proofs.Numbers.{IsNumbered, past_more}
+use Rattle.authority.specs.Tables.{AddsFirst, ComesBefore, IsBoundIn, IsFound, IsFoundBefore, IsNumber, edge_at, foreign}
 use Rattle.authority.proofs.First.{found_more, found_own, found_same}
 use Rattle.authority.proofs.Bound.{came_before}
 
@@ -71,9 +72,6 @@ none_some e = cc
 pub within : (caps : List Cap) (q : ℕ) (a : Cap) → slice_get caps q ≡ Some a → q < length caps
 within caps q a e = elim (cases_lt q (length caps)) [ inl less ↦ less | inr more ↦ absurd (none_some (sym (slice_get_past caps q more) ∙ e)) ]
 
-past_more : (run : List Step) (i : ℕ) (s : Step) → i < length run → s ≡ get_or run i s → reverse (take (i + 1) run) ≡ s ∷ reverse (take i run)
-past_more run i s lt is = ap reverse (take_more run i s lt ∙ ap (λ t. take i run ++ t ∷ []) (sym is)) ∙ reverse-append (take i run) (s ∷ [])
-
 pub partly_all : (run : List Step) (at : ℕ) (s : Step) (v k : ℕ) (m : Message) (caps : List Cap) (i p : ℕ) (edges : List Edge) → at < length run → s ≡ get_or run at s → s ≡ Receive v k m caps
     → i ≡ count (λ t. vat_of t == v) (reverse (take at run)) → length caps ≤ p → IsFound (IsPartly (reverse (take at run)) v i caps p) edges → IsFoundBefore run (at + 1) edges
 partly_all run at s v k m caps i p edges lt item is number all found =
@@ -106,42 +104,7 @@ number_at run at number v k m caps s is lt item same =
 
 -- ---- counting
 
-if_true : (b : Bool) (n : ℕ) → b ≡ true → (if b then suc n else n) ≡ suc n
-if_true true n e = refl
-if_true false n e = absurd (false≢true e)
-
-suc_if : (b : Bool) (n : ℕ) → n + (if b then 1 else 0) ≡ (if b then suc n else n)
-suc_if true n = omega arith
-suc_if false n = omega arith
-
-at_most : (b : Bool) (n k : ℕ) → n ≤ k → (if b then suc n else n) ≤ suc k
-at_most true n k l = omega (arith, l)
-at_most false n k l = omega (arith, l)
-
-count_within : (test : Step → Bool) (past : Past) → count test past ≤ length past
-count_within test [] = omega arith
-count_within test (s ∷ past) = at_most (test s) (count test past) (length past) (count_within test past)
-
-pub room : (run : List Step) (i v : ℕ) → i < length run → count (λ t. vat_of t == v) (reverse (take i run)) ≤ i
-room run i v lt =
-    let all = count_within (λ t. vat_of t == v) (reverse (take i run)) in
-    let same = length-reverse (take i run) in
-    let part = length-take-le i run (omega (arith, lt)) in
-    omega (arith, all, same, part)
-
--- the table says how many steps of each vat are among the first
-abbrev pub IsNumbered : List Step → ℕ → Numbers → Type 0
-IsNumbered run i table = (v : ℕ) → number_of table v ≡ count (λ t. vat_of t == v) (reverse (take i run))
-
-pub numbered_more : (run : List Step) (i : ℕ) (s : Step) (vat : ℕ) (old new : Numbers) → i < length run → s ≡ get_or run i s → vat ≡ vat_of s → IsCounted vat old new → IsNumbered run i old
-    → IsNumbered run (i + 1) new
-numbered_more run i s vat old new lt at is counted before v =
-    counted v
-    ∙ ap₂ (λ n w. n + (if w == v then 1 else 0)) (before v) is
-    ∙ suc_if (vat_of s == v) (count (λ t. vat_of t == v) (reverse (take i run)))
-    ∙ sym (ap (count (λ t. vat_of t == v)) (past_more run i s lt at))
-
-pub number_is : (run : List Step) (i number vat : ℕ) (s : Step) (table : Numbers) → i < length run → s ≡ get_or run i s → vat ≡ vat_of s → IsNumbered run i table → number ≡ number_of table vat → IsNumber run i number
+pub number_is : (run : List Step) (i number vat : ℕ) (s : Step) (table : StepNumbers) → i < length run → s ≡ get_or run i s → vat ≡ vat_of s → IsNumbered run i table → number ≡ number_of table vat → IsNumber run i number
 number_is run i number vat s table lt item is before e t at =
     let same : s ≡ t = some_same (sym (slice_get-get_or run i s lt ∙ ap Some (sym item)) ∙ at) in
     e ∙ before vat ∙ ap (λ w. count (λ u. vat_of u == w) (reverse (take i run))) (is ∙ ap vat_of same)

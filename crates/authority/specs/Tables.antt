@@ -1,22 +1,11 @@
 -- For the code's contracts, and no part of the meaning: tables of what was found so far.
-use Rattle.std.specs.Prelude.{◌≡◌, ◌⊎◌, ℕ, ◌+◌, ◌==◌, ◌++◌, List, [], ◌∷◌, Some, slice_get, unwrap_or, if◌then◌else◌, Bool, false, not, reverse, take}
-use Rattle.std.specs.Ordering.{nat_cmp}
-use Rattle.std.specs.BTreeMap.{get}
+use Rattle.std.specs.Prelude.{◌≡◌, ◌⊎◌, ℕ, ◌==◌, ◌++◌, List, [], ◌∷◌, Some, slice_get, Bool, false, not, reverse, take}
 use Rattle.run_model.specs.Edges.{Edge, IsForeign, IsEarlier}
 use Rattle.run_model.specs.Steps.{Past, OneOf, count, vat_of}
 use Rattle.run_model.specs.declared.cap.Cap.{Cap}
 use Rattle.run_model.specs.declared.cap.Cap.TheVariants as cap
 use Rattle.run_model.specs.declared.step.Step.{Step}
 use Rattle.run_model.specs.declared.step.Step.TheVariants.{Receive}
-use Rattle.authority.specs.declared.numbers.Numbers.{Numbers}
-
--- how many steps of a vat came
-abbrev pub number_of : Numbers → ℕ → ℕ
-number_of table vat = unwrap_or (get nat_cmp table.entries vat) 0
-
--- one step of a vat more came
-abbrev pub IsCounted : ℕ → Numbers → Numbers → Type 0
-IsCounted vat old new = (v : ℕ) → number_of new v ≡ number_of old v + (if vat == v then 1 else 0)
 
 -- an edge, by its parts
 abbrev pub edge_at : ℕ → Cap → ℕ → ℕ → Edge

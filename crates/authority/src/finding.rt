@@ -6,9 +6,8 @@ ghost use Rattle.run_model.specs.Steps.{count, vat_of};
 ghost use Rattle.authority.specs.Tables.{foreign, IsFoundBefore, IsNumber};
 
 use crate::edges::Graph;
-use crate::numbers::{Numbers, vat_of};
 use crate::witnesses::Witnesses;
-use run_model::{Cap, Run, Step};
+use run_model::{Cap, Run, Step, StepNumbers, vat_of};
 use std::alloc::{AllocError, Global};
 
 /// Whether the capability is another vat's.
@@ -50,7 +49,7 @@ fn with_step(
 pub(crate) fn find(alloc: Global, steps: &[Step]) -> Result<Witnesses, AllocError>
     ensures { IfOk result (IsFoundBefore steps.now (length steps.now)) }
 {
-    let mut numbers = Numbers::new(alloc);
+    let mut numbers = StepNumbers::new(alloc);
     let mut found = Witnesses::new(alloc);
     for index in 0..steps.len() {
         let number = numbers.count(vat_of(&steps[index]))?;

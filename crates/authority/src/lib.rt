@@ -11,7 +11,6 @@ mod edges;
 mod finding;
 mod key;
 mod laws;
-mod numbers;
 mod records;
 mod witnesses;
 
@@ -19,5 +18,4 @@ pub use edge::Edge;
 pub use edges::Graph;
 pub use finding::graph;
 pub use laws::what_is_used_is_explained;
-pub use numbers::vat_of;
 pub use records::record_numbers;

@@ -3,8 +3,7 @@
 ghost use Rattle.std.specs.Prelude.{◌≡◌, IfOk};
 ghost use Rattle.authority.specs.Records.{records_of};
 
-use crate::numbers::{Numbers, vat_of};
-use run_model::Run;
+use run_model::{Run, StepNumbers, vat_of};
 use std::alloc::{AllocError, Global};
 
 /// The number of each step's record in its vat's log, counted from 0: how many steps of its vat came before it. The only
@@ -12,7 +11,7 @@ use std::alloc::{AllocError, Global};
 pub fn record_numbers(alloc: Global, run: &Run) -> Result<Vec<u64>, AllocError>
     ensures { IfOk result (λ numbers. numbers.items ≡ records_of run.now) }
 {
-    let mut counts = Numbers::new(alloc);
+    let mut counts = StepNumbers::new(alloc);
     let mut numbers = Vec::new(alloc);
     for step in run.steps() {
         numbers.push(counts.count(vat_of(step))?)?;

@@ -5,8 +5,7 @@ ghost use Rattle.std.specs.Prelude.{◌≡◌, Some};
 ghost use Rattle.report_lines.specs.StepText.{call_of, call_of_message, called_text, kind_text, message_word, plain_word, step_text};
 
 use crate::shown::Shown;
-use authority::vat_of;
-use run_model::{Message, Name, Plain, Step};
+use run_model::{Message, Name, Plain, Step, vat_of};
 use std::fmt;
 use std::fmt::{Display, Formatter};
 

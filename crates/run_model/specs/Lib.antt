@@ -10,3 +10,4 @@ pub mod Right
 pub mod Early
 pub mod Edges
 pub mod Reordered
+pub mod StepNumbers

@@ -8,6 +8,8 @@
 //! and when a call is under way (`specs/Links.antt`, `specs/UnderWay.antt`), what is promised of a run
 //! (`specs/Right.antt`, `specs/Early.antt`), which capabilities of others a vat came to have (`specs/Edges.antt`), and when
 //! two runs are of the same steps (`specs/Reordered.antt`).
+//! [`StepNumbers`] counts the steps of each vat, for the crates above (`specs/StepNumbers.antt`, which is no part of the
+//! meaning).
 //! What holds of all runs by these definitions is promised by the functions of `src/laws.rt`, which do nothing.
 #![tactic(auto)]
 
@@ -20,6 +22,7 @@ mod plain;
 mod results;
 mod run;
 mod step;
+mod step_numbers;
 
 pub use cap::Cap;
 pub use caps::Caps;
@@ -35,4 +38,5 @@ pub use name::Name;
 pub use plain::Plain;
 pub use results::Results;
 pub use run::Run;
-pub use step::Step;
+pub use step::{Step, vat_of};
+pub use step_numbers::StepNumbers;

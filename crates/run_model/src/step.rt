@@ -1,5 +1,8 @@
 //! Steps.
 
+ghost use Rattle.std.specs.Prelude.{◌≡◌};
+ghost use Rattle.run_model.specs.Steps.{vat_of};
+
 use crate::cap::Cap;
 use crate::caps::Caps;
 use crate::message::Message;
@@ -106,4 +109,23 @@ pub enum Step {
         /// The capabilities that the vat has by it from then on, in the order of their places.
         bound: Caps,
     },
+}
+
+/// Whose step it is, by the vat number.
+pub fn vat_of(step: &Step) -> u32
+    ensures { result ≡ vat_of step.now }
+{
+    match step {
+        Step::Host { vat, .. }
+        | Step::Vow { vat, .. }
+        | Step::Fulfil { vat, .. }
+        | Step::Break { vat, .. }
+        | Step::Make { vat, .. }
+        | Step::Name { vat, .. }
+        | Step::Deliver { vat, .. }
+        | Step::Answer { vat, .. }
+        | Step::Fault { vat, .. }
+        | Step::Send { vat, .. }
+        | Step::Receive { vat, .. } => *vat,
+    }
 }

@@ -1,10 +1,11 @@
 use Rattle.std.proofs.Common.{arith}
-use Rattle.authority.proofs.Stepping.{room, numbered_more, number_is}
+use Rattle.run_model.proofs.Numbers.{counted_within, numbered_more}
+use Rattle.authority.proofs.Stepping.{number_is}
 use Rattle.authority.proofs.finding.find.Goals as goal
 
 pub count-requires : goal.count-requires
 count-requires c =
-    let least = room c.args.steps.now c.loop-index.index c.vat_of.result c.loop-index-test.true in
+    let least = counted_within c.args.steps.now c.loop-index.index c.vat_of.result c.loop-index-test.true in
     let same = c.loop-index.invariant.0 c.vat_of.result in
     omega (arith, least, same)
 

@@ -1,5 +1,5 @@
 use Rattle.authority.specs.Tables.{IsFoundBefore}
-use Rattle.authority.proofs.Stepping.{IsNumbered}
+use Rattle.run_model.proofs.Numbers.{IsNumbered}
 use Rattle.authority.proofs.finding.find.Given as goal
 
 abbrev pub invariant-loop-index : goal.invariant-loop-index

@@ -1,11 +1,11 @@
 use Rattle.std.proofs.Common.{◌∙◌, arith}
+use Rattle.run_model.proofs.Numbers.{counted_within, numbered_more}
 use Rattle.authority.proofs.Recording.{recorded_more}
-use Rattle.authority.proofs.Stepping.{room, numbered_more}
 use Rattle.authority.proofs.records.record_numbers.Goals as goal
 
 pub count-requires : goal.count-requires
 count-requires c =
-    let least = room c.steps-step-items.result.now c.loop-step.step-index c.vat_of.result c.loop-step-test.true in
+    let least = counted_within c.steps-step-items.result.now c.loop-step.step-index c.vat_of.result c.loop-step-test.true in
     let same = c.loop-step.invariant.0 c.vat_of.result in
     omega (arith, least, same)
 

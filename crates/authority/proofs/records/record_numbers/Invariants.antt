@@ -1,6 +1,6 @@
 use Rattle.std.proofs.Common.{◌≡◌, take}
 use Rattle.authority.specs.Records.{records_of}
-use Rattle.authority.proofs.Stepping.{IsNumbered}
+use Rattle.run_model.proofs.Numbers.{IsNumbered}
 use Rattle.authority.proofs.records.record_numbers.Given as goal
 
 abbrev pub invariant-loop-step : goal.invariant-loop-step

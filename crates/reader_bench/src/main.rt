@@ -10,15 +10,15 @@
 //! trusted.
 #![tactic(auto)]
 
-mod reading;
-mod report;
+mod frame_file;
+mod reading_times;
 #[cfg(test)]
 mod tests;
 mod word_sum;
 
 use bytes::Bytes;
-use reading::read_frames;
-use report::Report;
+use frame_file::read_frames;
+use reading_times::ReadingTimes;
 use std::alloc::Global;
 use std::rt::Files;
 use std::time::CpuClock;
@@ -32,13 +32,13 @@ fn read_file<R: Files + AllocGlobal>(rt: &R, name: &str) -> io::Result<Bytes> {
 }
 
 /// Sums the words, reads the frames, and says how much processor time each took.
-fn measure(alloc: Global, clock: &impl CpuClock, bytes: Bytes) -> io::Result<Report> {
+fn measure(alloc: Global, clock: &impl CpuClock, bytes: Bytes) -> io::Result<ReadingTimes> {
     let start = clock.thread_cpu_time()?;
     let sum = word_sum(bytes.as_slice());
     let between = clock.thread_cpu_time()?;
     let frames = read_frames(alloc, bytes)?;
     let end = clock.thread_cpu_time()?;
-    Ok(Report {
+    Ok(ReadingTimes {
         frames,
         sum,
         reading: end.saturating_sub(between).as_nanos(),

@@ -1,6 +1,6 @@
 //! Files of frames, with what they hold.
 
-use crate::reading::read_frames;
+use crate::frame_file::read_frames;
 use crate::word_sum::word_sum;
 use bytes::Bytes;
 use std::test::Fail;

@@ -1,6 +1,6 @@
 use Rattle.std.proofs.Common.{◌≡◌, ◌+◌, ◌-◌, ◌*◌, ◌<◌, ◌≤◌, ◌^◌, length, take, drop}
 use Rattle.reader_bench.specs.Cut.{AreFrames}
-use Rattle.reader_bench.proofs.reading.read_frames.Given as goal
+use Rattle.reader_bench.proofs.frame_file.read_frames.Given as goal
 
 abbrev pub invariant-loop-len : goal.invariant-loop-len
 invariant-loop-len l = record {

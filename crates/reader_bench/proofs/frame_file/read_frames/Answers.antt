@@ -1,7 +1,7 @@
 use Rattle.std.proofs.Common.{◌≤◌, length, arith}
 use Rattle.reader_bench.proofs.Cutting.{one_off}
-use Rattle.reader_bench.proofs.reading.read_frames.Goals as goal
-use Rattle.reader_bench.proofs.reading.read_frames.Goals.{then-is_err, else-is_err}
+use Rattle.reader_bench.proofs.frame_file.read_frames.Goals as goal
+use Rattle.reader_bench.proofs.frame_file.read_frames.Goals.{then-is_err, else-is_err}
 
 pub loop-len-preserved : goal.loop-len-preserved
 loop-len-preserved c =

@@ -1,12 +1,12 @@
 //! What is printed.
 
-use crate::reading::Frames;
+use crate::frame_file::Frames;
 use std::fmt;
 use std::fmt::{Display, Formatter, Write};
 
 /// What was read and summed, and how much processor time each took.
 #[derive(Debug, Drop)]
-pub struct Report {
+pub struct ReadingTimes {
     /// What the file has.
     pub frames: Frames,
     /// The sum of the file's words.
@@ -17,22 +17,22 @@ pub struct Report {
     pub summing: u128,
 }
 
-/// A number of tenths.
+/// A quotient, in tenths.
 #[derive(Clone, Copy)]
-struct Tenths(u128);
+struct Quotient(u128);
 
-/// So many tenths as one number has of another; none where that is 0.
-fn ratio(part: u128, whole: u128) -> Tenths {
-    Tenths((part.saturating_mul(10)).checked_div(whole).unwrap_or(0))
+/// One number divided by another; 0 where that is 0.
+fn ratio(part: u128, whole: u128) -> Quotient {
+    Quotient((part.saturating_mul(10)).checked_div(whole).unwrap_or(0))
 }
 
-impl Display for Tenths {
+impl Display for Quotient {
     fn fmt<W: Write>(&self, f: &mut Formatter<W>) -> fmt::Result {
         write!(f, "{}.{}", self.0 / 10, self.0 % 10)
     }
 }
 
-impl Display for Report {
+impl Display for ReadingTimes {
     fn fmt<W: Write>(&self, f: &mut Formatter<W>) -> fmt::Result {
         let count = u128::from(self.frames.count);
         write!(

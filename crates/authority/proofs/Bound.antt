@@ -62,7 +62,7 @@ bound_more (Receive v k m bound) past e h = inr h
 bound_more (Host v o) past e h = h
 bound_more _ past e h = h
 
-pub bound_in : (past : Past) (e : Edge) → IsBound (reverse past) e.vat e.cap e.at_record e.place → IsBoundIn past e
+pub bound_in : (past : Past) (e : Edge) → IsBound (reverse past) e.vat e.cap e.at_record e.bound_index → IsBoundIn past e
 bound_in [] e b = absurd (none_some b.step)
 bound_in (s ∷ past) e b =
     elim (get_more (vat_of s == e.vat) (steps_of e.vat (reverse past)) s e.at_record (Receive e.vat b.connection b.message b.bound) (sym (ap (λ l. slice_get l e.at_record) (steps_more e.vat s past)) ∙ b.step)) [
@@ -91,14 +91,14 @@ bound_last past v k m bound a p at = record {
   cap_bound = at;
 }
 
-pub bound_by : (past : Past) (e : Edge) → IsBoundIn past e → IsBound (reverse past) e.vat e.cap e.at_record e.place
+pub bound_by : (past : Past) (e : Edge) → IsBoundIn past e → IsBound (reverse past) e.vat e.cap e.at_record e.bound_index
 bound_by [] e h = absurd h
 bound_by (Receive v k m bound ∷ past) e (inl h) =
-    subst (λ w. IsBound (reverse (Receive v k m bound ∷ past)) w e.cap e.at_record e.place) (sym h.0)
-    (subst (λ i. IsBound (reverse (Receive v k m bound ∷ past)) v e.cap i e.place) (sym h.1) (bound_last past v k m bound e.cap e.place h.2))
-bound_by (Receive v k m bound ∷ past) e (inr h) = bound_later (Receive v k m bound) past e.vat e.cap e.at_record e.place (bound_by past e h)
-bound_by (Host v o ∷ past) e h = bound_later (Host v o) past e.vat e.cap e.at_record e.place (bound_by past e h)
-bound_by (s ∷ past) e h = bound_later s past e.vat e.cap e.at_record e.place (bound_by past e h)
+    subst (λ w. IsBound (reverse (Receive v k m bound ∷ past)) w e.cap e.at_record e.bound_index) (sym h.0)
+    (subst (λ i. IsBound (reverse (Receive v k m bound ∷ past)) v e.cap i e.bound_index) (sym h.1) (bound_last past v k m bound e.cap e.bound_index h.2))
+bound_by (Receive v k m bound ∷ past) e (inr h) = bound_later (Receive v k m bound) past e.vat e.cap e.at_record e.bound_index (bound_by past e h)
+bound_by (Host v o ∷ past) e h = bound_later (Host v o) past e.vat e.cap e.at_record e.bound_index (bound_by past e h)
+bound_by (s ∷ past) e h = bound_later s past e.vat e.cap e.at_record e.bound_index (bound_by past e h)
 
 -- what is bound so far is bound by a step that came
 fewer : (b : Bool) (i n : ℕ) → i < n → i < (if b then suc n else n)
@@ -120,23 +120,23 @@ came_before (s ∷ past) e h = fewer (vat_of s == e.vat) e.at_record (count (λ 
 
 -- ---- the edges found are the witnesses
 
-to_run : (run : List Step) (e : Edge) → IsBoundIn (reverse run) e → IsBound run e.vat e.cap e.at_record e.place
-to_run run e h = subst (λ l. IsBound l e.vat e.cap e.at_record e.place) (reverse-reverse run) (bound_by (reverse run) e h)
+to_run : (run : List Step) (e : Edge) → IsBoundIn (reverse run) e → IsBound run e.vat e.cap e.at_record e.bound_index
+to_run run e h = subst (λ l. IsBound l e.vat e.cap e.at_record e.bound_index) (reverse-reverse run) (bound_by (reverse run) e h)
 
-from_run : (run : List Step) (e : Edge) → IsBound run e.vat e.cap e.at_record e.place → IsBoundIn (reverse run) e
-from_run run e b = bound_in (reverse run) e (subst (λ l. IsBound l e.vat e.cap e.at_record e.place) (sym (reverse-reverse run)) b)
+from_run : (run : List Step) (e : Edge) → IsBound run e.vat e.cap e.at_record e.bound_index → IsBoundIn (reverse run) e
+from_run run e b = bound_in (reverse run) e (subst (λ l. IsBound l e.vat e.cap e.at_record e.bound_index) (sym (reverse-reverse run)) b)
 
-pub found_witness : (run : List Step) (edges : List Edge) → IsFound (IsBoundIn (reverse run)) edges → (e : Edge) → OneOf (λ x. x ≡ e) edges → IsWitness run e.vat e.cap e.at_record e.place
+pub found_witness : (run : List Step) (edges : List Edge) → IsFound (IsBoundIn (reverse run)) edges → (e : Edge) → OneOf (λ x. x ≡ e) edges → IsWitness run e.vat e.cap e.at_record e.bound_index
 found_witness run edges found e there =
     let s = found.sound e there in
     record { foreign = s.0; bound = to_run run e s.1; first = λ j other before b. s.2 (edge_at e.vat e.cap j other) (from_run run (edge_at e.vat e.cap j other) b) (refl, refl) before }
 
-pub witness_found : (run : List Step) (edges : List Edge) → IsFound (IsBoundIn (reverse run)) edges → (e : Edge) → IsWitness run e.vat e.cap e.at_record e.place → OneOf (λ x. x ≡ e) edges
+pub witness_found : (run : List Step) (edges : List Edge) → IsFound (IsBoundIn (reverse run)) edges → (e : Edge) → IsWitness run e.vat e.cap e.at_record e.bound_index → OneOf (λ x. x ≡ e) edges
 witness_found run edges found e w =
     let r = found.covers e w.foreign (from_run run e w.bound) in
     elim r.3 [
       | inl before ↦
-          absurd (w.first (r.0).at_record (r.0).place before
-          (subst (λ v. IsBound run v e.cap (r.0).at_record (r.0).place) r.2.0 (subst (λ a. IsBound run (r.0).vat a (r.0).at_record (r.0).place) r.2.1 (to_run run r.0 (found.sound r.0 r.1).1))))
+          absurd (w.first (r.0).at_record (r.0).bound_index before
+          (subst (λ v. IsBound run v e.cap (r.0).at_record (r.0).bound_index) r.2.0 (subst (λ a. IsBound run (r.0).vat a (r.0).at_record (r.0).bound_index) r.2.1 (to_run run r.0 (found.sound r.0 r.1).1))))
       | inr same ↦ subst (λ x. OneOf (λ y. y ≡ x) edges) same r.1
     ]

@@ -41,7 +41,7 @@ bound_on (s ∷ later) before e h = bound_more s (later ++ before) e (bound_on l
 
 -- what was bound before has its first witness before
 pub witnessed : (run : List Step) (later before : Past) → reverse run ≡ later ++ before → (f : Edge) → IsForeign f.vat f.cap → IsBoundIn before f
-    → (e : Edge) × IsWitness run e.vat e.cap e.at_record e.place × IsAlike f e × (e.at_record < count (λ t. vat_of t == f.vat) before)
+    → (e : Edge) × IsWitness run e.vat e.cap e.at_record e.bound_index × IsAlike f e × (e.at_record < count (λ t. vat_of t == f.vat) before)
 witnessed run later before parts f foreign here =
     let all = some_found (reverse run) in
     let r = all.1.covers f foreign (subst (λ l. IsBoundIn l f) (sym parts) (bound_on later before f here)) in

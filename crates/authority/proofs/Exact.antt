@@ -37,9 +37,9 @@ pub single : (past : Past) (edges : List Edge) → IsFound (IsBoundIn past) edge
 single past edges found e f here there vat at place =
     let one = bound_by past e (found.sound e here).1 in
     let two = bound_by past f (found.sound f there).1 in
-    one_cap (reverse past) f.vat e.cap f.cap f.at_record f.place
+    one_cap (reverse past) f.vat e.cap f.cap f.at_record f.bound_index
     (subst (λ p. IsBound (reverse past) f.vat e.cap f.at_record p) place
-    (subst (λ i. IsBound (reverse past) f.vat e.cap i e.place) at (subst (λ v. IsBound (reverse past) v e.cap e.at_record e.place) vat one)))
+    (subst (λ i. IsBound (reverse past) f.vat e.cap i e.bound_index) at (subst (λ v. IsBound (reverse past) v e.cap e.at_record e.bound_index) vat one)))
     two
 
 -- ---- one of a list, told in two ways

@@ -81,7 +81,7 @@ some_found (Receive v k m caps ∷ past) =
     let all = part_found past v (count (λ t. vat_of t == v) past) caps refl rest.0 rest.1 (length caps) (omega arith) in (
       all.0,
       found_same (IsPartly past v (count (λ t. vat_of t == v) past) caps (length caps)) (IsBoundIn (Receive v k m caps ∷ past)) all.0 all.1
-          (λ f h. elim h [ inl here ↦ inl (here.0, here.1, within caps f.place f.cap here.2, here.2) | inr was ↦ inr was ])
+          (λ f h. elim h [ inl here ↦ inl (here.0, here.1, within caps f.bound_index f.cap here.2, here.2) | inr was ↦ inr was ])
           (λ f h. elim h [ inl here ↦ inl (here.0, here.1, here.3) | inr was ↦ inr was ]),
     )
 some_found (Host v o ∷ past) = some_found past

@@ -83,7 +83,7 @@ module _ (k : ℕ × ℕ × ℕ) (a : Cap) where
 
   -- at the place of the new entry this one has the same cap
   abbrev Agrees : Edge → Type 0
-  Agrees f = f.vat ≡ k.0 → f.at_record ≡ k.1 → f.place ≡ k.2 → f.cap ≡ a
+  Agrees f = f.vat ≡ k.0 → f.at_record ≡ k.1 → f.bound_index ≡ k.2 → f.cap ≡ a
 
   same_edge : (f : Edge) (e : Entry) → Agrees f → place_edge e ≡ f → place_cmp k e.0 ≡ Equal → place_edge (e.0, a) ≡ f
   same_edge f e agrees is same =
@@ -91,7 +91,7 @@ module _ (k : ℕ × ℕ × ℕ) (a : Cap) where
       let cap : f.cap ≡ a = agrees
       (sym (ap (λ (x : Edge). x.vat) is) ∙ sym (ap (λ (q : ℕ × ℕ × ℕ). q.0) one))
       (sym (ap (λ (x : Edge). x.at_record) is) ∙ sym (ap (λ (q : ℕ × ℕ × ℕ). q.1) one))
-      (sym (ap (λ (x : Edge). x.place) is) ∙ sym (ap (λ (q : ℕ × ℕ × ℕ). q.2) one)) in
+      (sym (ap (λ (x : Edge). x.bound_index) is) ∙ sym (ap (λ (q : ℕ × ℕ × ℕ). q.2) one)) in
       ap (λ (c : Cap). place_edge (e.0, c)) (sym cap ∙ sym (ap (λ (x : Edge). x.cap) is)) ∙ is
 
   old_at : (f : Edge) → Agrees f → (o : Ordering) (e : Entry) (es : List Entry) → place_cmp k e.0 ≡ o → (Among f es → Among f (insert_entry place_cmp es k a)) → Among f (e ∷ es) → Among f (put o e es)

@@ -19,7 +19,7 @@ use Rattle.authority.proofs.Bound.{came_before}
 
 -- what is bound by the steps before, or at the first places of this one
 abbrev pub IsPartly : Past → ℕ → ℕ → List Cap → ℕ → Edge → Type 0
-IsPartly past v i caps p e = ((e.vat ≡ v) × (e.at_record ≡ i) × (e.place < p) × (slice_get caps e.place ≡ Some e.cap)) ⊎ IsBoundIn past e
+IsPartly past v i caps p e = ((e.vat ≡ v) × (e.at_record ≡ i) × (e.bound_index < p) × (slice_get caps e.bound_index ≡ Some e.cap)) ⊎ IsBoundIn past e
 
 is_foreign : (v : ℕ) (a : Cap) → foreign v a ≡ true → IsForeign v a
 is_foreign v (cap.Object w o) e = λ same. eqb-false w v (not-true (w == v) e) same
@@ -43,12 +43,12 @@ some_same e = cc
 module _ (past : Past) (v i : ℕ) (caps : List Cap) (p : ℕ) (a : Cap) (at : slice_get caps p ≡ Some a) where
   only : (f : Edge) → IsPartly past v i caps (p + 1) f → IsPartly past v i caps p f ⊎ (f ≡ edge_at v a i p)
   only f (inr was) = inl (inr was)
-  only f (inl h) = elim (cases_lt f.place p) [
+  only f (inl h) = elim (cases_lt f.bound_index p) [
     | inl less ↦ inl (inl (h.0, h.1, less, h.3))
     | inr more ↦
-        let place : f.place ≡ p = omega (arith, h.2, more) in
+        let place : f.bound_index ≡ p = omega (arith, h.2, more) in
         let same : f.cap ≡ a = some_same (sym h.3 ∙ ap (slice_get caps) place ∙ at) in
-        inr (ap (λ w. edge_at w f.cap f.at_record f.place) h.0 ∙ ap (λ j. edge_at v f.cap j f.place) h.1 ∙ ap₂ (λ b q. edge_at v b i q) same place)
+        inr (ap (λ w. edge_at w f.cap f.at_record f.bound_index) h.0 ∙ ap (λ j. edge_at v f.cap j f.bound_index) h.1 ∙ ap₂ (λ b q. edge_at v b i q) same place)
   ]
 
   kept : (f : Edge) → IsPartly past v i caps p f → IsPartly past v i caps (p + 1) f
@@ -78,7 +78,7 @@ partly_all run at s v k m caps i p edges lt item is number all found =
     let past = reverse (take at run) in
     subst (λ l. IsFound (IsBoundIn l) edges) (sym (past_more run at s lt item ∙ ap (λ t. t ∷ past) is))
     (found_same (IsPartly past v i caps p) (IsBoundIn (Receive v k m caps ∷ past)) edges found
-    (λ f h. elim h [ inl here ↦ inl (here.0, here.1 ∙ sym number, (let l = within caps f.place f.cap here.2 in omega (arith, l, all)), here.2) | inr was ↦ inr was ])
+    (λ f h. elim h [ inl here ↦ inl (here.0, here.1 ∙ sym number, (let l = within caps f.bound_index f.cap here.2 in omega (arith, l, all)), here.2) | inr was ↦ inr was ])
     (λ f h. elim h [ inl here ↦ inl (here.0, here.1 ∙ number, here.3) | inr was ↦ inr was ]))
 
 pub back : (s : Step) (past : Past) → ((v k : ℕ) (m : Message) (caps : List Cap) → s ≡ Receive v k m caps → ⊥) → (f : Edge) → IsBoundIn (s ∷ past) f → IsBoundIn past f

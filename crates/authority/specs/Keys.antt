@@ -28,7 +28,7 @@ IsKeyOf v a key = (key_vat key ≡ v) × (key_cap key ≡ a)
 
 -- the edge that an entry tells
 abbrev pub entry_edge : Key × (ℕ × ℕ) → Edge
-entry_edge entry = record { vat = key_vat entry.0; cap = key_cap entry.0; at_record = (entry.1).0; place = (entry.1).1 }
+entry_edge entry = record { vat = key_vat entry.0; cap = key_cap entry.0; at_record = (entry.1).0; bound_index = (entry.1).1 }
 
 -- whether two keys are one
 abbrev pub key_eq : Key → Key → Bool

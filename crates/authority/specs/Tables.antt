@@ -9,7 +9,7 @@ use Rattle.run_model.specs.declared.step.Step.TheVariants.{Receive}
 
 -- an edge, by its parts
 abbrev pub edge_at : ℕ → Cap → ℕ → ℕ → Edge
-edge_at v a i place = record { vat = v; cap = a; at_record = i; place = place }
+edge_at v a i place = record { vat = v; cap = a; at_record = i; bound_index = place }
 
 -- two edges are of one vat and one capability
 abbrev pub IsAlike : Edge → Edge → Type 0
@@ -21,13 +21,13 @@ AddsFirst e old new = (OneOf (IsAlike e) old × (new ≡ old)) ⊎ ((OneOf (IsAl
 
 -- one edge's witness stands before another's
 abbrev pub ComesBefore : Edge → Edge → Type 0
-ComesBefore f e = IsEarlier f.at_record f.place e.at_record e.place
+ComesBefore f e = IsEarlier f.at_record f.bound_index e.at_record e.bound_index
 
 -- where a step of the past binds a cap, told as an edge
 abbrev pub IsBoundIn : Past → Edge → Type 0
 IsBoundIn [] e = ⊥
 IsBoundIn (Receive v connection m bound ∷ before) e =
-    ((e.vat ≡ v) × (e.at_record ≡ count (λ s. vat_of s == v) before) × (slice_get bound e.place ≡ Some e.cap)) ⊎ IsBoundIn before e
+    ((e.vat ≡ v) × (e.at_record ≡ count (λ s. vat_of s == v) before) × (slice_get bound e.bound_index ≡ Some e.cap)) ⊎ IsBoundIn before e
 IsBoundIn (_ ∷ before) e = IsBoundIn before e
 
 -- the edges found are those of all that was bound so far: each is of another vat's cap, and the first of its vat and cap; and

@@ -11,6 +11,7 @@ pub struct Edge {
     pub cap: Cap,
     /// The first of its records that bound it, counted from 0.
     pub at_record: u64,
-    /// The place of it among the capabilities that this record binds, counted from 0.
-    pub place: u64,
+    /// The index of it among the capabilities that this record binds, counted from 0. A descriptor that gives none binds
+    /// nothing, so this isn't the descriptor's index.
+    pub bound_index: u64,
 }

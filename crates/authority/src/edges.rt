@@ -10,7 +10,7 @@ use std::alloc::{AllocError, Global};
 use std::marker::Model;
 
 /// Which vat came to have which capability of another, and by which of its records first: by vat, then by record, then by
-/// place. Contracts see it as the list of run_model's edges.
+/// index among the capabilities that the record binds. Contracts see it as the list of run_model's edges.
 #[derive(Debug, Drop)]
 pub struct Graph {
     edges: Vec<Edge>,
@@ -32,12 +32,12 @@ impl Graph {
         ensures { IfOk result (λ graph. graph ≡ map place_edge table.entries) }
     {
         let mut edges = Vec::new(alloc);
-        for ((vat, at_record, place), cap) in table {
+        for ((vat, at_record, bound_index), cap) in table {
             edges.push(Edge {
                 vat,
                 cap,
                 at_record,
-                place,
+                bound_index,
             })?;
         }
         Ok(Graph { edges })

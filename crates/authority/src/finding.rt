@@ -58,8 +58,8 @@ pub(crate) fn find(alloc: Global, steps: &[Step]) -> Result<Witnesses, AllocErro
     Ok(found)
 }
 
-/// The edges of a run: where each vat first bound each capability of another, by vat, then by record, then by place. The
-/// only error is want of memory.
+/// The edges of a run: where each vat first bound each capability of another, by vat, then by record, then by
+/// index among what the record binds. The only error is want of memory.
 pub fn graph(alloc: Global, run: &Run) -> Result<Graph, AllocError>
     ensures { IfOk result (AreEdges run.now) }
 {

@@ -9,10 +9,10 @@ use std::alloc::{AllocError, Global};
 use std::collections::BTreeMap;
 use std::marker::Model;
 
-/// The capabilities of edges, by the edge's vat, record and place.
+/// The capabilities of edges, by the edge's vat, record and index among what the record binds.
 pub(crate) type ByPlace = BTreeMap<(u32, u64, u64), Cap>;
 
-/// For each vat and each capability of another that it bound, the record and the place at which it did first, in the order
+/// For each vat and each capability of another that it bound, the record and the index at which it did first, in the order
 /// in which they were found. Contracts see it as the list of these edges.
 #[derive(Drop)]
 pub(crate) struct Witnesses {
@@ -62,7 +62,7 @@ impl Witnesses {
         Ok(Witnesses { alloc, entries })
     }
 
-    /// The same edges by vat, record and place.
+    /// The same edges by vat, record and index.
     pub(crate) fn by_place(self) -> Result<ByPlace, AllocError>
         requires { IsSingle self }
         ensures { IfOk result (IsByPlace self) }

@@ -570,10 +570,10 @@ same_edges run other same edges are = record {
     bound one two same v c i place b =
         record { connection = b.connection; message = b.message; bound = b.bound; step = ap (λ l. slice_get l i) (sym (same v)) ∙ b.step; cap_bound = b.cap_bound }
 
-    witness : (one two : List Step) → HaveSameSteps one two → (e : Edge) → IsWitness one e.vat e.cap e.at_record e.place → IsWitness two e.vat e.cap e.at_record e.place
+    witness : (one two : List Step) → HaveSameSteps one two → (e : Edge) → IsWitness one e.vat e.cap e.at_record e.bound_index → IsWitness two e.vat e.cap e.at_record e.bound_index
     witness one two same e w = record {
       foreign = w.foreign;
-      bound = bound one two same e.vat e.cap e.at_record e.place w.bound;
+      bound = bound one two same e.vat e.cap e.at_record e.bound_index w.bound;
       first = λ j place earlier b. w.first j place earlier (bound two one (λ v. sym (same v)) e.vat e.cap j place b);
     }
 
@@ -628,7 +628,7 @@ before_one_way : (e f : Edge) → IsBefore e f → IsBefore f e → ⊥
 before_one_way e f (inl h) (inl k) = omega (arith, h, k)
 before_one_way e f (inl h) (inr k) = omega (arith, h, k.0)
 before_one_way e f (inr h) (inl k) = omega (arith, h.0, k)
-before_one_way e f (inr h) (inr k) = earlier_one_way e.at_record e.place f.at_record f.place h.1 k.1
+before_one_way e f (inr h) (inr k) = earlier_one_way e.at_record e.bound_index f.at_record f.bound_index h.1 k.1
 
 pub one_graph : (run : List Step) (edges others : List Edge) → AreEdges run edges → AreEdges run others → edges ≡ others
 one_graph run edges others are are_too =

@@ -11,36 +11,37 @@ IsForeign v (Promise w promise) = w ≢ v
 IsForeign v (FieldOf c path) = c.maker ≢ v
 IsForeign v Nothing = ⊥
 
--- step i of the vat receives a message, and the cap stands at this place of those that it binds; both counted from 0
-pub record IsBound (run : List Step) (v : ℕ) (cap : Cap) (i place : ℕ) : Type 0 where
+-- step i of the vat receives a message, and the cap stands at this index among those that it binds; both counted from 0. (A
+-- descriptor that gives no cap binds none, so this isn't the descriptor's index)
+pub record IsBound (run : List Step) (v : ℕ) (cap : Cap) (i index : ℕ) : Type 0 where
   pub connection : ℕ
   pub message : Message
   pub bound : List Cap
   pub step : slice_get (steps_of v run) i ≡ Some (Receive v connection message bound)
-  pub cap_bound : slice_get bound place ≡ Some cap
+  pub cap_bound : slice_get bound index ≡ Some cap
 
--- one step and place of a vat stand before another
+-- one step and index of a vat stand before another
 abbrev pub IsEarlier : ℕ → ℕ → ℕ → ℕ → Type 0
-IsEarlier i place j other = (i < j) ⊎ ((i ≡ j) × (place < other))
+IsEarlier i index j other = (i < j) ⊎ ((i ≡ j) × (index < other))
 
 -- the cap is another vat's, and this is where the vat first bound it
-pub record IsWitness (run : List Step) (v : ℕ) (cap : Cap) (i place : ℕ) : Type 0 where
+pub record IsWitness (run : List Step) (v : ℕ) (cap : Cap) (i index : ℕ) : Type 0 where
   pub foreign : IsForeign v cap
-  pub bound : IsBound run v cap i place
-  pub first : (j other : ℕ) → IsEarlier j other i place → IsBound run v cap j other → ⊥
+  pub bound : IsBound run v cap i index
+  pub first : (j other : ℕ) → IsEarlier j other i index → IsBound run v cap j other → ⊥
 
--- a vat came to have a cap: by this one of its steps, at this place
+-- a vat came to have a cap: by this one of its steps, at this index among the caps that it binds
 pub record Edge : Type 0 where
   pub vat : ℕ
   pub cap : Cap
   pub at_record : ℕ
-  pub place : ℕ
+  pub bound_index : ℕ
 
--- by vat, then step, then place
+-- by vat, then step, then index
 abbrev pub IsBefore : Edge → Edge → Type 0
-IsBefore e f = (e.vat < f.vat) ⊎ ((e.vat ≡ f.vat) × IsEarlier e.at_record e.place f.at_record f.place)
+IsBefore e f = (e.vat < f.vat) ⊎ ((e.vat ≡ f.vat) × IsEarlier e.at_record e.bound_index f.at_record f.bound_index)
 
 -- the edges of a run: exactly where vats first bound the caps of others, in order
 pub record AreEdges (run : List Step) (edges : List Edge) : Type 0 where
-  pub exact : (e : Edge) → Contains edges e ↔ IsWitness run e.vat e.cap e.at_record e.place
+  pub exact : (e : Edge) → Contains edges e ↔ IsWitness run e.vat e.cap e.at_record e.bound_index
   pub ordered : AllPairs IsBefore edges

@@ -12,6 +12,8 @@ ghost use Rattle.authority.specs.Explained.{IsExplained};
 /// before, or has an edge of this vat from an earlier record. (A field of a call that the vat made is none of another vat's,
 /// and a Receive uses nothing: what it binds is what edges tell.)
 pub fn what_is_used_is_explained()
-    ensures { (run : List Step) (edges : List Edge) → IsLegalRun run → AreEdges run edges → (later before : Past) (s : Step) → reverse run ≡ later ++ s ∷ before
-        → (a : Cap) → OneOf (λ b. b ≡ a) (uses s) → IsForeign (vat_of s) a → IsExplained edges before (vat_of s) a }
+    ensures { (run : List Step) (edges : List Edge) → IsLegalRun run → AreEdges run edges
+        → (later before : Past) (s : Step) → reverse run ≡ later ++ s ∷ before → (a : Cap)
+        → OneOf (λ b. b ≡ a) (uses s) → IsForeign (vat_of s) a
+        → IsExplained edges before (vat_of s) a }
 {}

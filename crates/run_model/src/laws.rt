@@ -18,16 +18,22 @@ ghost use Rattle.run_model.specs.Reordered.{HaveSameSteps, KeepsReferences};
 /// Turns only grow: once a cap turns to another, it does so from then on, and what it leads to it leads to from then on,
 /// by 1 or more turns too.
 pub fn turns_only_grow()
-    ensures turned { (later before : Past) (a b : Cap) → Turns before a b → Turns (later ++ before) a b }
-    ensures leads { (later before : Past) (a b : Cap) → Leads before a b → Leads (later ++ before) a b }
-    ensures by_turns { (later before : Past) (a b : Cap) → LeadsByTurns before a b → LeadsByTurns (later ++ before) a b }
+    ensures turned { (later before : Past) (a b : Cap) → Turns before a b
+        → Turns (later ++ before) a b }
+    ensures leads { (later before : Past) (a b : Cap) → Leads before a b
+        → Leads (later ++ before) a b }
+    ensures by_turns { (later before : Past) (a b : Cap) → LeadsByTurns before a b
+        → LeadsByTurns (later ++ before) a b }
 {}
 
 /// A cap leads where what it leads to does; by 1 or more turns, if either part is.
 pub fn leads_are_transitive()
-    ensures leads { (before : Past) (a b c : Cap) → Leads before a b → Leads before b c → Leads before a c }
-    ensures turned_first { (before : Past) (a b c : Cap) → LeadsByTurns before a b → Leads before b c → LeadsByTurns before a c }
-    ensures turned_then { (before : Past) (a b c : Cap) → Leads before a b → LeadsByTurns before b c → LeadsByTurns before a c }
+    ensures leads { (before : Past) (a b c : Cap) → Leads before a b → Leads before b c
+        → Leads before a c }
+    ensures turned_first { (before : Past) (a b c : Cap) → LeadsByTurns before a b
+        → Leads before b c → LeadsByTurns before a c }
+    ensures turned_then { (before : Past) (a b c : Cap) → Leads before a b → LeadsByTurns before b c
+        → LeadsByTurns before a c }
 {}
 
 /// An object turns to nothing.
@@ -38,96 +44,124 @@ pub fn objects_stay()
 /// Where each step is legal, a call is made or booted once, a promise is kept or broken once, and a call is answered or
 /// faulted once.
 pub fn what_comes_once()
-    ensures begun { (before : Past) → Each IsLegal before → (c : Name) → count (begins c) before ≤ 1 }
-    ensures ended { (before : Past) → Each IsLegal before → (vat promise : ℕ) → count (ends vat promise) before ≤ 1 }
-    ensures settled { (before : Past) → Each IsLegal before → (c : Name) → count (settles c) before ≤ 1 }
+    ensures begun { (before : Past) → Each IsLegal before → (c : Name)
+        → count (begins c) before ≤ 1 }
+    ensures ended { (before : Past) → Each IsLegal before → (vat promise : ℕ)
+        → count (ends vat promise) before ≤ 1 }
+    ensures settled { (before : Past) → Each IsLegal before → (c : Name)
+        → count (settles c) before ≤ 1 }
 {}
 
 /// Where each step is legal, a cap turns to one cap at most, and leads to one object at most.
 pub fn turns_go_one_way()
-    ensures turned { (before : Past) → Each IsLegal before → (a b c : Cap) → Turns before a b → Turns before a c → b ≡ c }
-    ensures object { (before : Past) → Each IsLegal before → (a : Cap) (v o w p : ℕ) → Leads before a (Object v o) → Leads before a (Object w p)
-        → (v ≡ w) × (o ≡ p) }
+    ensures turned { (before : Past) → Each IsLegal before → (a b c : Cap) → Turns before a b
+        → Turns before a c → b ≡ c }
+    ensures object { (before : Past) → Each IsLegal before → (a : Cap) (v o w p : ℕ)
+        → Leads before a (Object v o) → Leads before a (Object w p) → (v ≡ w) × (o ≡ p) }
 {}
 
 /// What a vat has, it has for ever.
 pub fn what_is_had_stays_had()
-    ensures { (later before : Past) (vat : ℕ) (a : Cap) → Has before vat a → Has (later ++ before) vat a }
+    ensures { (later before : Past) (vat : ℕ) (a : Cap) → Has before vat a
+        → Has (later ++ before) vat a }
 {}
 
 /// Where each step is legal, what a vat has of another came to it with a message.
 pub fn what_is_foreign_was_brought()
-    ensures { (before : Past) → Each IsLegal before → (vat : ℕ) (a : Cap) → IsForeign vat a → Has before vat a → OneOf (Brings vat a) before }
+    ensures { (before : Past) → Each IsLegal before → (vat : ℕ) (a : Cap) → IsForeign vat a
+        → Has before vat a → OneOf (Brings vat a) before }
 {}
 
 /// What is received was sent before, by another vat on the same connection.
 pub fn what_is_received_was_sent()
-    ensures { (before : Past) (v connection : ℕ) (m : Message) (bound : List Cap) → IsLinked before (Receive v connection m bound)
-        → (w : ℕ) × (later earlier : Past) × (w ≢ v) × (before ≡ later ++ Send w connection m ∷ earlier) }
+    ensures { (before : Past) (v connection : ℕ) (m : Message) (bound : List Cap)
+        → IsLinked before (Receive v connection m bound)
+        → (w : ℕ) × (later earlier : Past) × (w ≢ v)
+        × (before ≡ later ++ Send w connection m ∷ earlier) }
 {}
 
 /// Where each step is legal, what a received message says holds: the call of a Return with results was answered, its field
 /// leads by 1 or more turns to what the Return gives at each path, and a promise leads so to what a Resolve says.
 pub fn what_is_received_is_led_to()
-    ensures results { (before : Past) → Each IsLegal before → (v connection : ℕ) (c : Name) (results : List (List ℕ × Cap)) (caps bound : List Cap)
+    ensures results { (before : Past) → Each IsLegal before
+        → (v connection : ℕ) (c : Name) (results : List (List ℕ × Cap)) (caps bound : List Cap)
         → IsLinked before (Receive v connection (Return c results caps) bound)
         → AllByRecursion (λ result. LeadsByTurns before (FieldOf c result.0) result.1) results }
-    ensures answered { (before : Past) → Each IsLegal before → (v connection : ℕ) (c : Name) (results : List (List ℕ × Cap)) (caps bound : List Cap)
-        → IsLinked before (Receive v connection (Return c results caps) bound) → IsTrue (list_any (answers c) before) }
-    ensures resolved { (before : Past) → Each IsLegal before → (v connection : ℕ) (promise cap : Cap) (bound : List Cap)
-        → IsLinked before (Receive v connection (Resolve promise cap) bound) → LeadsByTurns before promise cap }
+    ensures answered { (before : Past) → Each IsLegal before
+        → (v connection : ℕ) (c : Name) (results : List (List ℕ × Cap)) (caps bound : List Cap)
+        → IsLinked before (Receive v connection (Return c results caps) bound)
+        → IsTrue (list_any (answers c) before) }
+    ensures resolved { (before : Past) → Each IsLegal before
+        → (v connection : ℕ) (promise cap : Cap) (bound : List Cap)
+        → IsLinked before (Receive v connection (Resolve promise cap) bound)
+        → LeadsByTurns before promise cap }
 {}
 
 /// Where each step is legal and keeps to its link, a call is at one vat at most, and at none while it is under way or comes
 /// out of a link. While it is at a vat or under way it wasn't delivered, answered or faulted, and it is delivered once at
 /// most.
 pub fn a_call_has_one_place()
-    ensures at_one { (before : Past) → Each IsLegal before → Each IsLinked before → (c : Name) (v w : ℕ)
-        → IsSome (at_vat before c v) → IsSome (at_vat before c w) → v ≡ w }
-    ensures at_rest { (before : Past) → Each IsLegal before → Each IsLinked before → (c : Name) (v : ℕ)
-        → IsSome (at_vat before c v) → IsUnderWay before c → ⊥ }
-    ensures received { (before : Past) → Each IsLegal before → Each IsLinked before → (c : Name) (v connection w : ℕ) (target : Cap) (interface method : ℕ) (caps bound : List Cap)
-        → IsLinked before (Receive v connection (Call c target interface method caps) bound) → at_vat before c w ≡ None }
-    ensures undelivered_here { (before : Past) → Each IsLegal before → Each IsLinked before → (c : Name) (v : ℕ)
-        → IsSome (at_vat before c v) → IsFalse (list_any (delivers c) before) }
-    ensures undelivered_there { (before : Past) → Each IsLegal before → Each IsLinked before → (c : Name)
-        → IsUnderWay before c → IsFalse (list_any (delivers c) before) }
-    ensures unsettled_here { (before : Past) → Each IsLegal before → Each IsLinked before → (c : Name) (v : ℕ)
-        → IsSome (at_vat before c v) → IsFalse (list_any (settles c) before) }
-    ensures unsettled_there { (before : Past) → Each IsLegal before → Each IsLinked before → (c : Name)
-        → IsUnderWay before c → IsFalse (list_any (settles c) before) }
-    ensures delivered { (before : Past) → Each IsLegal before → Each IsLinked before → (c : Name) → count (delivers c) before ≤ 1 }
+    ensures at_one { (before : Past) → Each IsLegal before → Each IsLinked before
+        → (c : Name) (v w : ℕ) → IsSome (at_vat before c v) → IsSome (at_vat before c w) → v ≡ w }
+    ensures at_rest { (before : Past) → Each IsLegal before → Each IsLinked before
+        → (c : Name) (v : ℕ) → IsSome (at_vat before c v) → IsUnderWay before c → ⊥ }
+    ensures received { (before : Past) → Each IsLegal before → Each IsLinked before
+        → (c : Name) (v connection w : ℕ) (target : Cap) (interface method : ℕ)
+        (caps bound : List Cap)
+        → IsLinked before (Receive v connection (Call c target interface method caps) bound)
+        → at_vat before c w ≡ None }
+    ensures undelivered_here { (before : Past) → Each IsLegal before → Each IsLinked before
+        → (c : Name) (v : ℕ) → IsSome (at_vat before c v) → IsFalse (list_any (delivers c) before) }
+    ensures undelivered_there { (before : Past) → Each IsLegal before → Each IsLinked before
+        → (c : Name) → IsUnderWay before c → IsFalse (list_any (delivers c) before) }
+    ensures unsettled_here { (before : Past) → Each IsLegal before → Each IsLinked before
+        → (c : Name) (v : ℕ) → IsSome (at_vat before c v) → IsFalse (list_any (settles c) before) }
+    ensures unsettled_there { (before : Past) → Each IsLegal before → Each IsLinked before
+        → (c : Name) → IsUnderWay before c → IsFalse (list_any (settles c) before) }
+    ensures delivered { (before : Past) → Each IsLegal before → Each IsLinked before → (c : Name)
+        → count (delivers c) before ≤ 1 }
 {}
 
 /// Where each step is legal and keeps to its link, a call arrives once at most, where it is delivered or its Bootstrap is
 /// received, and at one vat at most. A call whose Bootstrap is received arrived nowhere before, and wasn't answered or
 /// faulted.
 pub fn a_call_arrives_once()
-    ensures booted { (before : Past) → Each IsLegal before → Each IsLinked before → (c : Name) (v connection w : ℕ) (bound : List Cap)
-        → IsLinked before (Receive v connection (Boot c) bound) → IsFalse (list_any (arrives c w) before) }
-    ensures unsettled { (before : Past) → Each IsLegal before → Each IsLinked before → (c : Name) (v connection : ℕ) (bound : List Cap)
-        → IsLinked before (Receive v connection (Boot c) bound) → IsFalse (list_any (settles c) before) }
-    ensures once { (before : Past) → Each IsLegal before → Each IsLinked before → (c : Name) (v : ℕ) → count (arrives c v) before ≤ 1 }
-    ensures at_one { (before : Past) → Each IsLegal before → Each IsLinked before → (c : Name) (v w : ℕ)
-        → IsTrue (list_any (arrives c v) before) → IsTrue (list_any (arrives c w) before) → v ≡ w }
+    ensures booted { (before : Past) → Each IsLegal before → Each IsLinked before
+        → (c : Name) (v connection w : ℕ) (bound : List Cap)
+        → IsLinked before (Receive v connection (Boot c) bound)
+        → IsFalse (list_any (arrives c w) before) }
+    ensures unsettled { (before : Past) → Each IsLegal before → Each IsLinked before
+        → (c : Name) (v connection : ℕ) (bound : List Cap)
+        → IsLinked before (Receive v connection (Boot c) bound)
+        → IsFalse (list_any (settles c) before) }
+    ensures once { (before : Past) → Each IsLegal before → Each IsLinked before → (c : Name) (v : ℕ)
+        → count (arrives c v) before ≤ 1 }
+    ensures at_one { (before : Past) → Each IsLegal before → Each IsLinked before
+        → (c : Name) (v w : ℕ) → IsTrue (list_any (arrives c v) before)
+        → IsTrue (list_any (arrives c w) before) → v ≡ w }
 {}
 
 /// Where each step keeps to its link, a call that was made is at a vat, or under way between two, or was delivered or
 /// faulted.
 pub fn a_call_is_somewhere()
-    ensures { (before : Past) → Each IsLinked before → (c : Name) → IsSome (last_answer (made c) before) → IsSomewhere before c }
+    ensures { (before : Past) → Each IsLinked before → (c : Name)
+        → IsSome (last_answer (made c) before) → IsSomewhere before c }
 {}
 
 /// Where each step is legal and keeps to its link, a call that is at a vat was made, the cap that it was made through leads
 /// to its goal there, and interface and method are its Make's.
 pub fn calls_come_from_their_makers()
-    ensures { (before : Past) → Each IsLegal before → Each IsLinked before → (c : Name) (vat : ℕ) (here : Asked) → at_vat before c vat ≡ Some here
-        → IsSomeAnd (last_answer (made c) before) (λ asked. Leads before asked.goal here.goal × (here.interface ≡ asked.interface) × (here.method ≡ asked.method)) }
+    ensures { (before : Past) → Each IsLegal before → Each IsLinked before
+        → (c : Name) (vat : ℕ) (here : Asked) → at_vat before c vat ≡ Some here
+        → IsSomeAnd (last_answer (made c) before)
+        (λ asked. Leads before asked.goal here.goal × (here.interface ≡ asked.interface)
+        × (here.method ≡ asked.method)) }
 {}
 
 /// Where each step is legal and keeps to its link, each call that is delivered reaches the object that it was to go to.
 pub fn calls_reach_their_objects()
-    ensures { (before : Past) → Each IsLegal before → Each IsLinked before → Each ReachesObject before }
+    ensures { (before : Past) → Each IsLegal before → Each IsLinked before
+        → Each ReachesObject before }
 {}
 
 /// A run is ordered exactly where no step of it is early.
@@ -137,8 +171,10 @@ pub fn runs_are_ordered_unless_early()
 
 /// A run has one order fault, or none, and one list of edges.
 pub fn a_run_has_one_fault()
-    ensures fault { (run : List Step) (place other : Option (ℕ × ℕ)) → IsOrderFault run place → IsOrderFault run other → place ≡ other }
-    ensures edges { (run : List Step) (edges others : List Edge) → AreEdges run edges → AreEdges run others → edges ≡ others }
+    ensures fault { (run : List Step) (place other : Option (ℕ × ℕ)) → IsOrderFault run place
+        → IsOrderFault run other → place ≡ other }
+    ensures edges { (run : List Step) (edges others : List Edge) → AreEdges run edges
+        → AreEdges run others → edges ≡ others }
 {}
 
 /// Another order of the same steps breaks the order of calls where this one does: of two runs over links in which each vat
@@ -146,9 +182,12 @@ pub fn a_run_has_one_fault()
 /// one is that of the other (`fault`). The edges of the one are those of the other, since each is of one vat's steps
 /// (`edges`).
 pub fn orders_break_alike()
-    ensures early { (run other : List Step) → IsLegalRun run → IsLinkedRun run → KeepsReferences run → HaveSameSteps run other → (place : ℕ × ℕ)
-        → OneOf (λ p. p ≡ place) (early run) → OneOf (λ p. p ≡ place) (early other) }
-    ensures fault { (run other : List Step) → IsLegalRun run → IsLinkedRun run → IsLegalRun other → IsLinkedRun other → KeepsReferences run
-        → HaveSameSteps run other → (place : Option (ℕ × ℕ)) → IsOrderFault run place → IsOrderFault other place }
-    ensures edges { (run other : List Step) → HaveSameSteps run other → (edges : List Edge) → AreEdges run edges → AreEdges other edges }
+    ensures early { (run other : List Step) → IsLegalRun run → IsLinkedRun run → KeepsReferences run
+        → HaveSameSteps run other → (place : ℕ × ℕ) → OneOf (λ p. p ≡ place) (early run)
+        → OneOf (λ p. p ≡ place) (early other) }
+    ensures fault { (run other : List Step) → IsLegalRun run → IsLinkedRun run → IsLegalRun other
+        → IsLinkedRun other → KeepsReferences run → HaveSameSteps run other
+        → (place : Option (ℕ × ℕ)) → IsOrderFault run place → IsOrderFault other place }
+    ensures edges { (run other : List Step) → HaveSameSteps run other → (edges : List Edge)
+        → AreEdges run edges → AreEdges other edges }
 {}

@@ -3,3 +3,4 @@ pub mod Spans
 pub mod FieldLaws
 pub mod BodyLaws
 pub mod LogLaws
+pub mod Ends

@@ -4,3 +4,4 @@ pub mod Spelling
 pub mod Reading
 pub mod Parsed
 pub mod Glue
+pub mod Ends

@@ -4,7 +4,8 @@ ghost use Rattle.std.specs.Prelude.{◌≡◌, ◌<◌, ◌≤◌, ◌^◌, Ok, 
 ghost use Rattle.std.specs.List.{starts_with};
 ghost use Rattle.std.specs.Option.{option_copied};
 ghost use Rattle.vat_log.specs.Reading.{GivesInMemory, records_at, log_within, log_of};
-ghost use Rattle.vat_log.specs.Fits.{record_limit, LogFits, stored};
+ghost use Rattle.vat_log.specs.Fits.{record_limit, Fits, IsWide, LogFits, stored};
+ghost use Rattle.vat_log.specs.Ends.{AreEnds};
 ghost use Rattle.vat_log.specs.Log.{Log};
 ghost use Rattle.vat_log.specs.Spelling.{magic, log_bytes};
 
@@ -152,13 +153,40 @@ pub fn parse_log(alloc: Global, bytes: Bytes) -> Result<VatLog, LogError>
     })
 }
 
+/// Takes each record's frame out of the log's bytes.
+fn cut_frames(records: &mut Vec<Record>, bytes: &Bytes, ends: &[usize]) -> Result<(), AllocError>
+    requires count { length ends.now ≡ length records.old.items }
+    requires ends { AreEnds bytes.now records.old.items ends.now }
+    ensures { records.new.items ≡ records.old.items }
+{
+    for index in 0..records.len() {
+        records[index].cut_frame(bytes, ends[index])?;
+    }
+    Ok(())
+}
+
+/// The one spelling of the log with this vat and these records, whose frames are taken out of it, so that no frame is kept
+/// twice. The records say the same as before, also where memory is refused.
+fn spelled(alloc: Global, vat: u32, records: &mut Vec<Record>) -> Result<Bytes, AllocError>
+    ensures same { records.new.items ≡ records.old.items }
+    ensures spelled { IfOk result (λ bytes.
+        bytes ≡ log_bytes (record { vat = vat; records = records.old.items })) }
+    ensures fit { IfOk result (λ bytes. All Fits records.old.items) }
+    ensures wide { IfOk result (λ bytes. All IsWide records.old.items) }
+{
+    let written = written(alloc, vat, records)?;
+    cut_frames(records, &written.bytes, &written.ends)?;
+    Ok(written.bytes)
+}
+
 /// The log of this vat with these records, which are handed back where memory is refused.
 pub(crate) fn log_with(alloc: Global, vat: u32, records: Vec<Record>) -> Result<VatLog, Vec<Record>>
     requires { length records.items ≤ record_limit }
     ensures ok { IfOk result (λ log. log ≡ record { vat = vat; records = records.items }) }
     ensures err { IfErr result (λ refused. refused.items ≡ records.items) }
 {
-    match written(alloc, vat, &records) {
+    let mut records = records;
+    match spelled(alloc, vat, &mut records) {
         Ok(bytes) => Ok(VatLog {
             bytes,
             vat,

@@ -2,7 +2,9 @@
 
 ghost use Rattle.std.specs.Prelude.{◌≡◌, ◌<◌, ◌≤◌, ◌^◌, ◌↔◌, length, All, IsTrue, IfOk, IfErr};
 ghost use Rattle.vat_log.specs.Fits.{count_limit, frame_limit, IsNumbered, IsCounted, RefusedFor};
+ghost use Rattle.vat_log.specs.Ends.{EndsWith};
 ghost use Rattle.vat_log.specs.Reading.{GivesInMemory, fields_at};
+ghost use Rattle.vat_log.specs.Spelling.{record_bytes};
 
 use crate::body::{Body, References, Results};
 use crate::error::LogError;
@@ -80,6 +82,19 @@ impl Record {
         })
     }
 
+    /// Takes the frame, where there is one, out of these bytes, in which the record ends at this place. The record says
+    /// the same as before, also where memory is refused.
+    pub(crate) fn cut_frame(&mut self, bytes: &Bytes, end: usize) -> Result<(), AllocError>
+        requires { EndsWith bytes.now end (record_bytes self.old) }
+        ensures { self.new ≡ self.old }
+    {
+        match &mut self.body {
+            Body::Send { frame, .. } => cut(frame, bytes, end),
+            Body::Receive { frame, .. } => cut(frame, bytes, end),
+            _ => Ok(()),
+        }
+    }
+
     /// What the record says.
     pub fn body(&self) -> &Body
         ensures value { result.now ≡ self.now }
@@ -87,6 +102,15 @@ impl Record {
     {
         &self.body
     }
+}
+
+/// Takes a frame out of these bytes, in which it ends at this place.
+fn cut(frame: &mut Bytes, bytes: &Bytes, end: usize) -> Result<(), AllocError>
+    requires { EndsWith bytes.now end frame.old }
+    ensures { frame.new ≡ frame.old }
+{
+    *frame = bytes.slice(end - frame.len()..end)?;
+    Ok(())
 }
 
 /// Whether no reference is 0, and no call but one beside a frame.

@@ -3,6 +3,7 @@
 ghost use Rattle.std.specs.Prelude.{◌≡◌, ◌<◌, ◌≤◌, ◌^◌, ◌++◌, length, All, OnOk, IfOk};
 ghost use Rattle.std.specs.Int.{w16, w32, w64};
 ghost use Rattle.vat_log.specs.Fits.{count_limit, frame_limit, Fits, IsWide};
+ghost use Rattle.vat_log.specs.Ends.{AreEnds};
 ghost use Rattle.vat_log.specs.Spelling.{number_bytes, references_bytes, path_bytes, answered_bytes, listed, passage_bytes, kind_byte, kind_in, fields_bytes, record_bytes, log_bytes};
 
 use crate::body::{Body, References, Results};
@@ -219,18 +220,31 @@ fn put_body(out: &mut Vec<u8>, body: &Body) -> Result<(), AllocError>
     put_fields(out, body)
 }
 
+/// The bytes of a log, and the place in them where each of its records ends.
+#[derive(Drop)]
+pub(crate) struct LogBytes {
+    pub(crate) bytes: Bytes,
+    pub(crate) ends: Vec<usize>,
+}
+
 /// The one spelling of the log with this vat and these records.
-pub(crate) fn written(alloc: Global, vat: u32, records: &[Record]) -> Result<Bytes, AllocError>
-    ensures spelled { IfOk result (λ bytes.
-        bytes ≡ log_bytes (record { vat = vat; records = records.now })) }
-    ensures fit { IfOk result (λ bytes. All Fits records.now) }
-    ensures wide { IfOk result (λ bytes. All IsWide records.now) }
+pub(crate) fn written(alloc: Global, vat: u32, records: &[Record]) -> Result<LogBytes, AllocError>
+    ensures spelled { IfOk result (λ written.
+        written.bytes ≡ log_bytes (record { vat = vat; records = records.now })) }
+    ensures fit { IfOk result (λ written. All Fits records.now) }
+    ensures wide { IfOk result (λ written. All IsWide records.now) }
+    ensures count { IfOk result (λ written. length written.ends.items ≡ length records.now) }
+    ensures ends { IfOk result (λ written.
+        AreEnds written.bytes records.now written.ends.items) }
 {
+    let mut ends = Vec::with_capacity(alloc, records.len())?;
     let mut out = Vec::new(alloc);
     out.extend_from_slice(b"VATLOG01")?;
     put_u32(&mut out, vat)?;
     for entry in records {
         put_body(&mut out, entry.body())?;
+        ends.push(out.len())?;
     }
-    Ok(Bytes::from_vec(out)?)
+    let bytes = Bytes::from_vec(out)?;
+    Ok(LogBytes { bytes, ends })
 }

@@ -1,4 +1,4 @@
-use Rattle.std.proofs.Common.{◌≡◌, List, All, ap, subst, ◌∙◌}
+use Rattle.std.proofs.Common.{◌≡◌, ◌≤◌, List, length, All, sym, ap, subst, ◌∙◌}
 use Rattle.vat_log.specs.declared.body.Body.{Body}
 use Rattle.vat_log.specs.Fits.{record_limit, Fits, IsWide, LogFits}
 use Rattle.vat_log.specs.Log.{Log}
@@ -8,12 +8,12 @@ use Rattle.vat_log.proofs.log.log_with.Goals as goal
 
 pub invariant_of-result : goal.invariant_of-result
 invariant_of-result c =
-    let same = c.deref.ensures.value in
-    let log : Log = record { vat = c.args.vat; records = c.args.records.items } in
+    let same = sym c.spelled.ensures.same in
+    let log : Log = record { vat = c.args.vat; records = c.spelled.new.records.items } in
     let spelled : c.in-Ok.bytes ≡ log_bytes log = c.in-Ok.ensures.spelled ∙ ap (λ (records : List Body). log_bytes (record { vat = c.args.vat; records = records })) same in
     let fits : LogFits record_limit log = record {
       vat = c.ranges.vat.fits;
-      counted = c.requires;
+      counted = subst (λ (records : List Body). length records ≤ record_limit) same c.requires;
       fit = subst (All Fits) same c.in-Ok.ensures.fit;
       wide = subst (All IsWide) same c.in-Ok.ensures.wide;
     } in

@@ -54,7 +54,8 @@ fn put_each<'a>(records: &mut Vec<&'a Record>, all: &[&'a (u64, Record)])
     }
 }
 
-/// The records in the order of their tickets, if these are those from 0 on, each once.
+/// The records in the order of their tickets, if these are those from 0 on, each once. The list begins with the records in
+/// any order, so that no place is ever empty; then each is put at its ticket.
 pub(crate) fn in_order<'a>(
     alloc: Global,
     all: &[&'a (u64, Record)],

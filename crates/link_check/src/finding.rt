@@ -27,9 +27,17 @@ impl Model for LinkFinding {
 
     ghost Value = { Ends };
 
-    ghost view = { λ link. record { connection = link.connection; first = arc_value link.first; second = arc_value link.second } };
+    ghost view = { λ link. record {
+      connection = link.connection;
+      first = arc_value link.first;
+      second = arc_value link.second;
+    } };
 
-    ghost invariant = { λ link. IsFinding (record { connection = link.connection; first = arc_value link.first; second = arc_value link.second }) link.outcome };
+    ghost invariant = { λ link. IsFinding (record {
+      connection = link.connection;
+      first = arc_value link.first;
+      second = arc_value link.second;
+    }) link.outcome };
 }
 
 impl LinkFinding {
@@ -68,7 +76,11 @@ impl LinkFinding {
 
 /// What the logs of two ends say of the connection.
 fn outcome_between(connection: u32, first: &VatLog, second: &VatLog) -> LinkOutcome
-    ensures { IsOutcome (record { connection = connection; first = first.now; second = second.now }) result }
+    ensures { IsOutcome (record {
+      connection = connection;
+      first = first.now;
+      second = second.now;
+    }) result }
 {
     if let Some(message) = find_fault(first, second, connection) {
         return LinkOutcome::Broken {
@@ -105,7 +117,12 @@ fn ordered(
     second: &Arc<VatLog>,
 ) -> Result<LinkFinding, AllocError>
     requires { (arc_value first.now).vat < (arc_value second.now).vat }
-    ensures { IfOk result (λ link. link ≡ record { connection = connection; first = arc_value first.now; second = arc_value second.now }) }
+    ensures { IfOk result
+        (λ link. link ≡ record {
+          connection = connection;
+          first = arc_value first.now;
+          second = arc_value second.now;
+        }) }
 {
     let outcome = outcome_between(connection, first, second);
     Ok(LinkFinding {

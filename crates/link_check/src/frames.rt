@@ -10,7 +10,8 @@ use vat_log::{Body, VatLog};
 
 /// The frame that the record of this number sends on the connection.
 fn sent_at(log: &VatLog, connection: u32, index: usize) -> Option<&Bytes>
-    ensures { option_copied result ≡ option_and_then (sent_by connection) (slice_get log.now.records index) }
+    ensures { option_copied result
+        ≡ option_and_then (sent_by connection) (slice_get log.now.records index) }
 {
     match log.get(index)?.body() {
         Body::Send {
@@ -24,7 +25,8 @@ fn sent_at(log: &VatLog, connection: u32, index: usize) -> Option<&Bytes>
 
 /// The frame that the record of this number receives on the connection.
 fn received_at(log: &VatLog, connection: u32, index: usize) -> Option<&Bytes>
-    ensures { option_copied result ≡ option_and_then (received_by connection) (slice_get log.now.records index) }
+    ensures { option_copied result
+        ≡ option_and_then (received_by connection) (slice_get log.now.records index) }
 {
     match log.get(index)?.body() {
         Body::Receive {
@@ -65,7 +67,8 @@ pub fn count_received(log: &VatLog, connection: u32) -> u64
 
 /// The next frame that a vat sent on the connection, in the records from this number on, and the number after its record.
 fn next_sent(log: &VatLog, connection: u32, from: usize) -> Option<(usize, &Bytes)>
-    ensures { IsNext (sent_by connection) log.now.records from (option_map (λ p. (p.0, p.1.now)) result) }
+    ensures { IsNext (sent_by connection) log.now.records from
+        (option_map (λ p. (p.0, p.1.now)) result) }
 {
     for index in from..log.len() {
         if let Some(frame) = sent_at(log, connection, index) {
@@ -77,7 +80,8 @@ fn next_sent(log: &VatLog, connection: u32, from: usize) -> Option<(usize, &Byte
 
 /// The next frame that a vat received on the connection, in the same way.
 fn next_received(log: &VatLog, connection: u32, from: usize) -> Option<(usize, &Bytes)>
-    ensures { IsNext (received_by connection) log.now.records from (option_map (λ p. (p.0, p.1.now)) result) }
+    ensures { IsNext (received_by connection) log.now.records from
+        (option_map (λ p. (p.0, p.1.now)) result) }
 {
     for index in from..log.len() {
         if let Some(frame) = received_at(log, connection, index) {

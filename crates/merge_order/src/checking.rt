@@ -31,9 +31,11 @@ pub fn check_order(
     // The logs come by rising vat numbers, no two the same.
     requires { IsRising (map arc_value logs.now) }
     // Which finding.
-    ensures exact { IfOk result (λ finding. finding ≡ finding_of (map arc_value logs.now) order.now) }
+    ensures exact { IfOk result
+        (λ finding. finding ≡ finding_of (map arc_value logs.now) order.now) }
     // What it means.
-    ensures fits { IfOk result (λ finding. (finding ≡ OrderFinding.Fits) ↔ IsFitting (map arc_value logs.now) order.now) }
+    ensures fits { IfOk result
+        (λ finding. (finding ≡ OrderFinding.Fits) ↔ IsFitting (map arc_value logs.now) order.now) }
 {
     let mut progress = Progress::new(alloc, logs)?;
     let vats = order.as_slice();

@@ -28,7 +28,9 @@ impl Model for Cursor {
 
     ghost view = { λ cursor. record { log = arc_value cursor.log; came = cursor.came } };
 
-    ghost invariant = { λ cursor. IsCounted (record { log = arc_value cursor.log; came = cursor.came }) cursor.sent_counts cursor.received_counts };
+    ghost invariant = { λ cursor. IsCounted
+        (record { log = arc_value cursor.log; came = cursor.came })
+        cursor.sent_counts cursor.received_counts };
 }
 
 impl Cursor {

@@ -46,7 +46,8 @@ fn steps_of(alloc: Global, bytes: &[u8]) -> Result<Vec<u32>, OrderError>
 fn order_in(alloc: Global, bytes: &[u8]) -> Result<Order, OrderError>
     ensures exact { GivesInMemory (λ order. order) result (order_of bytes.now) }
     ensures octets { EachIndex bytes.now (λ i. slice_index bytes.now i < 256) }
-    ensures early { starts_with nat_eq bytes.now magic ≡ false → IfErr result (λ e. e ≡ OrderError.BadMagic) }
+    ensures early { starts_with nat_eq bytes.now magic ≡ false
+        → IfErr result (λ e. e ≡ OrderError.BadMagic) }
 {
     if !bytes.starts_with(MAGIC) {
         return Err(OrderError::BadMagic);
@@ -67,9 +68,11 @@ pub fn read_order(alloc: Global, bytes: Bytes) -> Result<Order, OrderError>
     // What is read is spelled so.
     ensures found { IfOk result (λ order. AreVats order × (bytes ≡ spelling order)) }
     // What is spelled so is read, unless memory runs out.
-    ensures only { (vats : List ℕ) → AreVats vats → bytes ≡ spelling vats → GivesInMemory (λ order. order) result (Ok vats) }
+    ensures only { (vats : List ℕ) → AreVats vats → bytes ≡ spelling vats
+        → GivesInMemory (λ order. order) result (Ok vats) }
     // Another magic is refused as such before memory is asked for.
-    ensures early { starts_with nat_eq bytes magic ≡ false → IfErr result (λ e. e ≡ OrderError.BadMagic) }
+    ensures early { starts_with nat_eq bytes magic ≡ false
+        → IfErr result (λ e. e ≡ OrderError.BadMagic) }
 {
     order_in(alloc, bytes.as_slice())
 }

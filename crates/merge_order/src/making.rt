@@ -17,10 +17,13 @@ pub fn make_order(alloc: Global, logs: &[Arc<VatLog>]) -> Result<Option<Order>, 
     // The logs come by rising vat numbers, no two the same.
     requires { IsRising (map arc_value logs.now) }
     // The order that is made fits, and takes the smallest vat number that may come at each step.
-    ensures fits { IfOk result (λ made. IfSome made (λ order. IsFitting (map arc_value logs.now) order)) }
-    ensures least { IfOk result (λ made. IfSome made (λ order. TakesLeast (map arc_value logs.now) order)) }
+    ensures fits { IfOk result
+        (λ made. IfSome made (λ order. IsFitting (map arc_value logs.now) order)) }
+    ensures least { IfOk result
+        (λ made. IfSome made (λ order. TakesLeast (map arc_value logs.now) order)) }
     // None is made only where no order fits.
-    ensures none { IfOk result (λ made. made ≡ None → (order : List ℕ) → IsFitting (map arc_value logs.now) order → ⊥) }
+    ensures none { IfOk result
+        (λ made. made ≡ None → (order : List ℕ) → IsFitting (map arc_value logs.now) order → ⊥) }
 {
     let mut progress = Progress::new(alloc, logs)?;
     let mut vats = Vec::new(alloc);

@@ -135,7 +135,8 @@ impl Progress {
     /// The smallest vat number whose next record may come.
     pub fn least(&self) -> Option<u32>
         ensures { MatchOption result ((vat : ℕ) → may_come self.now vat ≡ false)
-            (λ least. (may_come self.now least ≡ true) × ((vat : ℕ) → vat < least → may_come self.now vat ≡ false)) }
+            (λ least. (may_come self.now least ≡ true)
+            × ((vat : ℕ) → vat < least → may_come self.now vat ≡ false)) }
     {
         for own in &self.cursors {
             if self.may_go_on(own) {

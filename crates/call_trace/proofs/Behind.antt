@@ -3,13 +3,14 @@ use Rattle.std.proofs.Common.{◌≡◌, ◌∙◌, ℕ, ◌+◌, ◌<◌, ◌�
 use Rattle.std.specs.List.{list_any}
 use Rattle.std.proofs.lemmas.Bool.{cases_lt, le-ltb, lt-ltb}
 use Rattle.std.proofs.lemmas.Bool.Decides.{nat_tests}
-use Rattle.std.proofs.lemmas.List.{take_all, take_more, drop_all, drop-append-le, reverse-append, length-take-le, length_push}
+use Rattle.std.proofs.lemmas.List.{take_all, take_more, drop_all, drop-append-le, length-take-le, length_push}
 use Rattle.std.proofs.lemmas.List.Folds.{list_any-append}
 use Rattle.run_model.specs.Early.{overtakes}
 use Rattle.run_model.specs.Legal.{delivers}
 use Rattle.run_model.specs.Right.{is_made_before, makes_through}
 use Rattle.run_model.specs.Steps.{Past, call, is_same}
 use Rattle.run_model.specs.declared.step.Step.TheVariants.{Host, Make, Deliver}
+use Rattle.run_model.proofs.Numbers.{past_more}
 use Rattle.call_trace.specs.Overtaking.{latest_of, IsRaised, AreDeliveries, AreOvertaken}
 use Rattle.call_trace.specs.Types.{Name, Cap, Step}
 use Rattle.call_trace.specs.declared.latest.Latest.{Latest}
@@ -69,11 +70,6 @@ pub delivers_none : (s : Step) → ((v : ℕ) (d : Name) (o : ℕ) → s ≡ Del
 delivers_none (Deliver v d o) not c = absurd (not v d o refl)
 delivers_none (Host v o) not c = refl
 delivers_none _ not c = refl
-
--- ---- the steps before, with one more
-
-pub past_more : (run : List Step) (i : ℕ) (s : Step) → i < length run → s ≡ get_or run i s → reverse (take (i + 1) run) ≡ s ∷ reverse (take i run)
-past_more run i s lt is = ap reverse (take_more run i s lt ∙ ap (λ t. take i run ++ t ∷ []) (sym is)) ∙ reverse-append (take i run) (s ∷ [])
 
 pub reaches_none : (s : Step) → ((v n : ℕ) (cap : Cap) (r f m : ℕ) → s ≡ Make v n cap r f m → ⊥) → (v r : ℕ) (later : List Step) → reaches v r later s ≡ false
 reaches_none (Make w n cap q f m) not v r later = absurd (not w n cap q f m refl)

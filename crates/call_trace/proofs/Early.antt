@@ -7,12 +7,11 @@ use Rattle.std.proofs.lemmas.List.Elements.{filter-append}
 use Rattle.run_model.specs.Early.{early, early_from, is_early, IsAtMost, IsOrderFault}
 use Rattle.run_model.specs.Steps.{count, steps_of, vat_of, OneOf}
 use Rattle.run_model.specs.declared.step.Step.TheVariants.{Host, Deliver}
+use Rattle.run_model.proofs.Numbers.{past_more}
 use Rattle.run_model.proofs.Order.{ordered_unless_early}
 use Rattle.call_trace.specs.Types.{Step}
 use Rattle.call_trace.specs.declared.latest.Latest.{Latest}
-use Rattle.call_trace.specs.declared.numbers.Numbers.{Numbers}
-use Rattle.call_trace.specs.Overtaking.{AreOvertaken, IsCounted, goes_before, lesser, number_of}
-use Rattle.call_trace.proofs.Behind.{past_more}
+use Rattle.call_trace.specs.Overtaking.{AreOvertaken, goes_before, lesser}
 
 -- ---- counting
 
@@ -54,22 +53,6 @@ room run i s vat most lt at is few =
     let more = ap (count (λ t. vat_of t == vat)) (past_more run i s lt at) ∙ if_true (vat_of s == vat) (count (λ t. vat_of t == vat) (reverse (take i run))) (eq-eqb (vat_of s) vat (sym is)) in
     let first = count_first (λ t. vat_of t == vat) run (i + 1) in
     omega (arith, more, first, few)
-
-suc_if : (b : Bool) (n : ℕ) → n + (if b then 1 else 0) ≡ (if b then suc n else n)
-suc_if true n = omega arith
-suc_if false n = omega arith
-
--- the table says how many steps of each vat are among the first
-abbrev pub IsNumbered : List Step → ℕ → Numbers → Type 0
-IsNumbered run i table = (v : ℕ) → number_of table v ≡ count (λ t. vat_of t == v) (reverse (take i run))
-
-pub numbered_more : (run : List Step) (i : ℕ) (s : Step) (vat : ℕ) (old new : Numbers) → i < length run → s ≡ get_or run i s → vat ≡ vat_of s → IsCounted vat old new → IsNumbered run i old
-    → IsNumbered run (i + 1) new
-numbered_more run i s vat old new lt at is counted before v =
-    counted v
-    ∙ ap₂ (λ n w. n + (if w == v then 1 else 0)) (before v) is
-    ∙ suc_if (vat_of s == v) (count (λ t. vat_of t == v) (reverse (take i run)))
-    ∙ sym (ap (count (λ t. vat_of t == v)) (past_more run i s lt at))
 
 -- ---- the least
 

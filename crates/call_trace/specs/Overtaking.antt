@@ -1,6 +1,6 @@
 -- For the code's contracts, and no part of the meaning: tables of places in a run, and when they are those of its
 -- deliveries and of what overtakes its calls. A place is how many steps there are up to it.
-use Rattle.std.specs.Prelude.{◌≡◌, ℕ, ◌+◌, ◌==◌, ◌&&◌, ◌||◌, List, Bool, false, Option, Some, None, drop, max, reverse, nat_lt, nat_le, unwrap_or, if◌then◌else◌}
+use Rattle.std.specs.Prelude.{◌≡◌, ℕ, ◌==◌, ◌&&◌, ◌||◌, List, Bool, false, Option, Some, None, drop, max, reverse, nat_lt, nat_le, unwrap_or, if◌then◌else◌}
 use Rattle.std.specs.List.{list_any}
 use Rattle.std.specs.Ordering.{nat_cmp, ordering_then}
 use Rattle.std.specs.declared.cmp.Ordering.{Ordering}
@@ -10,7 +10,6 @@ use Rattle.run_model.specs.Legal.{delivers}
 use Rattle.run_model.specs.declared.step.Step.TheVariants.{Deliver}
 use Rattle.call_trace.specs.Types.{Name, Step}
 use Rattle.call_trace.specs.declared.latest.Latest.{Latest}
-use Rattle.call_trace.specs.declared.numbers.Numbers.{Numbers}
 
 -- by vat, then by number
 abbrev pub key_cmp : ℕ × ℕ → ℕ × ℕ → Ordering
@@ -38,14 +37,6 @@ AreOvertaken run table = (c : Name) (k : ℕ) → nat_lt k (latest_of table c.ma
 abbrev pub goes_before : Latest → ℕ → Step → Bool
 goes_before table place (Deliver v c object) = nat_lt place (latest_of table c.maker c.number)
 goes_before table place _ = false
-
--- how many steps of a vat came
-abbrev pub number_of : Numbers → ℕ → ℕ
-number_of table vat = unwrap_or (get nat_cmp table.entries vat) 0
-
--- one step of a vat more came
-abbrev pub IsCounted : ℕ → Numbers → Numbers → Type 0
-IsCounted vat old new = (v : ℕ) → number_of new v ≡ number_of old v + (if vat == v then 1 else 0)
 
 -- the least of what is known and one more, by vat, then by number
 abbrev pub lesser : Option (ℕ × ℕ) → ℕ × ℕ → ℕ × ℕ

@@ -6,9 +6,8 @@ ghost use Rattle.run_model.specs.Early.{IsOrderFault};
 ghost use Rattle.call_trace.specs.Overtaking.{lesser, goes_before};
 
 use crate::latest::Latest;
-use crate::numbers::{Numbers, vat_of};
 use crate::overtaking::overtaken;
-use run_model::{Run, Step};
+use run_model::{Run, Step, StepNumbers, vat_of};
 use std::alloc::{AllocError, Global};
 
 /// The least of these, by vat and then by number.
@@ -41,13 +40,13 @@ pub fn order_fault(alloc: Global, run: &Run) -> Result<Option<(u32, u32)>, Alloc
 {
     let steps = run.steps();
     let until = overtaken(alloc, steps)?;
-    let mut numbers = Numbers::new(alloc);
+    let mut numbers = StepNumbers::new(alloc);
     let mut fault = None;
     for (index, step) in steps.iter().enumerate() {
         let vat = vat_of(step);
         let number = numbers.count(vat)?;
         if is_early(step, index + 1, &until) {
-            fault = Some(least(fault, (vat, number)));
+            fault = Some(least(fault, (vat, number as u32)));
         }
     }
     Ok(fault)

@@ -22,7 +22,6 @@ mod latest;
 mod laws;
 mod ledger;
 mod lines;
-mod numbers;
 mod overtaking;
 mod released;
 mod runs;

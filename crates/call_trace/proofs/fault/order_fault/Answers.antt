@@ -1,18 +1,27 @@
-use Rattle.std.proofs.Common.{◌∙◌, ◌<◌, ◌+◌, List, sym, subst, length}
+use Rattle.std.proofs.Common.{arith, ◌∙◌, ◌<◌, List, sym, subst, length}
 use Rattle.run_model.specs.Early.{IsOrderFault}
 use Rattle.run_model.specs.Steps.{steps_of}
 use Rattle.call_trace.specs.Types.{Step}
-use Rattle.call_trace.proofs.Early.{room, numbered_more, fault_more, fault_same, fault_is}
+use Rattle.run_model.proofs.Numbers.{counted_within, numbered_more}
+use Rattle.call_trace.proofs.Early.{room, fault_more, fault_same, fault_is}
 use Rattle.call_trace.proofs.fault.order_fault.Goals as goal
 use Rattle.call_trace.proofs.fault.order_fault.Goals.{then-is_early, else-is_early}
 
 pub count-requires : goal.count-requires
 count-requires c =
+    let most = counted_within c.steps-steps.result.now c.loop-index.index c.vat_of-vat.result c.loop-index-test.true in
+    let same = c.loop-index.invariant.0 c.vat_of-vat.result in
+    omega (arith, most, same)
+
+-- a vat's number of steps fits 32 bits
+pub overflow_cast-number : goal.overflow_cast-number
+overflow_cast-number c =
     let vat = c.vat_of-vat.result in
     let run = c.steps-steps.result.now in
-    subst (λ n. n + 1 < 4294967296) (sym (c.loop-index.invariant.0 vat))
-    (room run c.loop-index.index c.index-steps-index.result vat 4294967296 c.loop-index-test.true c.index-steps-index.is c.vat_of-vat.ensures
-    (subst (λ (l : List Step). length (steps_of vat l) < 4294967296) (sym c.steps-steps.ensures) (c.requires vat)))
+    let few = subst (λ (l : List Step). length (steps_of vat l) < 4294967296) (sym c.steps-steps.ensures) (c.requires vat) in
+    let left = room run c.loop-index.index c.index-steps-index.result vat 4294967296 c.loop-index-test.true c.index-steps-index.is c.vat_of-vat.ensures few in
+    let same = c.in_ok-number.ensures.answer ∙ c.loop-index.invariant.0 vat in
+    omega (arith, left, same)
 
 pub loop-index-preserved : goal.loop-index-preserved
 loop-index-preserved c =

@@ -1,4 +1,5 @@
-use Rattle.call_trace.proofs.Early.{IsNumbered, IsFault}
+use Rattle.run_model.proofs.Numbers.{IsNumbered}
+use Rattle.call_trace.proofs.Early.{IsFault}
 use Rattle.call_trace.proofs.fault.order_fault.Given as goal
 
 abbrev pub invariant-loop-index : goal.invariant-loop-index

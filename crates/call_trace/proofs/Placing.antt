@@ -26,9 +26,8 @@ use Rattle.call_trace.proofs.Within.{heads, tails, each_earlier, all_leads}
 use Rattle.run_model.specs.Leads.{Leads as RunLeads}
 use Rattle.run_model.specs.Legal.{IsLegal, MayCome, begins, arrives}
 use Rattle.run_model.specs.Links.{IsLinked}
-use Rattle.run_model.specs.Places.{Asked, asks, at_vat, moves}
+use Rattle.run_model.specs.Places.{Asked, asks, Move, brings_it, takes_it_away, leaves_it, move_of, asked_after, at_vat}
 use Rattle.run_model.specs.Steps.{is_same, call, vat_of}
-use Rattle.run_model.specs.Steps.{last_answer as last_of}
 use Rattle.run_model.specs.Steps.{Each as EachStep}
 use Rattle.run_model.proofs.Once.{names_same, or_either}
 use Rattle.run_model.proofs.Places.{Place, idle, held, flying, place, this_call, at_no_vat}
@@ -80,10 +79,10 @@ step_back v e es s steps before w =
 
 -- ---- where a call is depends on the vat's own steps
 
-move_off : {A : Type 0} (a b : Bool) (x : A) → a ≡ false → (if a && b then Some x else None) ≡ None
-move_off a b x e = ap (λ t. if t then Some x else None) (and_left a b e)
+move_off : (a b : Bool) (m : Move) → a ≡ false → (if a && b then m else leaves_it) ≡ leaves_it
+move_off a b m e = ap (λ t. if t then m else leaves_it) (and_left a b e)
 
-moved_elsewhere : (name : Name) (v : ℕ) (s : Step) → (vat_of s == v) ≡ false → moves name v s ≡ None
+moved_elsewhere : (name : Name) (v : ℕ) (s : Step) → (vat_of s == v) ≡ false → move_of name v s ≡ leaves_it
 moved_elsewhere name v (step.Make w number c r interface method) apart = move_off (w == v) (is_same (call w number) name) _ apart
 moved_elsewhere name v (step.Receive w k (message.Call d target interface method caps) bound) apart = move_off (w == v) (is_same d name) _ apart
 moved_elsewhere name v (step.Receive w k m bound) apart = refl
@@ -93,19 +92,19 @@ moved_elsewhere name v (step.Deliver w d object) apart = move_off (w == v) (is_s
 moved_elsewhere name v (step.Fault w d) apart = move_off (w == v) (is_same d name) _ apart
 moved_elsewhere name v s apart = refl
 
-moved_by_own : (name : Name) (v : ℕ) (before : List Step) → last_of (moves name v) (filter (λ s. vat_of s == v) before) ≡ last_of (moves name v) before
-moved_by_own name v [] = refl
-moved_by_own name v (s ∷ before) =
+at_by_own : (name : Name) (v : ℕ) (before : List Step) → at_vat (filter (λ s. vat_of s == v) before) name v ≡ at_vat before name v
+at_by_own name v [] = refl
+at_by_own name v (s ∷ before) =
     let own : List Step = filter (λ s. vat_of s == v) before in
     elim (cases_Bool (vat_of s == v)) [
-      | inl kept ↦ ap (λ b. last_of (moves name v) (if b then s ∷ own else own)) kept ∙ ap (λ o. option_or (moves name v s) o) (moved_by_own name v before)
+      | inl kept ↦ ap (λ b. at_vat (if b then s ∷ own else own) name v) kept ∙ ap (λ o. asked_after (move_of name v s) o) (at_by_own name v before)
       | inr other ↦
-          ap (λ b. last_of (moves name v) (if b then s ∷ own else own)) other ∙ moved_by_own name v before
-          ∙ ap (λ o. option_or o (last_of (moves name v) before)) (sym (moved_elsewhere name v s other))
+          ap (λ b. at_vat (if b then s ∷ own else own) name v) other ∙ at_by_own name v before
+          ∙ ap (λ m. asked_after m (at_vat before name v)) (sym (moved_elsewhere name v s other))
     ]
 
 pub at_own : (name : Name) (v : ℕ) (before steps : List Step) → filter (λ s. vat_of s == v) before ≡ steps → at_vat steps name v ≡ at_vat before name v
-at_own name v before steps own = ap (λ l. at_vat l name v) (sym own) ∙ ap (λ o. option_and_then (λ a. a) o) (moved_by_own name v before)
+at_own name v before steps own = ap (λ l. at_vat l name v) (sym own) ∙ at_by_own name v before
 
 -- ---- a call that isn't begun, or is spent, is at no vat
 
@@ -227,14 +226,14 @@ served_arrived v es steps before w c h =
 
 data Effect (v : ℕ) (es : Past) (steps : List Step) (e : Event) (s : Step) : Type 0 where
   -- nothing, in the run
-  quiet : ((c : ℕ) → brings c es e ≡ None) → ((name : Name) → moves name v s ≡ None) → Effect v es steps e s
+  quiet : ((c : ℕ) → brings c es e ≡ None) → ((name : Name) → move_of name v s ≡ leaves_it) → Effect v es steps e s
   -- a call comes, whose name was nowhere
   comes : (d : ℕ) (name : Name) (a : AskedOf) (here : Asked) → ((c : ℕ) → brings c es e ≡ (if d == c then Some a else None)) → call_named v (e ∷ es) (s ∷ steps) d ≡ Some name →
-      ((other : Name) → moves other v s ≡ (if (v == v) && is_same name other then Some (Some here) else None)) → at_vat steps name v ≡ None →
+      ((other : Name) → move_of other v s ≡ (if (v == v) && is_same name other then brings_it here else leaves_it)) → at_vat steps name v ≡ None →
       AsksFor (cap_named v (e ∷ es) (s ∷ steps)) here a → Effect v es steps e s
   -- a call goes that was at the vat, or was nowhere
   goes : (d : ℕ) (name : Name) → ((c : ℕ) → brings c es e ≡ None) → ((c : ℕ) → takes c es e ≡ (d == c)) → call_named v es steps d ≡ Some name →
-      ((other : Name) → moves other v s ≡ (if (v == v) && is_same name other then Some None else None)) → (is_at_vat d es ≡ true) ⊎ (at_vat steps name v ≡ None) → Effect v es steps e s
+      ((other : Name) → move_of other v s ≡ (if (v == v) && is_same name other then takes_it_away else leaves_it)) → (is_at_vat d es ≡ true) ⊎ (at_vat steps name v ≡ None) → Effect v es steps e s
 
 -- ---- what messages say that aren't Calls
 
@@ -266,11 +265,11 @@ read_call : (es : Past) (e : Event) (m : Message) (c : Name) (target : Cap) (int
 read_call es e (message.Call d to i n cs) c target interface method caps h = h
 read_call es e m c target interface method caps h = absurd (let no : false ≡ true = sym (read_call_in es e m) ∙ ap call_in h in false≢true no)
 
-send_stays : (v k : ℕ) (m : Message) → call_in m ≡ false → (name : Name) → moves name v (step.Send v k m) ≡ None
+send_stays : (v k : ℕ) (m : Message) → call_in m ≡ false → (name : Name) → move_of name v (step.Send v k m) ≡ leaves_it
 send_stays v k (message.Call c target interface method caps) h name = absurd (false≢true (sym h))
 send_stays v k m h name = refl
 
-receive_stays : (v k : ℕ) (m : Message) (bound : List Cap) → call_in m ≡ false → (name : Name) → moves name v (step.Receive v k m bound) ≡ None
+receive_stays : (v k : ℕ) (m : Message) (bound : List Cap) → call_in m ≡ false → (name : Name) → move_of name v (step.Receive v k m bound) ≡ leaves_it
 receive_stays v k (message.Call c target interface method caps) bound h name = absurd (false≢true (sym h))
 receive_stays v k m bound h name = refl
 
@@ -340,17 +339,17 @@ module _ (v : ℕ) (es : Past) (steps earlier : List Step) (w : IsWithin v es st
       let to = mapped_is (λ to. step.Make v d to r interface method) (reference_named (naming v (e ∷ es) (s ∷ steps)) es r) s says in
       let new = (subst (IsLegal earlier) (sym to.2) legal).1 in
       comes d (call v d) (record { goal = view_of_reference es r; interface = interface; method = method }) (asks to.0 interface method) (λ c. refl)
-      (ap (λ b. option_or (if b then Some (call v d) else None) (call_named v es steps d)) (eq-eqb d d refl)) (λ other. ap (moves other v) (sym to.2)) (nowhere_yet (call v d) new) (to.1, refl, refl)
+      (ap (λ b. option_or (if b then Some (call v d) else None) (call_named v es steps d)) (eq-eqb d d refl)) (λ other. ap (move_of other v) (sym to.2)) (nowhere_yet (call v d) new) (to.1, refl, refl)
 
   deliver_effect : (d object : ℕ) (s : Step) → is_at_vat d es ≡ true → Says v es steps (Deliver d object) s → Effect v es steps (Deliver d object) s
   deliver_effect d object s here says =
       let name = mapped_is (λ name. step.Deliver v name object) (call_named v es steps d) s says in
-      goes d name.0 (λ c. refl) (λ c. refl) name.1 (λ other. ap (moves other v) (sym name.2)) (inl here)
+      goes d name.0 (λ c. refl) (λ c. refl) name.1 (λ other. ap (move_of other v) (sym name.2)) (inl here)
 
   fault_effect : (d : ℕ) (s : Step) → (is_at_vat d es || is_served d es) ≡ true → Says v es steps (Fault d) s → Effect v es steps (Fault d) s
   fault_effect d s there says =
       let name = mapped_is (λ name. step.Fault v name) (call_named v es steps d) s says in
-      goes d name.0 (λ c. refl) (λ c. refl) name.1 (λ other. ap (moves other v) (sym name.2)) (elim (or_either (is_at_vat d es) (is_served d es) there) [
+      goes d name.0 (λ c. refl) (λ c. refl) name.1 (λ other. ap (move_of other v) (sym name.2)) (elim (or_either (is_at_vat d es) (is_served d es) there) [
         | inl here ↦ inl here
         | inr served ↦
             let a = served_arrived v es steps earlier w d served in
@@ -365,7 +364,7 @@ module _ (v : ℕ) (es : Past) (steps earlier : List Step) (w : IsWithin v es st
       let sent = mapped_is (λ m. step.Send v k m) (said names es e) s says in
       let call_is = call_said interface method (caps_named names es e) (names.call d) (option_and_then names.cap (view_of_target es e)) sent.0 sent.1 in
       let is : s ≡ step.Send v k (message.Call call_is.call call_is.to interface method call_is.caps) = sym sent.2 ∙ ap (λ m. step.Send v k m) call_is.is in
-      goes d call_is.call (λ c. refl) (λ c. refl) call_is.named (λ other. ap (moves other v) is) (inl here)
+      goes d call_is.call (λ c. refl) (λ c. refl) call_is.named (λ other. ap (move_of other v) is) (inl here)
 
   call_received_effect : (k d : ℕ) (rs : List ℕ) (q : ℕ) (target : Target) (interface method : ℕ) (params : Payload) (s : Step) → IsLinked earlier s →
       Says v es steps (Wire false k d rs (Call q target interface method params)) s → Effect v es steps (Wire false k d rs (Call q target interface method params)) s
@@ -378,14 +377,14 @@ module _ (v : ℕ) (es : Past) (steps earlier : List Step) (w : IsWithin v es st
       let is : s ≡ step.Receive v k (message.Call call_is.call call_is.to interface method call_is.caps) says.bound = says.step ∙ ap (λ m. step.Receive v k m says.bound) was in
       let nowhere = at_no_vat earlier w.legal w.linked call_is.call v k v call_is.to interface method call_is.caps says.bound (subst (IsLinked earlier) is linked) in
       comes d call_is.call (record { goal = goal; interface = interface; method = method }) (asks call_is.to interface method) (λ c. refl)
-      call_is.named (λ other. ap (moves other v) is) (at_own call_is.call v earlier steps w.own ∙ nowhere) (call_is.targeted, refl, refl)
+      call_is.named (λ other. ap (move_of other v) is) (at_own call_is.call v earlier steps w.own ∙ nowhere) (call_is.targeted, refl, refl)
 
   sent_effect : (k d : ℕ) (rs : List ℕ) (m : RpcMessage) (s : Step) → carries_call m ≡ false → Says v es steps (Wire true k d rs m) s → Effect v es steps (Wire true k d rs m) s
   sent_effect k d rs m s isnt says =
       let e = Wire true k d rs m in
       let names = naming v (e ∷ es) (s ∷ steps) in
       let sent = mapped_is (λ m. step.Send v k m) (said names es e) s says in
-      quiet (λ c. refl) (λ name. ap (moves name v) (sym sent.2) ∙ send_stays v k sent.0 (said_no_call names es true k d rs m sent.0 isnt sent.1) name)
+      quiet (λ c. refl) (λ name. ap (move_of name v) (sym sent.2) ∙ send_stays v k sent.0 (said_no_call names es true k d rs m sent.0 isnt sent.1) name)
 
   received_effect : (k d : ℕ) (rs : List ℕ) (m : RpcMessage) (s : Step) → carries_call m ≡ false → ((c : ℕ) → brings c es (Wire false k d rs m) ≡ None) →
       Says v es steps (Wire false k d rs m) s → Effect v es steps (Wire false k d rs m) s
@@ -393,31 +392,31 @@ module _ (v : ℕ) (es : Past) (steps earlier : List Step) (w : IsWithin v es st
       let e = Wire false k d rs m in
       let names = naming v (e ∷ es) (s ∷ steps) in
       let still = sym (read_call_in es e says.message) ∙ said_no_call names es false k d rs m (read es e says.message) isnt says.reads in
-      quiet none (λ name. ap (moves name v) says.step ∙ receive_stays v k says.message says.bound still name)
+      quiet none (λ name. ap (move_of name v) says.step ∙ receive_stays v k says.message says.bound still name)
 
   effect : (e : Event) (s : Step) → IsLegal earlier s → IsLinked earlier s → IsGood es e → Says v es steps e s → Effect v es steps e s
   effect (Host r object) s legal linked good says =
-      let is : step.Host v object ≡ s = let h : ◌≡◌ {A = Option Step} (Some (step.Host v object)) (Some s) = says in cc in quiet (λ c. refl) (λ name. ap (moves name v) (sym is))
+      let is : step.Host v object ≡ s = let h : ◌≡◌ {A = Option Step} (Some (step.Host v object)) (Some s) = says in cc in quiet (λ c. refl) (λ name. ap (move_of name v) (sym is))
   effect (Vow r) s legal linked good says =
-      let is : step.Vow v r ≡ s = let h : ◌≡◌ {A = Option Step} (Some (step.Vow v r)) (Some s) = says in cc in quiet (λ c. refl) (λ name. ap (moves name v) (sym is))
+      let is : step.Vow v r ≡ s = let h : ◌≡◌ {A = Option Step} (Some (step.Vow v r)) (Some s) = says in cc in quiet (λ c. refl) (λ name. ap (move_of name v) (sym is))
   effect (Fulfil r to) s legal linked good says =
       let names = naming v (Fulfil r to ∷ es) (s ∷ steps) in
       let p = then_is (λ p. option_map (λ c. step.Fulfil v p c) (reference_named names es to)) (promise_in (view_of_reference es r)) s says in
       let c = mapped_is (λ c. step.Fulfil v p.0 c) (reference_named names es to) s p.2 in
-      quiet (λ c. refl) (λ name. ap (moves name v) (sym c.2))
+      quiet (λ c. refl) (λ name. ap (move_of name v) (sym c.2))
   effect (Break r) s legal linked good says =
       let p = mapped_is (λ p. step.Break v p) (promise_in (view_of_reference es r)) s says in
-      quiet (λ c. refl) (λ name. ap (moves name v) (sym p.2))
+      quiet (λ c. refl) (λ name. ap (move_of name v) (sym p.2))
   effect (Make d r interface method) s legal linked good says = make_effect d r interface method s legal says
   effect (Field r d path) s legal linked good says =
       let c = mapped_is (λ name. step.Name v (cap.Field name path)) (call_named v es steps d) s says in
-      quiet (λ c. refl) (λ name. ap (moves name v) (sym c.2))
+      quiet (λ c. refl) (λ name. ap (move_of name v) (sym c.2))
   effect (Deliver d object) s legal linked good says = deliver_effect d object s (good rule.Here) says
   effect (Answer d results) s legal linked good says =
       let names = naming v (Answer d results ∷ es) (s ∷ steps) in
       let name = then_is (λ name. option_map (λ caps. step.Answer v name caps) (together (map (result_named names es) results))) (call_named v es steps d) s says in
       let caps = mapped_is (λ caps. step.Answer v name.0 caps) (together (map (result_named names es) results)) s name.2 in
-      quiet (λ c. refl) (λ name. ap (moves name v) (sym caps.2))
+      quiet (λ c. refl) (λ name. ap (move_of name v) (sym caps.2))
   effect (Fault d) s legal linked good says = fault_effect d s (and_parts (is_at_vat d es || is_served d es) (not (is_settled d es)) (good rule.Answer)).0 says
   effect (Wire true k d rs (Call q target interface method params)) s legal linked good says = call_sent_effect k d rs q target interface method params s (good rule.Here) says
   effect (Wire true k d rs m) s legal linked good says = sent_effect k d rs m s refl says
@@ -445,12 +444,12 @@ module _ (v : ℕ) (es : Past) (steps : List Step) (e : Event) (s : Step) (refer
       let view = then_is (cap_named v es steps) a.goal here.goal f.0 in
       (ap (λ o. option_and_then (cap_named v (e ∷ es) (s ∷ steps)) o) view.1 ∙ cap_keeps v (e ∷ []) es (s ∷ []) steps refl (refers, tt) view.0 here.goal view.2, f.1, f.2)
 
-  stays : (c : ℕ) (t : IsThere v es steps steps c) → brings c es e ≡ None → moves t.name v s ≡ None → IsThere v (e ∷ es) (s ∷ steps) (s ∷ steps) c
+  stays : (c : ℕ) (t : IsThere v es steps steps c) → brings c es e ≡ None → move_of t.name v s ≡ leaves_it → IsThere v (e ∷ es) (s ∷ steps) (s ∷ steps) c
   stays c t unbrought unmoved = record {
     name = t.name;
     here = t.here;
     named = call_grows v es steps e s c t.name refers t.named;
-    there = ap (λ o. option_and_then (λ a. a) (option_or o (last_of (moves t.name v) steps))) unmoved ∙ t.there;
+    there = ap (λ m. asked_after m (at_vat steps t.name v)) unmoved ∙ t.there;
     asks =
         subst (λ o. IsSomeAnd o (AsksFor (cap_named v (e ∷ es) (s ∷ steps)) t.here)) (sym (ap (λ o. option_or o (asked c es)) unbrought))
         (asks_still t.here (asked c es) t.asks);
@@ -469,19 +468,19 @@ module _ (v : ℕ) (es : Past) (steps : List Step) (e : Event) (s : Step) (refer
   differs : (c : ℕ) (name : Name) (t : IsThere v es steps steps c) → at_vat steps name v ≡ None → is_same name t.name ≡ false
   differs c name t none = false_from_ne_true (is_same name t.name) (λ same. not_nowhere c name t none (names_same name t.name same))
 
-  other_call : {A : Type 0} (b : Bool) (x : A) → b ≡ false → (if (v == v) && b then Some x else None) ≡ None
-  other_call b x apart = ap (λ t. if t then Some x else None) (and_right (v == v) b apart)
+  other_call : (b : Bool) (m : Move) → b ≡ false → (if (v == v) && b then m else leaves_it) ≡ leaves_it
+  other_call b m apart = ap (λ t. if t then m else leaves_it) (and_right (v == v) b apart)
 
   -- a call that comes
   module _ (d : ℕ) (name : Name) (a : AskedOf) (here : Asked) (brought : (c : ℕ) → brings c es e ≡ (if d == c then Some a else None)) (named : call_named v (e ∷ es) (s ∷ steps) d ≡ Some name)
-      (moved : (other : Name) → moves other v s ≡ (if (v == v) && is_same name other then Some (Some here) else None)) (none : at_vat steps name v ≡ None)
+      (moved : (other : Name) → move_of other v s ≡ (if (v == v) && is_same name other then brings_it here else leaves_it)) (none : at_vat steps name v ≡ None)
       (for : AsksFor (cap_named v (e ∷ es) (s ∷ steps)) here a) where
     come : IsThere v (e ∷ es) (s ∷ steps) (s ∷ steps) d
     come = record {
       name = name;
       here = here;
       named = named;
-      there = ap (λ o. option_and_then (λ a. a) (option_or o (last_of (moves name v) steps))) (moved name ∙ this_call v (is_same name name) (Some here) (same_to_itself name));
+      there = ap (λ m. asked_after m (at_vat steps name v)) (moved name ∙ this_call v (is_same name name) (brings_it here) (same_to_itself name));
       asks =
           subst (λ o. IsSomeAnd o (AsksFor (cap_named v (e ∷ es) (s ∷ steps)) here))
           (sym (ap (λ o. option_or o (asked d es)) (brought d ∙ ap (λ b. if b then Some a else None) (eq-eqb d d refl)))) for;
@@ -498,7 +497,7 @@ module _ (v : ℕ) (es : Past) (steps : List Step) (e : Event) (s : Step) (refer
       | inl same ↦ subst (IsThere v (e ∷ es) (s ∷ steps) (s ∷ steps)) (eqb-true d c same) come
       | inr apart ↦
           let t = placed.there c (old c apart h) in
-          stays c t (not_brought c apart) (moved t.name ∙ other_call (is_same name t.name) (Some here) (differs c name t none))
+          stays c t (not_brought c apart) (moved t.name ∙ other_call (is_same name t.name) (brings_it here) (differs c name t none))
     ]
 
     not_again : (c : ℕ) (x : Name) → (d == c) ≡ false → is_at_vat c (e ∷ es) ≡ true → call_named v (e ∷ es) (s ∷ steps) c ≡ Some x → call_named v (e ∷ es) (s ∷ steps) d ≡ Some x → ⊥
@@ -544,7 +543,7 @@ module _ (v : ℕ) (es : Past) (steps : List Step) (e : Event) (s : Step) (refer
     there = λ c h.
         let was = was_here c es e (unbrought c) h in
         let t = placed.there c was.1 in
-        stays c t (unbrought c) (moved t.name ∙ other_call (is_same name t.name) None (gone_differs d c name t (sym (taken c) ∙ was.0) was.1 named gone));
+        stays c t (unbrought c) (moved t.name ∙ other_call (is_same name t.name) takes_it_away (gone_differs d c name t (sym (taken c) ∙ was.0) was.1 named gone));
     alone = unbrought_alone unbrought;
   }
 

@@ -1,5 +1,5 @@
 -- Wherever a call is, its Make leads to its goal.
-use Rattle.std.proofs.Common.{◌≡◌, refl, sym, ◌∙◌, ap, subst, ℕ, ◌==◌, [], ◌∷◌, ◌++◌, Bool, true, false, ◌&&◌, Option, Some, None, if◌then◌else◌, IsSomeAnd, option_and_then, true≢false}
+use Rattle.std.proofs.Common.{◌≡◌, refl, sym, ◌∙◌, ap, subst, ℕ, ◌==◌, [], ◌∷◌, ◌++◌, Bool, true, false, ◌&&◌, Option, Some, None, if◌then◌else◌, IsSomeAnd, true≢false}
 use Rattle.std.specs.List.{list_any}
 use Rattle.std.specs.Option.{option_or}
 use Rattle.std.proofs.lemmas.Bool.{and_parts, or_left, or_right}
@@ -10,7 +10,7 @@ use Rattle.run_model.proofs.Once.{names_same}
 use Rattle.run_model.specs.Leads.{Leads, here}
 use Rattle.run_model.specs.Legal.{IsLegal, begins}
 use Rattle.run_model.specs.Links.{IsLinked}
-use Rattle.run_model.specs.Places.{Asked, asks, at_vat, moves}
+use Rattle.run_model.specs.Places.{Asked, asks, Move, brings_it, takes_it_away, leaves_it, move_of, asked_after, at_vat}
 use Rattle.run_model.specs.Right.{made}
 use Rattle.run_model.specs.Steps.{Each, Past, call, is_same, last_answer}
 
@@ -87,9 +87,17 @@ pub sent_on : (before : Past) (c : Name) (w : ℕ) (target : Cap) (i j : ℕ) (o
 sent_on before c w target i j None e all h = absurd h
 sent_on before c w target i j (Some a) e all h = onwards before c a target i j (last_answer (made c) before) h.0 h.1 h.2 (all c w a e)
 
-never : {A : Type 0} (b : Bool) (a : A) → (if b then Some None else None) ≡ Some (Some a) → ⊥
+never : (b : Bool) (a : Asked) → (if b then takes_it_away else leaves_it) ≡ brings_it a → ⊥
 never true a e = cc
 never false a e = cc
+
+left_brought : {a : Asked} → leaves_it ≡ brings_it a → ⊥
+left_brought e = cc
+
+-- a step that brings a call somewhere passes the test
+brought_if : (b : Bool) (a goal : Asked) → (if b then brings_it a else leaves_it) ≡ brings_it goal → (b ≡ true) × (a ≡ goal)
+brought_if true a goal e = (refl, cc)
+brought_if false a goal e = absurd (left_brought e)
 
 first : (before : Past) (goal a : Asked) (o rest : Option Asked) → o ≡ Some a → a ≡ goal → IsSomeAnd (option_or o rest) (Reaches before goal)
 first before goal a None rest e f = absurd (none_some e)
@@ -97,19 +105,17 @@ first before goal a (Some b) rest e f = let same : b ≡ goal = cc in subst (λ 
 
 -- a call that comes to a vat comes with such a goal
 came : (s : Step) (before : Past) → Each IsLegal (s ∷ before) → Each IsLinked (s ∷ before) → Each (λ b t. AllGo b) before → (c : Name) (v : ℕ) (goal : Asked) →
-    moves c v s ≡ Some (Some goal) → IsGoal (s ∷ before) c goal
+    move_of c v s ≡ brings_it goal → IsGoal (s ∷ before) c goal
 came (Make w n cap r i j) before legal linked all c v goal e =
-    let f = from_if ((w == v) && is_same (call w n) c) (Some (asks cap i j)) (Some goal) e in
+    let f = brought_if ((w == v) && is_same (call w n) c) (asks cap i j) goal e in
     let same = (and_parts (w == v) (is_same (call w n) c) f.0).1 in
-    let given = f.1 in
-    let asked : asks cap i j ≡ goal = cc in
+    let asked = f.1 in
     first (Make w n cap r i j ∷ before) goal (asks cap i j) (made c (Make w n cap r i j)) (last_answer (made c) before)
     (ap (λ b. if b then Some (asks cap i j) else None) same) asked
 came (Receive w k (Call d target i j caps) bound) before legal linked all c v goal e =
     let m : Message = Call d target i j caps in
-    let f = from_if ((w == v) && is_same d c) (Some (asks target i j)) (Some goal) e in
-    let given = f.1 in
-    let asked : asks target i j ≡ goal = cc in
+    let f = brought_if ((w == v) && is_same d c) (asks target i j) goal e in
+    let asked = f.1 in
     let same = names_same d c (and_parts (w == v) (is_same d c) f.0).1 in
     let was = was_sent before w k m bound linked.0 in
     let s : Step = Send was.0 k m in
@@ -121,26 +127,27 @@ came (Receive w k (Call d target i j caps) bound) before legal linked all c v go
     subst (λ b. IsGoal b d (asks target i j)) (sym was.4) (more was.1 (s ∷ was.2) d (asks target i j) there (one_more s was.2 d (asks target i j) legal_there sent)) in
     subst (λ g. IsGoal (Receive w k m bound ∷ before) c g) asked
     (subst (λ x. IsGoal (Receive w k m bound ∷ before) x (asks target i j)) same (one_more (Receive w k m bound) before d (asks target i j) legal.0 now))
-came (Receive w k (Boot d) bound) before legal linked all c v goal e = absurd (none_some e)
-came (Receive w k m bound) before legal linked all c v goal e = absurd (none_some e)
+came (Receive w k (Boot d) bound) before legal linked all c v goal e = absurd (left_brought e)
+came (Receive w k m bound) before legal linked all c v goal e = absurd (left_brought e)
 came (Send w k (Call d target i j caps)) before legal linked all c v goal e = absurd (never _ goal e)
-came (Send w k (Boot d)) before legal linked all c v goal e = absurd (none_some e)
-came (Send w k m) before legal linked all c v goal e = absurd (none_some e)
+came (Send w k (Boot d)) before legal linked all c v goal e = absurd (left_brought e)
+came (Send w k m) before legal linked all c v goal e = absurd (left_brought e)
 came (Deliver w d o) before legal linked all c v goal e = absurd (never _ goal e)
 came (Fault w d) before legal linked all c v goal e = absurd (never _ goal e)
-came (Host w o) before legal linked all c v goal e = absurd (none_some e)
-came _ before legal linked all c v goal e = absurd (none_some e)
+came (Host w o) before legal linked all c v goal e = absurd (left_brought e)
+came _ before legal linked all c v goal e = absurd (left_brought e)
 
 decide : (s : Step) (before : Past) → Each IsLegal (s ∷ before) → Each IsLinked (s ∷ before) → AllGo before → Each (λ b t. AllGo b) before → (c : Name) (v : ℕ) (goal : Asked) →
-    (o : Option (Option Asked)) → moves c v s ≡ o → option_and_then (λ a. a) (option_or o (last_answer (moves c v) before)) ≡ Some goal → IsGoal (s ∷ before) c goal
-decide s before legal linked now all c v goal None g e = one_more s before c goal legal.0 (now c v goal e)
-decide s before legal linked now all c v goal (Some None) g e = absurd (none_some e)
-decide s before legal linked now all c v goal (Some (Some a)) g e = came s before legal linked all c v goal (g ∙ ap (λ x. Some x) e)
+    (m : Move) → move_of c v s ≡ m → asked_after m (at_vat before c v) ≡ Some goal → IsGoal (s ∷ before) c goal
+decide s before legal linked now all c v goal leaves_it g e = one_more s before c goal legal.0 (now c v goal e)
+decide s before legal linked now all c v goal takes_it_away g e = absurd (none_some e)
+decide s before legal linked now all c v goal (brings_it a) g e =
+    let same : a ≡ goal = cc in came s before legal linked all c v goal (g ∙ ap (λ x. brings_it x) same)
 
 pub all_go : (before : Past) → Each IsLegal before → Each IsLinked before → AllGo before × Each (λ b t. AllGo b) before
 all_go [] legal linked = ((λ c v goal e. absurd (none_some e)), tt)
 all_go (s ∷ before) legal linked =
-    let r = all_go before legal.1 linked.1 in ((λ c v goal e. decide s before legal linked r.0 r.1 c v goal (moves c v s) refl e), (r.0, r.1))
+    let r = all_go before legal.1 linked.1 in ((λ c v goal e. decide s before legal linked r.0 r.1 c v goal (move_of c v s) refl e), (r.0, r.1))
 
 pub goes_to_goal : (before : Past) → Each IsLegal before → Each IsLinked before → (c : Name) (v : ℕ) (goal : Asked) →
     at_vat before c v ≡ Some goal → IsSomeAnd (last_answer (made c) before) (λ a. Leads before a.goal goal.goal × (goal.interface ≡ a.interface) × (goal.method ≡ a.method))

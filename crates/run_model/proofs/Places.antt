@@ -1,7 +1,6 @@
 -- A call is at one vat at most, and at none while it is under way.
-use Rattle.std.proofs.Common.{◌≡◌, ◌≤◌, ◌≢◌, ◌⊎◌, inl, inr, refl, sym, ◌∙◌, ap, subst, ℕ, ◌==◌, List, [], ◌∷◌, Bool, true, false, ◌&&◌, Some, None, if◌then◌else◌, option_and_then, IsSomeAnd, IsSome, is_some, ne_eqb}
+use Rattle.std.proofs.Common.{◌≡◌, ◌≤◌, ◌≢◌, ◌⊎◌, inl, inr, refl, sym, ◌∙◌, ap, subst, ℕ, ◌==◌, List, [], ◌∷◌, Bool, true, false, ◌&&◌, None, if◌then◌else◌, IsSomeAnd, IsSome, is_some, ne_eqb}
 use Rattle.std.specs.List.{list_any}
-use Rattle.std.specs.Option.{option_or}
 use Rattle.std.proofs.lemmas.Bool.{and_from, and_left, and_right, or_left, or_right, or_from, false_from_ne_true, eq-eqb, false≢true, cases_eq}
 use Rattle.run_model.specs.Types.{Name, Cap, Boot, Call, Step, Host, Vow, Fulfil, Break, Make, Named, Deliver, Answer, Fault, Send, Receive}
 use Rattle.run_model.proofs.Once.{names_same, none_of, once, or_either}
@@ -11,8 +10,8 @@ use Rattle.run_model.proofs.Spent.{spends, delivers_spends, IsSpentWhereItArrive
 use Rattle.run_model.proofs.Token.{is_call, AllDone, AllButLast, sends, all_grow, but_last_grows, no_send, nothing_to_receive, all_received}
 use Rattle.run_model.specs.Legal.{IsLegal, arrives, begins, delivers}
 use Rattle.run_model.specs.Links.{IsLinked}
-use Rattle.run_model.specs.Places.{Asked, asks, at_vat, moves}
-use Rattle.run_model.specs.Steps.{Each, Past, call, count, is_same, last_answer}
+use Rattle.run_model.specs.Places.{Asked, asks, Move, brings_it, takes_it_away, leaves_it, move_of, asked_after, at_vat}
+use Rattle.run_model.specs.Steps.{Each, Past, call, count, is_same}
 
 -- where a call is
 pub data Place (c : Name) (past : Past) : Type 0 where
@@ -20,14 +19,14 @@ pub data Place (c : Name) (past : Past) : Type 0 where
   held : (v : ℕ) → ((w : ℕ) → w ≢ v → at_vat past c w ≡ None) → AllDone (is_call c) past past → list_any (begins c) past ≡ true → list_any (spends c) past ≡ false → Place c past
   flying : ((w : ℕ) → at_vat past c w ≡ None) → AllButLast (is_call c) past past → list_any (begins c) past ≡ true → list_any (spends c) past ≡ false → Place c past
 
-same_place : (s : Step) (past : Past) (c : Name) (w : ℕ) → moves c w s ≡ None → at_vat past c w ≡ None → at_vat (s ∷ past) c w ≡ None
-same_place s past c w e h = ap (λ o. option_and_then (λ a. a) (option_or o (last_answer (moves c w) past))) e ∙ h
+same_place : (s : Step) (past : Past) (c : Name) (w : ℕ) → move_of c w s ≡ leaves_it → at_vat past c w ≡ None → at_vat (s ∷ past) c w ≡ None
+same_place s past c w e h = ap (λ m. asked_after m (at_vat past c w)) e ∙ h
 
-left_place : (s : Step) (past : Past) (c : Name) (w : ℕ) → moves c w s ≡ Some None → at_vat (s ∷ past) c w ≡ None
-left_place s past c w e = ap (λ o. option_and_then (λ a. a) (option_or o (last_answer (moves c w) past))) e
+left_place : (s : Step) (past : Past) (c : Name) (w : ℕ) → move_of c w s ≡ takes_it_away → at_vat (s ∷ past) c w ≡ None
+left_place s past c w e = ap (λ m. asked_after m (at_vat past c w)) e
 
 -- a step that neither moves the call nor sends it on, and doesn't spend it while it has a place
-still : (s : Step) (past : Past) (c : Name) → ((w : ℕ) → moves c w s ≡ None) → sends (is_call c) s ≡ false →
+still : (s : Step) (past : Past) (c : Name) → ((w : ℕ) → move_of c w s ≡ leaves_it) → sends (is_call c) s ≡ false →
     (list_any (begins c) past ≡ true → list_any (spends c) past ≡ false → spends c s ≡ false) → Place c past → Place c (s ∷ past)
 still s past c unmoved unsent spares (idle n a) =
     idle (λ w. same_place s past c w (unmoved w) (n w)) (no_send (is_call c) (s ∷ past) past s unsent, all_grow (is_call c) s past past a)
@@ -39,20 +38,20 @@ still s past c unmoved unsent spares (flying n l b f) =
     (or_right (begins c s) (list_any (begins c) past) b) (or_from (spends c s) (list_any (spends c) past) (spares b f) f)
 
 -- the tests of a move
-other_vat : {A : Type 0} (v w : ℕ) (b : Bool) (x : A) → v ≢ w → (if (v == w) && b then Some x else None) ≡ None
-other_vat v w b x apart = ap (λ t. if t then Some x else None) (and_left (v == w) b (ne_eqb v w apart))
+other_vat : (v w : ℕ) (b : Bool) (m : Move) → v ≢ w → (if (v == w) && b then m else leaves_it) ≡ leaves_it
+other_vat v w b m apart = ap (λ t. if t then m else leaves_it) (and_left (v == w) b (ne_eqb v w apart))
 
-other_call : {A : Type 0} (v w : ℕ) (b : Bool) (x : A) → b ≡ false → (if (v == w) && b then Some x else None) ≡ None
-other_call v w b x e = ap (λ t. if t then Some x else None) (and_right (v == w) b e)
+other_call : (v w : ℕ) (b : Bool) (m : Move) → b ≡ false → (if (v == w) && b then m else leaves_it) ≡ leaves_it
+other_call v w b m e = ap (λ t. if t then m else leaves_it) (and_right (v == w) b e)
 
-pub this_call : {A : Type 0} (v : ℕ) (b : Bool) (x : A) → b ≡ true → (if (v == v) && b then Some x else None) ≡ Some x
-this_call v b x e = ap (λ t. if t then Some x else None) (and_from (v == v) b (eq-eqb v v refl) e)
+pub this_call : (v : ℕ) (b : Bool) (m : Move) → b ≡ true → (if (v == v) && b then m else leaves_it) ≡ m
+this_call v b m e = ap (λ t. if t then m else leaves_it) (and_from (v == v) b (eq-eqb v v refl) e)
 
 -- a step by which the call leaves this vat leaves it nowhere, where it was nowhere else
-leaves : (s : Step) (past : Past) (c : Name) (v u w : ℕ) → moves c v s ≡ Some None → ((x : ℕ) → x ≢ v → moves c x s ≡ None) → (w ≢ u → at_vat past c w ≡ None) → v ≡ u ⊎ at_vat past c w ≡ None →
+leaves : (s : Step) (past : Past) (c : Name) (v u w : ℕ) → move_of c v s ≡ takes_it_away → ((x : ℕ) → x ≢ v → move_of c x s ≡ leaves_it) → (w ≢ u → at_vat past c w ≡ None) → v ≡ u ⊎ at_vat past c w ≡ None →
     at_vat (s ∷ past) c w ≡ None
 leaves s past c v u w here there rest at = elim (cases_eq w v) [
-  | inl e ↦ left_place s past c w (subst (λ x. moves c x s ≡ Some None) (sym e) here)
+  | inl e ↦ left_place s past c w (subst (λ x. move_of c x s ≡ takes_it_away) (sym e) here)
   | inr apart ↦ elim at [
     | inl same ↦ same_place s past c w (there w apart) (rest (λ e. apart (e ∙ sym same)))
     | inr none ↦ same_place s past c w (there w apart) none
@@ -71,13 +70,13 @@ is_there P past c v u h rest = elim (cases_eq v u) [
 
 make_place : (v n : ℕ) (cap : Cap) (r i j : ℕ) (past : Past) (c : Name) → IsLegal past (Make v n cap r i j) → (list_any (begins c) past ≡ false → list_any (spends c) past ≡ false) → (b : Bool) → is_same (call v n) c ≡ b → Place c past → Place c (Make v n cap r i j ∷ past)
 make_place v n cap r i j past c legal unborn true same (idle none all) = held v
-    (λ w apart. same_place (Make v n cap r i j) past c w (other_vat v w (is_same (call v n) c) (Some (asks cap i j)) (λ e. apart (sym e))) (none w))
+    (λ w apart. same_place (Make v n cap r i j) past c w (other_vat v w (is_same (call v n) c) (brings_it (asks cap i j)) (λ e. apart (sym e))) (none w))
     (tt, all_grow (is_call c) (Make v n cap r i j) past past all) (or_left (is_same (call v n) c) (list_any (begins c) past) same)
     (unborn (subst (λ d. list_any (begins d) past ≡ false) (names_same (call v n) c same) legal.1))
 make_place v n cap r i j past c legal unborn true same (held u none all begun fresh) = absurd (clash begun (subst (λ d. list_any (begins d) past ≡ false) (names_same (call v n) c same) legal.1))
 make_place v n cap r i j past c legal unborn true same (flying none left begun fresh) = absurd (clash begun (subst (λ d. list_any (begins d) past ≡ false) (names_same (call v n) c same) legal.1))
 make_place v n cap r i j past c legal unborn false same place =
-    still (Make v n cap r i j) past c (λ w. other_call v w (is_same (call v n) c) (Some (asks cap i j)) same) refl (λ b f. refl) place
+    still (Make v n cap r i j) past c (λ w. other_call v w (is_same (call v n) c) (brings_it (asks cap i j)) same) refl (λ b f. refl) place
 
 receive_place : (v k : ℕ) (d : Name) (target : Cap) (i j : ℕ) (caps bound : List Cap) (past : Past) (c : Name) → IsLinked past (Receive v k (Call d target i j caps) bound) →
     (b : Bool) → is_same d c ≡ b → Place c past → Place c (Receive v k (Call d target i j caps) bound ∷ past)
@@ -85,10 +84,10 @@ receive_place v k d target i j caps bound past c linked true same (idle none all
 receive_place v k d target i j caps bound past c linked true same (held u none all begun fresh) = absurd (nothing_to_receive (is_call c) past v k (Call d target i j caps) same linked.0 linked.1 all)
 receive_place v k d target i j caps bound past c linked true same (flying none left begun fresh) =
     let t : Step = Receive v k (Call d target i j caps) bound in
-    held v (λ w apart. same_place t past c w (other_vat v w (is_same d c) (Some (asks target i j)) (λ e. apart (sym e))) (none w))
+    held v (λ w apart. same_place t past c w (other_vat v w (is_same d c) (brings_it (asks target i j)) (λ e. apart (sym e))) (none w))
     (all_received (is_call c) past v k (Call d target i j caps) bound same linked left) begun fresh
 receive_place v k d target i j caps bound past c linked false same place =
-    still (Receive v k (Call d target i j caps) bound) past c (λ w. other_call v w (is_same d c) (Some (asks target i j)) same) refl (λ b f. refl) place
+    still (Receive v k (Call d target i j caps) bound) past c (λ w. other_call v w (is_same d c) (brings_it (asks target i j)) same) refl (λ b f. refl) place
 
 send_place : (v k : ℕ) (d : Name) (target : Cap) (i j : ℕ) (caps : List Cap) (past : Past) (c : Name) → IsLegal past (Send v k (Call d target i j caps)) →
     (b : Bool) → is_same d c ≡ b → Place c past → Place c (Send v k (Call d target i j caps) ∷ past)
@@ -99,10 +98,10 @@ send_place v k d target i j caps past c legal true same (flying none left begun 
 send_place v k d target i j caps past c legal true same (held u none all begun fresh) =
     let s : Step = Send v k (Call d target i j caps) in
     let there = is_there _ past d v u legal.1 (λ w apart. subst (λ x. at_vat past x w ≡ None) (sym (names_same d c same)) (none w apart)) in
-    flying (λ w. leaves s past c v u w (this_call v (is_same d c) None same) (λ x apart. other_vat v x (is_same d c) None (λ e. apart (sym e))) (none w) (inl there))
+    flying (λ w. leaves s past c v u w (this_call v (is_same d c) takes_it_away same) (λ x apart. other_vat v x (is_same d c) takes_it_away (λ e. apart (sym e))) (none w) (inl there))
     (inl (same, all_grow (is_call c) s past past all)) begun fresh
 send_place v k d target i j caps past c legal false same place =
-    still (Send v k (Call d target i j caps)) past c (λ w. other_call v w (is_same d c) None same) same (λ b f. refl) place
+    still (Send v k (Call d target i j caps)) past c (λ w. other_call v w (is_same d c) takes_it_away same) same (λ b f. refl) place
 
 deliver_place : (v : ℕ) (d : Name) (o : ℕ) (past : Past) (c : Name) → IsLegal past (Deliver v d o) → (b : Bool) → is_same d c ≡ b → Place c past → Place c (Deliver v d o ∷ past)
 deliver_place v d o past c legal true same (idle none all) =
@@ -112,8 +111,8 @@ deliver_place v d o past c legal true same (flying none left begun fresh) =
 deliver_place v d o past c legal true same (held u none all begun fresh) =
     let s : Step = Deliver v d o in
     let there = is_there _ past d v u legal.1 (λ w apart. subst (λ x. at_vat past x w ≡ None) (sym (names_same d c same)) (none w apart)) in
-    idle (λ w. leaves s past c v u w (this_call v (is_same d c) None same) (λ x apart. other_vat v x (is_same d c) None (λ e. apart (sym e))) (none w) (inl there)) (tt, all_grow (is_call c) s past past all)
-deliver_place v d o past c legal false same place = still (Deliver v d o) past c (λ w. other_call v w (is_same d c) None same) refl (λ b f. same) place
+    idle (λ w. leaves s past c v u w (this_call v (is_same d c) takes_it_away same) (λ x apart. other_vat v x (is_same d c) takes_it_away (λ e. apart (sym e))) (none w) (inl there)) (tt, all_grow (is_call c) s past past all)
+deliver_place v d o past c legal false same place = still (Deliver v d o) past c (λ w. other_call v w (is_same d c) takes_it_away same) refl (λ b f. same) place
 
 there_alone : (past : Past) (c : Name) (u v : ℕ) → ((w : ℕ) → w ≢ u → at_vat past c w ≡ None) → IsSome (at_vat past c v) → v ≡ u
 there_alone past c u v rest some = elim (cases_eq v u) [
@@ -131,15 +130,15 @@ faulted_here v d past c spent legal same fresh = subst (λ x. IsSome (at_vat pas
 
 fault_place : (v : ℕ) (d : Name) (past : Past) (c : Name) → IsSpentWhereItArrived past → IsLegal past (Fault v d) → (b : Bool) → is_same d c ≡ b → Place c past → Place c (Fault v d ∷ past)
 fault_place v d past c spent legal true same (idle none all) =
-    idle (λ w. leaves (Fault v d) past c v v w (this_call v (is_same d c) None same) (λ x apart. other_vat v x (is_same d c) None (λ e. apart (sym e))) (λ e. none w) (inr (none w)))
+    idle (λ w. leaves (Fault v d) past c v v w (this_call v (is_same d c) takes_it_away same) (λ x apart. other_vat v x (is_same d c) takes_it_away (λ e. apart (sym e))) (λ e. none w) (inr (none w)))
     (tt, all_grow (is_call c) (Fault v d) past past all)
 fault_place v d past c spent legal true same (flying none left begun fresh) =
     absurd (clash (faulted_here v d past c spent legal same fresh) (ap (λ o. is_some o) (none v)))
 fault_place v d past c spent legal true same (held u none all begun fresh) =
     let there = there_alone past c u v none (faulted_here v d past c spent legal same fresh) in
-    idle (λ w. leaves (Fault v d) past c v u w (this_call v (is_same d c) None same) (λ x apart. other_vat v x (is_same d c) None (λ e. apart (sym e))) (none w) (inl there))
+    idle (λ w. leaves (Fault v d) past c v u w (this_call v (is_same d c) takes_it_away same) (λ x apart. other_vat v x (is_same d c) takes_it_away (λ e. apart (sym e))) (none w) (inl there))
     (tt, all_grow (is_call c) (Fault v d) past past all)
-fault_place v d past c spent legal false same place = still (Fault v d) past c (λ w. other_call v w (is_same d c) None same) refl (λ b f. same) place
+fault_place v d past c spent legal false same place = still (Fault v d) past c (λ w. other_call v w (is_same d c) takes_it_away same) refl (λ b f. same) place
 
 answer_spares : (v : ℕ) (d : Name) (results : List (List ℕ × Cap)) (past : Past) (c : Name) → IsSpentWhereItArrived past → IsLegal past (Answer v d results) →
     list_any (spends c) past ≡ false → is_same d c ≡ false

@@ -1,5 +1,5 @@
 -- Each call is delivered where it was to go.
-use Rattle.std.proofs.Common.{◌≡◌, ◌≤◌, refl, ap, ℕ, suc, List, [], ◌∷◌, true, false, Option, Some, None, if◌then◌else◌, option_and_then, IsSomeAnd, is_some, arith}
+use Rattle.std.proofs.Common.{◌≡◌, ◌≤◌, refl, ap, ℕ, suc, List, [], ◌∷◌, true, false, Option, Some, None, if◌then◌else◌, IsSomeAnd, is_some, arith}
 use Rattle.std.specs.List.{list_any}
 use Rattle.std.specs.Option.{option_or}
 use Rattle.std.proofs.lemmas.Bool.{false_from_ne_true, or_from, or_parts}
@@ -12,7 +12,7 @@ use Rattle.run_model.proofs.Places.{place, delivered_fresh, this_call}
 use Rattle.run_model.specs.Leads.{Leads}
 use Rattle.run_model.specs.Legal.{IsLegal, begins}
 use Rattle.run_model.specs.Links.{IsLinked}
-use Rattle.run_model.specs.Places.{Asked, asks, at_vat, moves}
+use Rattle.run_model.specs.Places.{Asked, asks, brings_it, asked_after, at_vat}
 use Rattle.run_model.specs.Right.{CarriesMethod, ReachesObject, made}
 use Rattle.run_model.specs.Steps.{Each, Past, count, is_same, last_answer}
 
@@ -67,7 +67,7 @@ brings_method : (before : Past) (v k : ℕ) (m : Message) (bound : List Cap) →
 brings_method before v k (Call c target i j caps) bound legal linked =
     by_method (Receive v k (Call c target i j caps) bound ∷ before) target i j (last_answer (made c) before)
     (goes_to_goal (Receive v k (Call c target i j caps) bound ∷ before) legal linked c v (asks target i j)
-    (ap (λ o. option_and_then (λ a. a) (option_or o (last_answer (moves c v) before))) (this_call v (is_same c c) (Some (asks target i j)) (same_to_itself c))))
+    (ap (λ m. asked_after m (at_vat before c v)) (this_call v (is_same c c) (brings_it (asks target i j)) (same_to_itself c))))
 brings_method before v k (Boot c) bound legal linked = tt
 brings_method before v k _ bound legal linked = tt
 

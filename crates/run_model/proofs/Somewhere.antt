@@ -1,12 +1,12 @@
 -- A call that was made is at a vat, or under way, or gone.
-use Rattle.std.proofs.Common.{◌≡◌, ◌≢◌, ◌≤◌, ◌<◌, inl, inr, refl, sym, ◌∙◌, ap, subst, ℕ, zero, suc, ◌==◌, List, [], ◌∷◌, ◌++◌, length, Bool, true, false, not, ◌&&◌, Option, Some, None, if◌then◌else◌, option_and_then, reverse, filter_map, slice_get, IsSome, is_some, arith, append_assoc, eqb-true, ne_eqb}
+use Rattle.std.proofs.Common.{◌≡◌, ◌≢◌, ◌≤◌, ◌<◌, inl, inr, refl, sym, ◌∙◌, ap, subst, ℕ, zero, suc, ◌==◌, List, [], ◌∷◌, ◌++◌, length, Bool, true, false, not, ◌&&◌, Option, Some, None, if◌then◌else◌, reverse, filter_map, slice_get, IsSome, is_some, arith, append_assoc, eqb-true, ne_eqb}
 use Rattle.std.specs.List.{list_any, cons_option}
 use Rattle.std.specs.Option.{option_or}
 use Rattle.std.proofs.lemmas.List.{reverse-append}
 use Rattle.std.proofs.lemmas.Bool.{and_parts, and_from, or_left, or_right, eq-eqb, false≢true, cases_eq}
 use Rattle.run_model.specs.Types.{Name, Cap, Message, Boot, Call, Step, Host, Make, Deliver, Fault, Send, Receive}
 use Rattle.run_model.specs.Steps.{Past, Each, call, count, is_same, last_answer}
-use Rattle.run_model.specs.Places.{Asked, asks, moves, at_vat}
+use Rattle.run_model.specs.Places.{Asked, asks, Move, brings_it, takes_it_away, leaves_it, move_of, asked_after, at_vat}
 use Rattle.run_model.specs.Links.{IsLinked, receives, sent_to}
 use Rattle.run_model.specs.UnderWay.{IsUnderWay, IsSomewhere, takes}
 use Rattle.run_model.specs.Right.{made}
@@ -18,8 +18,16 @@ use Rattle.run_model.proofs.Places.{this_call}
 none_some : {A : Type 0} {x : A} → None ≡ Some x → ⊥
 none_some e = cc
 
-some_none : {A : Type 0} {x : A} → Some x ≡ None → ⊥
-some_none e = cc
+left_taken : leaves_it ≡ takes_it_away → ⊥
+left_taken e = cc
+
+taken_if : (b : Bool) → (if b then takes_it_away else leaves_it) ≡ takes_it_away → b ≡ true
+taken_if true e = refl
+taken_if false e = absurd (left_taken e)
+
+not_taken : (b : Bool) (a : Asked) → (if b then brings_it a else leaves_it) ≡ takes_it_away → ⊥
+not_taken true a e = cc
+not_taken false a e = cc
 
 from_if : {A : Type 0} (b : Bool) (x y : A) → (if b then Some x else None) ≡ Some y → (b ≡ true) × (x ≡ y)
 from_if true x y e = (refl, cc)
@@ -74,9 +82,9 @@ no_more (s ∷ past) v k linked =
     up_to (receives v k s) (count (receives v k) past) (number_at v k past) (number_at v k (s ∷ past)) (no_more past v k linked.1) (number_grows v k s past) (not_all v k s past linked.0)
 
 -- where a call went that left a vat
-left : (s : Step) (past : Past) (c : Name) (v : ℕ) → Each IsLinked past → moves c v s ≡ Some None → IsSomewhere (s ∷ past) c
+left : (s : Step) (past : Past) (c : Name) (v : ℕ) → Each IsLinked past → move_of c v s ≡ takes_it_away → IsSomewhere (s ∷ past) c
 left (Send w k (Call d target i j caps)) past c v linked e =
-    let same = names_same d c (and_parts (w == v) (is_same d c) (from_if ((w == v) && is_same d c) None None e).0).1 in
+    let same = names_same d c (and_parts (w == v) (is_same d c) (taken_if ((w == v) && is_same d c) e)).1 in
     inr (inl record {
       from = w;
       connection = k;
@@ -89,27 +97,24 @@ left (Send w k (Call d target i j caps)) past c v linked e =
       sent = ap (λ x. Send w k (Call x target i j caps) ∷ past) same;
       waits = λ u apart. no_more past u k linked;
     })
-left (Send w k (Boot d)) past c v linked e = absurd (none_some e)
-left (Send w k m) past c v linked e = absurd (none_some e)
+left (Send w k (Boot d)) past c v linked e = absurd (left_taken e)
+left (Send w k m) past c v linked e = absurd (left_taken e)
 left (Deliver w d o) past c v linked e =
-    inr (inr (or_left (is_same d c) (list_any (takes c) past) (and_parts (w == v) (is_same d c) (from_if ((w == v) && is_same d c) None None e).0).1))
+    inr (inr (or_left (is_same d c) (list_any (takes c) past) (and_parts (w == v) (is_same d c) (taken_if ((w == v) && is_same d c) e)).1))
 left (Fault w d) past c v linked e =
-    inr (inr (or_left (is_same d c) (list_any (takes c) past) (and_parts (w == v) (is_same d c) (from_if ((w == v) && is_same d c) None None e).0).1))
-left (Make w n cap r i j) past c v linked e = absurd (some_none (from_if ((w == v) && is_same (call w n) c) (Some (asks cap i j)) None e).1)
-left (Receive w k (Call d target i j caps) bound) past c v linked e = absurd (some_none (from_if ((w == v) && is_same d c) (Some (asks target i j)) None e).1)
-left (Receive w k (Boot d) bound) past c v linked e = absurd (none_some e)
-left (Receive w k m bound) past c v linked e = absurd (none_some e)
-left (Host w o) past c v linked e = absurd (none_some e)
-left _ past c v linked e = absurd (none_some e)
-
-found_at : (s : Step) (past : Past) (c : Name) (v : ℕ) (o : Option Asked) → option_or (moves c v s) (last_answer (moves c v) past) ≡ Some o → is_some o ≡ true → IsSomewhere (s ∷ past) c
-found_at s past c v o e some = inl (v, ap (λ a. is_some (option_and_then (λ x. x) a)) e ∙ some)
+    inr (inr (or_left (is_same d c) (list_any (takes c) past) (and_parts (w == v) (is_same d c) (taken_if ((w == v) && is_same d c) e)).1))
+left (Make w n cap r i j) past c v linked e = absurd (not_taken ((w == v) && is_same (call w n) c) (asks cap i j) e)
+left (Receive w k (Call d target i j caps) bound) past c v linked e = absurd (not_taken ((w == v) && is_same d c) (asks target i j) e)
+left (Receive w k (Boot d) bound) past c v linked e = absurd (left_taken e)
+left (Receive w k m bound) past c v linked e = absurd (left_taken e)
+left (Host w o) past c v linked e = absurd (left_taken e)
+left _ past c v linked e = absurd (left_taken e)
 
 -- a call that is at a vat, one step later
-from_vat : (s : Step) (past : Past) (c : Name) (v : ℕ) → Each IsLinked past → IsSome (at_vat past c v) → (o : Option (Option Asked)) → moves c v s ≡ o → IsSomewhere (s ∷ past) c
-from_vat s past c v linked here None e = inl (v, ap (λ o. is_some (option_and_then (λ x. x) (option_or o (last_answer (moves c v) past)))) e ∙ here)
-from_vat s past c v linked here (Some None) e = left s past c v linked e
-from_vat s past c v linked here (Some (Some a)) e = inl (v, ap (λ o. is_some (option_and_then (λ x. x) (option_or o (last_answer (moves c v) past)))) e)
+from_vat : (s : Step) (past : Past) (c : Name) (v : ℕ) → Each IsLinked past → IsSome (at_vat past c v) → (m : Move) → move_of c v s ≡ m → IsSomewhere (s ∷ past) c
+from_vat s past c v linked here leaves_it e = inl (v, ap (λ m. is_some (asked_after m (at_vat past c v))) e ∙ here)
+from_vat s past c v linked here takes_it_away e = left s past c v linked e
+from_vat s past c v linked here (brings_it a) e = inl (v, ap (λ m. is_some (asked_after m (at_vat past c v))) e)
 
 -- a call that stays under way
 stays : (s : Step) (past : Past) (c : Name) (u : IsUnderWay past c) →
@@ -149,7 +154,7 @@ comes past c u v m apart e =
 arrives_at : (past : Past) (c : Name) (v k : ℕ) (target : Cap) (i j : ℕ) (caps bound : List Cap) (m : Message) → m ≡ Call c target i j caps → IsSomewhere (Receive v k m bound ∷ past) c
 arrives_at past c v k target i j caps bound m e =
     subst (λ x. IsSomewhere (Receive v k x bound ∷ past) c) (sym e)
-    (inl (v, ap (λ o. is_some (option_and_then (λ a. a) (option_or o (last_answer (moves c v) past)))) (this_call v (is_same c c) (Some (asks target i j)) (same_to_itself c))))
+    (inl (v, ap (λ m. is_some (asked_after m (at_vat past c v))) (this_call v (is_same c c) (brings_it (asks target i j)) (same_to_itself c))))
 
 -- a call that is under way, when a vat receives a message
 received : (past : Past) (c : Name) (u : IsUnderWay past c) (v k : ℕ) (m : Message) (bound : List Cap) → IsLinked past (Receive v k m bound) → IsSomewhere (Receive v k m bound ∷ past) c
@@ -177,7 +182,7 @@ from_link (Host v o) past c linked u = stays (Host v o) past c u (λ w apart e. 
 from_link s past c linked u = stays s past c u (λ w apart e. absurd (false≢true e))
 
 later_on : (s : Step) (past : Past) (c : Name) → IsLinked past s → Each IsLinked past → IsSomewhere past c → IsSomewhere (s ∷ past) c
-later_on s past c linked before (inl (v, here)) = from_vat s past c v before here (moves c v s) refl
+later_on s past c linked before (inl (v, here)) = from_vat s past c v before here (move_of c v s) refl
 later_on s past c linked before (inr (inl u)) = from_link s past c linked u
 later_on s past c linked before (inr (inr gone)) = inr (inr (or_right (takes c s) (list_any (takes c) past) gone))
 
@@ -185,7 +190,7 @@ later_on s past c linked before (inr (inr gone)) = inr (inr (or_right (takes c s
 made_now : (s : Step) (past : Past) (c : Name) (a : Asked) → made c s ≡ Some a → IsSomewhere (s ∷ past) c
 made_now (Make v n cap r i j) past c a e =
     let same = (from_if (is_same (call v n) c) (asks cap i j) a e).0 in
-    inl (v, ap (λ o. is_some (option_and_then (λ x. x) (option_or o (last_answer (moves c v) past)))) (this_call v (is_same (call v n) c) (Some (asks cap i j)) same))
+    inl (v, ap (λ m. is_some (asked_after m (at_vat past c v))) (this_call v (is_same (call v n) c) (brings_it (asks cap i j)) same))
 made_now (Host v o) past c a e = absurd (none_some e)
 made_now _ past c a e = absurd (none_some e)
 

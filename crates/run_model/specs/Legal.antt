@@ -6,12 +6,14 @@ use Rattle.run_model.specs.Has.{Has}
 use Rattle.run_model.specs.Leads.{Leads, LeadsByTurns}
 use Rattle.run_model.specs.Places.{at_vat}
 use Rattle.run_model.specs.Steps.{Past, call, is_same, vat_of, EachOf}
-use Rattle.run_model.specs.Types.{Name, Cap, Object, FieldOf, Nothing, Message, Boot, Call, Return, Resolve, Broken, Step, Vow, Fulfil, Break, Make, Named, Deliver, Answer, Fault, Send, Receive}
+use Rattle.run_model.specs.Types.{Name, Cap, Object, Promise, FieldOf, Nothing, Message, Boot, Call, Return, Late, Failed, Resolve, Broken, Plain, Step, Host, Vow, Fulfil, Break, Make, Named, Deliver, Answer, Fault, Send, Receive}
 
 -- a cap is there: it isn't Nothing
 abbrev pub is_cap : Cap → Bool
 is_cap Nothing = false
-is_cap _ = true
+is_cap (Object v object) = true
+is_cap (Promise v promise) = true
+is_cap (FieldOf c path) = true
 
 -- the caps that are there, of these
 abbrev pub present : List Cap → List Cap
@@ -22,7 +24,11 @@ abbrev pub brought : Message → List Cap
 brought (Call c target interface method caps) = caps
 brought (Return c results caps) = caps
 brought (Resolve promise cap) = cap ∷ []
-brought _ = []
+brought (Boot c) = []
+brought (Late c) = []
+brought (Failed c) = []
+brought (Broken promise) = []
+brought (Plain plain) = []
 
 -- the caps in a message
 abbrev pub caps_of : Message → List Cap
@@ -30,7 +36,10 @@ caps_of (Call c target interface method caps) = target ∷ caps
 caps_of (Return c results caps) = map (λ result. result.1) results ++ caps
 caps_of (Resolve promise cap) = promise ∷ cap ∷ []
 caps_of (Broken promise) = promise ∷ []
-caps_of _ = []
+caps_of (Boot c) = []
+caps_of (Late c) = []
+caps_of (Failed c) = []
+caps_of (Plain plain) = []
 
 -- the caps that a step uses; a Receive uses none
 abbrev pub uses : Step → List Cap
@@ -39,7 +48,12 @@ uses (Make v number cap reference interface method) = cap ∷ []
 uses (Named v cap) = cap ∷ []
 uses (Answer v c results) = map (λ result. result.1) results
 uses (Send v connection m) = caps_of m
-uses _ = []
+uses (Host v object) = []
+uses (Vow v promise) = []
+uses (Break v promise) = []
+uses (Deliver v c object) = []
+uses (Fault v c) = []
+uses (Receive v connection m bound) = []
 
 -- each cap that a step uses, other than Nothing, is had by its vat
 abbrev pub HasUsed : Past → Step → Type 0
@@ -110,7 +124,10 @@ MaySend before v (Return c results caps) =
 -- a Resolve: the promise leads by 1 or more turns to the cap
 MaySend before v (Resolve promise cap) = LeadsByTurns before promise cap
 -- nothing is asked of the others
-MaySend before v _ = ⊤
+MaySend before v (Late c) = ⊤
+MaySend before v (Failed c) = ⊤
+MaySend before v (Broken promise) = ⊤
+MaySend before v (Plain plain) = ⊤
 
 -- what a vat binds when it receives a message: the caps that it brings and that are there; or none of a Return's, which may
 -- be late where it is received
@@ -134,7 +151,9 @@ MayCome before (Fault v c) = IsTrue (list_any (arrives c v) before || is_some (a
 MayCome before (Send v connection m) = MaySend before v m
 MayCome before (Receive v connection m bound) = MayBind m bound
 -- nothing is asked of Host, Vow and Name
-MayCome before _ = ⊤
+MayCome before (Host v object) = ⊤
+MayCome before (Vow v promise) = ⊤
+MayCome before (Named v cap) = ⊤
 
 -- a step is legal: its vat has the caps that it uses, and it may come
 abbrev pub IsLegal : Past → Step → Type 0

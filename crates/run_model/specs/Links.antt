@@ -2,7 +2,7 @@
 use Rattle.std.specs.Prelude.{ℕ, List, [], Bool, true, false, not, Option, Some, None, ⊤, if◌then◌else◌, reverse, filter_map, slice_get, IsTrue, ◌≡◌, ◌∷◌, ◌&&◌, ◌==◌}
 use Rattle.std.specs.List.{list_all}
 use Rattle.run_model.specs.Steps.{Past, EachOf, count}
-use Rattle.run_model.specs.Types.{Message, Step, Send, Receive}
+use Rattle.run_model.specs.Types.{Message, Step, Host, Vow, Fulfil, Break, Make, Named, Deliver, Answer, Fault, Send, Receive}
 
 -- the message that another vat than this one sends on the connection
 abbrev pub sent_to : ℕ → ℕ → Step → Option Message
@@ -38,7 +38,15 @@ CarriesNext before v connection m = slice_get (filter_map (sent_to v connection)
 abbrev pub IsLinked : Past → Step → Type 0
 IsLinked before (Send v connection m) = IsEnd before v connection
 IsLinked before (Receive v connection m bound) = IsEnd before v connection × CarriesNext before v connection m
-IsLinked before _ = ⊤
+IsLinked before (Host v object) = ⊤
+IsLinked before (Vow v promise) = ⊤
+IsLinked before (Fulfil v promise to) = ⊤
+IsLinked before (Break v promise) = ⊤
+IsLinked before (Make v number cap reference interface method) = ⊤
+IsLinked before (Named v cap) = ⊤
+IsLinked before (Deliver v c object) = ⊤
+IsLinked before (Answer v c results) = ⊤
+IsLinked before (Fault v c) = ⊤
 
 -- a run over first-in first-out links
 abbrev pub IsLinkedRun : List Step → Type 0

@@ -153,8 +153,9 @@ fn has_edges(alloc: Global, did: &[Did], told: &[Told]) -> Result<bool, Refused>
     let found = graph(alloc, &run_of(alloc, did)?)?;
     let mut all = found.edges().len() == told.len();
     for (edge, (vat, held, at_record, bound_index)) in found.edges().iter().zip(told) {
-        let is_there =
-            edge.vat == *vat && edge.at_record == *at_record && edge.bound_index == *bound_index;
+        let is_there = edge.vat == *vat
+            && edge.at_record == *at_record
+            && edge.bound_index == *bound_index;
         all = all && is_there && is_cap(&edge.cap, *held);
     }
     Ok(all)

@@ -27,9 +27,13 @@ pub(crate) fn learn_all(
     calls: &mut Calls,
     event: &Event,
 ) -> Result<(), AllocError>
-    ensures ok { OnOk result ((before : Past) → number ≡ length before → AreKept before questions.old lives.old bound.old calls.old → IsSound before event.now
+    ensures ok { OnOk result
+        ((before : Past) → number ≡ length before
+        → AreKept before questions.old lives.old bound.old calls.old → IsSound before event.now
         → AreKept (event.now ∷ before) questions.new lives.new bound.new calls.new) }
-    ensures err { OnErr result ((before : Past) → number ≡ length before → AreKept before questions.old lives.old bound.old calls.old → IsSound before event.now
+    ensures err { OnErr result
+        ((before : Past) → number ≡ length before
+        → AreKept before questions.old lives.old bound.old calls.old → IsSound before event.now
         → AreKept before questions.new lives.new bound.new calls.new) }
     ensures ahead { IsOwnOrOld bound.old bound.new }
 {

@@ -65,7 +65,9 @@ pub(crate) fn view_by(
     event: &Event,
     descriptor: &Descriptor,
 ) -> Result<Option<View>, AllocError>
-    ensures { IfOk result (λ v. v ≡ view_by (bound_at bound.now) lives.now begun.now (question_at questions.now) event.now descriptor.now) }
+    ensures { IfOk result
+        (λ v. v ≡ view_by (bound_at bound.now) lives.now begun.now
+        (question_at questions.now) event.now descriptor.now) }
 {
     let Event::Wire {
         sent,
@@ -129,7 +131,10 @@ fn bound_one(
     descriptor: &Descriptor,
     reference: Option<u64>,
 ) -> Result<Option<(u64, View)>, AllocError>
-    ensures { IfOk result (λ v. v ≡ bound_one (view_by (bound_at bound.now) lives.now begun.now (question_at questions.now) event.now) descriptor.now reference) }
+    ensures { IfOk result
+        (λ v. v ≡ bound_one
+        (view_by (bound_at bound.now) lives.now begun.now (question_at questions.now) event.now)
+        descriptor.now reference) }
 {
     let Some(reference) = reference else {
         return Ok(None);
@@ -149,7 +154,10 @@ fn noted(
     questions: &Questions,
     event: &Event,
 ) -> Result<Vec<(u64, View)>, AllocError>
-    ensures { IfOk result (λ list. list.items ≡ bound_from (view_by (bound_at bound.now) lives.now begun.now (question_at questions.now) event.now) (references event.now) 0 (descriptors event.now)) }
+    ensures { IfOk result
+        (λ list. list.items
+        ≡ bound_from (view_by (bound_at bound.now) lives.now begun.now
+        (question_at questions.now) event.now) (references event.now) 0 (descriptors event.now)) }
 {
     let mut list = Vec::new(alloc);
     let noted = references(event);
@@ -186,7 +194,9 @@ pub(crate) fn bindings(
     questions: &Questions,
     event: &Event,
 ) -> Result<Vec<(u64, View)>, AllocError>
-    ensures { IfOk result (λ list. list.items ≡ bindings (bound_at bound.now) lives.now begun.now (question_at questions.now) event.now) }
+    ensures { IfOk result
+        (λ list. list.items
+        ≡ bindings (bound_at bound.now) lives.now begun.now (question_at questions.now) event.now) }
 {
     match event {
         Event::Host { reference, object } => one(alloc, *reference, View::Object(*object)),

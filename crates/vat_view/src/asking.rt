@@ -79,7 +79,9 @@ pub(crate) fn view_of_target(
     questions: &Questions,
     event: &Event,
 ) -> Result<Option<View>, AllocError>
-    ensures { IfOk result (λ v. v ≡ targeted_by (bound_at bound.now) lives.now (question_at questions.now) event.now) }
+    ensures { IfOk result
+        (λ v. v ≡ targeted_by (bound_at bound.now) lives.now
+        (question_at questions.now) event.now) }
 {
     let Event::Wire {
         sent,
@@ -119,7 +121,10 @@ pub(crate) fn views_of_descriptors(
     questions: &Questions,
     event: &Event,
 ) -> Result<Vec<Option<View>>, AllocError>
-    ensures { IfOk result (λ list. list.items ≡ map (view_by (bound_at bound.now) lives.now begun.now (question_at questions.now) event.now) (descriptors event.now)) }
+    ensures { IfOk result
+        (λ list. list.items
+        ≡ map (view_by (bound_at bound.now) lives.now begun.now
+        (question_at questions.now) event.now) (descriptors event.now)) }
 {
     let described = descriptors(event);
     let mut list = Vec::with_capacity(alloc, described.len())?;
@@ -154,14 +159,17 @@ fn let_go_of(event: &Event) -> Option<(Id, u64)>
 
 /// Whether a number is held.
 fn is_held(lives: &Lives, number: Id) -> bool
-    ensures { Decides result ((i : Id) → count_by (same_id i) (number ∷ []) ≤ count_at lives.now i) }
+    ensures { Decides result
+        ((i : Id) → count_by (same_id i) (number ∷ []) ≤ count_at lives.now i) }
 {
     lives.count_of(number) > 0
 }
 
 /// Whether each number is held at least as often as it is one of these.
 fn are_held(alloc: Global, lives: &Lives, numbers: &[Id]) -> Result<bool, AllocError>
-    ensures { IfOk result (λ held. Decides held ((i : Id) → count_by (same_id i) numbers.now ≤ count_at lives.now i)) }
+    ensures { IfOk result
+        (λ held. Decides held
+        ((i : Id) → count_by (same_id i) numbers.now ≤ count_at lives.now i)) }
 {
     if let [number] = numbers {
         return Ok(is_held(lives, *number));
@@ -182,7 +190,9 @@ pub(crate) fn gives_back_held(
     lives: &Lives,
     event: &Event,
 ) -> Result<bool, AllocError>
-    ensures { IfOk result (λ held. Decides held ((i : Id) → given_by (question_at questions.now) i event.now ≤ count_at lives.now i)) }
+    ensures { IfOk result
+        (λ held. Decides held
+        ((i : Id) → given_by (question_at questions.now) i event.now ≤ count_at lives.now i)) }
 {
     match let_go_of(event) {
         Some((number, count)) => Ok(count <= lives.count_of(number)),

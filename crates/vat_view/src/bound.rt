@@ -83,7 +83,8 @@ impl Bound {
     pub(crate) fn remember(&mut self, reference: u64, ahead: Leap)
         ensures views { (q : ℕ) → bound_at self.new q ≡ bound_at self.old q }
         ensures len { bound_len self.new ≡ bound_len self.old }
-        ensures ahead { (q : ℕ) (a : Leap) → ahead_at self.new q ≡ Some a → (ahead_at self.old q ≡ Some a) ⊎ ((q ≡ reference) × (a ≡ ahead)) }
+        ensures ahead { (q : ℕ) (a : Leap) → ahead_at self.new q ≡ Some a
+            → (ahead_at self.old q ≡ Some a) ⊎ ((q ≡ reference) × (a ≡ ahead)) }
     {
         if self.dropped {
             return;
@@ -101,7 +102,8 @@ impl Bound {
     pub(crate) fn drop_ahead(&mut self, drops: bool)
         ensures views { (q : ℕ) → bound_at self.new q ≡ bound_at self.old q }
         ensures ahead { IsOwnOrOld self.old self.new }
-        ensures own { IsTrue drops → (q : ℕ) (a : Leap) → ahead_at self.new q ≡ Some a → a ≡ own_leap q }
+        ensures own { IsTrue drops → (q : ℕ) (a : Leap) → ahead_at self.new q ≡ Some a
+            → a ≡ own_leap q }
     {
         if drops {
             self.dropped = true;
@@ -124,7 +126,9 @@ impl Bound {
 
     /// This reference has this view. Where memory is refused, nothing changes.
     fn bind(&mut self, reference: u64, view: View) -> Result<(), AllocError>
-        ensures ok { OnOk result ((q : ℕ) → bound_at self.new q ≡ (if reference == q then Some view else bound_at self.old q)) }
+        ensures ok { OnOk result
+            ((q : ℕ) → bound_at self.new q
+            ≡ (if reference == q then Some view else bound_at self.old q)) }
         ensures err { OnErr result ((q : ℕ) → bound_at self.new q ≡ bound_at self.old q) }
         ensures ahead { IsOwnOrOld self.old self.new }
     {
@@ -137,8 +141,11 @@ impl Bound {
 
     /// These references have these views. Where memory is refused, some of them may.
     pub(crate) fn bind_each(&mut self, list: Vec<(u64, View)>) -> Result<(), AllocError>
-        ensures ok { OnOk result ((q : ℕ) → bound_at self.new q ≡ bound_by q list.items (bound_at self.old q)) }
-        ensures err { OnErr result ((q : ℕ) → contains q (map (λ x. x.0) list.items) ≡ false → bound_at self.new q ≡ bound_at self.old q) }
+        ensures ok { OnOk result
+            ((q : ℕ) → bound_at self.new q ≡ bound_by q list.items (bound_at self.old q)) }
+        ensures err { OnErr result
+            ((q : ℕ) → contains q (map (λ x. x.0) list.items) ≡ false
+            → bound_at self.new q ≡ bound_at self.old q) }
         ensures ahead { IsOwnOrOld self.old self.new }
     {
         for (reference, view) in list {
@@ -149,7 +156,8 @@ impl Bound {
 
     /// This reference has no view.
     fn unbind(&mut self, reference: u64)
-        ensures views { (q : ℕ) → bound_at self.new q ≡ (if reference == q then None else bound_at self.old q) }
+        ensures views { (q : ℕ) → bound_at self.new q
+            ≡ (if reference == q then None else bound_at self.old q) }
         ensures ahead { IsOwnOrOld self.old self.new }
     {
         self.entries.remove(reference);
@@ -157,7 +165,8 @@ impl Bound {
 
     /// These references have no view.
     pub(crate) fn unbind_each(&mut self, references: &[u64])
-        ensures views { (q : ℕ) → bound_at self.new q ≡ (if contains q references.now then None else bound_at self.old q) }
+        ensures views { (q : ℕ) → bound_at self.new q
+            ≡ (if contains q references.now then None else bound_at self.old q) }
         ensures ahead { IsOwnOrOld self.old self.new }
     {
         for reference in references {

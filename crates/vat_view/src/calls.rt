@@ -128,7 +128,9 @@ impl Calls {
 
     /// This call is bound, and has come so far. Where memory is refused, nothing changes.
     pub(crate) fn begin(&mut self, call: u64, progress: Progress) -> Result<(), AllocError>
-        ensures ok { OnOk result ((c : ℕ) → progress_at self.new c ≡ (if call == c then Some progress else progress_at self.old c)) }
+        ensures ok { OnOk result
+            ((c : ℕ) → progress_at self.new c
+            ≡ (if call == c then Some progress else progress_at self.old c)) }
         ensures err { OnErr result ((c : ℕ) → progress_at self.new c ≡ progress_at self.old c) }
     {
         self.entries.put(call, CallEntry::new(progress))
@@ -136,14 +138,17 @@ impl Calls {
 
     /// This call isn't bound.
     pub(crate) fn forget(&mut self, call: u64)
-        ensures { (c : ℕ) → progress_at self.new c ≡ (if call == c then None else progress_at self.old c) }
+        ensures { (c : ℕ) → progress_at self.new c
+            ≡ (if call == c then None else progress_at self.old c) }
     {
         self.entries.remove(call);
     }
 
     /// This happens to a call, if it is bound.
     pub(crate) fn note(&mut self, call: u64, step: Step)
-        ensures { (c : ℕ) → progress_at self.new c ≡ (if call == c then option_map (stepped step) (progress_at self.old c) else progress_at self.old c) }
+        ensures { (c : ℕ) → progress_at self.new c
+            ≡ (if call == c then option_map (stepped step) (progress_at self.old c)
+            else progress_at self.old c) }
     {
         let held = CallEntry::new(Progress {
             asked: None,

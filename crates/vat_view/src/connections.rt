@@ -128,8 +128,10 @@ impl Connections {
     pub(crate) fn note_event(&mut self, event: &Event)
         requires asked { IsTrue (has_asked self.old (asking event.now)) }
         requires aborted { IsTrue (has_aborted self.old (aborted_by event.now)) }
-        ensures asked { (c : ℕ) → asked_at self.new c ≡ option_or (on_for c (asking event.now)) (asked_at self.old c) }
-        ensures aborted { (k : ℕ) → aborted_at self.new k ≡ (is k (aborted_by event.now) || aborted_at self.old k) }
+        ensures asked { (c : ℕ) → asked_at self.new c
+            ≡ option_or (on_for c (asking event.now)) (asked_at self.old c) }
+        ensures aborted { (k : ℕ) → aborted_at self.new k
+            ≡ (is k (aborted_by event.now) || aborted_at self.old k) }
     {
         self.note_asked(asking(event));
         self.note_aborted(aborted(event));
@@ -138,7 +140,8 @@ impl Connections {
     /// A call is asked, for which there is room.
     fn note_asked(&mut self, asked: Option<(u64, u32)>)
         requires { IsTrue (has_asked self.old asked) }
-        ensures same { (c : ℕ) → asked_at self.new c ≡ option_or (on_for c asked) (asked_at self.old c) }
+        ensures same { (c : ℕ) → asked_at self.new c
+            ≡ option_or (on_for c asked) (asked_at self.old c) }
         ensures others { self.new.aborted ≡ self.old.aborted }
     {
         let Some((call, connection)) = asked else {

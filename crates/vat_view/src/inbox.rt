@@ -62,7 +62,9 @@ pub(crate) fn joining(
     number: usize,
     event: &Event,
 ) -> Result<Option<Queued>, AllocError>
-    ensures { IfOk result (λ queued. queued ≡ queued_by (bound_at bound.now) lives.now (question_at questions.now) number event.now) }
+    ensures { IfOk result
+        (λ queued. queued
+        ≡ queued_by (bound_at bound.now) lives.now (question_at questions.now) number event.now) }
 {
     match received(number, event) {
         Some((call, receipt)) => {
@@ -149,7 +151,11 @@ impl Inbox {
     /// Whether a call holds up the echo of a loopback of this connection, of those in the queue that were received
     /// there before it and have the heading of its target.
     fn any_holds(&self, calls: &Calls, connection: u32, looped: &Unechoed) -> bool
-        ensures { result ≡ list_any (λ e. held_by calls.now connection looped.now e.0.call (receipt_at self.now e.0.call)) (entries_between queued_cmp (from_first connection looped.now.target) (up_to connection looped.now.target looped.now.number) self.now.queue.entries) }
+        ensures { result
+            ≡ list_any (λ e. held_by calls.now connection looped.now e.0.call
+            (receipt_at self.now e.0.call))
+            (entries_between queued_cmp (from_first connection looped.now.target)
+            (up_to connection looped.now.target looped.now.number) self.now.queue.entries) }
     {
         let first = Queued {
             connection,
@@ -172,7 +178,8 @@ impl Inbox {
     /// Whether a received call that is at the vat holds up the echo of a loopback of this connection: it was received
     /// there before the loopback, and goes where the loopback's target went.
     pub(crate) fn holds_up(&self, calls: &Calls, connection: u32, looped: &Unechoed) -> bool
-        ensures { AreQueued self.now calls.now → Decides result (Holding self.now calls.now connection looped.now) }
+        ensures { AreQueued self.now calls.now
+            → Decides result (Holding self.now calls.now connection looped.now) }
     {
         self.any_holds(calls, connection, looped)
     }
@@ -210,7 +217,8 @@ impl Inbox {
     /// This call is received, for which there is room.
     pub(crate) fn begin(&mut self, received: Option<(u64, Receipt)>)
         requires { IsTrue (space_at self.old received) }
-        ensures begun { (c : ℕ) → receipt_at self.new c ≡ put_call c received (receipt_at self.old c) }
+        ensures begun { (c : ℕ) → receipt_at self.new c
+            ≡ put_call c received (receipt_at self.old c) }
         ensures stay { Stay self.old self.new }
     {
         let Some((call, receipt)) = received else {
@@ -223,7 +231,8 @@ impl Inbox {
 
     /// This call leaves the vat. Its goal, by which it is found in the queue, is asked of the table of calls.
     pub(crate) fn end(&mut self, calls: &Calls, taken: Option<u64>)
-        ensures gone { (c : ℕ) → receipt_at self.new c ≡ (if is c taken then None else receipt_at self.old c) }
+        ensures gone { (c : ℕ) → receipt_at self.new c
+            ≡ (if is c taken then None else receipt_at self.old c) }
         ensures stay { OthersStay taken self.old self.new }
         ensures left { HasLeft taken self.old calls.now self.new }
     {

@@ -86,7 +86,8 @@ fn keeps_kind(
     next: &Event,
     descriptor: &Descriptor,
 ) -> bool
-    ensures { result ≡ keeps_by events.now lives.now begun.now resolves.now next.now descriptor.now }
+    ensures { result ≡ keeps_by events.now lives.now begun.now resolves.now next.now
+        descriptor.now }
 {
     let Some(number) = introduced(next, descriptor) else {
         return true;
@@ -105,7 +106,8 @@ pub(crate) fn keeps_kinds(
     resolves: &Resolves,
     next: &Event,
 ) -> bool
-    ensures { result ≡ list_all (keeps_by events.now lives.now begun.now resolves.now next.now) (descriptors next.now) }
+    ensures { result ≡ list_all (keeps_by events.now lives.now begun.now resolves.now next.now)
+        (descriptors next.now) }
 {
     descriptors(next).iter().all(|descriptor| keeps_kind(
         events, lives, begun, resolves, next, descriptor,

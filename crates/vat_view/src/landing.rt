@@ -28,7 +28,8 @@ fn reference_at(event: &Event, place: usize) -> Option<u64>
 
 /// The reference that ANSWER gives at a path.
 fn answered_at(results: &[(u64, Path)], path: &[u16]) -> Option<u64>
-    ensures { result ≡ option_map (λ answer. answer.0) (find (λ answer. same_path answer.1 path.now) results.now) }
+    ensures { result ≡ option_map (λ answer. answer.0)
+        (find (λ answer. same_path answer.1 path.now) results.now) }
 {
     for (reference, at) in results {
         if at.as_slice() == path {
@@ -40,7 +41,8 @@ fn answered_at(results: &[(u64, Path)], path: &[u16]) -> Option<u64>
 
 /// The place in the capability table of what stands at a path.
 fn place_at(fields: &[(Path, u32)], path: &[u16]) -> Option<u32>
-    ensures { result ≡ option_map (λ field. field.1) (find (λ field. same_path field.0 path.now) fields.now) }
+    ensures { result ≡ option_map (λ field. field.1)
+        (find (λ field. same_path field.0 path.now) fields.now) }
 {
     for (field, place) in fields {
         if field.as_slice() == path {
@@ -52,7 +54,8 @@ fn place_at(fields: &[(Path, u32)], path: &[u16]) -> Option<u32>
 
 /// The reference noted beside a Return for what its results have at a path.
 fn returned_at(event: &Event, payload: &Payload, path: &[u16]) -> Option<u64>
-    ensures { result ≡ option_and_then (λ field. reference_at event.now field.1) (find (λ field. same_path field.0 path.now) payload.now.fields) }
+    ensures { result ≡ option_and_then (λ field. reference_at event.now field.1)
+        (find (λ field. same_path field.0 path.now) payload.now.fields) }
 {
     match place_at(payload.fields.as_slice(), path) {
         Some(place) => reference_at(event, place as usize),

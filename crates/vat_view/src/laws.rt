@@ -15,8 +15,10 @@ ghost use Rattle.vat_view.specs.Laws.{count_since, LivesOn, EachAfter};
 /// Since its last opening a question has one Return and one Finish at most, where the records before use questions as
 /// they should.
 pub fn openings_are_closed_once()
-    ensures one_return { (past : Past) → Each UsesQuestions past → (q : Id) → count_since (opens q) (returns q) past ≤ 1 }
-    ensures one_finish { (past : Past) → Each UsesQuestions past → (q : Id) → count_since (opens q) (finishes q) past ≤ 1 }
+    ensures one_return { (past : Past) → Each UsesQuestions past
+        → (q : Id) → count_since (opens q) (returns q) past ≤ 1 }
+    ensures one_finish { (past : Past) → Each UsesQuestions past
+        → (q : Id) → count_since (opens q) (finishes q) past ≤ 1 }
 {}
 
 /// No number goes more often than it came, where no record gives back more than is held. So what is held is the
@@ -27,45 +29,48 @@ pub fn no_more_goes()
 
 /// A reference keeps its view, where the records that follow bind references as they should.
 pub fn references_keep_views()
-    ensures { (later : List Event) (past : Past) → EachAfter Refers later past → (r : ℕ) (v : View) → view_of_reference past r ≡ Some v
-        → view_of_reference (later ++ past) r ≡ Some v }
+    ensures { (later : List Event) (past : Past) → EachAfter Refers later past → (r : ℕ) (v : View)
+        → view_of_reference past r ≡ Some v → view_of_reference (later ++ past) r ≡ Some v }
 {}
 
 /// A number keeps its view while it is in life, where the records that follow bind references as they should.
 pub fn numbers_keep_views()
-    ensures { (i : Id) (later : List Event) (past : Past) → LivesOn i later past → EachAfter Refers later past → (v : View)
-        → view_of_number i past ≡ Some v → view_of_number i (later ++ past) ≡ Some v }
+    ensures { (i : Id) (later : List Event) (past : Past) → LivesOn i later past
+        → EachAfter Refers later past → (v : View) → view_of_number i past ≡ Some v
+        → view_of_number i (later ++ past) ≡ Some v }
 {}
 
 /// Every reference that is bound has a view, where each record is as it should be after those before it.
 pub fn bound_references_have_views()
-    ensures { (past : Past) → Each IsSound past → (r : ℕ) → is_bound past r ≡ true → IsSome (view_of_reference past r) }
+    ensures { (past : Past) → Each IsSound past → (r : ℕ) → is_bound past r ≡ true
+        → IsSome (view_of_reference past r) }
 {}
 
 /// Turns only grow: where the records that follow turn only views that stay, a view that turned or stopped does so for
 /// ever after, and what it leads to it leads to for ever after, by 1 or more turns too.
 pub fn turns_only_grow()
-    ensures turned { (later : List Event) (past : Past) → EachAfter TurnsOnce later past → (a b : View) → next past a ≡ turns b
-        → next (later ++ past) a ≡ turns b }
-    ensures stopped { (later : List Event) (past : Past) → EachAfter TurnsOnce later past → (a : View) → next past a ≡ stops
-        → next (later ++ past) a ≡ stops }
-    ensures leads { (later : List Event) (past : Past) → EachAfter TurnsOnce later past → (a b : View) → Leads past a b
-        → Leads (later ++ past) a b }
-    ensures by_turns { (later : List Event) (past : Past) → EachAfter TurnsOnce later past → (a b : View) → LeadsByTurns past a b
-        → LeadsByTurns (later ++ past) a b }
+    ensures turned { (later : List Event) (past : Past) → EachAfter TurnsOnce later past
+        → (a b : View) → next past a ≡ turns b → next (later ++ past) a ≡ turns b }
+    ensures stopped { (later : List Event) (past : Past) → EachAfter TurnsOnce later past
+        → (a : View) → next past a ≡ stops → next (later ++ past) a ≡ stops }
+    ensures leads { (later : List Event) (past : Past) → EachAfter TurnsOnce later past
+        → (a b : View) → Leads past a b → Leads (later ++ past) a b }
+    ensures by_turns { (later : List Event) (past : Past) → EachAfter TurnsOnce later past
+        → (a b : View) → LeadsByTurns past a b → LeadsByTurns (later ++ past) a b }
 {}
 
 /// FULFIL and BREAK turn a view that stays, where the first reference stands for an own promise that had neither.
 pub fn a_promise_is_kept_once()
-    ensures fulfilled { (before : Past) (r to p : ℕ) → view_of_reference before r ≡ Some (Promise p) → next before (Promise p) ≡ stays
-        → TurnsOnce before (Fulfil r to) }
-    ensures broken { (before : Past) (r p : ℕ) → view_of_reference before r ≡ Some (Promise p) → next before (Promise p) ≡ stays
-        → TurnsOnce before (Break r) }
+    ensures fulfilled { (before : Past) (r to p : ℕ) → view_of_reference before r ≡ Some (Promise p)
+        → next before (Promise p) ≡ stays → TurnsOnce before (Fulfil r to) }
+    ensures broken { (before : Past) (r p : ℕ) → view_of_reference before r ≡ Some (Promise p)
+        → next before (Promise p) ≡ stays → TurnsOnce before (Break r) }
 {}
 
 /// A Resolve that is received turns a view that stays, where no Resolve passed in the present life of its number.
 pub fn a_life_is_resolved_once()
-    ensures { (before : Past) (k c : ℕ) (rs : List ℕ) (n : ℕ) (resolution : Resolution) → is_resolved (id k false n) before ≡ false
+    ensures { (before : Past) (k c : ℕ) (rs : List ℕ) (n : ℕ) (resolution : Resolution)
+        → is_resolved (id k false n) before ≡ false
         → TurnsOnce before (Wire false k c rs (Resolve n resolution)) }
 {}
 

@@ -60,9 +60,13 @@ impl Lives {
     /// This number is held once more, and its life begins here where it wasn't held. Where memory is refused, nothing
     /// changes; a count that is full, which no log in memory reaches, is answered so too.
     fn raise(&mut self, number: Id, origin: Origin) -> Result<(), AllocError>
-        ensures counts { OnOk result ((i : Id) → count_at self.new i ≡ count_at self.old i + (if same_id i number then 1 else 0)) }
-        ensures origins { OnOk result ((i : Id) → origin_at self.new i
-            ≡ (if same_id i number && (count_at self.old i == 0) then Some origin else origin_at self.old i)) }
+        ensures counts { OnOk result
+            ((i : Id) → count_at self.new i
+            ≡ count_at self.old i + (if same_id i number then 1 else 0)) }
+        ensures origins { OnOk result
+            ((i : Id) → origin_at self.new i
+            ≡ (if same_id i number && (count_at self.old i == 0) then Some origin
+            else origin_at self.old i)) }
         ensures err { OnErr result ((i : Id) → life_at self.new i ≡ life_at self.old i) }
     {
         let count = self.count_of(number).checked_add(1).ok_or(AllocError)?;
@@ -74,7 +78,8 @@ impl Lives {
 
     /// This number is held so much less often, down to 0.
     pub(crate) fn lower(&mut self, number: Id, by: u64)
-        ensures counts { (i : Id) → count_at self.new i ≡ count_at self.old i - (if same_id i number then by else 0) }
+        ensures counts { (i : Id) → count_at self.new i
+            ≡ count_at self.old i - (if same_id i number then by else 0) }
         ensures origins { (i : Id) → origin_at self.new i ≡ origin_at self.old i }
     {
         if let Some(life) = self.entries.get(number) {
@@ -85,7 +90,8 @@ impl Lives {
 
     /// Each number is held less often by as often as it is one of these, down to 0.
     pub(crate) fn lower_each(&mut self, numbers: &[Id])
-        ensures counts { (i : Id) → count_at self.new i ≡ count_at self.old i - count_by (same_id i) numbers.now }
+        ensures counts { (i : Id) → count_at self.new i
+            ≡ count_at self.old i - count_by (same_id i) numbers.now }
         ensures origins { (i : Id) → origin_at self.new i ≡ origin_at self.old i }
     {
         for number in numbers {
@@ -95,7 +101,8 @@ impl Lives {
 
     /// Each number is held less often by as often as it is one of these, down to 0.
     pub(crate) fn lower_raised(&mut self, raised: &[(Id, Origin)])
-        ensures counts { (i : Id) → count_at self.new i ≡ count_at self.old i - count_by (λ x. same_id i x.0) raised.now }
+        ensures counts { (i : Id) → count_at self.new i
+            ≡ count_at self.old i - count_by (λ x. same_id i x.0) raised.now }
         ensures origins { (i : Id) → origin_at self.new i ≡ origin_at self.old i }
     {
         for (number, _) in raised {
@@ -106,10 +113,15 @@ impl Lives {
     /// Each number is held more often by as often as it is one of these, and its life begins with the first where it
     /// wasn't held. Where memory is refused, no count changes, and no origin of a number that is held.
     pub(crate) fn raise_each(&mut self, introduced: &[(Id, Origin)]) -> Result<(), AllocError>
-        ensures counts { OnOk result ((i : Id) → count_at self.new i ≡ count_at self.old i + count_by (λ x. same_id i x.0) introduced.now) }
-        ensures origins { OnOk result ((i : Id) → origin_at self.new i ≡ raised_origin (count_at self.old i) (origin_at self.old i) i introduced.now) }
+        ensures counts { OnOk result
+            ((i : Id) → count_at self.new i
+            ≡ count_at self.old i + count_by (λ x. same_id i x.0) introduced.now) }
+        ensures origins { OnOk result
+            ((i : Id) → origin_at self.new i
+            ≡ raised_origin (count_at self.old i) (origin_at self.old i) i introduced.now) }
         ensures same_counts { OnErr result ((i : Id) → count_at self.new i ≡ count_at self.old i) }
-        ensures same_origins { OnErr result ((i : Id) → 0 < count_at self.old i → origin_at self.new i ≡ origin_at self.old i) }
+        ensures same_origins { OnErr result
+            ((i : Id) → 0 < count_at self.old i → origin_at self.new i ≡ origin_at self.old i) }
     {
         for (index, (number, origin)) in introduced.iter().enumerate() {
             if self.raise(*number, *origin).is_err() {

@@ -36,7 +36,9 @@ pub(crate) fn looped(
     number: usize,
     event: &Event,
 ) -> Result<Option<(Id, Unechoed)>, AllocError>
-    ensures { IfOk result (λ looped. looped ≡ looped_by (bound_at bound.now) lives.now (question_at questions.now) number event.now) }
+    ensures { IfOk result
+        (λ looped. looped
+        ≡ looped_by (bound_at bound.now) lives.now (question_at questions.now) number event.now) }
 {
     let Event::Wire {
         sent,
@@ -163,7 +165,8 @@ impl Loopbacks {
 
     /// The loopback of this number has its echo.
     pub(crate) fn end(&mut self, echoed: Option<Id>)
-        ensures { (i : Id) → loopback_at self.new i ≡ (if names i echoed then None else loopback_at self.old i) }
+        ensures { (i : Id) → loopback_at self.new i
+            ≡ (if names i echoed then None else loopback_at self.old i) }
     {
         if let Some(number) = echoed {
             drop(self.entries.remove(&number));

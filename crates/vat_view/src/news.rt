@@ -100,8 +100,11 @@ fn received_news(
     questions: &Questions,
     event: &Event,
 ) -> Result<News, AllocError>
-    ensures { IfOk result (λ news. news ≡ received_news (targeted_by (bound_at bound.now) lives.now (question_at questions.now) event.now)
-        (late_by (question_at questions.now) event.now) (λ q. opening_call_in (question_at questions.now q)) event.now) }
+    ensures { IfOk result
+        (λ news. news ≡ received_news
+        (targeted_by (bound_at bound.now) lives.now (question_at questions.now) event.now)
+        (late_by (question_at questions.now) event.now)
+        (λ q. opening_call_in (question_at questions.now q)) event.now) }
 {
     let Event::Wire {
         sent: false,
@@ -149,7 +152,9 @@ pub(crate) fn news(
     questions: &Questions,
     event: &Event,
 ) -> Result<News, AllocError>
-    ensures { IfOk result (λ news. news ≡ news_by (bound_at bound.now) lives.now (question_at questions.now) event.now) }
+    ensures { IfOk result
+        (λ news. news ≡ news_by (bound_at bound.now) lives.now
+        (question_at questions.now) event.now) }
 {
     match event {
         Event::Make {

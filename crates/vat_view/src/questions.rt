@@ -75,7 +75,9 @@ impl Questions {
 
     /// This question was finished, and its results were given back or not.
     pub(crate) fn note_finish(&mut self, question: Id, released: bool)
-        ensures { IsChanged question (λ known. if released then with_release (with_finish known) else with_finish known) self.old self.new }
+        ensures { IsChanged question
+            (λ known. if released then with_release (with_finish known) else with_finish known)
+            self.old self.new }
     {
         if let Some(mut known) = self.entries.replace(question, Question::blank()) {
             known.finished = true;

@@ -177,7 +177,9 @@ pub(crate) fn introduced(event: &Event, descriptor: &Descriptor) -> Option<Id>
 
 /// The numbers that a record introduces, in the order of their places; those of a late Return aren't counted.
 pub(crate) fn introductions(alloc: Global, late: bool, event: &Event) -> Result<Ids, AllocError>
-    ensures { IfOk result (λ ids. ids ≡ (if late then [] else filter_map (introduced event.now) (descriptors event.now))) }
+    ensures { IfOk result
+        (λ ids. ids ≡ (if late then []
+        else filter_map (introduced event.now) (descriptors event.now))) }
 {
     if late {
         return Ok(Ids::none());
@@ -245,7 +247,9 @@ pub(crate) fn origins(
     number: usize,
     event: &Event,
 ) -> Result<Vec<(Id, Origin)>, AllocError>
-    ensures { IfOk result (λ list. list.items ≡ (if late then [] else origins_from number event.now 0 0 (descriptors event.now))) }
+    ensures { IfOk result
+        (λ list. list.items
+        ≡ (if late then [] else origins_from number event.now 0 0 (descriptors event.now))) }
 {
     let mut list = Vec::new(alloc);
     if late {

@@ -55,7 +55,8 @@ impl Resolves {
     /// The record of this number resolved this promise, for which there is room.
     pub(crate) fn note_resolve(&mut self, resolved: Option<Id>, number: usize)
         requires { IsTrue (has_room self.old resolved) }
-        ensures { (i : Id) → resolve_at self.new i ≡ (if names i resolved then Some number else resolve_at self.old i) }
+        ensures { (i : Id) → resolve_at self.new i
+            ≡ (if names i resolved then Some number else resolve_at self.old i) }
     {
         let Some(promise) = resolved else {
             return;

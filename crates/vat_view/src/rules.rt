@@ -33,7 +33,9 @@ fn is_unfinished(state: &VatState, question: Option<Id>) -> bool
 
 /// Whether every question that a record's descriptors name is opened and not finished.
 fn describes_unfinished(state: &VatState, event: &Event) -> bool
-    ensures { result ≡ list_all (λ d. passes_if (λ q. is_unfinished q state.now) (question_described event.now d)) (descriptors event.now) }
+    ensures { result ≡ list_all
+        (λ d. passes_if (λ q. is_unfinished q state.now) (question_described event.now d))
+        (descriptors event.now) }
 {
     event.descriptors().iter().all(|descriptor| is_unfinished(
         state,
@@ -64,7 +66,9 @@ fn is_in_life(state: &VatState, number: Option<Id>) -> bool
 
 /// Whether every number that a record's descriptors use is in life.
 fn describes_in_life(state: &VatState, event: &Event) -> bool
-    ensures { result ≡ list_all (λ d. passes_if (λ i. is_in_life i state.now) (number_described event.now d)) (descriptors event.now) }
+    ensures { result ≡ list_all
+        (λ d. passes_if (λ i. is_in_life i state.now) (number_described event.now d))
+        (descriptors event.now) }
 {
     event.descriptors().iter().all(|descriptor| is_in_life(
         state,

@@ -24,7 +24,8 @@ impl Seen {
 
     /// Meets a reference, and answers whether it is met for the first time.
     pub(crate) fn meet(&mut self, reference: u64) -> Result<bool, AllocError>
-        ensures met { OnOk result ((q : ℕ) → has_in self.new q ≡ (if reference == q then true else has_in self.old q)) }
+        ensures met { OnOk result
+            ((q : ℕ) → has_in self.new q ≡ (if reference == q then true else has_in self.old q)) }
         ensures first { IfOk result (λ first. first ≡ not (has_in self.old reference)) }
     {
         let first = !self.entries.contains_key(&reference);

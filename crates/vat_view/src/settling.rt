@@ -50,7 +50,8 @@ pub(crate) fn settled(
     bound: &Bound,
     event: &Event,
 ) -> Option<Pending>
-    ensures { result ≡ settled_by (bound_at bound.now) lives.now (question_at questions.now) event.now }
+    ensures { result ≡ settled_by (bound_at bound.now) lives.now
+        (question_at questions.now) event.now }
 {
     match event {
         Event::Fulfil { reference, .. } | Event::Break { reference } => {

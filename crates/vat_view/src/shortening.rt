@@ -37,7 +37,8 @@ fn onward(events: &[Event], turns: &Turns, bound: &Bound, reference: u64) -> Opt
 fn longer(events: &[Event], turns: &Turns, bound: &Bound, reference: u64, next: u64) -> Option<Leap>
     requires ahead { HaveAhead events.now turns.now bound.now }
     requires lands { onward_by events.now turns.now bound.now reference ≡ Some next }
-    ensures { IfSome result (λ leap. IsAhead (turns_of events.now turns.now bound.now) bound.now reference leap) }
+    ensures { IfSome result
+        (λ leap. IsAhead (turns_of events.now turns.now bound.now) bound.now reference leap) }
 {
     if level(next) > level(reference) {
         return None;

@@ -54,7 +54,9 @@ impl<V: Drop> Sides<V> {
 
     /// This number has this value from now on. Where memory is refused, nothing changes.
     pub(crate) fn put(&mut self, number: Id, value: V) -> Result<(), AllocError>
-        ensures ok { OnOk result ((i : Id) → value_at self.new i ≡ (if same_id number i then Some value else value_at self.old i)) }
+        ensures ok { OnOk result
+            ((i : Id) → value_at self.new i
+            ≡ (if same_id number i then Some value else value_at self.old i)) }
         ensures err { OnErr result ((i : Id) → value_at self.new i ≡ value_at self.old i) }
     {
         let side = side(number);
@@ -72,7 +74,9 @@ impl<V: Drop> Sides<V> {
     /// nothing changes.
     pub(crate) fn replace(&mut self, number: Id, value: V) -> Option<V>
         ensures last { result ≡ value_at self.old number }
-        ensures values { (i : Id) → value_at self.new i ≡ (if same_id number i then option_map (λ _. value) (value_at self.old i) else value_at self.old i) }
+        ensures values { (i : Id) → value_at self.new i
+            ≡ (if same_id number i then option_map (λ _. value) (value_at self.old i)
+            else value_at self.old i) }
     {
         match self.tables.get_mut(&side(number)) {
             Some(table) => table.replace(u64::from(number.number), value),

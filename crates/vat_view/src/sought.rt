@@ -96,7 +96,9 @@ pub(crate) fn leads_to(
     sought: Sought,
 ) -> bool
     requires { HaveAhead events.now turns.now bound.now }
-    ensures { IsTrue result ↔ ReachesOne (turn_by events.now turns.now (bound_at bound.now)) (sought_by events.now connections.now sought) from.now }
+    ensures { IsTrue result
+        ↔ ReachesOne (turn_by events.now turns.now (bound_at bound.now))
+        (sought_by events.now connections.now sought) from.now }
 {
     let mut view = from;
     let mut far = from;

@@ -70,7 +70,9 @@ pub(crate) fn field_of(
     question: Id,
     path: &Path,
 ) -> Result<Option<View>, AllocError>
-    ensures { IfOk result (λ v. v ≡ option_map (λ call. FieldOf call path.now) (call_by (question_at questions.now question))) }
+    ensures { IfOk result
+        (λ v. v ≡ option_map (λ call. FieldOf call path.now)
+        (call_by (question_at questions.now question))) }
 {
     match call_of(questions, question) {
         Some(call) => Ok(Some(View::Field(call, path.copy()?))),

@@ -181,7 +181,8 @@ impl VatState {
     /// The end of a view: the view to which it leads and which goes on nowhere. It has none where its walk stops or
     /// goes in a circle. It takes no memory.
     pub fn end<'a>(&'a self, view: &'a View) -> Option<&'a View>
-        ensures { MatchOption result ((end : View) → IsEnd self.now view.now end → ⊥) (λ end. IsEnd self.now view.now end.now) }
+        ensures { MatchOption result ((end : View) → IsEnd self.now view.now end → ⊥)
+            (λ end. IsEnd self.now view.now end.now) }
     {
         walk::end(self.events.as_slice(), &self.turns, &self.bound, view)
     }

@@ -38,7 +38,9 @@ impl Tally {
     /// Counts this number once more, and answers how often it was counted now. A count that is full, which no list in
     /// memory reaches, is answered as want of memory is.
     pub(crate) fn count(&mut self, number: Id) -> Result<u64, AllocError>
-        ensures counts { OnOk result ((i : Id) → tally_at self.new i ≡ tally_at self.old i + (if same_id i number then 1 else 0)) }
+        ensures counts { OnOk result
+            ((i : Id) → tally_at self.new i
+            ≡ tally_at self.old i + (if same_id i number then 1 else 0)) }
         ensures answer { IfOk result (λ count. count ≡ tally_at self.old number + 1) }
     {
         let count = self.of(number).checked_add(1).ok_or(AllocError)?;

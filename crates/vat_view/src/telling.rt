@@ -105,7 +105,8 @@ pub(crate) fn let_go(lives: &mut Lives, event: &Event)
 
 /// Notes what a record does to the question that it returns or finishes.
 pub(crate) fn note(questions: &mut Questions, event: &Event, introduced: Ids)
-    ensures { (q : Id) → question_at questions.new q ≡ noted_by event.now introduced q (question_at questions.old q) }
+    ensures { (q : Id) → question_at questions.new q
+        ≡ noted_by event.now introduced q (question_at questions.old q) }
 {
     if let Some(question) = returned(event) {
         questions.note_return(question, introduced);
@@ -126,12 +127,18 @@ pub(crate) fn open(
     numbers: Ids,
     origins: &[(Id, Origin)],
 ) -> Result<(), AllocError>
-    ensures known { OnOk result (IsPut question (just_opened (noted_call event.now) numbers) questions.old questions.new) }
-    ensures counted { OnOk result ((i : Id) → count_at lives.new i ≡ count_at lives.old i + count_by (λ x. same_id i x.0) origins.now) }
-    ensures born { OnOk result ((i : Id) → origin_at lives.new i ≡ raised_origin (count_at lives.old i) (origin_at lives.old i) i origins.now) }
+    ensures known { OnOk result
+        (IsPut question (just_opened (noted_call event.now) numbers) questions.old questions.new) }
+    ensures counted { OnOk result
+        ((i : Id) → count_at lives.new i
+        ≡ count_at lives.old i + count_by (λ x. same_id i x.0) origins.now) }
+    ensures born { OnOk result
+        ((i : Id) → origin_at lives.new i
+        ≡ raised_origin (count_at lives.old i) (origin_at lives.old i) i origins.now) }
     ensures same_known { OnErr result (IsSame questions.old questions.new) }
     ensures same_counted { OnErr result ((i : Id) → count_at lives.new i ≡ count_at lives.old i) }
-    ensures same_born { OnErr result ((i : Id) → 0 < count_at lives.old i → origin_at lives.new i ≡ origin_at lives.old i) }
+    ensures same_born { OnErr result
+        ((i : Id) → 0 < count_at lives.old i → origin_at lives.new i ≡ origin_at lives.old i) }
 {
     lives.raise_each(origins)?;
     let known = Question {
@@ -158,13 +165,22 @@ pub(crate) fn close(
     numbers: Ids,
     origins: &[(Id, Origin)],
 ) -> Result<(), AllocError>
-    ensures known { OnOk result ((q : Id) → question_at questions.new q ≡ noted_by event.now numbers q (question_at questions.old q)) }
-    ensures counted { OnOk result ((i : Id) → count_at lives.new i ≡ count_at lives.old i + count_by (λ x. same_id i x.0) origins.now
-        - count_by (same_id i) (closed_by (question_at questions.old) event.now) - lets_go i event.now) }
-    ensures born { OnOk result ((i : Id) → origin_at lives.new i ≡ raised_origin (count_at lives.old i) (origin_at lives.old i) i origins.now) }
+    ensures known { OnOk result
+        ((q : Id) → question_at questions.new q
+        ≡ noted_by event.now numbers q (question_at questions.old q)) }
+    ensures counted { OnOk result
+        ((i : Id) → count_at lives.new i
+        ≡ count_at lives.old i
+        + count_by (λ x. same_id i x.0) origins.now
+        - count_by (same_id i) (closed_by (question_at questions.old) event.now)
+        - lets_go i event.now) }
+    ensures born { OnOk result
+        ((i : Id) → origin_at lives.new i
+        ≡ raised_origin (count_at lives.old i) (origin_at lives.old i) i origins.now) }
     ensures same_known { OnErr result (IsSame questions.old questions.new) }
     ensures same_counted { OnErr result ((i : Id) → count_at lives.new i ≡ count_at lives.old i) }
-    ensures same_born { OnErr result ((i : Id) → 0 < count_at lives.old i → origin_at lives.new i ≡ origin_at lives.old i) }
+    ensures same_born { OnErr result
+        ((i : Id) → 0 < count_at lives.old i → origin_at lives.new i ≡ origin_at lives.old i) }
 {
     lives.raise_each(origins)?;
     lives.lower_each(closed(questions, event));
@@ -182,9 +198,13 @@ pub(crate) fn tell(
     lives: &mut Lives,
     event: &Event,
 ) -> Result<(), AllocError>
-    ensures ok { OnOk result ((before : Past) → number ≡ length before → IsTabled before questions.old lives.old → UsesQuestions before event.now
-        → GivesBackHeld before event.now → IsTabled (event.now ∷ before) questions.new lives.new) }
-    ensures err { OnErr result ((before : Past) → IsTabled before questions.old lives.old → IsTabled before questions.new lives.new) }
+    ensures ok { OnOk result
+        ((before : Past) → number ≡ length before → IsTabled before questions.old lives.old
+        → UsesQuestions before event.now → GivesBackHeld before event.now
+        → IsTabled (event.now ∷ before) questions.new lives.new) }
+    ensures err { OnErr result
+        ((before : Past) → IsTabled before questions.old lives.old
+        → IsTabled before questions.new lives.new) }
 {
     let late = is_late(questions, event);
     let numbers = introductions(alloc, late, event)?;
@@ -205,9 +225,13 @@ pub(crate) fn learn(
     bound: &mut Bound,
     event: &Event,
 ) -> Result<(), AllocError>
-    ensures ok { OnOk result ((before : Past) → number ≡ length before → AreTabled before questions.old lives.old bound.old → IsFit before event.now
+    ensures ok { OnOk result
+        ((before : Past) → number ≡ length before
+        → AreTabled before questions.old lives.old bound.old → IsFit before event.now
         → AreTabled (event.now ∷ before) questions.new lives.new bound.new) }
-    ensures err { OnErr result ((before : Past) → number ≡ length before → AreTabled before questions.old lives.old bound.old → IsFit before event.now
+    ensures err { OnErr result
+        ((before : Past) → number ≡ length before
+        → AreTabled before questions.old lives.old bound.old → IsFit before event.now
         → AreTabled before questions.new lives.new bound.new) }
     ensures ahead { IsOwnOrOld bound.old bound.new }
 {

@@ -35,7 +35,8 @@ fn make_room_in(table: &mut RisingTable<Option<u32>>, key: u64) -> Result<(), Al
 fn note_in(table: &mut RisingTable<Option<u32>>, key: u64, number: usize)
     requires room { IsTrue (is_some (entry_at table.old key)) }
     requires small { number < 2 ^ 32 }
-    ensures { (k : ℕ) → number_in table.new k ≡ (if key == k then Some number else number_in table.old k) }
+    ensures { (k : ℕ) → number_in table.new k
+        ≡ (if key == k then Some number else number_in table.old k) }
 {
     let _ = table.replace(key, Some(number as u32));
 }
@@ -89,7 +90,8 @@ impl Turns {
     /// Makes room for an import that is resolved. What the table says stays as it is, where memory is refused too.
     fn make_room_for_import(&mut self, number: usize, place: usize) -> Result<(), AllocError>
         ensures same { (p : Pending) → settler_at self.new p ≡ settler_at self.old p }
-        ensures room { OnOk result (IsTrue (has_room self.new (Some (ImportToResolve number place)))) }
+        ensures room { OnOk result
+            (IsTrue (has_room self.new (Some (ImportToResolve number place)))) }
     {
         let import = Pending::Import(number, place);
         if self.imports.contains_key(&import) {
@@ -124,7 +126,9 @@ impl Turns {
     /// The record of this number resolved an import, for which there is room.
     fn note_import(&mut self, brought: usize, place: usize, number: usize)
         requires { IsTrue (has_room self.old (Some (ImportToResolve brought place))) }
-        ensures { (p : Pending) → settler_at self.new p ≡ (if is_this p (Some (ImportToResolve brought place)) then Some number else settler_at self.old p) }
+        ensures { (p : Pending) → settler_at self.new p
+            ≡ (if is_this p (Some (ImportToResolve brought place)) then Some number
+            else settler_at self.old p) }
     {
         let import = Pending::Import(brought, place);
         if let Some(settler) = self.imports.get_mut(&import) {
@@ -136,7 +140,8 @@ impl Turns {
     pub(crate) fn note(&mut self, settled: Option<Pending>, number: usize)
         requires room { IsTrue (has_room self.old settled) }
         requires small { number < 2 ^ 32 }
-        ensures { (p : Pending) → settler_at self.new p ≡ (if is_this p settled then Some number else settler_at self.old p) }
+        ensures { (p : Pending) → settler_at self.new p
+            ≡ (if is_this p settled then Some number else settler_at self.old p) }
     {
         match settled {
             Some(Pending::Promise(promise)) => note_in(&mut self.promises, promise, number),

@@ -57,10 +57,16 @@ impl Waits {
         event: &Event,
     ) -> Result<Change, AllocError>
         ensures same { SaysSame self.old self.new }
-        ensures change { IfOk result (λ change. change ≡ change_by (bound_at bound.now) lives.now (question_at questions.now) number event.now) }
+        ensures change { IfOk result
+            (λ change. change
+            ≡ change_by (bound_at bound.now) lives.now
+            (question_at questions.now) number event.now) }
         ensures room { IfOk result (λ change. IsTrue (room_at self.new.loopbacks change.looped)) }
         ensures space { IfOk result (λ change. IsTrue (space_at self.new.inbox change.received)) }
-        ensures joins { OnOk result (IsTrue (has_joined self.new.inbox (queued_by (bound_at bound.now) lives.now (question_at questions.now) number event.now))) }
+        ensures joins { OnOk result
+            (IsTrue (has_joined self.new.inbox
+            (queued_by (bound_at bound.now) lives.now
+            (question_at questions.now) number event.now))) }
     {
         let looped = looped(bound, lives, questions, number, event)?;
         self.loopbacks.room_for(&looped)?;

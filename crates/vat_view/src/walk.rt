@@ -110,7 +110,8 @@ fn hop<'a>(
 ) -> Option<(&'a View, u64)>
     requires { HaveAhead events.now turns.now bound.now }
     ensures { MatchOption result (turns_of events.now turns.now bound.now view.now ≡ None)
-        (λ made. TurnsAndThen (turns_of events.now turns.now bound.now) view.now made.1 made.0.now) }
+        (λ made. TurnsAndThen
+        (turns_of events.now turns.now bound.now) view.now made.1 made.0.now) }
 {
     let reference = landed(events, turns, view)?;
     let leap = bound.ahead(reference)?;
@@ -161,7 +162,9 @@ fn remaining<'a>(
     most: u64,
 ) -> Option<(&'a View, u64)>
     requires { HaveAhead events.now turns.now bound.now }
-    ensures count { IfSome result (λ made. TurnsOn (turns_of events.now turns.now bound.now) view.now most made.0.now made.1) }
+    ensures count { IfSome result
+        (λ made. TurnsOn
+        (turns_of events.now turns.now bound.now) view.now most made.0.now made.1) }
     ensures fits { IfSome result (λ made. made.1 < 2 ^ 64) }
 {
     let mut at = view;
@@ -198,7 +201,8 @@ fn stride<'a>(
     requires ahead { HaveAhead events.now turns.now bound.now }
     requires left { 0 < left }
     ensures { MatchOption result (turns_of events.now turns.now bound.now view.now ≡ None)
-        (λ made. (made.1 < left) × TurnsAndThen (turns_of events.now turns.now bound.now) view.now made.1 made.0.now) }
+        (λ made. (made.1 < left)
+        × TurnsAndThen (turns_of events.now turns.now bound.now) view.now made.1 made.0.now) }
 {
     match hop(events, turns, bound, view) {
         Some((next, more)) if more < left => Some((next, more)),
@@ -218,7 +222,8 @@ fn nth<'a>(
     count: u64,
 ) -> Option<&'a View>
     requires { HaveAhead events.now turns.now bound.now }
-    ensures { option_copied result ≡ reached (turns_of events.now turns.now bound.now) count (Some view.now) }
+    ensures { option_copied result
+        ≡ reached (turns_of events.now turns.now bound.now) count (Some view.now) }
 {
     let mut at = view;
     let mut left = count;
@@ -244,7 +249,8 @@ fn leads_by_count(
     to: &View,
 ) -> Option<bool>
     requires { HaveAhead events.now turns.now bound.now }
-    ensures { IfSome result (λ led. IsTrue led ↔ Reaches (turns_of events.now turns.now bound.now) from.now to.now) }
+    ensures { IfSome result
+        (λ led. IsTrue led ↔ Reaches (turns_of events.now turns.now bound.now) from.now to.now) }
 {
     let (last, whole) = remaining(events, turns, bound, from, u64::MAX)?;
     let (_, rest) = remaining(events, turns, bound, to, whole)?;
@@ -268,7 +274,8 @@ fn leads_turn_by_turn(
     to: &View,
 ) -> bool
     requires { HaveAhead events.now turns.now bound.now }
-    ensures { IsTrue result ↔ Reaches (turn_by events.now turns.now (bound_at bound.now)) from.now to.now }
+    ensures { IsTrue result
+        ↔ Reaches (turn_by events.now turns.now (bound_at bound.now)) from.now to.now }
 {
     let mut view = from;
     let mut far = from;
@@ -289,7 +296,8 @@ fn leads_turn_by_turn(
 /// each turn is made.
 pub(crate) fn leads(events: &[Event], turns: &Turns, bound: &Bound, from: &View, to: &View) -> bool
     requires { HaveAhead events.now turns.now bound.now }
-    ensures { IsTrue result ↔ Reaches (turn_by events.now turns.now (bound_at bound.now)) from.now to.now }
+    ensures { IsTrue result
+        ↔ Reaches (turn_by events.now turns.now (bound_at bound.now)) from.now to.now }
 {
     match leads_by_count(events, turns, bound, from, to) {
         Some(led) => led,
@@ -306,7 +314,8 @@ pub(crate) fn leads_by_turns(
     to: &View,
 ) -> bool
     requires { HaveAhead events.now turns.now bound.now }
-    ensures { IsTrue result ↔ ReachesByTurns (turn_by events.now turns.now (bound_at bound.now)) from.now to.now }
+    ensures { IsTrue result
+        ↔ ReachesByTurns (turn_by events.now turns.now (bound_at bound.now)) from.now to.now }
 {
     match turned(events, turns, bound, from) {
         Some(next) => leads(events, turns, bound, next, to),
@@ -316,7 +325,8 @@ pub(crate) fn leads_by_turns(
 
 /// A view, where no record settled it.
 fn resting<'a>(events: &[Event], turns: &Turns, view: &'a View) -> Option<&'a View>
-    ensures { option_copied result ≡ (if is_none (settler_by turns.now events.now view.now) then Some view.now else None) }
+    ensures { option_copied result
+        ≡ (if is_none (settler_by turns.now events.now view.now) then Some view.now else None) }
 {
     if stays(events, turns, view) {
         Some(view)
@@ -334,7 +344,8 @@ pub(crate) fn end<'a>(
     view: &'a View,
 ) -> Option<&'a View>
     requires { HaveAhead events.now turns.now bound.now }
-    ensures { MatchOption result ((v : View) → EndsBy (goes_by events.now turns.now (bound_at bound.now)) view.now v → ⊥)
+    ensures { MatchOption result
+        ((v : View) → EndsBy (goes_by events.now turns.now (bound_at bound.now)) view.now v → ⊥)
         (λ v. EndsBy (goes_by events.now turns.now (bound_at bound.now)) view.now v.now) }
 {
     let mut at = view;

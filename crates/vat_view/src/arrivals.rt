@@ -80,27 +80,15 @@ pub(crate) fn view_by(
     match descriptor {
         Descriptor::NoCap => Ok(None),
         Descriptor::SenderHosted(n) | Descriptor::SenderPromise(n) => {
-            let id = Id {
-                connection: *connection,
-                ours: *sent,
-                number: *n,
-            };
+            let id = Id::of_sender(*sent, *connection, *n);
             sender_view(bound, lives, begun, id)
         }
         Descriptor::ReceiverHosted(n) => {
-            let id = Id {
-                connection: *connection,
-                ours: !*sent,
-                number: *n,
-            };
+            let id = Id::of_receiver(*sent, *connection, *n);
             view_of_number(bound, lives, id)
         }
         Descriptor::ReceiverAnswer(q, path) => {
-            let id = Id {
-                connection: *connection,
-                ours: *sent,
-                number: *q,
-            };
+            let id = Id::of_sender(*sent, *connection, *q);
             field_of(questions, id, path)
         }
     }

@@ -94,19 +94,11 @@ pub(crate) fn view_of_target(
     };
     match target {
         Target::Imported(n) => {
-            let number = Id {
-                connection: *connection,
-                ours: !*sent,
-                number: *n,
-            };
+            let number = Id::of_receiver(*sent, *connection, *n);
             view_of_number(bound, lives, number)
         }
         Target::Promised(q, path) => {
-            let question = Id {
-                connection: *connection,
-                ours: *sent,
-                number: *q,
-            };
+            let question = Id::of_sender(*sent, *connection, *q);
             field_of(questions, question, path)
         }
     }
@@ -146,11 +138,7 @@ fn let_go_of(event: &Event) -> Option<(Id, u64)>
             message: RpcMessage::Release { id: number, count },
             ..
         } => {
-            let number = Id {
-                connection: *connection,
-                ours: !*sent,
-                number: *number,
-            };
+            let number = Id::of_receiver(*sent, *connection, *number);
             Some((number, u64::from(*count)))
         }
         _ => None,

@@ -54,11 +54,7 @@ pub(crate) fn looped(
         return Ok(None);
     };
     let target = view_of_target(bound, lives, questions, event)?;
-    let id = Id {
-        connection: *connection,
-        ours: *sent,
-        number: *embargo,
-    };
+    let id = Id::of_sender(*sent, *connection, *embargo);
     Ok(Some((id, Unechoed { number, target })))
 }
 
@@ -76,11 +72,7 @@ pub(crate) fn echoed(event: &Event) -> Option<Id>
                 ..
             },
             ..
-        } => Some(Id {
-            connection: *connection,
-            ours: !*sent,
-            number: *number,
-        }),
+        } => Some(Id::of_receiver(*sent, *connection, *number)),
         _ => None,
     }
 }

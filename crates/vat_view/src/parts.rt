@@ -112,11 +112,7 @@ impl Event {
                     ..
                 },
                 ..
-            } => Some(Id {
-                connection: *connection,
-                ours: *sent,
-                number: *number,
-            }),
+            } => Some(Id::of_sender(*sent, *connection, *number)),
             _ => None,
         }
     }
@@ -133,11 +129,7 @@ impl Event {
                     ..
                 },
                 Descriptor::ReceiverAnswer(number, _),
-            ) => Some(Id {
-                connection: *connection,
-                ours: *sent,
-                number: *number,
-            }),
+            ) => Some(Id::of_sender(*sent, *connection, *number)),
             _ => None,
         }
     }
@@ -159,11 +151,7 @@ impl Event {
                     ..
                 },
                 ..
-            } => Some(Id {
-                connection: *connection,
-                ours: !*sent,
-                number: *number,
-            }),
+            } => Some(Id::of_receiver(*sent, *connection, *number)),
             _ => None,
         }
     }
@@ -180,11 +168,7 @@ impl Event {
                     ..
                 },
                 Descriptor::ReceiverHosted(number),
-            ) => Some(Id {
-                connection: *connection,
-                ours: !*sent,
-                number: *number,
-            }),
+            ) => Some(Id::of_receiver(*sent, *connection, *number)),
             _ => None,
         }
     }
@@ -199,11 +183,7 @@ impl Event {
                 connection,
                 message: RpcMessage::Release { id: number, .. },
                 ..
-            } => Some(Id {
-                connection: *connection,
-                ours: !*sent,
-                number: *number,
-            }),
+            } => Some(Id::of_receiver(*sent, *connection, *number)),
             _ => None,
         }
     }

@@ -29,11 +29,7 @@ pub(crate) fn opened(event: &Event) -> Option<Id>
                 ..
             },
             ..
-        } => Some(Id {
-            connection: *connection,
-            ours: *sent,
-            number: *number,
-        }),
+        } => Some(Id::of_sender(*sent, *connection, *number)),
         _ => None,
     }
 }
@@ -48,11 +44,7 @@ pub(crate) fn returned(event: &Event) -> Option<Id>
             connection,
             message: RpcMessage::Return { answer: number, .. },
             ..
-        } => Some(Id {
-            connection: *connection,
-            ours: !*sent,
-            number: *number,
-        }),
+        } => Some(Id::of_receiver(*sent, *connection, *number)),
         _ => None,
     }
 }
@@ -70,11 +62,7 @@ pub(crate) fn finished(event: &Event) -> Option<Id>
                 ..
             },
             ..
-        } => Some(Id {
-            connection: *connection,
-            ours: *sent,
-            number: *number,
-        }),
+        } => Some(Id::of_sender(*sent, *connection, *number)),
         _ => None,
     }
 }
@@ -92,11 +80,7 @@ pub(crate) fn released(event: &Event) -> Option<Id>
                 release_result_caps: true,
             },
             ..
-        } => Some(Id {
-            connection: *connection,
-            ours: *sent,
-            number: *number,
-        }),
+        } => Some(Id::of_sender(*sent, *connection, *number)),
         _ => None,
     }
 }
@@ -114,11 +98,7 @@ pub(crate) fn resolved(event: &Event) -> Option<Id>
                 ..
             },
             ..
-        } => Some(Id {
-            connection: *connection,
-            ours: *sent,
-            number: *number,
-        }),
+        } => Some(Id::of_sender(*sent, *connection, *number)),
         _ => None,
     }
 }
@@ -166,11 +146,7 @@ pub(crate) fn introduced(event: &Event, descriptor: &Descriptor) -> Option<Id>
                 ..
             },
             Descriptor::SenderHosted(number) | Descriptor::SenderPromise(number),
-        ) => Some(Id {
-            connection: *connection,
-            ours: *sent,
-            number: *number,
-        }),
+        ) => Some(Id::of_sender(*sent, *connection, *number)),
         _ => None,
     }
 }

@@ -8,6 +8,7 @@ use crate::bound::Bound;
 use crate::event::Event;
 use crate::id::Id;
 use crate::lives::Lives;
+use crate::number::Number;
 use crate::pending::Pending;
 use crate::questions::Questions;
 use crate::view::View;
@@ -63,14 +64,7 @@ pub(crate) fn settled(
             connection,
             message: RpcMessage::Return { answer: number, .. },
             ..
-        } => results_of(
-            questions,
-            Id {
-                connection: *connection,
-                ours: true,
-                number: *number,
-            },
-        ),
+        } => results_of(questions, Number::Question(*number).on(*connection)),
         Event::Wire {
             sent: false,
             connection,
@@ -79,14 +73,7 @@ pub(crate) fn settled(
                 ..
             },
             ..
-        } => import_of(
-            lives,
-            Id {
-                connection: *connection,
-                ours: false,
-                number: *number,
-            },
-        ),
+        } => import_of(lives, Number::Import(*number).on(*connection)),
         _ => None,
     }
 }

@@ -167,19 +167,11 @@ pub(crate) fn target_lands(
 ) -> Option<u64> {
     match target {
         Target::Imported(n) => {
-            let number = Id {
-                connection,
-                ours: !sent,
-                number: *n,
-            };
+            let number = Id::of_receiver(sent, connection, *n);
             number_lands(events, turns, bound, lives, number)
         }
         Target::Promised(q, path) => {
-            let question = Id {
-                connection,
-                ours: sent,
-                number: *q,
-            };
+            let question = Id::of_sender(sent, connection, *q);
             let known = questions.of(question)?;
             field_lands(events, turns, known.call, path.as_slice())
         }

@@ -360,11 +360,7 @@ impl VatState {
                 number,
                 loopback: Loopback::Receiver,
                 ..
-            } if sent => self.shorten_waiting(Id {
-                connection,
-                ours: false,
-                number: *number,
-            }),
+            } if sent => self.shorten_waiting(Id::of_receiver(sent, connection, *number)),
             _ => {}
         }
     }

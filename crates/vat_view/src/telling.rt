@@ -35,11 +35,7 @@ pub(crate) fn is_late(questions: &Questions, event: &Event) -> bool
     else {
         return false;
     };
-    let question = Id {
-        connection: *connection,
-        ours: !*sent,
-        number: *number,
-    };
+    let question = Id::of_receiver(*sent, *connection, *number);
     match questions.of(question) {
         Some(known) => known.released,
         None => false,
@@ -60,11 +56,7 @@ pub(crate) fn closed<'a>(questions: &'a Questions, event: &Event) -> &'a [Id]
                 ..
             },
             ..
-        } => questions.asked_in(Id {
-            connection: *connection,
-            ours: !*sent,
-            number: *number,
-        }),
+        } => questions.asked_in(Id::of_receiver(*sent, *connection, *number)),
         Event::Wire {
             sent,
             connection,
@@ -73,11 +65,7 @@ pub(crate) fn closed<'a>(questions: &'a Questions, event: &Event) -> &'a [Id]
                 release_result_caps: true,
             },
             ..
-        } => questions.brought_in(Id {
-            connection: *connection,
-            ours: *sent,
-            number: *number,
-        }),
+        } => questions.brought_in(Id::of_sender(*sent, *connection, *number)),
         _ => &[],
     }
 }
@@ -94,11 +82,7 @@ pub(crate) fn let_go(lives: &mut Lives, event: &Event)
         ..
     } = event
     {
-        let number = Id {
-            connection: *connection,
-            ours: !*sent,
-            number: *number,
-        };
+        let number = Id::of_receiver(*sent, *connection, *number);
         lives.lower(number, u64::from(*count));
     }
 }

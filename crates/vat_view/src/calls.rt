@@ -8,7 +8,6 @@ ghost use Rattle.vat_view.specs.LoopTables.{same_target};
 use crate::asked::Asked;
 use crate::progress::{CallEntry, Progress, Step};
 use crate::view::View;
-use crate::walk::same;
 use rising_table::RisingTable;
 use std::alloc::{AllocError, Global};
 
@@ -80,7 +79,7 @@ impl Calls {
         ensures { result ≡ same_target (goal_in (progress_at self.now call)) goal.now }
     {
         match (self.goal(call), goal) {
-            (Some(a), Some(b)) => same(a, b),
+            (Some(a), Some(b)) => a.is_same(b),
             (None, None) => true,
             _ => false,
         }

@@ -1,6 +1,6 @@
 //! What references and numbers stand for.
 
-ghost use Rattle.std.specs.Prelude.{◌≡◌, IfOk};
+ghost use Rattle.std.specs.Prelude.{◌≡◌, ◌↔◌, IfOk, IsTrue};
 
 use cap_frame::Path;
 use std::alloc::AllocError;
@@ -21,7 +21,27 @@ pub enum View {
     Import(usize, usize),
 }
 
+/// Whether two paths are one.
+fn same_path(a: &Path, b: &Path) -> bool
+    ensures { IsTrue result ↔ (a.now ≡ b.now) }
+{
+    a.as_slice() == b.as_slice()
+}
+
 impl View {
+    /// Whether another view is the same.
+    pub fn is_same(&self, other: &View) -> bool
+        ensures { IsTrue result ↔ (self.now ≡ other.now) }
+    {
+        match (self, other) {
+            (View::Object(a), View::Object(b)) => a == b,
+            (View::Promise(a), View::Promise(b)) => a == b,
+            (View::Field(a, p), View::Field(b, q)) => a == b && same_path(p, q),
+            (View::Import(a, p), View::Import(b, q)) => a == b && p == q,
+            _ => false,
+        }
+    }
+
     /// A second view that is the same. The only error is want of memory.
     pub(crate) fn copy(&self) -> Result<View, AllocError>
         ensures { IfOk result (λ copied. copied ≡ self.now) }

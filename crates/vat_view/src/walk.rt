@@ -12,27 +12,6 @@ use crate::landing::landing;
 use crate::pending::Pending;
 use crate::turns::Turns;
 use crate::view::View;
-use cap_frame::Path;
-
-/// Whether two paths are one.
-fn same_path(a: &Path, b: &Path) -> bool
-    ensures { IsTrue result ↔ (a.now ≡ b.now) }
-{
-    a.as_slice() == b.as_slice()
-}
-
-/// Whether two views are one.
-pub(crate) fn same(a: &View, b: &View) -> bool
-    ensures { IsTrue result ↔ (a.now ≡ b.now) }
-{
-    match (a, b) {
-        (View::Object(a), View::Object(b)) => a == b,
-        (View::Promise(a), View::Promise(b)) => a == b,
-        (View::Field(a, p), View::Field(b, q)) => a == b && same_path(p, q),
-        (View::Import(a, p), View::Import(b, q)) => a == b && p == q,
-        _ => false,
-    }
-}
 
 /// What a view waits for.
 fn awaited(view: &View) -> Option<Pending>
@@ -179,7 +158,7 @@ fn remaining<'a>(
         if made > most {
             return Some((at, made));
         }
-        if same(at, mark) {
+        if at.is_same(mark) {
             return None;
         }
         if hops.is_power_of_two() {
@@ -255,13 +234,13 @@ fn leads_by_count(
     let (last, whole) = remaining(events, turns, bound, from, u64::MAX)?;
     let (_, rest) = remaining(events, turns, bound, to, whole)?;
     if rest == 0 {
-        return Some(same(last, to));
+        return Some(last.is_same(to));
     }
     if whole < rest {
         return Some(false);
     }
     let there = nth(events, turns, bound, from, whole - rest)?;
-    Some(same(there, to))
+    Some(there.is_same(to))
 }
 
 /// Whether a view leads to another by 0 or more turns. Of two walks side by side one makes each turn, and at most as many
@@ -280,7 +259,7 @@ fn leads_turn_by_turn(
     let mut view = from;
     let mut far = from;
     for _made in 0..bound.len() {
-        if same(far, to) || same(view, to) {
+        if far.is_same(to) || view.is_same(to) {
             return true;
         }
         match turned(events, turns, bound, view) {
@@ -289,7 +268,7 @@ fn leads_turn_by_turn(
         }
         far = further(events, turns, bound, far);
     }
-    same(view, to)
+    view.is_same(to)
 }
 
 /// Whether a view leads to another by 0 or more turns. Their turns are counted by hops; where a view goes in a circle
@@ -355,7 +334,7 @@ pub(crate) fn end<'a>(
             Some(next) => at = next,
             None => return resting(events, turns, at),
         }
-        if same(at, mark) {
+        if at.is_same(mark) {
             return None;
         }
         if hop.is_power_of_two() {

@@ -14,10 +14,10 @@ returns-in-None c =
     let now : Bor View → View = λ r. r.now in let walked = c.loop-hop.invariant in
     ends_at now c.args.events.now c.args.turns.now c.args.bound.now c.args.view.now c.loop-hop.at.now walked.0 c.resting.result walked.4 (sym c.in-None.ensures) c.resting.ensures
 
-pub returns-then-same : goal.returns-then-same
-returns-then-same c = λ w ends.
+pub returns-then-is_same : goal.returns-then-is_same
+returns-then-is_same c = λ w ends.
     meets_mark (turns_of c.args.events.now c.args.turns.now c.args.bound.now) c.loop-hop.hop c.args.view.now c.loop-hop.at.now c.loop-hop.mark.now c.in-Some.next.now c.loop-hop.invariant
-    c.in-Some.ensures (c.same.ensures.0 c.if-same.true) w ends.0 (ap (λ x. turned_to x) ends.1)
+    c.in-Some.ensures (c.is_same.ensures.0 c.if-is_same.true) w ends.0 (ap (λ x. turned_to x) ends.1)
 
 pub loop-hop-preserved : goal.loop-hop-preserved
 loop-hop-preserved c =

@@ -32,7 +32,7 @@ impl Lives {
         ensures { result ≡ count_at self.now number }
     {
         match self.entries.get(number) {
-            Some(life) => u64::from(life.count),
+            Some(life) => life.count,
             None => 0,
         }
     }
@@ -58,7 +58,7 @@ impl Lives {
     }
 
     /// This number is held once more, and its life begins here where it wasn't held. Where memory is refused, nothing
-    /// changes; a count that is full, which no log in memory reaches, is answered so too.
+    /// changes; a count of 2^64, which takes as many introductions, is answered so too.
     fn raise(&mut self, number: Id, origin: Origin) -> Result<(), AllocError>
         ensures counts { OnOk result
             ((i : Id) → count_at self.new i

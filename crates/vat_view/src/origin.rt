@@ -20,7 +20,7 @@ pub(crate) struct Origin {
 #[derive(Clone, Copy)]
 pub(crate) struct Life {
     /// How often it is held.
-    pub(crate) count: u32,
+    pub(crate) count: u64,
     /// The number of the record where its life began; of no use where it isn't held, as all that follows.
     number: u32,
     /// The place of the descriptor there.
@@ -32,17 +32,14 @@ pub(crate) struct Life {
 }
 
 impl Life {
-    /// A number that is held so often, and whose life began so. A number that is too great, which no log in memory
-    /// reaches, is answered as want of memory is.
+    /// A number that is held so often, and whose life began so. A record's number or a place of 2^32 or more, which no
+    /// log reaches, is answered as want of memory is.
     pub(crate) fn new(count: u64, origin: Origin) -> Result<Life, AllocError>
         ensures count { IfOk result (λ life. life.count ≡ count) }
         ensures origin { IfOk result (λ life. begun_at life ≡ origin) }
     {
-        let (Ok(count), Ok(number), Ok(place)) = (
-            u32::try_from(count),
-            u32::try_from(origin.number),
-            u32::try_from(origin.place),
-        ) else {
+        let (Ok(number), Ok(place)) = (u32::try_from(origin.number), u32::try_from(origin.place))
+        else {
             return Err(AllocError);
         };
         Ok(Life {
@@ -75,7 +72,6 @@ impl Life {
         ensures count { result.count ≡ self.count - by }
         ensures origin { begun_at result ≡ begun_at self }
     {
-        let by = u32::try_from(by).unwrap_or(u32::MAX);
         Life {
             count: self.count.saturating_sub(by),
             ..self

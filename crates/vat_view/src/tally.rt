@@ -1,6 +1,6 @@
 //! How often numbers stand in a list.
 
-ghost use Rattle.std.specs.Prelude.{◌≡◌, ◌+◌, OnOk, IfOk, if◌then◌else◌};
+ghost use Rattle.std.specs.Prelude.{◌≡◌, ◌+◌, ◌-◌, ◌<◌, ◌^◌, OnOk, IfOk, if◌then◌else◌};
 ghost use Rattle.vat_view.specs.declared.id.Id.{Id};
 ghost use Rattle.vat_view.specs.Past.{same_id};
 ghost use Rattle.vat_view.specs.Asking.{tally_at};
@@ -35,15 +35,15 @@ impl Tally {
         }
     }
 
-    /// Counts this number once more, and answers how often it was counted now. A count that is full, which no list in
-    /// memory reaches, is answered as want of memory is.
+    /// Counts this number once more, and answers how often it was counted now. The only error is want of memory.
     pub(crate) fn count(&mut self, number: Id) -> Result<u64, AllocError>
+        requires { tally_at self.old number < 2 ^ 64 - 1 }
         ensures counts { OnOk result
             ((i : Id) → tally_at self.new i
             ≡ tally_at self.old i + (if same_id i number then 1 else 0)) }
         ensures answer { IfOk result (λ count. count ≡ tally_at self.old number + 1) }
     {
-        let count = self.of(number).checked_add(1).ok_or(AllocError)?;
+        let count = self.of(number) + 1;
         self.entries.insert(number, count)?;
         Ok(count)
     }

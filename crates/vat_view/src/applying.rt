@@ -14,12 +14,11 @@ use crate::news::news;
 use crate::progress::News;
 use crate::questions::Questions;
 use crate::telling::learn;
-use std::alloc::{AllocError, Global};
+use std::alloc::AllocError;
 
 /// Tells all tables of one record, which has this number in the log. What it tells of calls is read before the other
 /// tables change. Where memory is refused, the tables are of the records before.
 pub(crate) fn learn_all(
-    alloc: Global,
     number: usize,
     questions: &mut Questions,
     lives: &mut Lives,
@@ -37,6 +36,7 @@ pub(crate) fn learn_all(
         → AreKept before questions.new lives.new bound.new calls.new) }
     ensures ahead { IsOwnOrOld bound.old bound.new }
 {
+    let alloc = lives.allocator();
     match news(bound, lives, questions, event)? {
         News::Nothing => learn(alloc, number, questions, lives, bound, event),
         News::Begins(call, progress) => {

@@ -4,7 +4,7 @@ ghost use Rattle.std.specs.Prelude.{◌≡◌, ◌∷◌, [], IfOk};
 ghost use Rattle.vat_view.specs.Lives.{descriptors};
 ghost use Rattle.vat_view.specs.Views.{references};
 ghost use Rattle.vat_view.specs.Bindings.{new_references};
-ghost use Rattle.vat_view.specs.Tables.{bound_at, question_at, origins_if, AreBegun, sender_view, view_by, reference_by, bound_one, bound_from, bindings};
+ghost use Rattle.vat_view.specs.Tables.{bound_at, question_at, origins_if, AreBegun, sender_view, view_by, reference_by, bound_from, bindings};
 
 use crate::begun::{Begun, FEW};
 use crate::bound::Bound;
@@ -109,30 +109,6 @@ pub(crate) fn reference_by(
     }
 }
 
-/// A reference with what its descriptor stands for, where there are both.
-fn bound_one(
-    bound: &Bound,
-    lives: &Lives,
-    begun: &Begun<'_>,
-    questions: &Questions,
-    event: &Event,
-    descriptor: &Descriptor,
-    reference: Option<u64>,
-) -> Result<Option<(u64, View)>, AllocError>
-    ensures { IfOk result
-        (λ v. v ≡ bound_one
-        (view_by (bound_at bound.now) lives.now begun.now (question_at questions.now) event.now)
-        descriptor.now reference) }
-{
-    let Some(reference) = reference else {
-        return Ok(None);
-    };
-    match view_by(bound, lives, begun, questions, event, descriptor)? {
-        Some(view) => Ok(Some((reference, view))),
-        None => Ok(None),
-    }
-}
-
 /// The references noted for the descriptors of a record, with what these stand for.
 fn noted(
     alloc: Global,
@@ -151,11 +127,10 @@ fn noted(
     let noted = references(event);
     let mut before = 0;
     for descriptor in descriptors(event) {
-        let reference = reference_by(noted, before, descriptor);
-        if let Some(one) = bound_one(
-            bound, lives, begun, questions, event, descriptor, reference,
-        )? {
-            list.push(one)?;
+        if let Some(reference) = reference_by(noted, before, descriptor) {
+            if let Some(view) = view_by(bound, lives, begun, questions, event, descriptor)? {
+                list.push((reference, view))?;
+            }
         }
         if is_cap(descriptor) {
             before += 1;

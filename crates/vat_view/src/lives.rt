@@ -27,6 +27,11 @@ impl Lives {
         }
     }
 
+    /// Where its memory comes from.
+    pub(crate) fn allocator(&self) -> Global {
+        self.entries.allocator()
+    }
+
     /// How often this number is held.
     pub(crate) fn count_of(&self, number: Id) -> u64
         ensures { result ≡ count_at self.now number }

@@ -10,11 +10,9 @@ use crate::id::Id;
 use crate::landing::landing;
 use crate::lives::Lives;
 use crate::pending::Pending;
-use crate::questions::Questions;
 use crate::turns::Turns;
 use crate::view::View;
 use crate::walk::{event_at, landed};
-use rpc_view::Target;
 
 /// How high a reference stands among others: half of all stand at 0, a quarter at 1, and so on, in no order.
 fn level(reference: u64) -> u32 {
@@ -97,7 +95,7 @@ pub(crate) fn shorten(events: &[Event], turns: &Turns, bound: &mut Bound, from: 
 }
 
 /// Where the field at a path of a call lands.
-fn field_lands(events: &[Event], turns: &Turns, call: u64, path: &[u16]) -> Option<u64> {
+pub(crate) fn field_lands(events: &[Event], turns: &Turns, call: u64, path: &[u16]) -> Option<u64> {
     let number = turns.of(Pending::Results(call))?;
     landing(path, event_at(events, number)?)
 }
@@ -126,7 +124,7 @@ pub(crate) fn reference_landed(
 }
 
 /// Where what an export or import number stands for lands.
-fn number_lands(
+pub(crate) fn number_lands(
     events: &[Event],
     turns: &Turns,
     bound: &Bound,
@@ -152,28 +150,4 @@ pub(crate) fn number_landed(
 ) -> Option<u64> {
     let first = number_lands(events, turns, bound, lives, number)?;
     reference_landed(events, turns, bound, first)
-}
-
-/// Where what a target stands for lands that was sent, or else received, on a connection.
-pub(crate) fn target_lands(
-    events: &[Event],
-    turns: &Turns,
-    bound: &Bound,
-    lives: &Lives,
-    questions: &Questions,
-    sent: bool,
-    connection: u32,
-    target: &Target,
-) -> Option<u64> {
-    match target {
-        Target::Imported(n) => {
-            let number = Id::of_receiver(sent, connection, *n);
-            number_lands(events, turns, bound, lives, number)
-        }
-        Target::Promised(q, path) => {
-            let question = Id::of_sender(sent, connection, *q);
-            let known = questions.of(question)?;
-            field_lands(events, turns, known.call, path.as_slice())
-        }
-    }
 }

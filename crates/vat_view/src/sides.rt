@@ -42,6 +42,11 @@ impl<V: Drop> Sides<V> {
         }
     }
 
+    /// Where its memory comes from.
+    pub(crate) fn allocator(&self) -> Global {
+        self.alloc
+    }
+
     /// The value of this number, if it has one.
     pub(crate) fn get(&self, number: Id) -> Option<&V>
         ensures { option_copied result ≡ value_at self.now number }

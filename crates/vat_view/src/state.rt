@@ -27,7 +27,9 @@ use crate::number::Number;
 use crate::questions::Questions;
 use crate::resolves::Resolves;
 use crate::settling::settled;
-use crate::shortening::{field_landed, number_landed, reference_landed, shorten, target_lands};
+use crate::shortening::{
+    field_landed, field_lands, number_landed, number_lands, reference_landed, shorten,
+};
 use crate::sought::{Sought, leads_to};
 use crate::turns::Turns;
 use crate::view::View;
@@ -227,7 +229,6 @@ impl VatState {
         ensures err { OnErr result (self.new ≡ self.old) }
     {
         self.events.reserve(1)?;
-        let alloc = *self.events.allocator();
         let number = self.events.len();
         let pending = settled(&self.questions, &self.lives, &self.bound, &event);
         self.turns.make_room(pending, number)?;
@@ -238,7 +239,6 @@ impl VatState {
             .waits
             .prepare(&self.bound, &self.lives, &self.questions, number, &event)?;
         learn_all(
-            alloc,
             number,
             &mut self.questions,
             &mut self.lives,
@@ -315,20 +315,26 @@ impl VatState {
         }
     }
 
+    /// Where what the target of a Disembargo stands for lands, which was sent, or else received.
+    fn target_lands(&self, sent: bool, connection: u32, target: &Target) -> Option<u64> {
+        let events = self.events.as_slice();
+        match target {
+            Target::Imported(n) => {
+                let number = Id::of_receiver(sent, connection, *n);
+                number_lands(events, &self.turns, &self.bound, &self.lives, number)
+            }
+            Target::Promised(q, path) => {
+                let call = self.opening_call(Id::of_sender(sent, connection, *q))?;
+                field_lands(events, &self.turns, call, path.as_slice())
+            }
+        }
+    }
+
     /// Makes the walk shorter from what the target of a Disembargo stands for that was sent, or else received.
     fn shorten_target(&mut self, sent: bool, connection: u32, target: &Target)
         ensures { self.new ≡ self.old }
     {
-        if let Some(first) = target_lands(
-            self.events.as_slice(),
-            &self.turns,
-            &self.bound,
-            &self.lives,
-            &self.questions,
-            sent,
-            connection,
-            target,
-        ) {
+        if let Some(first) = self.target_lands(sent, connection, target) {
             self.shorten_from(first);
         }
     }

@@ -103,7 +103,6 @@ pub(crate) fn note(questions: &mut Questions, event: &Event, introduced: Ids)
 /// A record opened this question and introduced these numbers. Where memory is refused, nothing changes but the
 /// origins of numbers that aren't held.
 pub(crate) fn open(
-    alloc: Global,
     questions: &mut Questions,
     lives: &mut Lives,
     event: &Event,
@@ -195,7 +194,7 @@ pub(crate) fn tell(
     let origins = origins(alloc, late, number, event)?;
     let begun = origins.as_slice();
     match opened(event) {
-        Some(question) => open(alloc, questions, lives, event, question, numbers, begun),
+        Some(question) => open(questions, lives, event, question, numbers, begun),
         None => close(questions, lives, event, numbers, begun),
     }
 }

@@ -249,7 +249,7 @@ promise_turns p before _ = refl
 module _ (before : Past) (k c : ℕ) (rs : List ℕ) (q : ℕ) (release : Bool) where
   brought : (path : List ℕ) (outcome : Outcome) → Refers before (Wire false k c rs (Return q release outcome)) → NotesEach before (Wire false k c rs (Return q release outcome)) →
       is_late before (Wire false k c rs (Return q release outcome)) ≡ false →
-      on_to (result_at path before (Wire false k c rs (Return q release outcome))) ≡ turn_there path before (Wire false k c rs (Return q release outcome))
+      on_to (result_at path before (Wire false k c rs (Return q release outcome)) outcome) ≡ turn_there path before (Wire false k c rs (Return q release outcome))
   brought path Exception refers notes late = refl
   brought path Canceled refers notes late = refl
   brought path (Results payload) refers notes late = ap (λ o. on_to o) (found (find (λ field. same_path field.0 path) payload.fields))
@@ -274,7 +274,7 @@ module _ (before : Past) (k c : ℕ) (rs : List ℕ) (q : ℕ) (release : Bool) 
 
   returned_turns : (path : List ℕ) (outcome : Outcome) → Refers before (Wire false k c rs (Return q release outcome)) → NotesEach before (Wire false k c rs (Return q release outcome)) →
       (late : Bool) → is_late before (Wire false k c rs (Return q release outcome)) ≡ late →
-      (if late then stops else on_to (result_at path before (Wire false k c rs (Return q release outcome)))) ≡ turn_there path before (Wire false k c rs (Return q release outcome))
+      (if late then stops else on_to (result_at path before (Wire false k c rs (Return q release outcome)) outcome)) ≡ turn_there path before (Wire false k c rs (Return q release outcome))
   returned_turns path outcome refers notes true late = brought_late path outcome refers notes late
   returned_turns path outcome refers notes false late = brought path outcome refers notes late
 

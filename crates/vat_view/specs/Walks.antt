@@ -1,7 +1,7 @@
 -- Where views turn, and where that leads (rpc.capnp, the comments of PromisedAnswer, Payload and Resolve).
 use Rattle.std.specs.Prelude.{◌≡◌, ℕ, ◌==◌, List, Bool, true, false, ◌&&◌, Option, Some, None, if◌then◌else◌, unwrap_or, option_and_then, find, IsSome}
 use Rattle.std.specs.Str.{bytes_eq as same_path}
-use Rattle.vat_view.specs.Types.{Results, Return, Resolve, Event, Fulfil, Break, Answer, Fault, Wire, View, Object, Promise, FieldOf, Import}
+use Rattle.vat_view.specs.Types.{Outcome, Results, Exception, Canceled, Bootstrap, Call, Return, Finish, Resolve, Release, Disembargo, Abort, Event, Host, Vow, Fulfil, Break, Make, Field, Deliver, Answer, Fault, Wire, View, Object, Promise, FieldOf, Import}
 use Rattle.vat_view.specs.Past.{Past, id, is, number_of, last_answer}
 use Rattle.vat_view.specs.Questions.{call_at, opening, is_late}
 use Rattle.vat_view.specs.Lives.{Birth, birth}
@@ -44,21 +44,37 @@ resolves i place before _ = None
 abbrev pub answer_at : List ℕ → Past → List (ℕ × List ℕ) → Option View
 answer_at path before results = option_and_then (λ answer. view_of_reference before answer.0) (find (λ answer. same_path answer.1 path) results)
 
--- the capability that a Return with results has at a path
-abbrev pub result_at : List ℕ → Past → Event → Option View
-result_at path before (Wire sent k c rs (Return q release (Results payload))) =
-    option_and_then (λ field. view_of_descriptor before (Wire sent k c rs (Return q release (Results payload))) field.1) (find (λ field. same_path field.0 path) payload.fields)
-result_at path before _ = None
+-- the capability that a Return with this outcome has at a path
+abbrev pub result_at : List ℕ → Past → Event → Outcome → Option View
+result_at path before e (Results payload) =
+    option_and_then (λ field. view_of_descriptor before e field.1) (find (λ field. same_path field.0 path) payload.fields)
+result_at path before e Exception = None
+result_at path before e Canceled = None
 
 -- a field turns to ANSWER's reference at its path, or to what a received Return that isn't late brought there;
--- it stops where the call faulted, failed, came late or has nothing there
+-- it stops where the call faulted, failed, came late or has nothing there. No other record turns it; each stands here
+-- by its name
 abbrev pub answers : ℕ → List ℕ → Past → Event → Option Next
 answers call path before (Answer c results) = if c == call then Some (on_to (answer_at path before results)) else None
 answers call path before (Fault c) = if c == call then Some stops else None
 answers call path before (Wire false k c rs (Return q release outcome)) =
     let e = Wire false k c rs (Return q release outcome) in
-    if is call (call_at (opening (id k true q) before)) then Some (if is_late before e then stops else on_to (result_at path before e)) else None
-answers call path before _ = None
+    if is call (call_at (opening (id k true q) before)) then Some (if is_late before e then stops else on_to (result_at path before e outcome)) else None
+answers call path before (Wire false k c rs (Bootstrap q)) = None
+answers call path before (Wire false k c rs (Call q target interface method params)) = None
+answers call path before (Wire false k c rs (Finish q release)) = None
+answers call path before (Wire false k c rs (Resolve n resolution)) = None
+answers call path before (Wire false k c rs (Release n count)) = None
+answers call path before (Wire false k c rs (Disembargo n loopback target)) = None
+answers call path before (Wire false k c rs Abort) = None
+answers call path before (Wire true k c rs m) = None
+answers call path before (Host r object) = None
+answers call path before (Vow r) = None
+answers call path before (Fulfil r to) = None
+answers call path before (Break r) = None
+answers call path before (Make c r interface method) = None
+answers call path before (Field r c at) = None
+answers call path before (Deliver c object) = None
 
 -- where a record turns a view, if it does: it keeps or breaks a promise, ends a call, or resolves an import
 abbrev pub turn : View → Past → Event → Option Next

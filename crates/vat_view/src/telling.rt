@@ -172,15 +172,17 @@ pub(crate) fn close(
     Ok(())
 }
 
-/// Tells the tables of one record, which has this number in the log. Where memory is refused, they are of the records
-/// before.
+/// Tells the tables of one record, which has this number in the log, and whether it is late. Where memory is refused,
+/// they are of the records before.
 pub(crate) fn tell(
     alloc: Global,
+    late: bool,
     number: usize,
     questions: &mut Questions,
     lives: &mut Lives,
     event: &Event,
 ) -> Result<(), AllocError>
+    requires { late ≡ late_by (question_at questions.old) event.now }
     ensures ok { OnOk result
         ((before : Past) → number ≡ length before → IsTabled before questions.old lives.old
         → UsesQuestions before event.now → GivesBackHeld before event.now
@@ -189,7 +191,6 @@ pub(crate) fn tell(
         ((before : Past) → IsTabled before questions.old lives.old
         → IsTabled before questions.new lives.new) }
 {
-    let late = is_late(questions, event);
     let numbers = introductions(alloc, late, event)?;
     let origins = origins(alloc, late, number, event)?;
     let begun = origins.as_slice();
@@ -199,7 +200,8 @@ pub(crate) fn tell(
     }
 }
 
-/// Tells all tables of one record, which has this number in the log. Where memory is refused, they are of the records before.
+/// Tells all tables of one record, which has this number in the log. Where memory is refused, they are of the records
+/// before.
 pub(crate) fn learn(
     alloc: Global,
     number: usize,
@@ -225,7 +227,7 @@ pub(crate) fn learn(
         bound.unbind_each(new_references(event));
         return Err(AllocError);
     }
-    if tell(alloc, number, questions, lives, event).is_err() {
+    if tell(alloc, late, number, questions, lives, event).is_err() {
         bound.unbind_each(new_references(event));
         return Err(AllocError);
     }

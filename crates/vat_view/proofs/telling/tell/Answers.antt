@@ -26,9 +26,9 @@ pub returns-in-Some-clause-ok : goal.returns-in-Some-clause-ok
 returns-in-Some-clause-ok c = three_ok c.open.result
     (λ put counts births before number tabled uses gives.
     tabled_open before c.args.event.now c.args.questions.now c.open.new.questions c.args.lives.now c.open.new.lives tabled uses gives c.in_ok-numbers.numbers
-    (introduces_them c.args.questions.now c.args.lives.now before c.args.event.now _ tabled uses c.is_late-late.ensures c.in_ok-numbers.numbers c.in_ok-numbers.ensures)
+    (introduces_them c.args.questions.now c.args.lives.now before c.args.event.now _ tabled uses c.requires c.in_ok-numbers.numbers c.in_ok-numbers.ensures)
     c.as_slice-begun.result.now
-    (begins_them c.args.questions.now c.args.lives.now before c.args.event.now _ tabled uses c.is_late-late.ensures c.args.number number c.as_slice-begun.result.now (c.as_slice-begun.ensures.value ∙ c.in_ok-origins.ensures))
+    (begins_them c.args.questions.now c.args.lives.now before c.args.event.now _ tabled uses c.requires c.args.number number c.as_slice-begun.result.now (c.as_slice-begun.ensures.value ∙ c.in_ok-origins.ensures))
     births c.in-Some.question (sym c.in-Some.ensures) put counts)
     c.open.ensures.known c.open.ensures.counted c.open.ensures.born
 
@@ -36,9 +36,9 @@ pub returns-clause-ok : goal.returns-clause-ok
 returns-clause-ok c = three_ok c.close.result
     (λ noted counts births before number tabled uses gives.
     tabled_close before c.args.event.now c.args.questions.now c.close.new.questions c.args.lives.now c.close.new.lives tabled uses gives c.in_ok-numbers.numbers
-    (introduces_them c.args.questions.now c.args.lives.now before c.args.event.now _ tabled uses c.is_late-late.ensures c.in_ok-numbers.numbers c.in_ok-numbers.ensures)
+    (introduces_them c.args.questions.now c.args.lives.now before c.args.event.now _ tabled uses c.requires c.in_ok-numbers.numbers c.in_ok-numbers.ensures)
     c.as_slice-begun.result.now
-    (begins_them c.args.questions.now c.args.lives.now before c.args.event.now _ tabled uses c.is_late-late.ensures c.args.number number c.as_slice-begun.result.now (c.as_slice-begun.ensures.value ∙ c.in_ok-origins.ensures))
+    (begins_them c.args.questions.now c.args.lives.now before c.args.event.now _ tabled uses c.requires c.args.number number c.as_slice-begun.result.now (c.as_slice-begun.ensures.value ∙ c.in_ok-origins.ensures))
     births (sym c.in-None.ensures) noted counts)
     c.close.ensures.known c.close.ensures.counted c.close.ensures.born
 

@@ -1,28 +1,23 @@
 -- Each point of an order: the logs so far are linked, their ends agree, and their counts are balanced.
-use Rattle.std.proofs.Common.{◌≡◌, refl, sym, ◌∙◌, ap, ap₂, subst, ℕ, ◌+◌, ◌-◌, ◌==◌, List, [], ◌∷◌, ◌++◌, length, take, drop, reverse, true, false, cond, Option, Some, None, option_map, arith, length-append, inl, inr}
+use Rattle.std.proofs.Common.{◌≡◌, refl, sym, ◌∙◌, ap, subst, ℕ, ◌==◌, List, [], ◌∷◌, ◌++◌, length, take, drop, reverse, true, false, cond, Option, Some, None, option_map, arith, inl, inr}
 use Rattle.std.specs.Prelude.{Contains}
 use Rattle.std.specs.List.{cons_option, count_by}
 use Rattle.std.proofs.lemmas.Bool.{cases_lt}
 use Rattle.std.proofs.lemmas.List.{reverse-append, take-append-drop}
-use Rattle.std.proofs.Math.Seq.{take-append_seam}
 use Rattle.std.proofs.lemmas.List.Sums.{sum_by-cons, sum_by_push}
 use Rattle.agree.specs.Points.{GoesOn}
 use Rattle.agree.specs.Rows.{log_of}
-use Rattle.agree.specs.Streams.{stream, IsCut}
+use Rattle.agree.specs.Streams.{IsCut}
 use Rattle.agree.specs.Agreeing.{AreLinked}
 use Rattle.agree.specs.Standing.{Agree}
-use Rattle.agree.specs.Balance.{AreUnderWay, coming, after_coming, sum_coming}
-use Rattle.agree.specs.Balance.{IsBalanced as AreBalancedLogs}
 use Rattle.agree.proofs.Points.{kept}
 use Rattle.agree.proofs.Cuts.{shared_linked, row_cut}
 use Rattle.agree.proofs.Standing.{linked_before}
 use Rattle.agree.proofs.Good.{good_agree, good_balanced}
 use Rattle.vat_rules.specs.Audit.{Found}
 use Rattle.vat_rules.specs.Judged.{IsGood}
-use Rattle.vat_view.specs.Past.{Past, Each, id}
-use Rattle.vat_view.specs.Lives.{introduces, gives_back, came, went}
-use Rattle.call_trace.specs.Types.{RpcMessage, Event}
-use Rattle.call_trace.specs.Balance.{under_way, arrived, IsBalanced}
+use Rattle.vat_view.specs.Past.{Each}
+use Rattle.call_trace.specs.Types.{Event}
 use Rattle.call_trace.specs.Findings.{AreTrue, MayBeNamed}
 use Rattle.call_trace.specs.Named.{past_before, taken, AtEachPoint, AreBalanced}
 use Rattle.call_trace.specs.Taking.{steps_by, next_record, taken_by, row_of}
@@ -53,34 +48,6 @@ point_of : (findings : List Found) (order : List ℕ) (i : ℕ) → GoesOn (row_
 point_of findings order i =
     let whole : reverse order ≡ reverse (drop i order) ++ reverse (take i order) = ap reverse (sym (take-append-drop i order)) ∙ reverse-append (take i order) (drop i order) in
     subst (λ l. GoesOn (taken_by findings l) (row_of findings (take i order))) (sym whole) (rows_on findings (reverse (drop i order)) (reverse (take i order)))
-
--- ---- what is under way
-
-as_under_way : (k : ℕ) (from to : Past) (ms : List RpcMessage) → AreUnderWay k from to ms → under_way k from to ≡ ms
-as_under_way k from to ms e =
-    let len : length (stream k true from) - length (stream k false to) ≡ length ms = omega (arith, ap length e, length-append ms (stream k false to)) in
-    ap₂ (λ n l. take n l) len e ∙ take-append_seam ms (stream k false to)
-
-arrived_is : (k : ℕ) (ms : List RpcMessage) (past : Past) → arrived k ms past ≡ after_coming k ms past
-arrived_is k [] past = refl
-arrived_is k (m ∷ ms) past = ap (λ l. coming k m ∷ l) (arrived_is k ms past)
-
-counted : (count : Past → Event → ℕ) (total : Past → ℕ) (k : ℕ) → ((before : Past) (e : Event) → total (e ∷ before) ≡ count before e + total before) → (ms : List RpcMessage) (past : Past) →
-    total (after_coming k ms past) ≡ sum_coming count k ms past + total past
-counted count total k more [] past = omega arith
-counted count total k more (m ∷ ms) past =
-    let rest = counted count total k more ms past in
-    let first = more (after_coming k ms past) (coming k m) in
-    omega (arith, rest, first)
-
-balanced_so : (k n : ℕ) (exporter importer : Past) (there back : List RpcMessage) → AreUnderWay k exporter importer there → AreUnderWay k importer exporter back →
-    AreBalancedLogs k n exporter importer there back → IsBalanced k n exporter importer
-balanced_so k n x y there back on returning h =
-    let i = id k false n in
-    let j = id k true n in
-    let brought = ap (came i) (ap (λ l. arrived k l y) (as_under_way k x y there on) ∙ arrived_is k there y) ∙ counted (introduces i) (came i) k (λ b e. refl) there y in
-    let given = ap (went j) (ap (λ l. arrived k l x) (as_under_way k y x back returning) ∙ arrived_is k back x) ∙ counted (gives_back j) (went j) k (λ b e. refl) back x in
-    omega (arith, h, brought, given)
 
 -- ---- together
 
@@ -125,6 +92,14 @@ module _ (findings : List Found) (order : List ℕ) (true_all : AreTrue findings
       let x = taken order i one in
       let y = taken order i other in
       let cut = taken_cut i k one other there_one there_other share in
-      balanced_so k n x y cut.to_other.0 cut.to_one.0 cut.to_other.1 cut.to_one.1
-      (good_balanced k x y (taken_good i one there_one) (taken_good i other there_other) (taken_linked i k one other there_one there_other share) n x y cut.to_other.0 cut.to_one.0
-      ([], refl) ([], refl) cut cut.to_other.1 cut.to_one.1)
+      let there = cut.to_other in
+      let back = cut.to_one in
+      record {
+        there = there.0;
+        back = back.0;
+        to_importer = there.1;
+        to_exporter = back.1;
+        counts =
+            good_balanced k x y (taken_good i one there_one) (taken_good i other there_other) (taken_linked i k one other there_one there_other share)
+            n x y there.0 back.0 ([], refl) ([], refl) cut there.1 back.1;
+      }

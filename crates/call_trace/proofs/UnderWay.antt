@@ -18,13 +18,19 @@ importer = Wire true 0 0 [] (Finish 0 true) ∷ Wire true 0 2 [] (Bootstrap 0) �
     ∷ Wire true 0 1 [] (Bootstrap 0) ∷ []
 
 pub first_gives_back : IsBalanced 0 0 exporter importer
-first_gives_back = refl
+first_gives_back = record {
+  there = [];
+  back = Finish 0 true ∷ Bootstrap 0 ∷ Finish 0 true ∷ [];
+  to_importer = refl;
+  to_exporter = refl;
+  counts = refl;
+}
 
 -- vat 1 has sent its Finish, and the Return is still under way to it: the Return introduces nothing, and the Finish gives
 -- back what the Return introduced at its exporter
 pub late_introduces_nothing : IsBalanced 0 0 exporter (Wire true 0 0 [] (Finish 0 true) ∷ Wire true 0 1 [] (Bootstrap 0) ∷ [])
-late_introduces_nothing = refl
+late_introduces_nothing = record { there = returned ∷ []; back = Finish 0 true ∷ []; to_importer = refl; to_exporter = refl; counts = refl }
 
 -- vat 1 has sent no Finish: the Return under way introduces the number
 pub return_introduces : IsBalanced 0 0 exporter (Wire true 0 1 [] (Bootstrap 0) ∷ [])
-return_introduces = refl
+return_introduces = record { there = returned ∷ []; back = []; to_importer = refl; to_exporter = refl; counts = refl }

@@ -4,6 +4,7 @@ pub mod Linking
 pub mod Fitting
 pub mod Sharing
 pub mod Points
+pub mod AsSent
 pub mod Naming
 pub mod Carried
 pub mod Tells

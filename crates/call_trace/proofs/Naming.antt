@@ -13,7 +13,8 @@ use Rattle.vat_view.proofs.Viewed.{all_at}
 use Rattle.call_trace.specs.Types.{Bootstrap, Call, Event, Host, Vow, Field, Make, Wire, View, Object, Promise, FieldOf, Import, Name, Cap, Message, Step}
 use Rattle.call_trace.specs.Naming.{Naming, naming, cap_at, names_call, call_named, cap_named, message_at, message_of}
 use Rattle.call_trace.specs.Said.{together, said, say_call, caps_named}
-use Rattle.call_trace.specs.Part.{reference_named, resolves_released, read, SaysReceive, Says, PairsOff}
+use Rattle.call_trace.specs.Part.{reference_named, resolves_released, SaysReceive, Says, PairsOff}
+use Rattle.call_trace.proofs.AsSent.{read, says_read}
 use Rattle.run_model.specs.Has.{called}
 use Rattle.run_model.specs.Steps.{call}
 use Rattle.run_model.specs.declared.message.Message.TheVariants as message
@@ -160,7 +161,7 @@ say_call_is interface method (Some caps) (Some name) None m h = absurd (let no :
 received_call : (names : Naming) (es : Past) (e : Event) (k : ℕ) (references : List ℕ) (s : Step) → SaysReceive names es e k references s → ((m : Message) → said names es e ≡ Some m → Has (called m)) →
     Has (option_and_then called (message_of s))
 received_call names es e k references s says says_call =
-    let name = says_call (read es e says.message) says.reads in
+    let name = says_call (read es e says.message) (says_read says) in
     (name.0, ap (λ s. option_and_then called (message_of s)) says.step ∙ read_called es e says.message name.0 name.1)
 
 if_own : {A : Type 0} (b : Bool) (o : Option A) → b ≡ true → Has o → Has (if b then o else None)

@@ -18,9 +18,10 @@ use Rattle.rpc_view.specs.declared.message.Payload.{Payload}
 use Rattle.call_trace.specs.Types.{RpcMessage, Target, Results, Exception, Canceled, Bootstrap, Call, Return, Finish, Resolve, Release, Disembargo, Abort, Event, Host, Vow, Fulfil, Break, Make, Field, Deliver, Answer, Fault, Wire, View, Object, Name, Cap, Message, Step}
 use Rattle.call_trace.specs.Naming.{Naming, naming, call_named, cap_named}
 use Rattle.call_trace.specs.Said.{said, say_call, say_return, say_resolve, caps_named, promise_named, answered, together, given}
-use Rattle.call_trace.specs.Part.{reference_named, promise_in, result_named, resolves_released, read, Says, PairsOff}
+use Rattle.call_trace.specs.Part.{reference_named, promise_in, result_named, resolves_released, Says, PairsOff}
 use Rattle.call_trace.specs.Placed.{AsksFor, IsThere}
 use Rattle.call_trace.specs.Within.{IsWithin}
+use Rattle.call_trace.proofs.AsSent.{read, says_read}
 use Rattle.call_trace.proofs.Naming.{mapped_is, then_is, call_keeps, cap_keeps}
 use Rattle.call_trace.proofs.Within.{heads, tails, each_earlier, all_leads}
 use Rattle.run_model.specs.Leads.{Leads as RunLeads}
@@ -168,7 +169,7 @@ boot_arrives : (v k c q : ℕ) (rs : List ℕ) (es : Past) (steps : List Step) (
     HasArrived v (Wire false k c rs (Bootstrap q) ∷ es) (s ∷ steps) c
 boot_arrives v k c q rs es steps s says =
     let e = Wire false k c rs (Bootstrap q) in
-    let name = mapped_is message.Boot (call_named v (e ∷ es) (s ∷ steps) c) (read es e says.message) says.reads in
+    let name = mapped_is message.Boot (call_named v (e ∷ es) (s ∷ steps) c) (read es e says.message) (says_read says) in
     let booted = read_boot es e says.message name.0 (sym name.2) in
     let is : s ≡ step.Receive v k (message.Boot name.0) says.bound = says.step ∙ ap (λ m. step.Receive v k m says.bound) booted in
     (name.0, name.1, or_left (arrives name.0 v s) (list_any (arrives name.0 v) steps) (ap (arrives name.0 v) is ∙ arrived_here v name.0))
@@ -372,7 +373,7 @@ module _ (v : ℕ) (es : Past) (steps earlier : List Step) (w : IsWithin v es st
       let e = Wire false k d rs (Call q target interface method params) in
       let names = naming v (e ∷ es) (s ∷ steps) in
       let goal = view_of_target es e in
-      let call_is = call_said interface method (caps_named names es e) (names.call d) (option_and_then names.cap goal) (read es e says.message) says.reads in
+      let call_is = call_said interface method (caps_named names es e) (names.call d) (option_and_then names.cap goal) (read es e says.message) (says_read says) in
       let was = read_call es e says.message call_is.call call_is.to interface method call_is.caps call_is.is in
       let is : s ≡ step.Receive v k (message.Call call_is.call call_is.to interface method call_is.caps) says.bound = says.step ∙ ap (λ m. step.Receive v k m says.bound) was in
       let nowhere = at_no_vat earlier w.legal w.linked call_is.call v k v call_is.to interface method call_is.caps says.bound (subst (IsLinked earlier) is linked) in
@@ -391,7 +392,7 @@ module _ (v : ℕ) (es : Past) (steps earlier : List Step) (w : IsWithin v es st
   received_effect k d rs m s isnt none says =
       let e = Wire false k d rs m in
       let names = naming v (e ∷ es) (s ∷ steps) in
-      let still = sym (read_call_in es e says.message) ∙ said_no_call names es false k d rs m (read es e says.message) isnt says.reads in
+      let still = sym (read_call_in es e says.message) ∙ said_no_call names es false k d rs m (read es e says.message) isnt (says_read says) in
       quiet none (λ name. ap (move_of name v) says.step ∙ receive_stays v k says.message says.bound still name)
 
   effect : (e : Event) (s : Step) → IsLegal earlier s → IsLinked earlier s → IsGood es e → Says v es steps e s → Effect v es steps e s

@@ -19,9 +19,10 @@ use Rattle.rpc_view.specs.declared.message.Payload.{Payload}
 use Rattle.call_trace.specs.Types.{Target, Outcome, Results, Exception, Canceled, Resolution, RpcMessage, Bootstrap, Call, Return, Finish, Resolve, Release, Disembargo, Abort, Event, Wire, Name, Cap, Message, Step}
 use Rattle.call_trace.specs.Naming.{Naming, naming, cap_named, call_named, message_at}
 use Rattle.call_trace.specs.Said.{said, say_call, say_return, say_resolve, caps_named, promise_named, answered, given}
-use Rattle.call_trace.specs.Part.{read, resolves_released}
+use Rattle.call_trace.specs.Part.{resolves_released, ReadsAsSent}
 use Rattle.call_trace.specs.Carried.{HasOneName}
 use Rattle.call_trace.specs.Running.{AreMet}
+use Rattle.call_trace.proofs.AsSent.{read, reads_so}
 use Rattle.call_trace.proofs.Naming.{mapped_is, then_is, cap_step, call_keeps}
 use Rattle.call_trace.proofs.Carried.{pairs_as_long, one_name}
 use Rattle.call_trace.proofs.Asking.{answerer_names, call_lasts, all_refer, answer_is_one}
@@ -224,7 +225,8 @@ module _ (k v w c : ℕ) (one : Past) (its_steps : List Step) (other : Past) (st
       (ap (said mine from) (sym went.2) ∙ h.says)
 
   pub message_read : (bound : List Cap) → AreMet k v one its_steps w other steps → AreLinked k one (received ∷ other) → IsGood other received → IsPassed k m one (received ∷ other) from other sent received →
-      message_at (length from) its_steps ≡ Some message → said (naming w (received ∷ other) (step.Receive w k message bound ∷ steps)) other received ≡ Some (read other received message)
+      message_at (length from) its_steps ≡ Some message → ReadsAsSent (naming w (received ∷ other) (step.Receive w k message bound ∷ steps)) other received message
   message_read bound met linked good passed there =
       let p = pair k v one its_steps w other steps c references m from sent message met linked good passed there in
-      heard_read p.earlier p.step bound (passed_is_heard k v one its_steps w other steps c references m from sent message met linked good passed there)
+      reads_so (naming w (received ∷ other) (step.Receive w k message bound ∷ steps)) other received message
+      (heard_read p.earlier p.step bound (passed_is_heard k v one its_steps w other steps c references m from sent message met linked good passed there))

@@ -20,8 +20,9 @@ use Rattle.rpc_view.specs.declared.message.Payload.{Payload}
 use Rattle.call_trace.specs.Types.{Descriptor, NoCap, Outcome, Results, Resolution, RpcMessage, Return, Resolve, Event, Answer, Wire, View, FieldOf, Name, Cap, Message, Step}
 use Rattle.call_trace.specs.Naming.{Naming, naming, cap_at, call_named, cap_named}
 use Rattle.call_trace.specs.Said.{together, say_return, say_resolve, descriptor_named, caps_named, promise_named, answered, given, said}
-use Rattle.call_trace.specs.Part.{result_named, read, Says, PairsOff}
+use Rattle.call_trace.specs.Part.{result_named, Says, PairsOff}
 use Rattle.call_trace.specs.Within.{IsWithin}
+use Rattle.call_trace.proofs.AsSent.{read, says_read}
 use Rattle.call_trace.proofs.Naming.{then_is, mapped_is, call_keeps, cap_step}
 use Rattle.call_trace.proofs.Carried.{paired_at, each_after}
 use Rattle.call_trace.proofs.Tells.{read_return, return_said, call_is}
@@ -80,7 +81,7 @@ results_told v call es steps k c rs q release payload s says own late =
     let e = Wire false k c rs (Return q release (Results payload)) in
     let names = naming v (e ∷ es) (s ∷ steps) in
     let caps = caps_named names es e in
-    let name = then_is (λ name. say_return (is_late es e) payload.fields name caps) (answered names es k false q) (read es e says.message) says.reads in
+    let name = then_is (λ name. say_return (is_late es e) payload.fields name caps) (answered names es k false q) (read es e says.message) (says_read says) in
     let asked = then_is names.call (call_of (id k true q) es) name.0 name.1 in
     let same = call_is (is_free (id k true q) es) (call_at (opening (id k true q) es)) call asked.0 own asked.1 in
     let told = return_said (is_late es e) payload.fields name.0 caps (read es e says.message) late name.2 in

@@ -16,9 +16,9 @@ use Rattle.vat_view.specs.Views.{view_of_reference}
 use Rattle.call_trace.specs.Findings.{AreTrue, MayBeNamed}
 use Rattle.call_trace.specs.Named.{IsRunOf}
 use Rattle.call_trace.specs.Naming.{naming, names_call, call_named, cap_named, message_at}
-use Rattle.call_trace.specs.Part.{reference_named, Says, PairsOff, read}
+use Rattle.call_trace.specs.Part.{reference_named, ReadsAsSent, Says, PairsOff}
 use Rattle.call_trace.specs.Running.{step_received, step_of, steps_by, steps_of_row, AreMet, IsNamedRow, IsGoodAt, MayRun}
-use Rattle.call_trace.specs.Said.{together, said}
+use Rattle.call_trace.specs.Said.{together}
 use Rattle.call_trace.specs.Taking.{row_of}
 use Rattle.call_trace.specs.Types.{Bootstrap, Call, RpcMessage, Event, Host, Vow, Fulfil, Break, Make, Field, Deliver, Answer, Fault, Wire, View, Object, Promise, FieldOf, Import, Cap, Message, Step}
 use Rattle.call_trace.specs.Within.{IsWithin}
@@ -43,7 +43,7 @@ abbrev pub IsRead : Type 0
 IsRead = (k v w c : ℕ) (one : Past) (its_steps : List Step) (other : Past) (steps : List Step) (references : List ℕ) (m : RpcMessage) (from : Past) (sent : Event) (message : Message) (bound : List Cap) →
     AreMet k v one its_steps w other steps → AreLinked k one (Wire false k c references m ∷ other) → IsGood other (Wire false k c references m) →
     IsPassed k m one (Wire false k c references m ∷ other) from other sent (Wire false k c references m) → message_at (length from) its_steps ≡ Some message →
-    said (naming w (Wire false k c references m ∷ other) (step.Receive w k message bound ∷ steps)) other (Wire false k c references m) ≡ Some (read other (Wire false k c references m) message)
+    ReadsAsSent (naming w (Wire false k c references m ∷ other) (step.Receive w k message bound ∷ steps)) other (Wire false k c references m) message
 
 -- what a vat binds when it receives a message is there, and is what the message brings
 abbrev pub IsBrought : Type 0

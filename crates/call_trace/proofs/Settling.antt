@@ -15,8 +15,9 @@ use Rattle.vat_view.specs.Calls.{delivers as delivers_call, settles as settles_c
 use Rattle.call_trace.specs.Types.{Bootstrap, Event, Host, Vow, Fulfil, Break, Make, Field, Deliver, Answer, Fault, Wire, Name, Cap, Message, Step}
 use Rattle.call_trace.specs.Naming.{Naming, naming, call_named}
 use Rattle.call_trace.specs.Said.{together}
-use Rattle.call_trace.specs.Part.{reference_named, result_named, read, Says, PairsOff}
+use Rattle.call_trace.specs.Part.{reference_named, result_named, Says, PairsOff}
 use Rattle.call_trace.specs.Within.{IsWithin}
+use Rattle.call_trace.proofs.AsSent.{read, says_read}
 use Rattle.call_trace.proofs.Naming.{mapped_is, call_keeps}
 use Rattle.call_trace.proofs.Placing.{is_here, step_back}
 use Rattle.call_trace.proofs.Making.{form, only, some_in_run}
@@ -197,7 +198,7 @@ module _ (v : ℕ) (final : ℕ → Option Name) where
       let same = named_so c d name f.0 is (grows d f.0 f.1) h in
       subst (λ s. arrives name v s ≡ true) f.2 (and_from (v == v) (is_same f.0 name) (eq-eqb v v refl) (subst (λ n. is_same f.0 n ≡ true) same (same_to_itself f.0)))
   served_said es steps (Wire false k d rs (Bootstrap q)) s says grows c name is h =
-      let boot = mapped_is message.Boot (call_named v (Wire false k d rs (Bootstrap q) ∷ es) (s ∷ steps) d) (read es (Wire false k d rs (Bootstrap q)) says.message) says.reads in
+      let boot = mapped_is message.Boot (call_named v (Wire false k d rs (Bootstrap q) ∷ es) (s ∷ steps) d) (read es (Wire false k d rs (Bootstrap q)) says.message) (says_read says) in
       let same = named_so c d name boot.0 is (grows d boot.0 boot.1) h in
       let came : message.Boot boot.0 ≡ says.message = boot.2 ∙ read_boot es k d rs q says.message in
       subst (λ s. arrives name v s ≡ true) (ap (λ m. step.Receive v k m says.bound) came ∙ sym says.step)

@@ -13,8 +13,9 @@ use Rattle.vat_view.specs.Walks.{Next, turns, stops, on_to, is_promise, keeps, b
 use Rattle.call_trace.specs.Types.{Outcome, Results, Resolution, Capped, Unkept, Return, Resolve, Event, Fulfil, Break, Answer, Fault, Wire, View, Object, Promise, FieldOf, Import, Name, Cap, Message, Step}
 use Rattle.call_trace.specs.Naming.{Naming, naming, cap_at, cap_named}
 use Rattle.call_trace.specs.Said.{together, say_return, say_resolve, descriptor_named, caps_named, promise_named, answered, given}
-use Rattle.call_trace.specs.Part.{reference_named, promise_in, result_named, Says, read, resolves_released}
+use Rattle.call_trace.specs.Part.{reference_named, promise_in, result_named, Says, resolves_released}
 use Rattle.call_trace.specs.Tells.{Tells, TurnsNames}
+use Rattle.call_trace.proofs.AsSent.{read, says_read}
 use Rattle.call_trace.proofs.Naming.{then_is, mapped_is, names_are_caps}
 use Rattle.call_trace.proofs.Carried.{together_at, descriptor_is, resolve_is}
 use Rattle.run_model.specs.Leads.{MakesTurn}
@@ -213,7 +214,7 @@ return_tells v call path es steps k c rs q release (Results payload) s b says ow
     let e = Wire false k c rs (Return q release (Results payload)) in
     let names = naming v (e ∷ es) (s ∷ steps) in
     let caps = caps_named names es e in
-    let name = then_is (λ name. say_return (is_late es e) payload.fields name caps) (answered names es k false q) (read es e says.message) says.reads in
+    let name = then_is (λ name. say_return (is_late es e) payload.fields name caps) (answered names es k false q) (read es e says.message) (says_read says) in
     let asked = then_is names.call (call_of (id k true q) es) name.0 name.1 in
     let same = call_is (is_free (id k true q) es) (call_at (opening (id k true q) es)) call asked.0 own asked.1 in
     let told = return_said (is_late es e) payload.fields name.0 caps (read es e says.message) late name.2 in
@@ -259,7 +260,7 @@ resolve_tells v i place es steps k c rs n resolution s b x says began there name
     let caps = names_are_caps v (e ∷ es) (s ∷ steps) in
     let stands : option_and_then names.cap (view_of_number (id k false n) es) ≡ Some x = ap (λ o. option_and_then names.cap o) (began_is (view_of_reference es) i place (birth (id k false n) es) began) ∙ named in
     let promise : promise_named names es k false n ≡ Some x = ap (λ o. Some (unwrap_or o cap.Nothing)) stands in
-    let reads = sym (ap (λ o. option_and_then (λ p. option_map (say_resolve p) (caps_named names es e)) o) promise) ∙ says.reads in
+    let reads = sym (ap (λ o. option_and_then (λ p. option_map (say_resolve p) (caps_named names es e)) o) promise) ∙ (says_read says) in
     let y = resolved_one names es k c rs n resolution x (read es e says.message) b caps reads there in
     let came = read_resolve es e says.message x y.0 (caps (Import i place) x named) y.2 in
     record {

@@ -10,7 +10,7 @@ use Rattle.call_trace.specs.Naming.{Naming, message_of, call_named, cap_at}
 use Rattle.call_trace.specs.Part.{promise_in}
 use Rattle.call_trace.specs.Running.{step_received}
 use Rattle.call_trace.specs.Said.{together, say_call, say_return, say_resolve}
-use Rattle.call_trace.specs.Types.{Descriptor, NoCap, Results, RpcMessage, Bootstrap, Call, Return, Finish, Resolve, Release, Disembargo, Abort, Event, Host, Vow, Fulfil, Break, Make, Field, Deliver, Answer, Fault, Wire, View, Object, Promise, FieldOf, Import, Name, Cap, Message, Step}
+use Rattle.call_trace.specs.Types.{Descriptor, NoCap, Results, Exception, Canceled, RpcMessage, Bootstrap, Call, Return, Finish, Resolve, Release, Disembargo, Abort, Event, Host, Vow, Fulfil, Break, Make, Field, Deliver, Answer, Fault, Wire, View, Object, Promise, FieldOf, Import, Name, Cap, Message, Step}
 use Rattle.run_model.specs.Has.{called}
 use Rattle.run_model.specs.Legal.{brought}
 use Rattle.run_model.specs.Steps.{call}
@@ -108,7 +108,8 @@ message_said names late seen c caps (Call q target interface method params) =
     say_call interface method caps (names.call c) (option_and_then names.cap seen.target)
 message_said names late seen c caps (Return q release (Results payload)) =
     option_and_then (λ name. say_return late payload.fields name caps) (answered_in names.call seen.question)
-message_said names late seen c caps (Return q release _) = option_map message.Failed (answered_in names.call seen.question)
+message_said names late seen c caps (Return q release Exception) = option_map message.Failed (answered_in names.call seen.question)
+message_said names late seen c caps (Return q release Canceled) = option_map message.Failed (answered_in names.call seen.question)
 message_said names late seen c caps (Resolve n resolution) = resolve_said (option_and_then names.cap seen.promise) caps
 message_said names late seen c caps (Finish q release) = Some (message.Plain plain.Finish)
 message_said names late seen c caps (Release n count) = Some (message.Plain plain.Release)

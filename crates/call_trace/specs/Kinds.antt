@@ -1,6 +1,6 @@
 -- Kinds of records.
 use Rattle.std.specs.Prelude.{Bool, true, false}
-use Rattle.call_trace.specs.Types.{Bootstrap, Finish, Release, Disembargo, Abort, Event, Host, Vow, Fulfil, Break, Make, Field, Wire}
+use Rattle.call_trace.specs.Types.{Bootstrap, Call, Return, Finish, Resolve, Release, Disembargo, Abort, Event, Host, Vow, Fulfil, Break, Make, Field, Deliver, Answer, Fault, Wire}
 
 -- a record of what a vat makes by itself: it hosts an object, vows, keeps or breaks a promise, makes or boots a call, names a
 -- field, or sends a message in which neither a call nor a cap goes on
@@ -16,4 +16,10 @@ is_own_making (Wire true k c references (Finish q release)) = true
 is_own_making (Wire true k c references (Release n count)) = true
 is_own_making (Wire true k c references (Disembargo n loopback target)) = true
 is_own_making (Wire true k c references Abort) = true
-is_own_making _ = false
+is_own_making (Wire true k c references (Call q target interface method params)) = false
+is_own_making (Wire true k c references (Return q release outcome)) = false
+is_own_making (Wire true k c references (Resolve n resolution)) = false
+is_own_making (Wire false k c references m) = false
+is_own_making (Deliver c object) = false
+is_own_making (Answer c results) = false
+is_own_making (Fault c) = false

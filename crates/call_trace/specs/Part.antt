@@ -45,21 +45,29 @@ abbrev pub resolves_released : Past → Event → Bool
 resolves_released es (Wire sent k c references (Resolve n resolution)) = not (is_in_life (id k sent n) es)
 resolves_released es _ = false
 
--- what an end reads of a message that was sent: all but the caps of a Return that is late there, and the promise of a
--- Resolve whose number is out of life there
-abbrev pub read : Past → Event → Message → Message
-read es e (message.Return c results caps) = if is_late es e then message.Late c else message.Return c results caps
-read es e (message.Resolve promise c) = if resolves_released es e then message.Resolve cap.Nothing c else message.Resolve promise c
-read es e (message.Broken promise) = if resolves_released es e then message.Broken cap.Nothing else message.Broken promise
-read es e m = m
+-- an end reads a message as it was sent, by what its log says of the record that received it; two cases leave something
+-- unread there
+abbrev pub ReadsAsSent : Naming → Past → Event → Message → Type 0
+ReadsAsSent names es e (message.Boot c) = said names es e ≡ Some (message.Boot c)
+ReadsAsSent names es e (message.Call c target interface method caps) = said names es e ≡ Some (message.Call c target interface method caps)
+-- of a Return that is late there, its results and caps
+ReadsAsSent names es e (message.Return c results caps) =
+    said names es e ≡ Some (if is_late es e then message.Late c else message.Return c results caps)
+ReadsAsSent names es e (message.Late c) = said names es e ≡ Some (message.Late c)
+ReadsAsSent names es e (message.Failed c) = said names es e ≡ Some (message.Failed c)
+-- of a Resolve whose number is out of life there, its promise
+ReadsAsSent names es e (message.Resolve promise to) =
+    said names es e ≡ Some (if resolves_released es e then message.Resolve cap.Nothing to else message.Resolve promise to)
+ReadsAsSent names es e (message.Broken promise) =
+    said names es e ≡ Some (if resolves_released es e then message.Broken cap.Nothing else message.Broken promise)
+ReadsAsSent names es e (message.Plain p) = said names es e ≡ Some (message.Plain p)
 
--- a RECV says a Receive of a message: what the log says of the record is that message, but for what is left unread, and
--- the references noted are the caps bound
+-- a RECV says a Receive of a message that it reads; the references noted beside it are the caps bound
 pub record SaysReceive (names : Naming) (es : Past) (e : Event) (k : ℕ) (references : List ℕ) (s : Step) : Type 0 where
   pub message : Message
   pub bound : List Cap
   pub step : s ≡ step.Receive names.vat k message bound
-  pub reads : said names es e ≡ Some (read es e message)
+  pub reads : ReadsAsSent names es e message
   pub binds : together (map (reference_named names (e ∷ es)) references) ≡ Some bound
 
 -- a record says a step, after the records and steps before

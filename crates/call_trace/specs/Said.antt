@@ -2,7 +2,7 @@
 -- for, no message is said; only the promise of a received Resolve is Nothing then.
 use Rattle.std.specs.Prelude.{ℕ, List, [], Bool, true, false, not, Option, Some, None, filter_map, map, option_and_then, option_map, unwrap_or, ◌∷◌}
 use Rattle.call_trace.specs.Naming.{Naming, cap_at}
-use Rattle.call_trace.specs.Types.{Descriptor, NoCap, Results, Bootstrap, Call, Return, Finish, Resolve, Release, Disembargo, Abort, Event, Wire, Name, Cap, Message}
+use Rattle.call_trace.specs.Types.{Descriptor, NoCap, Results, Exception, Canceled, RpcMessage, Bootstrap, Call, Return, Finish, Resolve, Release, Disembargo, Abort, Event, Wire, Name, Cap, Message}
 use Rattle.vat_view.specs.Lives.{descriptors}
 use Rattle.vat_view.specs.Past.{Past, id}
 use Rattle.vat_view.specs.Questions.{is_late, call_of}
@@ -55,20 +55,23 @@ promise_named names es k false n = Some (unwrap_or (option_and_then names.cap (v
 abbrev pub answered : Naming → Past → ℕ → Bool → ℕ → Option Name
 answered names es k sent q = option_and_then names.call (call_of (id k (not sent) q) es)
 
--- the message of a record, as this end reads it
-abbrev pub said : Naming → Past → Event → Option Message
-said names es (Wire sent k c references (Bootstrap q)) = option_map message.Boot (names.call c)
-said names es (Wire sent k c references (Call q target interface method params)) =
-    let e = Wire sent k c references (Call q target interface method params) in
+-- the message of a record, which is sent or received on this connection with this call noted
+abbrev pub message_named : Naming → Past → Event → Bool → ℕ → ℕ → RpcMessage → Option Message
+message_named names es e sent k c (Bootstrap q) = option_map message.Boot (names.call c)
+message_named names es e sent k c (Call q target interface method params) =
     say_call interface method (caps_named names es e) (names.call c) (option_and_then names.cap (view_of_target es e))
-said names es (Wire sent k c references (Return q release (Results payload))) =
-    let e = Wire sent k c references (Return q release (Results payload)) in
+message_named names es e sent k c (Return q release (Results payload)) =
     option_and_then (λ name. say_return (is_late es e) payload.fields name (caps_named names es e)) (answered names es k sent q)
-said names es (Wire sent k c references (Return q release _)) = option_map message.Failed (answered names es k sent q)
-said names es (Wire sent k c references (Resolve n resolution)) =
-    option_and_then (λ promise. option_map (say_resolve promise) (caps_named names es (Wire sent k c references (Resolve n resolution)))) (promise_named names es k sent n)
-said names es (Wire sent k c references (Finish q release)) = Some (message.Plain plain.Finish)
-said names es (Wire sent k c references (Release n count)) = Some (message.Plain plain.Release)
-said names es (Wire sent k c references (Disembargo n loopback target)) = Some (message.Plain plain.Disembargo)
-said names es (Wire sent k c references Abort) = Some (message.Plain plain.Abort)
+message_named names es e sent k c (Return q release Exception) = option_map message.Failed (answered names es k sent q)
+message_named names es e sent k c (Return q release Canceled) = option_map message.Failed (answered names es k sent q)
+message_named names es e sent k c (Resolve n resolution) =
+    option_and_then (λ promise. option_map (say_resolve promise) (caps_named names es e)) (promise_named names es k sent n)
+message_named names es e sent k c (Finish q release) = Some (message.Plain plain.Finish)
+message_named names es e sent k c (Release n count) = Some (message.Plain plain.Release)
+message_named names es e sent k c (Disembargo n loopback target) = Some (message.Plain plain.Disembargo)
+message_named names es e sent k c Abort = Some (message.Plain plain.Abort)
+
+-- the message of a record, as this end reads it; a record of the vat's own has none
+abbrev pub said : Naming → Past → Event → Option Message
+said names es (Wire sent k c references m) = message_named names es (Wire sent k c references m) sent k c m
 said names es _ = None

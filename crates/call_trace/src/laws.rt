@@ -25,10 +25,10 @@ ghost use Rattle.run_model.specs.declared.cap.Cap.TheVariants.{Field as FieldCap
 ghost use Rattle.run_model.specs.Leads.{Leads as RunLeads, LeadsByTurns as RunLeadsByTurns};
 ghost use Rattle.call_trace.specs.Types.{Outcome, Return, Resolution, Resolve, Event, Wire, View, Name, Cap, Step, Target, Call, Deliver, Answer, Fault, RpcMessage, Message};
 ghost use Rattle.call_trace.specs.Naming.{call_named, cap_named, naming, message_at};
-ghost use Rattle.call_trace.specs.Part.{reference_named, Says, PairsOff, read};
+ghost use Rattle.call_trace.specs.Part.{reference_named, ReadsAsSent, Says, PairsOff};
 ghost use Rattle.call_trace.specs.Running.{step_of, AreMet, steps_of_row};
 ghost use Rattle.run_model.specs.declared.step.Step.TheVariants.{Receive};
-ghost use Rattle.call_trace.specs.Said.{together, said};
+ghost use Rattle.call_trace.specs.Said.{together};
 ghost use Rattle.call_trace.specs.Tells.{TurnsNames};
 ghost use Rattle.call_trace.specs.Within.{IsWithin, HasNameAfter};
 ghost use Rattle.call_trace.specs.Placed.{IsThere};
@@ -202,15 +202,14 @@ pub fn receipts_bind_what_is_brought()
         × MayBind message bound }
 {}
 
-/// A received message says, by its receiver's log, what the sent message says, but for what is left unread: the caps of a
+/// A receiver reads a message as it was sent, by its own log. It may leave two things unread: the results and caps of a
 /// Return that is late there, and the promise of a Resolve whose number is out of life there.
 pub fn messages_are_read_as_sent()
     ensures { (k v w c : ℕ) (one : Past) (its_steps : List Step) (other : Past) (steps : List Step) (references : List ℕ) (m : RpcMessage) (from : Past)
         (sent : Event) (message : Message) (bound : List Cap) → AreMet k v one its_steps w other steps → AreLinked k one (Wire false k c references m ∷ other)
         → IsGood other (Wire false k c references m) → IsPassed k m one (Wire false k c references m ∷ other) from other sent (Wire false k c references m)
         → message_at (length from) its_steps ≡ Some message
-        → said (naming w (Wire false k c references m ∷ other) (Receive w k message bound ∷ steps)) other (Wire false k c references m)
-        ≡ Some (read other (Wire false k c references m) message) }
+        → ReadsAsSent (naming w (Wire false k c references m ∷ other) (Receive w k message bound ∷ steps)) other (Wire false k c references m) message }
 {}
 
 /// Good findings have a run: where findings are such as name a run, each record of the row that the order takes has its step,

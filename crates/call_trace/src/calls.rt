@@ -32,7 +32,8 @@ impl Calls {
 
     /// This call has this name.
     pub(crate) fn bind(&mut self, call: u64, name: Name) -> Result<(), AllocError>
-        ensures { OnOk result ((c : ℕ) → name_at self.new c ≡ (if call == c then Some name else name_at self.old c)) }
+        ensures { OnOk result ((c : ℕ)
+            → name_at self.new c ≡ (if call == c then Some name else name_at self.old c)) }
     {
         self.entries.insert(call, name)?;
         Ok(())

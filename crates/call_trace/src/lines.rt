@@ -13,7 +13,8 @@ use std::collections::BTreeMap;
 
 /// The place, from this one on, where another vat than this sent first, or a place behind them all.
 fn first_of_others(sends: &[(u32, usize)], from: usize, vat: u32) -> usize
-    ensures none_between { by_others vat (take result sends.now) ≡ by_others vat (take from sends.now) }
+    ensures none_between { by_others vat (take result sends.now)
+        ≡ by_others vat (take from sends.now) }
     ensures other { result < length sends.now → (get_or sends.now result (0, 0)).0 ≢ vat }
 {
     let mut place = from;
@@ -64,7 +65,9 @@ impl Lines {
 
     /// Puts one more behind the sends on this connection.
     fn push(&mut self, connection: u32, sent: (u32, usize)) -> Result<(), AllocError>
-        ensures ok { OnOk result ((k : ℕ) → sends_on self.new k ≡ (if connection == k then sends_on self.old k ++ sent ∷ [] else sends_on self.old k)) }
+        ensures ok { OnOk result ((k : ℕ) → sends_on self.new k
+            ≡ (if connection == k then sends_on self.old k ++ sent ∷ []
+            else sends_on self.old k)) }
         ensures err { OnErr result ((k : ℕ) → sends_on self.new k ≡ sends_on self.old k) }
         ensures passed { (v k : ℕ) → passed_on self.new v k ≡ passed_on self.old v k }
     {
@@ -80,16 +83,18 @@ impl Lines {
 
     /// The step of this number, which comes now, sends on this connection. Where memory is refused, all stays as it was.
     pub(crate) fn sent(&mut self, vat: u32, connection: u32, step: usize) -> Result<(), AllocError>
-        ensures ok { OnOk result ((before : List Step) (m : Message) → length before ≡ step → AreLines before self.old
-            → AreLines (Send vat connection m ∷ before) self.new) }
-        ensures err { OnErr result ((before : List Step) → AreLines before self.old → AreLines before self.new) }
+        ensures ok { OnOk result ((before : List Step) (m : Message) → length before ≡ step
+            → AreLines before self.old → AreLines (Send vat connection m ∷ before) self.new) }
+        ensures err { OnErr result ((before : List Step) → AreLines before self.old
+            → AreLines before self.new) }
     {
         self.push(connection, (vat, step))
     }
 
     /// The number of the step whose message comes next to this vat on this connection.
     pub(crate) fn next(&self, vat: u32, connection: u32) -> Option<usize>
-        ensures { (before : List Step) → AreLines before self.now → coming_next vat connection before ≡ option_and_then (message_by before) result }
+        ensures { (before : List Step) → AreLines before self.now
+            → coming_next vat connection before ≡ option_and_then (message_by before) result }
     {
         let sends = self.on(connection);
         let place = first_of_others(sends, self.passed(vat, connection), vat);
@@ -99,9 +104,11 @@ impl Lines {
 
     /// This vat receives now what comes next to it on this connection. Where memory is refused, all stays as it was.
     pub(crate) fn received(&mut self, vat: u32, connection: u32) -> Result<(), AllocError>
-        ensures ok { OnOk result ((before : List Step) (m : Message) (bound : List Cap) → coming_next vat connection before ≡ Some m → AreLines before self.old
+        ensures ok { OnOk result ((before : List Step) (m : Message) (bound : List Cap)
+            → coming_next vat connection before ≡ Some m → AreLines before self.old
             → AreLines (Receive vat connection m bound ∷ before) self.new) }
-        ensures err { OnErr result ((before : List Step) → AreLines before self.old → AreLines before self.new) }
+        ensures err { OnErr result ((before : List Step) → AreLines before self.old
+            → AreLines before self.new) }
     {
         let sends = self.on(connection);
         let place = first_of_others(sends, self.passed(vat, connection), vat);

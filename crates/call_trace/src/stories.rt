@@ -48,7 +48,8 @@ pub(crate) fn event_at(finding: &VatFinding, number: usize) -> Option<&Event>
 /// What the numbers of the record of this number stand for.
 pub(crate) fn seen_at(finding: &VatFinding, number: usize) -> Option<&Seen>
     requires { is_good finding.now.outcome ≡ true }
-    ensures { option_copied result ≡ option_map (λ e. seen_of (past_before finding.now number) e) (record_in finding.now number) }
+    ensures { option_copied result ≡ option_map (λ e. seen_of (past_before finding.now number) e)
+        (record_in finding.now number) }
 {
     seen_of(story(finding)?.seen(), number)
 }

@@ -22,11 +22,11 @@ named (Some (role.Released, v)) role.Released = Some v
 named (Some _) wanted = None
 
 -- what is seen of the number in a role
-abbrev pub view_in : Role → Sight → Option View
-view_in role.Question seen = seen.question
-view_in role.Promise seen = seen.promise
-view_in role.Target seen = seen.target
-view_in role.Released seen = seen.released
+abbrev pub in_role : Role → Sight → Option View
+in_role role.Question seen = seen.question
+in_role role.Promise seen = seen.promise
+in_role role.Target seen = seen.target
+in_role role.Released seen = seen.released
 
 -- descriptors, with one number in a role or none
 abbrev pub standing_with : Option (Role × View) → List (Option View) → Standing

@@ -79,7 +79,8 @@ fn judge_next(
 ) -> Result<Option<Rule>, AllocError>
     requires { length state.old ≡ length seen.old.items }
     ensures { IfOk result (λ r. MatchOption r
-        (IsGood state.old event × (state.new ≡ event ∷ state.old) × (seen.new.items ≡ seen.old.items ++ seen_of state.old event ∷ []))
+        (IsGood state.old event × (state.new ≡ event ∷ state.old)
+        × (seen.new.items ≡ seen.old.items ++ seen_of state.old event ∷ []))
         (λ rule. BreaksFirst rules state.old event rule)) }
 {
     let standing = standing_of(alloc, state, &event)?;
@@ -95,7 +96,10 @@ fn judge_next(
 /// What records tell that were applied, with what was seen of each.
 fn told(state: VatState, seen: Vec<Seen>) -> Story
     requires { length state ≡ length seen.items }
-    ensures { result ≡ record { entries = entries_with (reverse state) seen.items; delivered = count_by is_delivery (reverse state) } }
+    ensures { result ≡ record {
+      entries = entries_with (reverse state) seen.items;
+      delivered = count_by is_delivery (reverse state);
+    } }
 {
     let events = state.into_events();
     let delivered = deliveries(&events);
@@ -114,7 +118,8 @@ fn judge_each(
     requires seen { seen.old.items ≡ [] }
     ensures { IfOk result (λ o. MatchOption o
         (AllGood (reads_within limits) log.now.records (length log.now.records)
-        × (state.new ≡ past_at (reads_within limits) log.now.records (length log.now.records)) × (seen.new.items ≡ reverse (seen_back state.new)))
+        × (state.new ≡ past_at (reads_within limits) log.now.records (length log.now.records))
+        × (seen.new.items ≡ reverse (seen_back state.new)))
         (λ outcome. IsTrueOf log.now limits outcome)) }
 {
     for at in 0..log.len() {

@@ -3,7 +3,7 @@
 ghost use Rattle.std.specs.Prelude.{◌≡◌, [], Some, None, IfOk, IfErr};
 ghost use Rattle.std.specs.Option.{option_copied};
 ghost use Rattle.vat_rules.specs.Glue.{sight_with};
-ghost use Rattle.vat_rules.specs.Compact.{named, view_in, standing_with, lists_of, sight_in, sight_of};
+ghost use Rattle.vat_rules.specs.Compact.{named, in_role, standing_with, lists_of, sight_in, sight_of};
 
 use crate::alike::are_one;
 use crate::standing::Standing;
@@ -198,11 +198,7 @@ fn kept_with(alloc: Global, number: (Role, View), lists: Lists) -> Result<Kept, 
 }
 
 /// What is kept of a record with one number in a role, or none.
-fn kept_parts(
-    alloc: Global,
-    number: Option<(Role, View)>,
-    lists: Lists,
-) -> Result<Kept, AllocError>
+fn kept_parts(alloc: Global, number: Option<(Role, View)>, lists: Lists) -> Result<Kept, AllocError>
     ensures { IfOk result (λ kept. sight_of kept ≡ sight_in number lists) }
 {
     match number {
@@ -226,7 +222,7 @@ fn named(role: Role, view: &View, wanted: Role) -> Option<&View>
 
 /// The view of the number in a role, of several.
 fn named_of(standing: &Standing, wanted: Role) -> Option<&View>
-    ensures { option_copied result ≡ view_in wanted (sight_with [] standing.now) }
+    ensures { option_copied result ≡ in_role wanted (sight_with [] standing.now) }
 {
     match wanted {
         Role::Question => standing.question.as_ref(),
@@ -274,8 +270,8 @@ impl Seen {
     }
 
     /// What the number in this role stands for.
-    fn view_in(&self, wanted: Role) -> Option<&View>
-        ensures { option_copied result ≡ view_in wanted self.now }
+    fn in_role(&self, wanted: Role) -> Option<&View>
+        ensures { option_copied result ≡ in_role wanted self.now }
     {
         match &self.kept {
             Kept::Alone(role, view) => named(*role, view, wanted),
@@ -290,28 +286,28 @@ impl Seen {
     pub fn question(&self) -> Option<&View>
         ensures { option_copied result ≡ self.now.question }
     {
-        self.view_in(Role::Question)
+        self.in_role(Role::Question)
     }
 
     /// What the promise stands for that the record resolves.
     pub fn promise(&self) -> Option<&View>
         ensures { option_copied result ≡ self.now.promise }
     {
-        self.view_in(Role::Promise)
+        self.in_role(Role::Promise)
     }
 
     /// What the target of a Call or Disembargo stands for.
     pub fn target(&self) -> Option<&View>
         ensures { option_copied result ≡ self.now.target }
     {
-        self.view_in(Role::Target)
+        self.in_role(Role::Target)
     }
 
     /// What the number stands for that a Release gives back, if it is in life.
     pub fn released(&self) -> Option<&View>
         ensures { option_copied result ≡ self.now.released }
     {
-        self.view_in(Role::Released)
+        self.in_role(Role::Released)
     }
 
     /// What the descriptors of the record's capability table stand for, by place, counted from 0; `None` also for one

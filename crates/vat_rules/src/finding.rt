@@ -61,7 +61,8 @@ impl VatFinding {
         ensures value { result.now ≡ self.now.outcome }
         ensures of_the_log { IsTrueOf self.now.log self.now.limits result.now }
         // A log has one outcome within given limits.
-        ensures only { (other : Outcome) → IsTrueOf self.now.log self.now.limits other → other ≡ result.now }
+        ensures only { (other : Outcome) → IsTrueOf self.now.log self.now.limits other
+            → other ≡ result.now }
     {
         &self.outcome
     }

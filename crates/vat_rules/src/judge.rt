@@ -24,7 +24,9 @@ pub(crate) fn broken(
     standing: &Standing,
 ) -> Result<Option<Rule>, AllocError>
     requires { standing.now ≡ standing_of state.now event.now }
-    ensures { IfOk result (λ r. MatchOption r (IsGood state.now event.now) (λ rule. BreaksFirst rules state.now event.now rule)) }
+    ensures { IfOk result (λ r.
+        MatchOption r (IsGood state.now event.now)
+        (λ rule. BreaksFirst rules state.now event.now rule)) }
 {
     if !is_open(state, event) {
         return Ok(Some(Rule::Closed));

@@ -34,7 +34,8 @@ pub(crate) fn is_here(state: &VatState, event: &Event) -> bool
 
 /// Whether a call's goal leads to this object of the vat.
 fn reaches_object(state: &VatState, call: u64, object: u64) -> Result<bool, AllocError>
-    ensures { IfOk result (λ b. Decides b (LeadsTo state.now (goal_of call state.now) (Some (Object object)))) }
+    ensures { IfOk result (λ b.
+        Decides b (LeadsTo state.now (goal_of call state.now) (Some (Object object)))) }
 {
     let goal = state.goal_of(call)?;
     let object = View::Object(object);
@@ -49,7 +50,10 @@ fn is_asked(
     interface: u64,
     method: u16,
 ) -> Result<bool, AllocError>
-    ensures { IfOk result (λ b. Decides b (IsSomeAnd (asked call state.now) (λ a. LeadsTo state.now a.goal (option_copied target.entry) × (interface ≡ a.interface) × (method ≡ a.method)))) }
+    ensures { IfOk result (λ b.
+        Decides b (IsSomeAnd (asked call state.now) (λ a.
+        LeadsTo state.now a.goal (option_copied target.entry)
+        × (interface ≡ a.interface) × (method ≡ a.method)))) }
 {
     let Some(asked) = state.asked(call)? else {
         return Ok(false);

@@ -70,7 +70,8 @@ fn is_hosted_end(state: &VatState, view: &View) -> bool
 
 /// Whether the end of a view, if it has one, is an own object or an import that came as senderHosted.
 fn ends_hosted(state: &VatState, view: Option<&View>) -> bool
-    ensures { Decides result (EndsIn state.now (option_copied view.entry) (λ end. IsTrue (is_hosted_end state.now end))) }
+    ensures { Decides result (EndsIn state.now (option_copied view.entry)
+        (λ end. IsTrue (is_hosted_end state.now end))) }
 {
     ends_are_one();
     let Some(view) = view else {
@@ -164,7 +165,8 @@ fn notes_views(
     noted: &[(u64, usize)],
 ) -> Result<bool, AllocError>
     requires { caps.now ≡ views_of_descriptors state.now event.now }
-    ensures { IfOk result (λ b. Decides b (AllByRecursion (NotesView state.now event.now) noted.now)) }
+    ensures { IfOk result (λ b.
+        Decides b (AllByRecursion (NotesView state.now event.now) noted.now)) }
 {
     for (reference, place) in noted {
         if !notes_view(state, event, caps, *reference, *place)? {
@@ -198,7 +200,8 @@ fn notes_each_view(
     caps: &[Option<View>],
 ) -> Result<bool, AllocError>
     requires { caps.now ≡ views_of_descriptors state.now event.now }
-    ensures { IfOk result (λ b. Decides b (AllByRecursion (NotesView state.now event.now) (noted event.now))) }
+    ensures { IfOk result (λ b.
+        Decides b (AllByRecursion (NotesView state.now event.now) (noted event.now))) }
 {
     match only_noted(event) {
         Some(reference) => notes_view(state, event, caps, reference, 0),

@@ -52,7 +52,8 @@ fn theirs(connection: u32, number: u32) -> Id
 /// Whether a sent senderLoopback has a number that isn't outstanding, and a target that leads elsewhere than over its
 /// connection.
 fn asks_echo(state: &VatState, connection: u32, number: u32, target: Option<&View>) -> bool
-    ensures { Decides result (IsTrue (not (is_some (loopback_of (id connection true number) state.now)))
+    ensures { Decides result
+        (IsTrue (not (is_some (loopback_of (id connection true number) state.now)))
         × IsSomeAnd (option_copied target.entry) (λ v. LeadsElsewhere state.now v connection)) }
 {
     if state.awaits_echo(ours(connection, number)) {
@@ -66,7 +67,8 @@ fn asks_echo(state: &VatState, connection: u32, number: u32, target: Option<&Vie
 
 /// Whether a received senderLoopback has a number that isn't pending, and a target that leads back over its connection.
 fn is_asked_echo(state: &VatState, connection: u32, number: u32, target: Option<&View>) -> bool
-    ensures { Decides result (IsTrue (not (is_some (loopback_of (id connection false number) state.now)))
+    ensures { Decides result
+        (IsTrue (not (is_some (loopback_of (id connection false number) state.now)))
         × IsSomeAnd (option_copied target.entry) (λ v. LeadsOver state.now v connection)) }
 {
     if state.awaits_echo(theirs(connection, number)) {
@@ -80,7 +82,9 @@ fn is_asked_echo(state: &VatState, connection: u32, number: u32, target: Option<
 
 /// Whether a sent receiverLoopback has a number whose target led on to this one, and no call holds it up.
 fn may_echo(state: &VatState, connection: u32, number: u32, target: Option<&View>) -> bool
-    ensures { Decides result (LeadsTo state.now (waiting (id connection false number) state.now) (option_copied target.entry)
+    ensures { Decides result
+        (LeadsTo state.now
+        (waiting (id connection false number) state.now) (option_copied target.entry)
         × ¬ IsHeldUp (id connection false number) state.now) }
 {
     let loopback = theirs(connection, number);

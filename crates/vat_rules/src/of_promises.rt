@@ -19,7 +19,8 @@ use vat_view::{Event, Number, VatState, View};
 
 /// Whether a reference stands for an own promise that was neither kept nor broken.
 fn is_unkept(state: &VatState, reference: u64) -> Result<bool, AllocError>
-    ensures { IfOk result (λ b. Decides b (IsUnkept state.now (view_of_reference state.now reference))) }
+    ensures { IfOk result (λ b.
+        Decides b (IsUnkept state.now (view_of_reference state.now reference))) }
 {
     match state.view_of_reference(reference)? {
         Some(View::Promise(promise)) => Ok(state.stays(&View::Promise(promise))),
@@ -60,7 +61,8 @@ fn is_gone(state: &VatState, connection: u32, number: u32) -> bool
 /// Whether the promise of a sent Resolve leads on to what its descriptor stands for, if it has one that isn't none.
 fn resolves_to(state: &VatState, event: &Event, standing: &Standing) -> bool
     requires { standing.now ≡ standing_of state.now event.now }
-    ensures { Decides result (is_cap_at (slice_get (descriptors event.now) 0) ≡ true → LeadsOnTo state.now standing.now.promise (view_of_descriptor state.now event.now 0)) }
+    ensures { Decides result (is_cap_at (slice_get (descriptors event.now) 0) ≡ true
+        → LeadsOnTo state.now standing.now.promise (view_of_descriptor state.now event.now 0)) }
 {
     if is_cap_at(event.descriptors().get(0)) {
         leads_on_to(

@@ -24,7 +24,8 @@ fn returns_field(
     place: usize,
 ) -> Result<bool, AllocError>
     requires { caps.now ≡ views_of_descriptors state.now event.now }
-    ensures { IfOk result (λ b. Decides b (ReturnsField state.now event.now call (path.now, place))) }
+    ensures { IfOk result (λ b.
+        Decides b (ReturnsField state.now event.now call (path.now, place))) }
 {
     if !is_cap_at(event.descriptors().get(place)) {
         return Ok(true);
@@ -42,7 +43,8 @@ fn returns_each(
     fields: &[(Path, u32)],
 ) -> Result<bool, AllocError>
     requires { caps.now ≡ views_of_descriptors state.now event.now }
-    ensures { IfOk result (λ b. Decides b (AllByRecursion (ReturnsField state.now event.now call) fields.now)) }
+    ensures { IfOk result (λ b.
+        Decides b (AllByRecursion (ReturnsField state.now event.now call) fields.now)) }
 {
     for (path, place) in fields {
         if !returns_field(state, event, caps, call, path, *place as usize)? {

@@ -1,7 +1,8 @@
 //! From stored records to those that are judged.
 
-ghost use Rattle.std.specs.Prelude.{◌≡◌, IfOk};
-ghost use Rattle.vat_rules.specs.Events.{with_message, event_of};
+ghost use Rattle.std.specs.Prelude.{◌≡◌, false, Ok, IfOk};
+ghost use Rattle.vat_rules.specs.Events.{Reader, with_message, event_of};
+ghost use Rattle.vat_rules.specs.Glue.{has_frame};
 ghost use Rattle.vat_rules.specs.Audit.{why_outside, reads_within};
 
 use crate::outcome::Why;
@@ -39,19 +40,18 @@ fn message_of(
     }
 }
 
-/// The event of a frame that went out or came in.
+/// The event of a frame that went out or came in, by the message that was read of it.
 fn wire(
-    alloc: Global,
     sent: bool,
     connection: u32,
     call: u64,
     references: &References,
-    frame: &Bytes,
-    limits: Limits,
+    message: Result<RpcMessage, Why>,
 ) -> Result<Result<Event, Why>, AllocError>
-    ensures { IfOk result (λ r. r ≡ with_message (λ m. Event.Wire sent connection call references.now m) (reads_within limits frame.now)) }
+    ensures { IfOk result (λ event.
+        event ≡ with_message (Event.Wire sent connection call references.now) message) }
 {
-    match message_of(alloc, frame, limits)? {
+    match message {
         Ok(message) => {
             let references = references.copy()?;
             Ok(Ok(Event::Wire {
@@ -66,6 +66,46 @@ fn wire(
     }
 }
 
+/// The event of a record that has no frame.
+fn own_event(body: &Body) -> Result<Event, AllocError>
+    requires { has_frame body.now ≡ false }
+    ensures { IfOk result (λ event. (read : Reader) → event_of read body.now ≡ Ok event) }
+{
+    Ok(match *body {
+        Body::Host { reference, object } => Event::Host { reference, object },
+        Body::Vow { reference } => Event::Vow { reference },
+        Body::Fulfil { reference, to } => Event::Fulfil { reference, to },
+        Body::Break { reference } => Event::Break { reference },
+        Body::Make {
+            call,
+            reference,
+            interface,
+            method,
+        } => Event::Make {
+            call,
+            reference,
+            interface,
+            method,
+        },
+        Body::Field {
+            reference,
+            call,
+            ref path,
+        } => Event::Field {
+            reference,
+            call,
+            path: path.copy()?,
+        },
+        Body::Deliver { call, object } => Event::Deliver { call, object },
+        Body::Answer { call, ref results } => Event::Answer {
+            call,
+            results: results.copy()?,
+        },
+        Body::Fault { call } => Event::Fault { call },
+        Body::Send { .. } | Body::Receive { .. } => unreachable!(),
+    })
+}
+
 /// A stored record as it is judged, with its message read, or why it is outside.
 pub(crate) fn event_of(
     alloc: Global,
@@ -74,62 +114,25 @@ pub(crate) fn event_of(
 ) -> Result<Result<Event, Why>, AllocError>
     ensures { IfOk result (λ r. r ≡ event_of (reads_within limits) body.now) }
 {
-    let event = match body {
-        Body::Host { reference, object } => Event::Host {
-            reference: *reference,
-            object: *object,
-        },
-        Body::Vow { reference } => Event::Vow {
-            reference: *reference,
-        },
-        Body::Fulfil { reference, to } => Event::Fulfil {
-            reference: *reference,
-            to: *to,
-        },
-        Body::Break { reference } => Event::Break {
-            reference: *reference,
-        },
-        Body::Make {
-            call,
-            reference,
-            interface,
-            method,
-        } => Event::Make {
-            call: *call,
-            reference: *reference,
-            interface: *interface,
-            method: *method,
-        },
-        Body::Field {
-            reference,
-            call,
-            path,
-        } => Event::Field {
-            reference: *reference,
-            call: *call,
-            path: path.copy()?,
-        },
-        Body::Deliver { call, object } => Event::Deliver {
-            call: *call,
-            object: *object,
-        },
-        Body::Answer { call, results } => Event::Answer {
-            call: *call,
-            results: results.copy()?,
-        },
-        Body::Fault { call } => Event::Fault { call: *call },
+    match body {
         Body::Send {
             connection,
             call,
             references,
             frame,
-        } => return wire(alloc, true, *connection, *call, references, frame, limits),
+        } => {
+            let message = message_of(alloc, frame, limits)?;
+            wire(true, *connection, *call, references, message)
+        }
         Body::Receive {
             connection,
             call,
             references,
             frame,
-        } => return wire(alloc, false, *connection, *call, references, frame, limits),
-    };
-    Ok(Ok(event))
+        } => {
+            let message = message_of(alloc, frame, limits)?;
+            wire(false, *connection, *call, references, message)
+        }
+        _ => Ok(Ok(own_event(body)?)),
+    }
 }

@@ -122,7 +122,8 @@ fn views_of(alloc: Global, state: &VatState, references: &[u64]) -> Result<Views
 
 /// What the references of a call's results stand for.
 fn answered(alloc: Global, state: &VatState, results: &[(u64, Path)]) -> Result<Views, AllocError>
-    ensures { IfOk result (λ views. views ≡ map (view_of_reference state.now) (map (λ answer. answer.0) results.now)) }
+    ensures { IfOk result (λ views.
+        views ≡ map (view_of_reference state.now) (map (λ answer. answer.0) results.now)) }
 {
     if let [answer] = results {
         return Ok(Views::one(state.view_of_reference(answer.0)?));
@@ -140,7 +141,8 @@ pub(crate) fn views_of_references(
     state: &VatState,
     event: &Event,
 ) -> Result<Views, AllocError>
-    ensures { IfOk result (λ views. views ≡ map (view_of_reference state.now) (new_references event.now ++ named_references event.now)) }
+    ensures { IfOk result (λ views. views ≡ map
+        (view_of_reference state.now) (new_references event.now ++ named_references event.now)) }
 {
     match event {
         Event::Answer { results, .. } => answered(alloc, state, results.as_slice()),

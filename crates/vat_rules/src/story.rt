@@ -22,7 +22,10 @@ impl Model for Story {
 
     ghost Value = { Told };
 
-    ghost view = { λ story. record { entries = entries_with story.events.items story.seen.items; delivered = story.delivered } };
+    ghost view = { λ story. record {
+      entries = entries_with story.events.items story.seen.items;
+      delivered = story.delivered;
+    } };
 
     ghost invariant = { λ story. length story.events.items ≡ length story.seen.items };
 }
@@ -30,7 +33,10 @@ impl Model for Story {
 impl Story {
     pub(crate) fn new(events: Vec<Event>, seen: Vec<Seen>, delivered: u64) -> Story
         requires { length events.items ≡ length seen.items }
-        ensures { result ≡ record { entries = entries_with events.items seen.items; delivered = delivered } }
+        ensures { result ≡ record {
+          entries = entries_with events.items seen.items;
+          delivered = delivered;
+        } }
     {
         Story {
             events,

@@ -209,7 +209,7 @@ call_is false None call c own h = absurd (let no : ⊥ = cc in no)
 
 return_tells : (v call : ℕ) (path : List ℕ) (es : Past) (steps : List Step) (k c : ℕ) (rs : List ℕ) (q : ℕ) (release : Bool) (outcome : Outcome) (s : Step) (b : View) →
     Says v es steps (Wire false k c rs (Return q release outcome)) s → is call (call_at (opening (id k true q) es)) ≡ true → is_late es (Wire false k c rs (Return q release outcome)) ≡ false →
-    result_at path es (Wire false k c rs (Return q release outcome)) ≡ Some b → TurnsNames (naming v (Wire false k c rs (Return q release outcome) ∷ es) (s ∷ steps)) (FieldOf call path) b s
+    result_at path es (Wire false k c rs (Return q release outcome)) outcome ≡ Some b → TurnsNames (naming v (Wire false k c rs (Return q release outcome) ∷ es) (s ∷ steps)) (FieldOf call path) b s
 return_tells v call path es steps k c rs q release (Results payload) s b says own late there =
     let e = Wire false k c rs (Return q release (Results payload)) in
     let names = naming v (e ∷ es) (s ∷ steps) in
@@ -291,8 +291,8 @@ of_call v call path es steps (Answer c results) s b says h =
 of_call v call path es steps (Fault c) s b says h = absurd (no_stop b (turned_is (c == call) stops b h).1)
 of_call v call path es steps (Wire false k c rs (Return q release outcome)) s b says h =
     let e = Wire false k c rs (Return q release outcome) in
-    let t = turned_is (is call (call_at (opening (id k true q) es))) (if is_late es e then stops else on_to (result_at path es e)) b h in
-    let on = not_late_on (is_late es e) (result_at path es e) b t.1 in
+    let t = turned_is (is call (call_at (opening (id k true q) es))) (if is_late es e then stops else on_to (result_at path es e outcome)) b h in
+    let on = not_late_on (is_late es e) (result_at path es e outcome) b t.1 in
     return_tells v call path es steps k c rs q release outcome s b says t.0 on.0 on.1
 of_call v call path es steps e s b says h = absurd (let no : ⊥ = cc in no)
 

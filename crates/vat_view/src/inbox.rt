@@ -14,9 +14,9 @@ use crate::bound::Bound;
 use crate::calls::Calls;
 use crate::event::Event;
 use crate::heading::heading_of;
+use crate::id::Id;
 use crate::lives::Lives;
 use crate::loopbacks::Unechoed;
-use crate::number::Number;
 use crate::questions::Questions;
 use crate::queued::Queued;
 use rpc_view::{Outcome, RpcMessage};
@@ -97,7 +97,14 @@ pub(crate) fn taken(questions: &Questions, event: &Event) -> Option<u64>
                 ..
             },
             ..
-        } => opening_call(questions, Number::Answer(*number).on(*connection)),
+        } => opening_call(
+            questions,
+            Id {
+                connection: *connection,
+                ours: false,
+                number: *number,
+            },
+        ),
         _ => None,
     }
 }

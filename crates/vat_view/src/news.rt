@@ -9,8 +9,8 @@ use crate::asked::Asked;
 use crate::asking::{opening_call, view_of_target};
 use crate::bound::Bound;
 use crate::event::Event;
+use crate::id::Id;
 use crate::lives::Lives;
-use crate::number::Number;
 use crate::progress::{News, Progress, Step};
 use crate::questions::Questions;
 use crate::standing::view_of_reference;
@@ -82,7 +82,11 @@ fn sent_news(questions: &Questions, event: &Event) -> News
             outcome: Outcome::Exception | Outcome::Canceled,
             ..
         } => {
-            let question = Number::Answer(*number).on(*connection);
+            let question = Id {
+                connection: *connection,
+                ours: false,
+                number: *number,
+            };
             step_of(Step::Left, opening_call(questions, question))
         }
         _ => News::Nothing,
@@ -130,7 +134,11 @@ fn received_news(
             if is_late(questions, event) {
                 return Ok(News::Nothing);
             }
-            let question = Number::Question(*number).on(*connection);
+            let question = Id {
+                connection: *connection,
+                ours: true,
+                number: *number,
+            };
             Ok(step_of(Step::Known, opening_call(questions, question)))
         }
         _ => Ok(News::Nothing),

@@ -8,7 +8,6 @@ use crate::bound::Bound;
 use crate::event::Event;
 use crate::id::Id;
 use crate::lives::Lives;
-use crate::number::Number;
 use crate::pending::Pending;
 use crate::questions::Questions;
 use crate::view::View;
@@ -64,7 +63,14 @@ pub(crate) fn settled(
             connection,
             message: RpcMessage::Return { answer: number, .. },
             ..
-        } => results_of(questions, Number::Question(*number).on(*connection)),
+        } => results_of(
+            questions,
+            Id {
+                connection: *connection,
+                ours: true,
+                number: *number,
+            },
+        ),
         Event::Wire {
             sent: false,
             connection,
@@ -73,7 +79,14 @@ pub(crate) fn settled(
                 ..
             },
             ..
-        } => import_of(lives, Number::Import(*number).on(*connection)),
+        } => import_of(
+            lives,
+            Id {
+                connection: *connection,
+                ours: false,
+                number: *number,
+            },
+        ),
         _ => None,
     }
 }

@@ -5,7 +5,8 @@ ghost use Rattle.std.specs.Option.{option_map};
 ghost use Rattle.std.specs.Vec.{vec_capacity};
 ghost use Rattle.case_book.specs.Ties.{tie_fault_of};
 ghost use Rattle.case_book.specs.Glue.{ArePlaced};
-ghost use Rattle.case_book.specs.Books.{IsBook, IsPosted, IsRefusal, findings_of, least_missing, least_unclaimed, missing_in, new_book, with_claim};
+ghost use Rattle.case_book.specs.Books.{IsBook, IsClaimed, IsMissing, IsPosted, IsRefusal, findings_of, least_missing, least_unclaimed, missing_in, new_book, with_claim, with_finding};
+ghost use Rattle.case_book.specs.Pieces.{IsForPiece};
 
 use crate::case::Case;
 use crate::finding::Finding;
@@ -198,9 +199,30 @@ impl Book {
         if !self.claimed[number] {
             return Err(Refused::Unclaimed(finding));
         }
+        self.place(number, finding);
+        Ok(())
+    }
+
+    /// Posts a finding for this piece of the book's case, which is claimed and not posted, without looking for its piece.
+    pub fn keep(&mut self, piece: Piece, finding: Finding)
+        requires own { IsForPiece self.old.case finding piece.number }
+        requires missing { IsMissing self.old piece.number }
+        requires claimed { IsClaimed self.old piece.number }
+        ensures after { self.new ≡ with_finding self.old piece.number finding }
+        ensures fewer { missing_in self.new + 1 ≡ missing_in self.old }
+    {
+        self.place(piece.number as usize, finding);
+    }
+
+    /// Puts a finding at the place of its piece, which is missing.
+    fn place(&mut self, number: usize, finding: Finding)
+        requires own { IsForPiece self.old.case finding number }
+        requires missing { IsMissing self.old number }
+        ensures after { self.new ≡ with_finding self.old number finding }
+        ensures fewer { missing_in self.new + 1 ≡ missing_in self.old }
+    {
         self.found[number] = Some(finding);
         self.missing -= 1;
-        Ok(())
     }
 
     /// How many pieces aren't posted.

@@ -35,6 +35,14 @@ impl Findings {
         Findings { case, vats, links }
     }
 
+    /// The case.
+    pub fn case(&self) -> &Case
+        ensures lent { result.now ≡ self.now.case }
+        ensures whole { AreAll self.now }
+    {
+        &self.case
+    }
+
     /// What is found of the vats, by rising vat number.
     pub fn vats(&self) -> &[VatFinding]
         ensures lent { result.now ≡ self.now.vats }

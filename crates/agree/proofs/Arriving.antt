@@ -5,9 +5,9 @@ use Rattle.std.specs.List.{list_all, filter_map}
 use Rattle.std.specs.Bool.{beq}
 use Rattle.std.proofs.lemmas.Bool.{false≢true, eq-eqb, and_parts, and_from, ltb-true, lt-ltb}
 use Rattle.std.proofs.lemmas.Bool.Decides.{nat_tests}
-use Rattle.agree.specs.Types.{Descriptor, SenderHosted, ReceiverHosted, ReceiverAnswer, Imported, Promised, RpcMessage, Bootstrap, Call, Return, Finish, Release, Disembargo, Event, Wire, Id}
+use Rattle.agree.specs.Types.{Descriptor, SenderHosted, ReceiverHosted, ReceiverAnswer, Imported, Promised, RpcMessage, Bootstrap, Call, Return, Finish, Release, Disembargo, DecodedRecord, Wire, TableKey}
 use Rattle.vat_view.specs.Past.{Past, id, Each}
-use Rattle.vat_view.specs.Questions.{returned, finished, returns, is_opened, is_returned, is_finished, is_free, is_unfinished, is_unreturned}
+use Rattle.vat_view.specs.Questions.{question_returned, question_finished, returns, is_opened, is_returned, is_finished, is_free, is_unfinished, is_unreturned}
 use Rattle.vat_view.specs.Lives.{gives_back, held, is_in_life, descriptors_of, GivesBackHeld}
 use Rattle.vat_view.specs.Uses.{OpensFree, UsesQuestions, UsesNumbers, question_targeted, question_described, questions_used, number_targeted, number_described, number_released, numbers_used}
 use Rattle.agree.specs.Streams.{passing, stream, IsPassed}
@@ -29,32 +29,32 @@ use Rattle.agree.proofs.Standing.{linked_before}
 -- ---- lists of numbers at the two ends
 
 -- what is so of one list at one end is so of another at the other
-abbrev Follows : (Id → Bool) → (Id → Bool) → List Id → List Id → Type 0
+abbrev Follows : (TableKey → Bool) → (TableKey → Bool) → List TableKey → List TableKey → Type 0
 Follows P Q xs ys = list_all P xs ≡ true → list_all Q ys ≡ true
 
-one_follows : (P Q : Id → Bool) (i j : Id) → (P i ≡ true → Q j ≡ true) → Follows P Q (i ∷ []) (j ∷ [])
+one_follows : (P Q : TableKey → Bool) (i j : TableKey) → (P i ≡ true → Q j ≡ true) → Follows P Q (i ∷ []) (j ∷ [])
 one_follows P Q i j f h = and_from (Q j) true (f (and_parts (P i) true h).0) refl
 
-more_follows : (P Q : Id → Bool) (i j : Id) (xs ys : List Id) → (P i ≡ true → Q j ≡ true) → Follows P Q xs ys → Follows P Q (i ∷ xs) (j ∷ ys)
+more_follows : (P Q : TableKey → Bool) (i j : TableKey) (xs ys : List TableKey) → (P i ≡ true → Q j ≡ true) → Follows P Q xs ys → Follows P Q (i ∷ xs) (j ∷ ys)
 more_follows P Q i j xs ys f rest h = let both = and_parts (P i) (list_all P xs) h in and_from (Q j) (list_all Q ys) (f both.0) (rest both.1)
 
-front : (P : Id → Bool) (xs ys : List Id) → list_all P (xs ++ ys) ≡ true → (list_all P xs ≡ true) × (list_all P ys ≡ true)
+front : (P : TableKey → Bool) (xs ys : List TableKey) → list_all P (xs ++ ys) ≡ true → (list_all P xs ≡ true) × (list_all P ys ≡ true)
 front P [] ys h = (refl, h)
 front P (x ∷ xs) ys h =
     let both = and_parts (P x) (list_all P (xs ++ ys)) h in
     let rest = front P xs ys both.1 in (and_from (P x) (list_all P xs) both.0 rest.0, rest.1)
 
-join : (P : Id → Bool) (xs ys : List Id) → list_all P xs ≡ true → list_all P ys ≡ true → list_all P (xs ++ ys) ≡ true
+join : (P : TableKey → Bool) (xs ys : List TableKey) → list_all P xs ≡ true → list_all P ys ≡ true → list_all P (xs ++ ys) ≡ true
 join P [] ys h g = g
 join P (x ∷ xs) ys h g = let both = and_parts (P x) (list_all P xs) h in and_from (P x) (list_all P (xs ++ ys)) both.0 (join P xs ys both.1 g)
 
-three_follow : (P Q : Id → Bool) (a b c x y z : List Id) → Follows P Q a x → Follows P Q b y → Follows P Q c z → Follows P Q (a ++ b ++ c) (x ++ y ++ z)
+three_follow : (P Q : TableKey → Bool) (a b c x y z : List TableKey) → Follows P Q a x → Follows P Q b y → Follows P Q c z → Follows P Q (a ++ b ++ c) (x ++ y ++ z)
 three_follow P Q a b c x y z f g h all =
     let last = front P (a ++ b) c all in
     let first = front P a b last.0 in join Q (x ++ y) z (join Q x y (f first.0) (g first.1)) (h last.1)
 
 -- the questions that a message uses, at its sender and at its receiver
-module _ (k c d : ℕ) (rs ss : List ℕ) (P Q : Id → Bool) (same : (n : ℕ) → P (id k true n) ≡ true → Q (id k false n) ≡ true) where
+module _ (k c d : ℕ) (rs ss : List ℕ) (P Q : TableKey → Bool) (same : (n : ℕ) → P (id k true n) ≡ true → Q (id k false n) ≡ true) where
   targets_follow : (m : RpcMessage) → Follows P Q (option_to_list (question_targeted (Wire true k c rs m))) (option_to_list (question_targeted (Wire false k d ss m)))
   targets_follow (Call q (Promised n path) i x b) = one_follows P Q (id k true n) (id k false n) (same n)
   targets_follow (Call q (Imported n) i x b) = λ h. h
@@ -70,7 +70,7 @@ module _ (k c d : ℕ) (rs ss : List ℕ) (P Q : Id → Bool) (same : (n : ℕ) 
   described_follow m (SenderHosted n ∷ ds) = described_follow m ds
   described_follow m (_ ∷ ds) = described_follow m ds
 
-  finished_follow : (m : RpcMessage) → Follows P Q (option_to_list (finished (Wire true k c rs m))) (option_to_list (finished (Wire false k d ss m)))
+  finished_follow : (m : RpcMessage) → Follows P Q (option_to_list (question_finished (Wire true k c rs m))) (option_to_list (question_finished (Wire false k d ss m)))
   finished_follow (Finish n release) = one_follows P Q (id k true n) (id k false n) (same n)
   finished_follow (Bootstrap q) = λ h. h
   finished_follow _ = λ h. h
@@ -79,7 +79,7 @@ module _ (k c d : ℕ) (rs ss : List ℕ) (P Q : Id → Bool) (same : (n : ℕ) 
   questions_follow m = three_follow P Q _ _ _ _ _ _ (targets_follow m) (described_follow m (descriptors_of m)) (finished_follow m)
 
 -- the numbers that it uses
-module _ (k c d : ℕ) (rs ss : List ℕ) (P Q : Id → Bool) (same : (n : ℕ) → P (id k false n) ≡ true → Q (id k true n) ≡ true) where
+module _ (k c d : ℕ) (rs ss : List ℕ) (P Q : TableKey → Bool) (same : (n : ℕ) → P (id k false n) ≡ true → Q (id k true n) ≡ true) where
   number_targets_follow : (m : RpcMessage) → Follows P Q (option_to_list (number_targeted (Wire true k c rs m))) (option_to_list (number_targeted (Wire false k d ss m)))
   number_targets_follow (Call q (Imported n) i x b) = one_follows P Q (id k false n) (id k true n) (same n)
   number_targets_follow (Call q (Promised n path) i x b) = λ h. h
@@ -116,8 +116,8 @@ module _ (k : ℕ) (from to : Past) (linked : AreLinked k from to) (same : strea
   -- a question that is free at its asker is free at the other end
   free_there : (q : ℕ) → is_free (id k true q) from ≡ true → is_free (id k false q) to ≡ true
   free_there q h =
-      let mine : Id = id k true q in
-      let theirs : Id = id k false q in
+      let mine : TableKey = id k true q in
+      let theirs : TableKey = id k false q in
       let more = more_returns mine from (each_so OpensFree (OpensIdle mine) (opens_idle mine) from free_x) in
       let fewer = fewer_returns theirs to (each_so UsesQuestions (ReturnsDue theirs) (returns_waiting theirs) to uses_y) in
       let idle = ap (λ b. one_if b) (free_parts (is_opened mine from) (is_returned mine from) (is_finished mine from) h) in
@@ -156,7 +156,7 @@ module _ (k : ℕ) (from to : Past) (linked : AreLinked k from to) (same : strea
     returned_once = once m due;
   }
     where
-      once : (m : RpcMessage) → ((q : ℕ) (release : Bool) → answers q m ≡ true → is_unreturned (id k true q) to ≡ true) → IfSome (returned (Wire false k d ss m)) (λ q. is_unreturned q to ≡ true)
+      once : (m : RpcMessage) → ((q : ℕ) (release : Bool) → answers q m ≡ true → is_unreturned (id k true q) to ≡ true) → IfSome (question_returned (Wire false k d ss m)) (λ q. is_unreturned q to ≡ true)
       once (Return q release outcome) due = due q release (eq-eqb q q refl)
       once (Bootstrap q) due = tt
       once _ due = tt
@@ -165,7 +165,7 @@ ours_by : (b : Bool) → false ≡ not b → true ≡ b
 ours_by true e = refl
 ours_by false e = absurd (false≢true e)
 
-module _ (k : ℕ) (one other : Past) (linked : AreLinked k one other) (m : RpcMessage) (from to : Past) (sent received : Event) (p : IsPassed k m one other from to sent received)
+module _ (k : ℕ) (one other : Past) (linked : AreLinked k one other) (m : RpcMessage) (from to : Past) (sent received : DecodedRecord) (p : IsPassed k m one other from to sent received)
     (uses_x : Each UsesQuestions (sent ∷ from)) (free_x : Each OpensFree (sent ∷ from)) (counts : Each GivesBackHeld (sent ∷ from)) (numbers : UsesNumbers from sent) (uses_y : Each UsesQuestions to) (free_y : Each OpensFree to) where
   met : IsMet k from to
   met = record { cut = linked.there m from to sent received p; all = same_before k m one other from to sent received linked.cut.to_other p }

@@ -5,9 +5,9 @@ use Rattle.std.specs.List.{cons_option}
 use Rattle.std.specs.Bool.{beq}
 use Rattle.std.proofs.lemmas.Bool.{false≢true, and_parts}
 use Rattle.std.proofs.lemmas.Bool.Decides.{nat_tests}
-use Rattle.agree.specs.Types.{RpcMessage, Bootstrap, Call, Return, Finish, Event, Host, Wire, Id}
+use Rattle.agree.specs.Types.{RpcMessage, Bootstrap, Call, Return, Finish, DecodedRecord, Host, Wire, TableKey}
 use Rattle.vat_view.specs.Past.{Past, id, Point, point, names, last_since, Each}
-use Rattle.vat_view.specs.Questions.{opened, returned, finished, released, opens, returns, finishes, releases, opening, is_finished, is_opened, is_released, is_free, is_unfinished, is_unreturned}
+use Rattle.vat_view.specs.Questions.{question_opened, question_returned, question_finished, question_released, opens, returns, finishes, releases, opening, is_finished, is_opened, is_released, is_free, is_unfinished, is_unreturned}
 use Rattle.vat_view.specs.Uses.{OpensFree, UsesQuestions}
 use Rattle.vat_view.proofs.Once.{used_so}
 use Rattle.agree.specs.Streams.{passing, stream, opening_number}
@@ -67,21 +67,21 @@ not_asked : (g : Bool) (test : RpcMessage → Bool) (m : RpcMessage) → test m 
 not_asked true test m e = sym e
 not_asked false test m e = refl
 
-pub opens_is : (q : Id) (e : Event) → names q (opened e) ≡ passes (asks q.number) (passing q.connection q.ours e)
+pub opens_is : (q : TableKey) (e : DecodedRecord) → names q (question_opened e) ≡ passes (asks q.number) (passing q.connection q.ours e)
 opens_is q (Wire t j c rs (Bootstrap n)) = as_asked ((q.connection == j) && beq q.ours t) (asks q.number) (Bootstrap n)
 opens_is q (Wire t j c rs (Call n target i m b)) = as_asked ((q.connection == j) && beq q.ours t) (asks q.number) (Call n target i m b)
 opens_is q (Wire t j c rs m) = not_asked ((q.connection == j) && beq q.ours t) (asks q.number) m refl
 opens_is q (Host r o) = refl
 opens_is q _ = refl
 
-pub releases_is : (q : Id) (e : Event) → names q (released e) ≡ passes (frees q.number) (passing q.connection q.ours e)
+pub releases_is : (q : TableKey) (e : DecodedRecord) → names q (question_released e) ≡ passes (frees q.number) (passing q.connection q.ours e)
 releases_is q (Wire t j c rs (Finish n true)) = as_asked ((q.connection == j) && beq q.ours t) (frees q.number) (Finish n true)
 releases_is q (Wire t j c rs (Finish n false)) = not_asked ((q.connection == j) && beq q.ours t) (frees q.number) (Finish n false) refl
 releases_is q (Wire t j c rs m) = not_asked ((q.connection == j) && beq q.ours t) (frees q.number) m refl
 releases_is q (Host r o) = refl
 releases_is q _ = refl
 
-finishes_is : (q : Id) (e : Event) → names q (finished e) ≡ passes (ends q.number) (passing q.connection q.ours e)
+finishes_is : (q : TableKey) (e : DecodedRecord) → names q (question_finished e) ≡ passes (ends q.number) (passing q.connection q.ours e)
 finishes_is q (Wire t j c rs (Finish n release)) = as_asked ((q.connection == j) && beq q.ours t) (ends q.number) (Finish n release)
 finishes_is q (Wire t j c rs m) = not_asked ((q.connection == j) && beq q.ours t) (ends q.number) m refl
 finishes_is q (Host r o) = refl
@@ -90,7 +90,7 @@ finishes_is q _ = refl
 turn : (a o t b : Bool) → (a && beq o (not t) && b) ≡ (a && beq (not o) t && b)
 turn a o t b = grind (arith, nat_tests)
 
-pub returns_is : (q : Id) (e : Event) → names q (returned e) ≡ passes (answers q.number) (passing q.connection (not q.ours) e)
+pub returns_is : (q : TableKey) (e : DecodedRecord) → names q (question_returned e) ≡ passes (answers q.number) (passing q.connection (not q.ours) e)
 returns_is q (Wire t j c rs (Return n release outcome)) = turn (q.connection == j) q.ours t (q.number == n) ∙ as_asked ((q.connection == j) && beq (not q.ours) t) (answers q.number) (Return n release outcome)
 returns_is q (Wire t j c rs (Bootstrap n)) = not_asked ((q.connection == j) && beq (not q.ours) t) (answers q.number) (Bootstrap n) refl
 returns_is q (Wire t j c rs m) = not_asked ((q.connection == j) && beq (not q.ours) t) (answers q.number) m refl
@@ -118,7 +118,7 @@ some_if false true p o = refl
 some_if false false p o = refl
 
 -- what came since the last opening of a question, and went the same way, came since in the stream
-pub since_stream : (q : Id) (t : Past → Event → Bool) (test : RpcMessage → Bool) → ((before : Past) (e : Event) → t before e ≡ passes test (passing q.connection q.ours e)) → (past : Past) →
+pub since_stream : (q : TableKey) (t : Past → DecodedRecord → Bool) (test : RpcMessage → Bool) → ((before : Past) (e : DecodedRecord) → t before e ≡ passes test (passing q.connection q.ours e)) → (past : Past) →
     is_some (last_since (opens q) t past) ≡ came_since (asks q.number) test (stream q.connection q.ours past)
 since_stream q t test same [] = refl
 since_stream q t test same (e ∷ before) =
@@ -129,10 +129,10 @@ since_stream q t test same (e ∷ before) =
     ∙ sym (since_at (asks q.number) test o (stream q.connection q.ours before))
 
 -- so were a question's results given back, and so was it finished
-pub released_stream : (q : Id) (past : Past) → is_released q past ≡ came_since (asks q.number) (frees q.number) (stream q.connection q.ours past)
+pub released_stream : (q : TableKey) (past : Past) → is_released q past ≡ came_since (asks q.number) (frees q.number) (stream q.connection q.ours past)
 released_stream q past = since_stream q (releases q) (frees q.number) (λ before e. releases_is q e) past
 
-pub finished_stream : (q : Id) (past : Past) → is_finished q past ≡ came_since (asks q.number) (ends q.number) (stream q.connection q.ours past)
+pub finished_stream : (q : TableKey) (past : Past) → is_finished q past ≡ came_since (asks q.number) (ends q.number) (stream q.connection q.ours past)
 finished_stream q past = since_stream q (finishes q) (ends q.number) (λ before e. finishes_is q e) past
 
 -- ---- the number of an opening
@@ -147,11 +147,11 @@ map_if f true p o = refl
 map_if f false p o = refl
 
 -- one record on
-pub number_more : (q : Id) (e : Event) (past : Past) → opening_number q (e ∷ past) ≡ (if names q (opened e) then Some (length (stream q.connection q.ours past)) else opening_number q past)
-number_more q e past = map_if (λ p. length (stream q.connection q.ours p.before)) (names q (opened e)) (point past e) (opening q past)
+pub number_more : (q : TableKey) (e : DecodedRecord) (past : Past) → opening_number q (e ∷ past) ≡ (if names q (question_opened e) then Some (length (stream q.connection q.ours past)) else opening_number q past)
+number_more q e past = map_if (λ p. length (stream q.connection q.ours p.before)) (names q (question_opened e)) (point past e) (opening q past)
 
 -- it stands in the stream alone
-pub number_stream : (q : Id) (past : Past) → opening_number q past ≡ last_number (asks q.number) (stream q.connection q.ours past)
+pub number_stream : (q : TableKey) (past : Past) → opening_number q past ≡ last_number (asks q.number) (stream q.connection q.ours past)
 number_stream q [] = refl
 number_stream q (e ∷ past) =
     number_more q e past
@@ -166,10 +166,10 @@ some_mapped : (f : Point → ℕ) (o : Option Point) → is_some o ≡ is_some (
 some_mapped f (Some p) = refl
 some_mapped f None = refl
 
-pub opened_stream : (q : Id) (past : Past) → is_opened q past ≡ is_some (last_number (asks q.number) (stream q.connection q.ours past))
+pub opened_stream : (q : TableKey) (past : Past) → is_opened q past ≡ is_some (last_number (asks q.number) (stream q.connection q.ours past))
 opened_stream q past = some_mapped (λ p. length (stream q.connection q.ours p.before)) (opening q past) ∙ ap (λ o. is_some o) (number_stream q past)
 
-pub unfinished_stream : (q : Id) (past : Past) → is_unfinished q past ≡ unfinished_in q.number (stream q.connection q.ours past)
+pub unfinished_stream : (q : TableKey) (past : Past) → is_unfinished q past ≡ unfinished_in q.number (stream q.connection q.ours past)
 unfinished_stream q past = ap₂ (λ a b. a && not b) (opened_stream q past) (finished_stream q past)
 
 -- ---- where none of a kind came later
@@ -196,7 +196,7 @@ since_more u t (m ∷ later) str e h =
 -- ---- what a question waits for
 
 -- a question was opened, and no such record, as its Return or its Finish, has come since
-abbrev pub is_due : Id → (Past → Event → Bool) → Past → Bool
+abbrev pub is_due : TableKey → (Past → DecodedRecord → Bool) → Past → Bool
 is_due q t past = is_opened q past && not (is_some (last_since (opens q) t past))
 
 waits_by : (o r : Bool) (p x : Point) (a b : Option Point) →
@@ -207,21 +207,21 @@ waits_by false true p x (Some y) b = refl
 waits_by false false p x a b = refl
 
 -- an opening makes it due, and it comes
-pub waits : (q : Id) (t : Past → Event → Bool) (e : Event) (before : Past) → is_due q t (e ∷ before) ≡ (if opens q before e then true else (if t before e then false else is_due q t before))
+pub waits : (q : TableKey) (t : Past → DecodedRecord → Bool) (e : DecodedRecord) (before : Past) → is_due q t (e ∷ before) ≡ (if opens q before e then true else (if t before e then false else is_due q t before))
 waits q t e before = waits_by (opens q before e) (t before e) (point before e) (point before e) (opening q before) (last_since (opens q) t before)
 
 -- what opens a question neither returns nor finishes it
-pub opens_no_return : (q : Id) (e : Event) → names q (opened e) ≡ true → names q (returned e) ≡ false
+pub opens_no_return : (q : TableKey) (e : DecodedRecord) → names q (question_opened e) ≡ true → names q (question_returned e) ≡ false
 opens_no_return q (Wire s j c rs (Return n release outcome)) h = absurd (false≢true h)
 opens_no_return q (Wire s j c rs _) h = refl
 opens_no_return q (Host r o) h = refl
 opens_no_return q _ h = refl
 
 -- an opening has at most one Return and at most one Finish, and these have one
-abbrev pub EndsOnce : Past → Event → Type 0
-EndsOnce before e = IfSome (returned e) (λ q. is_unreturned q before ≡ true) × IfSome (finished e) (λ q. is_unfinished q before ≡ true)
+abbrev pub EndsOnce : Past → DecodedRecord → Type 0
+EndsOnce before e = IfSome (question_returned e) (λ q. is_unreturned q before ≡ true) × IfSome (question_finished e) (λ q. is_unfinished q before ≡ true)
 
-pub ends_once : (before : Past) (e : Event) → UsesQuestions before e → EndsOnce before e
+pub ends_once : (before : Past) (e : DecodedRecord) → UsesQuestions before e → EndsOnce before e
 ends_once before (Wire s k c rs (Return n release outcome)) uses = (uses.returned_once, tt)
 ends_once before (Wire s k c rs (Finish n release)) uses = (tt, (and_parts (is_unfinished (id k s n) before) true uses.used).0)
 ends_once before (Wire s k c rs (Bootstrap n)) uses = (tt, tt)
@@ -229,22 +229,22 @@ ends_once before (Wire s k c rs _) uses = (tt, tt)
 ends_once before (Host r o) uses = (tt, tt)
 ends_once before _ uses = (tt, tt)
 
-pub return_due : (q : Id) (before : Past) (e : Event) → EndsOnce before e → returns q before e ≡ true → is_due q (returns q) before ≡ true
-return_due q before e once h = used_so q (λ i. is_unreturned i before) (returned e) once.0 h
+pub return_due : (q : TableKey) (before : Past) (e : DecodedRecord) → EndsOnce before e → returns q before e ≡ true → is_due q (returns q) before ≡ true
+return_due q before e once h = used_so q (λ i. is_unreturned i before) (question_returned e) once.0 h
 
 -- a Return comes while it is due
-pub returns_waiting : (q : Id) (before : Past) (e : Event) → UsesQuestions before e → returns q before e ≡ true → is_due q (returns q) before ≡ true
-returns_waiting q before e uses h = used_so q (λ i. is_unreturned i before) (returned e) uses.returned_once h
+pub returns_waiting : (q : TableKey) (before : Past) (e : DecodedRecord) → UsesQuestions before e → returns q before e ≡ true → is_due q (returns q) before ≡ true
+returns_waiting q before e uses h = used_so q (λ i. is_unreturned i before) (question_returned e) uses.returned_once h
 
 pub free_parts : (o r f : Bool) → (not o || (r && f)) ≡ true → (o && not r) ≡ false
 free_parts o r f e = grind (arith, nat_tests)
 
-idle_so : (q : Id) (before : Past) (o : Option Id) → IfSome o (λ i. is_free i before ≡ true) → names q o ≡ true → is_due q (returns q) before ≡ false
+idle_so : (q : TableKey) (before : Past) (o : Option TableKey) → IfSome o (λ i. is_free i before ≡ true) → names q o ≡ true → is_due q (returns q) before ≡ false
 idle_so q before o free h = free_parts _ _ _ (used_so q (λ i. is_free i before) o free h)
 
 -- an opening comes while no Return is due
-pub opens_idle : (q : Id) (before : Past) (e : Event) → OpensFree before e → opens q before e ≡ true → is_due q (returns q) before ≡ false
-opens_idle q before e free h = idle_so q before (opened e) free h
+pub opens_idle : (q : TableKey) (before : Past) (e : DecodedRecord) → OpensFree before e → opens q before e ≡ true → is_due q (returns q) before ≡ false
+opens_idle q before e free h = idle_so q before (question_opened e) free h
 
 fewer_step : (o r f : Bool) (n m : ℕ) → (r ≡ true → f ≡ true) → (o ≡ true → r ≡ false) → n + one_if f ≤ m →
     (one_if r + n) + one_if (if o then true else (if r then false else f)) ≤ one_if o + m
@@ -254,25 +254,25 @@ more_step : (o r f : Bool) (n m : ℕ) → (o ≡ true → f ≡ false) → (o �
     one_if o + m ≤ (one_if r + n) + one_if (if o then true else (if r then false else f))
 more_step o r f n m h g le = grind (arith, nat_tests)
 
-module _ (q : Id) where
+module _ (q : TableKey) where
   abbrev pub asked : Past → ℕ
   asked past = count (asks q.number) (stream q.connection q.ours past)
 
   abbrev pub answered : Past → ℕ
   answered past = count (answers q.number) (stream q.connection (not q.ours) past)
 
-  asked_more : (e : Event) (before : Past) → asked (e ∷ before) ≡ one_if (opens q before e) + asked before
+  asked_more : (e : DecodedRecord) (before : Past) → asked (e ∷ before) ≡ one_if (opens q before e) + asked before
   asked_more e before = count_more (asks q.number) (passing q.connection q.ours e) (stream q.connection q.ours before) ∙ ap (λ b. one_if b + asked before) (sym (opens_is q e))
 
-  answered_more : (e : Event) (before : Past) → answered (e ∷ before) ≡ one_if (returns q before e) + answered before
+  answered_more : (e : DecodedRecord) (before : Past) → answered (e ∷ before) ≡ one_if (returns q before e) + answered before
   answered_more e before = count_more (answers q.number) (passing q.connection (not q.ours) e) (stream q.connection (not q.ours) before) ∙ ap (λ b. one_if b + answered before) (sym (returns_is q e))
 
   -- Returns come while they are due; openings while none is
-  abbrev pub ReturnsDue : Past → Event → Type 0
-  ReturnsDue before e = names q (returned e) ≡ true → is_due q (returns q) before ≡ true
+  abbrev pub ReturnsDue : Past → DecodedRecord → Type 0
+  ReturnsDue before e = names q (question_returned e) ≡ true → is_due q (returns q) before ≡ true
 
-  abbrev pub OpensIdle : Past → Event → Type 0
-  OpensIdle before e = names q (opened e) ≡ true → is_due q (returns q) before ≡ false
+  abbrev pub OpensIdle : Past → DecodedRecord → Type 0
+  OpensIdle before e = names q (question_opened e) ≡ true → is_due q (returns q) before ≡ false
 
   -- each Return has an opening
   pub fewer_returns : (past : Past) → Each ReturnsDue past → answered past + one_if (is_due q (returns q) past) ≤ asked past

@@ -8,9 +8,9 @@ use Rattle.vat_view.proofs.Counting.{no_more_went}
 use Rattle.agree.specs.Points.{GoesOn}
 use Rattle.agree.specs.Streams.{stream}
 use Rattle.agree.specs.Agreeing.{AreLinked}
-use Rattle.agree.specs.Told.{told, AreTold}
-use Rattle.agree.specs.Alive.{alive_in, released_in, alive, let_go}
-use Rattle.agree.specs.Balance.{AreUnderWay, coming, after_coming, IsBalanced}
+use Rattle.agree.specs.Told.{tellings, AreTold}
+use Rattle.agree.specs.Alive.{alive_in, releases_in_all, alive, let_go}
+use Rattle.agree.specs.Balance.{AreUnderWay, as_received, after_coming, IsNumberBalanced}
 use Rattle.agree.proofs.Points.{same_length}
 use Rattle.agree.proofs.Cuts.{linked_back}
 use Rattle.agree.proofs.Openings.{openings_so}
@@ -21,11 +21,11 @@ use Rattle.agree.proofs.Held.{gives_none, all_alive_once}
 use Rattle.agree.proofs.Coming.{goes_not, stream_after, stream_kept, sum_after, none_coming, causal, due, idle, ends_there}
 
 -- what was told is the same where as much passed
-same_told : (k : ℕ) (one other : Past) → GoesOn (told k true other) (told k false one) → stream k true other ≡ stream k false one → told k false one ≡ told k true other
+same_told : (k : ℕ) (one other : Past) → GoesOn (tellings k true other) (tellings k false one) → stream k true other ≡ stream k false one → tellings k false one ≡ tellings k true other
 same_told k one other g same =
     let a = told_length k true other in
     let b = told_length k false one in
-    let l = ap length same in same_length (told k true other) (told k false one) (told k true other) g ([], refl) (omega (arith, a, b, l))
+    let l = ap length same in same_length (tellings k true other) (tellings k false one) (tellings k true other) g ([], refl) (omega (arith, a, b, l))
 
 module _ (k n : ℕ) (x y : Past) (to_y to_x : List RpcMessage) (linked : AreLinked k x y) (uses_x : Each UsesQuestions x) (uses_y : Each UsesQuestions y) (free_x : Each OpensFree x) (free_y : Each OpensFree y)
     (there : AreUnderWay k x y to_y) (back : AreUnderWay k y x to_x) where
@@ -59,17 +59,17 @@ module _ (k n : ℕ) (x y : Past) (to_y to_x : List RpcMessage) (linked : AreLin
   same_alive = ap₂ (λ a b. alive_in n a b) (same_told k x_after y_after told_after.to_one all_back) (sym (same_told k y_after x_after told_after.to_other all_there))
 
   same_released : let_go (id k true n) x_after ≡ let_go (id k false n) y_after
-  same_released = ap (λ a. released_in n a) (same_told k x_after y_after told_after.to_one all_back)
+  same_released = ap (λ a. releases_in_all n a) (same_told k x_after y_after told_after.to_one all_back)
 
-  pub balanced : Each GivesBackHeld y → IsBalanced k n x y to_y to_x
+  pub balanced : Each GivesBackHeld y → IsNumberBalanced k n x y to_y to_x
   balanced counts =
       let at_x = all_alive_once k true n x_after (ends_there k y x to_y to_x (linked_back k x y linked) back there uses_y uses_x free_y free_x) in
       let at_y = all_alive_once k false n y_after (ends_there k x y to_x to_y linked there back uses_x uses_y free_x free_y) in
       let came_x = sum_after (introduces (id k true n)) k to_x x in
-      let none_x = none_coming (introduces (id k true n)) k (λ before m. introduces_none k true n before (coming k m) (goes_not k m)) to_x x in
+      let none_x = none_coming (introduces (id k true n)) k (λ before m. introduces_none k true n before (as_received k m) (goes_not k m)) to_x x in
       let went_x = sum_after (gives_back (id k true n)) k to_x x in
       let came_y = sum_after (introduces (id k false n)) k to_y y in
       let went_y = sum_after (gives_back (id k false n)) k to_y y in
-      let none_y = none_coming (gives_back (id k false n)) k (λ before m. gives_none k false n before (coming k m) (goes_not k m)) to_y y in
+      let none_y = none_coming (gives_back (id k false n)) k (λ before m. gives_none k false n before (as_received k m) (goes_not k m)) to_y y in
       let le = no_more_went y counts (id k false n) in
       omega (arith, at_x, at_y, came_x, none_x, went_x, came_y, went_y, none_y, le, same_alive, same_released)

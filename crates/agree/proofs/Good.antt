@@ -1,6 +1,6 @@
 -- What good logs give.
 use Rattle.std.proofs.Common.{◌∷◌, List, refl, ℕ, true, false}
-use Rattle.agree.specs.Types.{RpcMessage, Event, Host, Wire}
+use Rattle.agree.specs.Types.{RpcMessage, DecodedRecord, Host, Wire}
 use Rattle.vat_view.specs.Past.{Past, Each}
 use Rattle.vat_view.specs.Uses.{OpensFree, UsesQuestions}
 use Rattle.vat_view.specs.Bindings.{NotesEach}
@@ -11,7 +11,7 @@ use Rattle.vat_view.specs.Lives.{GivesBackHeld}
 use Rattle.agree.specs.Points.{GoesOn}
 use Rattle.agree.specs.Streams.{IsCut, IsPassed}
 use Rattle.agree.specs.Arrival.{ArrivesWell}
-use Rattle.agree.specs.Balance.{AreUnderWay, IsBalanced}
+use Rattle.agree.specs.Balance.{AreUnderWay, IsNumberBalanced}
 use Rattle.agree.specs.Agreeing.{AreLinked}
 use Rattle.agree.specs.Standing.{AgreeOneWay, Agree}
 use Rattle.agree.proofs.Points.{each_so, each_before}
@@ -21,13 +21,13 @@ use Rattle.agree.proofs.Standing.{lives_agree, linked_before}
 use Rattle.agree.proofs.Balance.{balanced}
 use Rattle.agree.proofs.Arriving.{arrives}
 
-notes_each : (before : Past) (e : Event) → IsGood before e → NotesEach before e
+notes_each : (before : Past) (e : DecodedRecord) → IsGood before e → NotesEach before e
 notes_each before (Wire true k c rs m) good = (good rule.Desc).noted_each refl
 notes_each before (Wire false k c rs m) good = good rule.RecvRef refl
 notes_each before (Host r x) good = refl
 notes_each before _ good = refl
 
-good_sound : (before : Past) (e : Event) → IsGood before e → IsSound before e
+good_sound : (before : Past) (e : DecodedRecord) → IsGood before e → IsSound before e
 good_sound before e good = record {
   refers = good rule.Ref;
   uses_questions = good rule.QUse;
@@ -63,7 +63,7 @@ good_agree k one other good good_other linked =
 
 -- and at each consistent cut their counts are balanced
 pub good_balanced : (k : ℕ) (one other : Past) → Each IsGood one → Each IsGood other → AreLinked k one other → (n : ℕ) (exporter importer : Past) (there back : List RpcMessage) →
-    GoesOn one exporter → GoesOn other importer → IsCut k exporter importer → AreUnderWay k exporter importer there → AreUnderWay k importer exporter back → IsBalanced k n exporter importer there back
+    GoesOn one exporter → GoesOn other importer → IsCut k exporter importer → AreUnderWay k exporter importer there → AreUnderWay k importer exporter back → IsNumberBalanced k n exporter importer there back
 good_balanced k one other good good_other linked n x y there back e f cut on returning =
     let good_x = each_before IsGood one x e good in
     let good_y = each_before IsGood other y f good_other in
@@ -71,7 +71,7 @@ good_balanced k one other good good_other linked n x y there back e f cut on ret
     (each_so IsGood GivesBackHeld (λ b e g. g rule.Count) y good_y)
 
 -- a message whose sending was good arrives well, where the records before it were good
-pub good_arrives : (k : ℕ) (one other : Past) → AreLinked k one other → (m : RpcMessage) (from to : Past) (sent received : Event) → IsPassed k m one other from to sent received →
+pub good_arrives : (k : ℕ) (one other : Past) → AreLinked k one other → (m : RpcMessage) (from to : Past) (sent received : DecodedRecord) → IsPassed k m one other from to sent received →
     Each IsGood (sent ∷ from) → Each IsGood to → ArrivesWell to received
 good_arrives k one other linked m from to sent received p good_x good_y =
     arrives k one other linked m from to sent received p (all_use (sent ∷ from) good_x) (all_free (sent ∷ from) good_x)

@@ -2,7 +2,7 @@
 use Rattle.std.proofs.Common.{◌≡◌, ◌≤◌, ◌<◌, inl, inr, refl, sym, ap, subst, ℕ, List, [], ◌∷◌, ◌++◌, length, true, false, Option, Some, None, arith}
 use Rattle.std.specs.List.{cons_option}
 use Rattle.std.proofs.lemmas.Bool.{ltb-true, lt-ltb}
-use Rattle.agree.specs.Types.{RpcMessage, Event}
+use Rattle.agree.specs.Types.{RpcMessage, DecodedRecord}
 use Rattle.vat_view.specs.Past.{Past, id, Each}
 use Rattle.vat_view.specs.Lives.{held}
 use Rattle.vat_view.specs.Uses.{UsesQuestions}
@@ -28,16 +28,16 @@ agree_before k one other a b e f agree q release outcome from to sent received p
 
 -- what one log received the other sent
 abbrev pub Sender : ℕ → Past → RpcMessage → Past → Type 0
-Sender k other m to = (sent : Event) × (from : Past) × GoesOn other (sent ∷ from) × (passing k true sent ≡ Some m) × (stream k true from ≡ stream k false to)
+Sender k other m to = (sent : DecodedRecord) × (from : Past) × GoesOn other (sent ∷ from) × (passing k true sent ≡ Some m) × (stream k true from ≡ stream k false to)
 
-pub sender : (k : ℕ) (one other : Past) (m : RpcMessage) (to : Past) (e : Event) → GoesOn (stream k true other) (stream k false one) → GoesOn one (e ∷ to) → passing k false e ≡ Some m → Sender k other m to
+pub sender : (k : ℕ) (one other : Past) (m : RpcMessage) (to : Past) (e : DecodedRecord) → GoesOn (stream k true other) (stream k false one) → GoesOn one (e ∷ to) → passing k false e ≡ Some m → Sender k other m to
 sender k one other m to e cut there h =
     let all : GoesOn (stream k true other) (m ∷ stream k false to) =
     subst (λ l. GoesOn (stream k true other) l) (stream_of k false to e (Some m) h) (through _ _ _ cut (kept (passing k false) one (e ∷ to) there)) in
     lifted (passing k true) other m (stream k false to) all
 
 -- the two records of it
-pub mate : (k : ℕ) (one other : Past) (m : RpcMessage) (to : Past) (e : Event) → (z : Sender k other m to) → GoesOn one (e ∷ to) → passing k false e ≡ Some m → IsPassed k m other one z.1 to z.0 e
+pub mate : (k : ℕ) (one other : Past) (m : RpcMessage) (to : Past) (e : DecodedRecord) → (z : Sender k other m to) → GoesOn one (e ∷ to) → passing k false e ≡ Some m → IsPassed k m other one z.1 to z.0 e
 mate k one other m to e z there h = record { sent_there = z.2; received_there = there; sends = z.3; receives = h; same_number = ap length z.4 }
 
 -- some point of the importer since then makes a cut
@@ -49,7 +49,7 @@ goes_on : (o : Option RpcMessage) (a b : List RpcMessage) → GoesOn b a → Goe
 goes_on None a b e = e
 goes_on (Some m) a b e = (m ∷ e.0, ap (λ l. m ∷ l) e.1)
 
-at_received : (k : ℕ) (one other : Past) → IsCut k one other → IsCausal k other one → (since point : Past) (e : Event) (m : RpcMessage) → GoesOn one (e ∷ point) →
+at_received : (k : ℕ) (one other : Past) → IsCut k one other → IsCausal k other one → (since point : Past) (e : DecodedRecord) (m : RpcMessage) → GoesOn one (e ∷ point) →
     passing k false e ≡ Some m → CutSince k since other point → CutSince k since other (e ∷ point)
 at_received k one other cut causal since point e m there h c =
     let z = sender k one other m point e cut.to_one there h in
@@ -69,7 +69,7 @@ at_received k one other cut causal since point e m there h c =
       | inr new ↦ (z.0 ∷ z.1, z.2, through (z.0 ∷ z.1) c.0 since new c.2, record { to_one = after.cut.to_other; to_other = after.cut.to_one })
     ]
 
-at_other : (k : ℕ) (since other point : Past) (e : Event) → passing k false e ≡ None → CutSince k since other point → CutSince k since other (e ∷ point)
+at_other : (k : ℕ) (since other point : Past) (e : DecodedRecord) → passing k false e ≡ None → CutSince k since other point → CutSince k since other (e ∷ point)
 at_other k since other point e h c = (
   c.0,
   c.1,
@@ -81,7 +81,7 @@ at_other k since other point e h c = (
 )
 
 cuts_since : (k : ℕ) (one other : Past) → IsCut k one other → IsCausal k other one → (since start : Past) → CutSince k since other start →
-    (later : List Event) → GoesOn one (later ++ start) → CutSince k since other (later ++ start)
+    (later : List DecodedRecord) → GoesOn one (later ++ start) → CutSince k since other (later ++ start)
 cuts_since k one other cut causal since start c [] there = c
 cuts_since k one other cut causal since start c (e ∷ later) there =
     let rest = cuts_since k one other cut causal since start c later (through one ((e ∷ later) ++ start) (later ++ start) there (e ∷ [], refl)) in
@@ -91,7 +91,7 @@ cuts_since k one other cut causal since start c (e ∷ later) there =
     ]
 
 -- while the importer holds a number that a message brought, the exporter does since it sent that message
-pub lives_there : (k n : ℕ) (exporter importer from to : Past) (m : RpcMessage) (sent received : Event) → Each UsesQuestions exporter → Each UsesQuestions importer → AreLinked k exporter importer →
+pub lives_there : (k n : ℕ) (exporter importer from to : Past) (m : RpcMessage) (sent received : DecodedRecord) → Each UsesQuestions exporter → Each UsesQuestions importer → AreLinked k exporter importer →
     AgreeOnOpenings k exporter importer → AgreeOnOpenings k importer exporter → IsPassed k m exporter importer from to sent received →
     LivesFrom (id k false n) (received ∷ to) importer → LivesFrom (id k true n) (sent ∷ from) exporter
 lives_there k n x y from to m sent received uses_x uses_y linked agree agree_back p lives point within since =

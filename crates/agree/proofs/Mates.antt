@@ -1,17 +1,17 @@
 -- A consistent cut at which the ends speak of the same openings, from the cut and from what Returns belong to.
 use Rattle.std.proofs.Common.{◌≡◌, inl, inr, refl, sym, ◌∙◌, ap, ap₂, ℕ, List, [], ◌∷◌, ◌++◌, length, true, false, Some, None}
-use Rattle.agree.specs.Types.{RpcMessage, Bootstrap, Return, Finish, Event}
+use Rattle.agree.specs.Types.{RpcMessage, Bootstrap, Return, Finish, DecodedRecord}
 use Rattle.vat_view.specs.Past.{Past, id}
 use Rattle.agree.specs.Points.{GoesOn}
 use Rattle.agree.specs.Streams.{passing, stream, IsCut, IsPassed}
 use Rattle.agree.specs.Agreeing.{AgreeOnOpenings}
-use Rattle.agree.specs.Told.{speaks_of, telling, told, AreTold}
+use Rattle.agree.specs.Told.{speaks_of, telling, tellings, AreTold}
 use Rattle.agree.proofs.Points.{before_it, heads, tails}
 use Rattle.agree.proofs.Asking.{asks, last_number, number_stream}
 use Rattle.agree.proofs.Telling.{none_or_some, told_of, stream_of}
 
 -- what a message speaks of is the same at both ends
-same_opening : (k : ℕ) (one other from to : Past) (sent received : Event) (m : RpcMessage) → AgreeOnOpenings k one other → IsPassed k m one other from to sent received →
+same_opening : (k : ℕ) (one other from to : Past) (sent received : DecodedRecord) (m : RpcMessage) → AgreeOnOpenings k one other → IsPassed k m one other from to sent received →
     stream k true from ≡ stream k false to → speaks_of k true from m ≡ speaks_of k false to m
 same_opening k one other from to sent received (Return q release outcome) agree p same = agree q release outcome from to sent received p
 same_opening k one other from to sent received (Finish q release) agree p same =
@@ -21,14 +21,14 @@ same_opening k one other from to sent received _ agree p same = refl
 
 -- two logs in which the same passed were told the same
 abbrev Same : ℕ → Past → Past → Past → Past → Type 0
-Same k one other from to = GoesOn one from → GoesOn other to → stream k true from ≡ stream k false to → told k true from ≡ told k false to
+Same k one other from to = GoesOn one from → GoesOn other to → stream k true from ≡ stream k false to → tellings k true from ≡ tellings k false to
 
 nothing_there : {A : Type 0} {x : A} {xs : List A} → [] ≡ (x ∷ xs) → ⊥
 nothing_there e = cc
 
-this_told : (k : ℕ) (one other : Past) (e : Event) (from : Past) (m : RpcMessage) → AgreeOnOpenings k one other → passing k true e ≡ Some m → GoesOn one (e ∷ from) →
+this_told : (k : ℕ) (one other : Past) (e : DecodedRecord) (from : Past) (m : RpcMessage) → AgreeOnOpenings k one other → passing k true e ≡ Some m → GoesOn one (e ∷ from) →
     ((to : Past) → Same k one other from to) → (to : Past) → GoesOn other to → (m ∷ stream k true from) ≡ stream k false to →
-    (telling k true from m ∷ told k true from) ≡ told k false to
+    (telling k true from m ∷ tellings k true from) ≡ tellings k false to
 this_told k one other e from m agree h there rest [] ends same = absurd (nothing_there (sym same))
 this_told k one other e from m agree h there rest (y ∷ to) ends same = elim (none_or_some (passing k false y)) [
   | inl none ↦ this_told k one other e from m agree h there rest to (before_it other y to ends) (same ∙ stream_of k false to y None none) ∙ sym (told_of k false to y None none)
@@ -43,7 +43,7 @@ this_told k one other e from m agree h there rest (y ∷ to) ends same = elim (n
       ap₂ (λ t ts. t ∷ ts) opening (rest to (before_it one e from there) (before_it other y to ends) both) ∙ sym (told_of k false to y (Some n.0) n.1)
 ]
 
-none_told : (k : ℕ) (to : Past) → [] ≡ stream k false to → [] ≡ told k false to
+none_told : (k : ℕ) (to : Past) → [] ≡ stream k false to → [] ≡ tellings k false to
 none_told k [] h = refl
 none_told k (y ∷ to) h = elim (none_or_some (passing k false y)) [
   | inl none ↦ none_told k to (h ∙ stream_of k false to y None none) ∙ sym (told_of k false to y None none)
@@ -60,7 +60,7 @@ same_told k one other agree (e ∷ from) to there ends same = elim (none_or_some
 
 -- what came, with its openings, is the beginning of what went
 ends_told : (k : ℕ) (one other : Past) → AgreeOnOpenings k one other → (from : Past) (later : List RpcMessage) → GoesOn one from →
-    stream k true from ≡ later ++ stream k false other → GoesOn (told k true from) (told k false other)
+    stream k true from ≡ later ++ stream k false other → GoesOn (tellings k true from) (tellings k false other)
 ends_told k one other agree from [] there same = ([], same_told k one other agree from other there ([], refl) same)
 ends_told k one other agree [] (m ∷ later) there same = absurd (nothing_there same)
 ends_told k one other agree (e ∷ from) (m ∷ later) there same = elim (none_or_some (passing k true e)) [

@@ -3,9 +3,9 @@ use Rattle.std.proofs.Common.{◌≡◌, refl, sym, ◌∙◌, ap, subst, ℕ, s
 use Rattle.std.specs.Prelude.{is_some, option_map}
 use Rattle.std.proofs.lemmas.Bool.{false≢true, and_parts, cases_lt, cases_Bool}
 use Rattle.std.proofs.lemmas.Bool.Decides.{nat_tests}
-use Rattle.agree.specs.Types.{RpcMessage, Bootstrap, Finish, Event, Wire, Id}
+use Rattle.agree.specs.Types.{RpcMessage, Bootstrap, Finish, DecodedRecord, Wire, TableKey}
 use Rattle.vat_view.specs.Past.{Past, Point, id, names, Each}
-use Rattle.vat_view.specs.Questions.{opened, finished, opens, returns, finishes, is_opened, is_unfinished, opening}
+use Rattle.vat_view.specs.Questions.{question_opened, question_finished, opens, returns, finishes, is_opened, is_unfinished, opening}
 use Rattle.vat_view.specs.Uses.{UsesQuestions}
 use Rattle.vat_view.proofs.Naming.{same_id_is}
 use Rattle.agree.specs.Points.{GoesOn}
@@ -23,7 +23,7 @@ last_small u [] n e = absurd (let no : ⊥ = cc in no)
 last_small u (m ∷ ms) n e = small (u m) (last_number u ms) (length ms) n (last_small u ms n) e
 
 -- an opening stands before
-pub opening_below : (q : Id) (past : Past) (n : ℕ) → opening_number q past ≡ Some n → n < length (stream q.connection q.ours past)
+pub opening_below : (q : TableKey) (past : Past) (n : ℕ) → opening_number q past ≡ Some n → n < length (stream q.connection q.ours past)
 opening_below q past n e = last_small (asks q.number) (stream q.connection q.ours past) n (sym (number_stream q past) ∙ e)
 
 came_now : (o t f : Bool) → o ≡ false → t ≡ true → (if o then true else (if t then false else f)) ≡ false
@@ -32,8 +32,8 @@ came_now o t f e g = grind (arith, nat_tests)
 due_before : (o t f : Bool) → o ≡ false → (if o then true else (if t then false else f)) ≡ true → f ≡ true
 due_before o t f e g = grind (arith, nat_tests)
 
-module _ (q : Id) where
-  pub number_if : (e : Event) (past : Past) (b : Bool) → names q (opened e) ≡ b → opening_number q (e ∷ past) ≡ (if b then Some (length (stream q.connection q.ours past)) else opening_number q past)
+module _ (q : TableKey) where
+  pub number_if : (e : DecodedRecord) (past : Past) (b : Bool) → names q (question_opened e) ≡ b → opening_number q (e ∷ past) ≡ (if b then Some (length (stream q.connection q.ours past)) else opening_number q past)
   number_if e past b h = number_more q e past ∙ ap (λ b. if b then Some (length (stream q.connection q.ours past)) else opening_number q past) h
 
   there_by : (o : Option Point) (f : Point → ℕ) → is_some o ≡ true → (n : ℕ) × (option_map f o ≡ Some n)
@@ -44,19 +44,19 @@ module _ (q : Id) where
   pub number_there : (past : Past) → is_opened q past ≡ true → (n : ℕ) × (opening_number q past ≡ Some n)
   number_there past e = there_by (opening q past) (λ p. length (stream q.connection q.ours p.before)) e
 
-module _ (q : Id) (t : Past → Event → Bool) (apart : (before : Past) (e : Event) → t before e ≡ true → opens q before e ≡ false) where
+module _ (q : TableKey) (t : Past → DecodedRecord → Bool) (apart : (before : Past) (e : DecodedRecord) → t before e ≡ true → opens q before e ≡ false) where
   -- what isn't due and is due later was opened between
   opened_between : (l d : Past) → is_due q t d ≡ false → is_due q t (l ++ d) ≡ true → (n : ℕ) × (opening_number q (l ++ d) ≡ Some n) × (length (stream q.connection q.ours d) ≤ n)
   opened_between [] d not_due due = absurd (false≢true (sym not_due ∙ due))
-  opened_between (y ∷ l) d not_due due = elim (cases_Bool (names q (opened y))) [
+  opened_between (y ∷ l) d not_due due = elim (cases_Bool (names q (question_opened y))) [
     | inl here ↦ (length (stream q.connection q.ours (l ++ d)), number_if q y (l ++ d) true here, no_longer _ _ (kept (passing q.connection q.ours) (l ++ d) d (l, refl)))
     | inr later ↦
-        let r = opened_between l d not_due (due_before (names q (opened y)) (t (l ++ d) y) (is_due q t (l ++ d)) later (sym (waits q t y (l ++ d)) ∙ due)) in
+        let r = opened_between l d not_due (due_before (names q (question_opened y)) (t (l ++ d) y) (is_due q t (l ++ d)) later (sym (waits q t y (l ++ d)) ∙ due)) in
         (r.0, number_if q y (l ++ d) false later ∙ r.1, r.2)
   ]
 
   module _ (past : Past) (each : Each (λ before e. t before e ≡ true → is_due q t before ≡ true) past) where
-    not_later : (b c : Past) (x z : Event) → GoesOn past (x ∷ b) → GoesOn past (z ∷ c) → t b x ≡ true → t c z ≡ true → opening_number q b ≡ opening_number q c → length b < length c → ⊥
+    not_later : (b c : Past) (x z : DecodedRecord) → GoesOn past (x ∷ b) → GoesOn past (z ∷ c) → t b x ≡ true → t c z ≡ true → opening_number q b ≡ opening_number q c → length b < length c → ⊥
     not_later b c x z p r e f same lt =
         let there = shorter past (x ∷ b) c p (before_it past z c r) lt in
         let due = each_at (λ before e. t before e ≡ true → is_due q t before ≡ true) past each b x p e in
@@ -68,7 +68,7 @@ module _ (q : Id) (t : Past → Event → Bool) (apart : (before : Past) (e : Ev
         let numbers : Some o.0 ≡ Some n.0 = sym o.1 ∙ same ∙ ap (λ l. opening_number q l) there.1 ∙ n.1 in
         let one : o.0 ≡ n.0 = cc in omega (arith, low, n.2, one, more)
 
-    once_of : (b c : Past) (x z : Event) → GoesOn past (x ∷ b) → GoesOn past (z ∷ c) → opening_number q b ≡ opening_number q c → t b x ≡ true → t c z ≡ true → b ≡ c
+    once_of : (b c : Past) (x z : DecodedRecord) → GoesOn past (x ∷ b) → GoesOn past (z ∷ c) → opening_number q b ≡ opening_number q c → t b x ≡ true → t c z ≡ true → b ≡ c
     once_of b c x z p r same e f = elim (cases_lt (length b) (length c)) [
       | inl less ↦ absurd (not_later b c x z p r e f same less)
       | inr more ↦ elim (cases_lt (length c) (length b)) [
@@ -78,7 +78,7 @@ module _ (q : Id) (t : Past → Event → Bool) (apart : (before : Past) (e : Ev
     ]
 
 -- a Finish comes while it is due
-pub finishes_due : (q : Id) (before : Past) (e : Event) → UsesQuestions before e → finishes q before e ≡ true → is_due q (finishes q) before ≡ true
+pub finishes_due : (q : TableKey) (before : Past) (e : DecodedRecord) → UsesQuestions before e → finishes q before e ≡ true → is_due q (finishes q) before ≡ true
 finishes_due q before (Wire s k c rs (Finish n release)) uses h =
     let all = and_parts (is_unfinished (id k s n) before) true uses.used in
     subst (λ x. is_unfinished x before ≡ true) (sym (same_id_is q (id k s n) h)) all.0
@@ -88,13 +88,13 @@ finishes_due q before _ uses h = absurd (false≢true h)
 false_if : (a b : Bool) → (a ≡ true → b ≡ false) → b ≡ true → a ≡ false
 false_if a b f e = grind (arith, nat_tests)
 
-opens_no_finish : (q : Id) (e : Event) → names q (finished e) ≡ true → names q (opened e) ≡ false
+opens_no_finish : (q : TableKey) (e : DecodedRecord) → names q (question_finished e) ≡ true → names q (question_opened e) ≡ false
 opens_no_finish q (Wire s k c rs (Finish n release)) h = refl
 opens_no_finish q (Wire s k c rs (Bootstrap n)) h = absurd (false≢true h)
 opens_no_finish q _ h = absurd (false≢true h)
 
 -- two Returns of one opening are one record, and so are two Finishes
-module _ (q : Id) (past : Past) (good : Each UsesQuestions past) (b c : Past) (x z : Event) (p : GoesOn past (x ∷ b)) (r : GoesOn past (z ∷ c)) (same : opening_number q b ≡ opening_number q c) where
+module _ (q : TableKey) (past : Past) (good : Each UsesQuestions past) (b c : Past) (x z : DecodedRecord) (p : GoesOn past (x ∷ b)) (r : GoesOn past (z ∷ c)) (same : opening_number q b ≡ opening_number q c) where
   pub one_return : returns q b x ≡ true → returns q c z ≡ true → b ≡ c
   one_return e f = once_of q (returns q) (λ l e. false_if (opens q l e) (returns q l e) (opens_no_return q e)) past (each_so UsesQuestions _ (returns_waiting q) past good) b c x z p r same e f
 

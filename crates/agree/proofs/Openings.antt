@@ -3,7 +3,7 @@ use Rattle.std.proofs.Common.{◌≡◌, refl, sym, ◌∙◌, ap, ℕ, ◌+◌,
 use Rattle.std.specs.Bool.{beq}
 use Rattle.std.proofs.lemmas.Bool.{false≢true, eq-eqb}
 use Rattle.std.proofs.lemmas.Bool.Decides.{nat_tests}
-use Rattle.agree.specs.Types.{RpcMessage, Bootstrap, Return, Outcome, Event, Host, Wire}
+use Rattle.agree.specs.Types.{RpcMessage, Bootstrap, Return, Outcome, DecodedRecord, Host, Wire}
 use Rattle.vat_view.specs.Past.{Past, id, Each}
 use Rattle.vat_view.specs.Questions.{returns, is_released, is_late}
 use Rattle.vat_view.specs.Uses.{OpensFree, UsesQuestions}
@@ -15,7 +15,7 @@ use Rattle.agree.proofs.Asking.{asks, answers, frees, passes, count, count-appen
 use Rattle.agree.proofs.Cuts.{IsMet, same_before}
 
 -- a question opened the way in which a message goes has one last opening before it at both ends
-pub own_agree : (k n : ℕ) (m : RpcMessage) (one other from to : Past) (sent received : Event) → GoesOn (stream k true one) (stream k false other) →
+pub own_agree : (k n : ℕ) (m : RpcMessage) (one other from to : Past) (sent received : DecodedRecord) → GoesOn (stream k true one) (stream k false other) →
     IsPassed k m one other from to sent received → opening_number (id k true n) from ≡ opening_number (id k false n) to
 own_agree k n m one other from to sent received link p =
     number_stream (id k true n) from ∙ ap (λ l. last_number (asks n) l) (same_before k m one other from to sent received link p) ∙ sym (number_stream (id k false n) to)
@@ -29,7 +29,7 @@ pub same_way : (s o : Bool) → beq s o ≡ true → o ≡ s
 same_way s o e = grind (arith, nat_tests)
 
 -- a record through which a message passed
-pub passing_is : (k : ℕ) (s : Bool) (m : RpcMessage) (e : Event) → passing k s e ≡ Some m → (call : ℕ) × (references : List ℕ) × (e ≡ Wire s k call references m)
+pub passing_is : (k : ℕ) (s : Bool) (m : RpcMessage) (e : DecodedRecord) → passing k s e ≡ Some m → (call : ℕ) × (references : List ℕ) × (e ≡ Wire s k call references m)
 passing_is k s m (Wire t j c rs n) h =
     let parts = one_way (k == j) (beq s t) m n h in
     let one : k ≡ j = eqb-true k j parts.0 in
@@ -38,14 +38,14 @@ passing_is k s m (Wire t j c rs n) h =
 passing_is k s m (Host r o) h = absurd (let no : ⊥ = cc in no)
 passing_is k s m _ h = absurd (let no : ⊥ = cc in no)
 
-late_is : (k : ℕ) (s : Bool) (q : ℕ) (release : Bool) (outcome : Outcome) (before : Past) (e : Event) → passing k s e ≡ Some (Return q release outcome) →
+late_is : (k : ℕ) (s : Bool) (q : ℕ) (release : Bool) (outcome : Outcome) (before : Past) (e : DecodedRecord) → passing k s e ≡ Some (Return q release outcome) →
     is_late before e ≡ is_released (id k (not s) q) before
 late_is k s q release outcome before e h = ap (λ x. is_late before x) (passing_is k s (Return q release outcome) e h).2
 
 small : (b : Bool) → one_if b ≤ 1
 small b = grind (arith, nat_tests)
 
-module _ (k q : ℕ) (release : Bool) (outcome : Outcome) (one other from to : Past) (sent received : Event) (uses : Each (ReturnsDue (id k false q)) one) (free : Each (OpensIdle (id k true q)) other)
+module _ (k q : ℕ) (release : Bool) (outcome : Outcome) (one other from to : Past) (sent received : DecodedRecord) (uses : Each (ReturnsDue (id k false q)) one) (free : Each (OpensIdle (id k true q)) other)
     (p : IsPassed k (Return q release outcome) one other from to sent received) (met : IsMet k from to) where
   -- where a Return left and came, no opening of its question is on its way to the one who returns
   none_opened : count (asks q) met.cut.to_one.0 ≡ 0
@@ -75,11 +75,11 @@ module _ (k q : ℕ) (release : Bool) (outcome : Outcome) (one other from to : P
 -- ---- of logs that are linked
 
 module _ (k : ℕ) (one other : Past) (linked : AreLinked k one other) where
-  met : (m : RpcMessage) (from to : Past) (sent received : Event) → IsPassed k m one other from to sent received → IsMet k from to
+  met : (m : RpcMessage) (from to : Past) (sent received : DecodedRecord) → IsPassed k m one other from to sent received → IsMet k from to
   met m from to sent received p =
       record { cut = linked.there m from to sent received p; all = same_before k m one other from to sent received linked.cut.to_other p }
 
-  pub own_linked : (n : ℕ) (m : RpcMessage) (from to : Past) (sent received : Event) → IsPassed k m one other from to sent received →
+  pub own_linked : (n : ℕ) (m : RpcMessage) (from to : Past) (sent received : DecodedRecord) → IsPassed k m one other from to sent received →
       opening_number (id k true n) from ≡ opening_number (id k false n) to
   own_linked n m from to sent received p = own_agree k n m one other from to sent received linked.cut.to_other p
 
@@ -88,7 +88,7 @@ module _ (k : ℕ) (one other : Past) (linked : AreLinked k one other) where
     openings_so q release outcome from to sent received p =
         returns_agree k q release outcome one other from to sent received (uses q) (free q) p (met (Return q release outcome) from to sent received p)
 
-    never : (m : RpcMessage) (from to : Past) (sent received : Event) → IsPassed k m one other from to sent received → ((c : ℕ) (rs : List ℕ) → is_late from (Wire true k c rs m) ≡ false) →
+    never : (m : RpcMessage) (from to : Past) (sent received : DecodedRecord) → IsPassed k m one other from to sent received → ((c : ℕ) (rs : List ℕ) → is_late from (Wire true k c rs m) ≡ false) →
         is_late from sent ≡ true → is_late to received ≡ true
     never m from to sent received p not_late late =
         let s = passing_is k true m sent p.sends in absurd (false≢true (sym (not_late s.0 s.1) ∙ sym (ap (λ x. is_late from x) s.2) ∙ late))

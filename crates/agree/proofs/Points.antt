@@ -4,7 +4,7 @@ use Rattle.std.specs.List.{cons_option, filter_map}
 use Rattle.std.proofs.lemmas.List.Elements.{filter_map-append}
 use Rattle.std.proofs.lemmas.Bool.{cases_lt}
 use Rattle.agree.specs.Points.{GoesOn, IsNth, AtEach}
-use Rattle.agree.specs.Types.{Event}
+use Rattle.agree.specs.Types.{DecodedRecord}
 use Rattle.vat_view.specs.Past.{Past, Each}
 
 module _ {A : Type 0} where
@@ -84,16 +84,16 @@ module _ {A B : Type 0} (f : A → Option B) where
 
 -- ---- what each record of a log is
 
-each_from : (P : Past → Event → Type 0) (l b : Past) → Each P (l ++ b) → Each P b
+each_from : (P : Past → DecodedRecord → Type 0) (l b : Past) → Each P (l ++ b) → Each P b
 each_from P [] b h = h
 each_from P (e ∷ l) b h = each_from P l b h.1
 
-pub each_before : (P : Past → Event → Type 0) (past b : Past) → GoesOn past b → Each P past → Each P b
+pub each_before : (P : Past → DecodedRecord → Type 0) (past b : Past) → GoesOn past b → Each P past → Each P b
 each_before P past b p h = each_from P p.0 b (subst (λ l. Each P l) p.1 h)
 
-pub each_at : (P : Past → Event → Type 0) (past : Past) → Each P past → AtEach P past
+pub each_at : (P : Past → DecodedRecord → Type 0) (past : Past) → Each P past → AtEach P past
 each_at P past h b e p = (each_before P past (e ∷ b) p h).0
 
-pub each_so : (P Q : Past → Event → Type 0) → ((b : Past) (e : Event) → P b e → Q b e) → (past : Past) → Each P past → Each Q past
+pub each_so : (P Q : Past → DecodedRecord → Type 0) → ((b : Past) (e : DecodedRecord) → P b e → Q b e) → (past : Past) → Each P past → Each Q past
 each_so P Q f [] h = h
 each_so P Q f (e ∷ b) h = (f b e h.0, each_so P Q f b h.1)

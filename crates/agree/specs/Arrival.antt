@@ -1,11 +1,11 @@
 -- Messages that arrive as they should.
-use Rattle.agree.specs.Types.{Event}
+use Rattle.agree.specs.Types.{DecodedRecord}
 use Rattle.vat_view.specs.Past.{Past}
 use Rattle.vat_view.specs.Lives.{GivesBackHeld}
 use Rattle.vat_view.specs.Uses.{OpensFree, UsesQuestions, UsesNumbers}
 
 -- a record keeps the rules on questions, and those on the numbers that it uses and gives back
-pub record ArrivesWell (before : Past) (e : Event) : Type 0 where
+pub record ArrivesWell (before : Past) (e : DecodedRecord) : Type 0 where
   pub opens_free : OpensFree before e
   pub uses_questions : UsesQuestions before e
   pub uses_numbers : UsesNumbers before e

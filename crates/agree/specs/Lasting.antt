@@ -1,10 +1,10 @@
 -- Lives that last from one point of a log to another.
 use Rattle.std.specs.Prelude.{◌≡◌, true}
-use Rattle.agree.specs.Types.{Id}
+use Rattle.agree.specs.Types.{TableKey}
 use Rattle.vat_view.specs.Past.{Past}
 use Rattle.vat_view.specs.Lives.{is_in_life}
 use Rattle.agree.specs.Points.{GoesOn}
 
 -- a number is in life at each point of a log since this one
-abbrev pub LivesFrom : Id → Past → Past → Type 0
+abbrev pub LivesFrom : TableKey → Past → Past → Type 0
 LivesFrom i since whole = (point : Past) → GoesOn whole point → GoesOn point since → is_in_life i point ≡ true

@@ -1,6 +1,6 @@
 -- What a number stands for at its two ends.
 use Rattle.std.specs.Prelude.{◌≡◌, ℕ, ◌∷◌, true, false, Some}
-use Rattle.agree.specs.Types.{RpcMessage, Event, View}
+use Rattle.agree.specs.Types.{RpcMessage, DecodedRecord, View}
 use Rattle.vat_view.specs.Past.{Past, id}
 use Rattle.vat_view.specs.Lives.{Birth, birth}
 use Rattle.vat_view.specs.Views.{view_of_number, view_of_descriptor}
@@ -14,7 +14,7 @@ use Rattle.agree.specs.Lasting.{LivesFrom}
 pub record StandsSince (k n : ℕ) (exporter importer : Past) (began : Birth) : Type 0 where
   pub message : RpcMessage
   pub from : Past
-  pub sent : Event
+  pub sent : DecodedRecord
   pub passed : IsPassed k message exporter importer from began.from.before sent began.from.event
   pub lives : LivesFrom (id k true n) (sent ∷ from) exporter
   pub view : View

@@ -3,13 +3,13 @@
 use Rattle.std.specs.Prelude.{◌≡◌, ℕ, ◌==◌, List, ◌∷◌, length, Bool, true, false, ◌&&◌, Option, Some, None, if◌then◌else◌, option_map}
 use Rattle.std.specs.List.{filter_map}
 use Rattle.std.specs.Bool.{beq}
-use Rattle.agree.specs.Types.{RpcMessage, Event, Wire, Id}
+use Rattle.agree.specs.Types.{RpcMessage, DecodedRecord, Wire, TableKey}
 use Rattle.vat_view.specs.Past.{Past}
 use Rattle.vat_view.specs.Questions.{opening}
 use Rattle.agree.specs.Points.{GoesOn}
 
 -- the message of a record that passed on the connection: sent, or received
-abbrev pub passing : ℕ → Bool → Event → Option RpcMessage
+abbrev pub passing : ℕ → Bool → DecodedRecord → Option RpcMessage
 passing k sent (Wire s j call references m) = if (k == j) && beq sent s then Some m else None
 passing k sent _ = None
 
@@ -24,7 +24,7 @@ pub record IsCut (k : ℕ) (one other : Past) : Type 0 where
   pub to_other : GoesOn (stream k true one) (stream k false other)
 
 -- one log sent a message on the connection that the other received: the two records, and the points before them
-pub record IsPassed (k : ℕ) (m : RpcMessage) (one other from to : Past) (sent received : Event) : Type 0 where
+pub record IsPassed (k : ℕ) (m : RpcMessage) (one other from to : Past) (sent received : DecodedRecord) : Type 0 where
   pub sent_there : GoesOn one (sent ∷ from)
   pub received_there : GoesOn other (received ∷ to)
   pub sends : passing k true sent ≡ Some m
@@ -32,5 +32,5 @@ pub record IsPassed (k : ℕ) (m : RpcMessage) (one other from to : Past) (sent 
   pub same_number : length (stream k true from) ≡ length (stream k false to)
 
 -- the number of the message that opened a question last, of those that went the way of the one who asks
-abbrev pub opening_number : Id → Past → Option ℕ
+abbrev pub opening_number : TableKey → Past → Option ℕ
 opening_number q past = option_map (λ p. length (stream q.connection q.ours p.before)) (opening q past)

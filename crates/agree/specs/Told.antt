@@ -21,11 +21,11 @@ abbrev pub telling : ℕ → Bool → Past → RpcMessage → Telling
 telling k s before m = (m, speaks_of k s before m)
 
 -- the messages that a vat sent on the connection, or those that it received, so told
-abbrev pub told : ℕ → Bool → Past → List Telling
-told k s [] = []
-told k s (e ∷ before) = cons_option (option_map (telling k s before) (passing k s e)) (told k s before)
+abbrev pub tellings : ℕ → Bool → Past → List Telling
+tellings k s [] = []
+tellings k s (e ∷ before) = cons_option (option_map (telling k s before) (passing k s e)) (tellings k s before)
 
 -- a consistent cut of two logs whose ends speak of the same openings
 pub record AreTold (k : ℕ) (one other : Past) : Type 0 where
-  pub to_one : GoesOn (told k true other) (told k false one)
-  pub to_other : GoesOn (told k true one) (told k false other)
+  pub to_one : GoesOn (tellings k true other) (tellings k false one)
+  pub to_other : GoesOn (tellings k true one) (tellings k false other)

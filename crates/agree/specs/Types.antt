@@ -5,7 +5,7 @@ pub use Rattle.rpc_view.specs.declared.message.Target.TheVariants.{Imported, Pro
 pub use Rattle.rpc_view.specs.declared.message.Outcome.{Outcome}
 pub use Rattle.rpc_view.specs.declared.message.RpcMessage.{RpcMessage}
 pub use Rattle.rpc_view.specs.declared.message.RpcMessage.TheVariants.{Bootstrap, Call, Return, Finish, Release, Disembargo}
-pub use Rattle.vat_view.specs.declared.event.Event.{Event}
-pub use Rattle.vat_view.specs.declared.event.Event.TheVariants.{Host, Wire}
+pub use Rattle.vat_view.specs.declared.record.decoded.DecodedRecord.{DecodedRecord}
+pub use Rattle.vat_view.specs.declared.record.decoded.DecodedRecord.TheVariants.{Host, Wire}
 pub use Rattle.vat_view.specs.declared.view.View.{View}
-pub use Rattle.vat_view.specs.declared.id.Id.{Id}
+pub use Rattle.vat_view.specs.declared.record.table_key.TableKey.{TableKey}

@@ -1,22 +1,22 @@
 //! Laws of two logs, which hold of all of them and not of one call.
 
 ghost use Rattle.std.specs.Prelude.{◌≡◌, ◌≤◌, ◌+◌, ◌-◌, ℕ, Bool, List, ◌∷◌, length, true, false};
-ghost use Rattle.agree.specs.Types.{RpcMessage, Event, Id};
+ghost use Rattle.agree.specs.Types.{RpcMessage, DecodedRecord, TableKey};
 ghost use Rattle.vat_view.specs.Past.{Past, Each, id};
 ghost use Rattle.vat_view.specs.Questions.{returns, finishes};
-ghost use Rattle.vat_view.specs.Lives.{came, went, held, GivesBackHeld};
+ghost use Rattle.vat_view.specs.Lives.{introduced_count, released_count, held, GivesBackHeld};
 ghost use Rattle.vat_view.specs.Uses.{OpensFree, UsesQuestions};
 ghost use Rattle.vat_view.specs.Sound.{IsSound};
 ghost use Rattle.vat_rules.specs.Judged.{IsGood};
 ghost use Rattle.agree.specs.Points.{GoesOn};
 ghost use Rattle.agree.specs.Streams.{stream, IsCut, IsPassed, opening_number};
-ghost use Rattle.agree.specs.Rows.{Row, log_of, AllBefore, IsShared};
+ghost use Rattle.agree.specs.Rows.{Row, log_of_vat, AllBefore, IsShared};
 ghost use Rattle.agree.specs.Agreeing.{AreLinked, AgreeOnOpenings, AgreeOnLate};
 ghost use Rattle.agree.specs.Told.{AreTold};
 ghost use Rattle.agree.specs.Alive.{alive, let_go};
 ghost use Rattle.agree.specs.Lasting.{LivesFrom};
 ghost use Rattle.agree.specs.Standing.{AgreeOnLives, Agree};
-ghost use Rattle.agree.specs.Balance.{AreUnderWay, IsBalanced};
+ghost use Rattle.agree.specs.Balance.{AreUnderWay, IsNumberBalanced};
 ghost use Rattle.agree.specs.Arrival.{ArrivesWell};
 
 /// Where two vats share a connection in an order that fits, their logs are linked (`linked`); at each point of the order
@@ -24,11 +24,11 @@ ghost use Rattle.agree.specs.Arrival.{ArrivesWell};
 /// the other, then what the one received by that point the other had sent before that record (`earlier`).
 pub fn shared_logs_are_linked()
     ensures linked { (k v w : ℕ) (row : Row) → IsShared k v w row
-        → AreLinked k (log_of v row) (log_of w row) }
+        → AreLinked k (log_of_vat v row) (log_of_vat w row) }
     ensures cut { (k v w : ℕ) (row before : Row) → IsShared k v w row → GoesOn row before
-        → IsCut k (log_of v before) (log_of w before) }
-    ensures earlier { (k v w : ℕ) (row : Row) (one other : Past) (e : Event) → IsShared k v w row
-        → GoesOn (log_of v row) one → GoesOn (log_of w row) (e ∷ other)
+        → IsCut k (log_of_vat v before) (log_of_vat w before) }
+    ensures earlier { (k v w : ℕ) (row : Row) (one other : Past) (e : DecodedRecord)
+        → IsShared k v w row → GoesOn (log_of_vat v row) one → GoesOn (log_of_vat w row) (e ∷ other)
         → AllBefore v (length one) w (length other) row
         → GoesOn (stream k true other) (stream k false one) }
 {}
@@ -45,7 +45,7 @@ pub fn cuts_are_linked()
 /// at its sender is late at its receiver (`late`).
 pub fn ends_agree_on_openings()
     ensures own { (k : ℕ) (one other : Past) → AreLinked k one other
-        → (n : ℕ) (m : RpcMessage) (from to : Past) (sent received : Event)
+        → (n : ℕ) (m : RpcMessage) (from to : Past) (sent received : DecodedRecord)
         → IsPassed k m one other from to sent received
         → opening_number (id k true n) from ≡ opening_number (id k false n) to }
     ensures returned { (k : ℕ) (one other : Past) → AreLinked k one other → Each UsesQuestions one
@@ -57,12 +57,12 @@ pub fn ends_agree_on_openings()
 /// In one log, two Returns of one opening are one record, and so are two Finishes, where the records use questions as
 /// they should.
 pub fn openings_end_once()
-    ensures one_return { (q : Id) (past : Past) → Each UsesQuestions past
-        → (b c : Past) (x z : Event) → GoesOn past (x ∷ b) → GoesOn past (z ∷ c)
+    ensures one_return { (q : TableKey) (past : Past) → Each UsesQuestions past
+        → (b c : Past) (x z : DecodedRecord) → GoesOn past (x ∷ b) → GoesOn past (z ∷ c)
         → opening_number q b ≡ opening_number q c → returns q b x ≡ true → returns q c z ≡ true
         → b ≡ c }
-    ensures one_finish { (q : Id) (past : Past) → Each UsesQuestions past
-        → (b c : Past) (x z : Event) → GoesOn past (x ∷ b) → GoesOn past (z ∷ c)
+    ensures one_finish { (q : TableKey) (past : Past) → Each UsesQuestions past
+        → (b c : Past) (x z : DecodedRecord) → GoesOn past (x ∷ b) → GoesOn past (z ∷ c)
         → opening_number q b ≡ opening_number q c → finishes q b x ≡ true → finishes q c z ≡ true
         → b ≡ c }
 {}
@@ -72,8 +72,8 @@ pub fn openings_end_once()
 /// not cut off at 0 where no record gives back more than is held (`exact`).
 pub fn held_is_alive()
     ensures all { (k : ℕ) (ours : Bool) (n : ℕ) (past : Past) → Each UsesQuestions past
-        → came (id k ours n) past + let_go (id k ours n) past
-        ≡ alive (id k ours n) past + went (id k ours n) past }
+        → introduced_count (id k ours n) past + let_go (id k ours n) past
+        ≡ alive (id k ours n) past + released_count (id k ours n) past }
     ensures held { (k : ℕ) (ours : Bool) (n : ℕ) (past : Past) → Each UsesQuestions past
         → held (id k ours n) past ≡ alive (id k ours n) past - let_go (id k ours n) past }
     ensures exact { (k : ℕ) (ours : Bool) (n : ℕ) (past : Past) → Each UsesQuestions past
@@ -92,15 +92,15 @@ pub fn importers_are_covered()
         → held (id k false n) importer ≤ held (id k true n) exporter }
     ensures counted { (k n : ℕ) (exporter importer : Past) → AreTold k exporter importer
         → Each UsesQuestions exporter → Each UsesQuestions importer → Each GivesBackHeld importer
-        → went (id k true n) exporter ≤ came (id k true n) exporter }
+        → released_count (id k true n) exporter ≤ introduced_count (id k true n) exporter }
 {}
 
 /// While an importer holds a number that a message brought, the exporter holds it since it sent that message.
 pub fn lives_are_covered()
-    ensures { (k n : ℕ) (exporter importer from to : Past) (m : RpcMessage) (sent received : Event)
-        → Each UsesQuestions exporter → Each UsesQuestions importer → AreLinked k exporter importer
-        → AgreeOnOpenings k exporter importer → AgreeOnOpenings k importer exporter
-        → IsPassed k m exporter importer from to sent received
+    ensures { (k n : ℕ) (exporter importer from to : Past) (m : RpcMessage)
+        (sent received : DecodedRecord) → Each UsesQuestions exporter → Each UsesQuestions importer
+        → AreLinked k exporter importer → AgreeOnOpenings k exporter importer
+        → AgreeOnOpenings k importer exporter → IsPassed k m exporter importer from to sent received
         → LivesFrom (id k false n) (received ∷ to) importer
         → LivesFrom (id k true n) (sent ∷ from) exporter }
 {}
@@ -123,7 +123,7 @@ pub fn good_ends_agree()
         → AreLinked k one other → (n : ℕ) (exporter importer : Past) (there back : List RpcMessage)
         → GoesOn one exporter → GoesOn other importer → IsCut k exporter importer
         → AreUnderWay k exporter importer there → AreUnderWay k importer exporter back
-        → IsBalanced k n exporter importer there back }
+        → IsNumberBalanced k n exporter importer there back }
 {}
 
 /// Of two linked logs, the exporter holds of a number what the importer holds, and what is brought by the messages under
@@ -133,7 +133,7 @@ pub fn counts_are_balanced()
         → AreLinked k exporter importer → Each UsesQuestions exporter → Each UsesQuestions importer
         → Each OpensFree exporter → Each OpensFree importer → AreUnderWay k exporter importer there
         → AreUnderWay k importer exporter back → Each GivesBackHeld importer
-        → IsBalanced k n exporter importer there back }
+        → IsNumberBalanced k n exporter importer there back }
 {}
 
 /// A message whose SEND was good is good at its RECV by QNEW, QUSE, XUSE and COUNT, where the records before it were good
@@ -141,7 +141,7 @@ pub fn counts_are_balanced()
 /// the two logs aren't linked.
 pub fn messages_arrive_well()
     ensures { (k : ℕ) (one other : Past) → AreLinked k one other
-        → (m : RpcMessage) (from to : Past) (sent received : Event)
+        → (m : RpcMessage) (from to : Past) (sent received : DecodedRecord)
         → IsPassed k m one other from to sent received → Each IsGood (sent ∷ from) → Each IsGood to
         → ArrivesWell to received }
 {}

@@ -15,7 +15,7 @@ use Rattle.run_model.specs.Steps.{vat_of, steps_of}
 use Rattle.run_model.specs.declared.step.Step.{Step}
 use Rattle.call_trace.specs.Balance.{IsBalanced}
 use Rattle.call_trace.specs.Findings.{AreEnds, logs_of}
-use Rattle.call_trace.specs.Lives.{UsesLives}
+use Rattle.call_trace.specs.InLife.{UsesLives}
 use Rattle.call_trace.specs.Named.{past_of, IsRunOf}
 use Rattle.call_trace.specs.Part.{IsPart}
 use Rattle.case_book.specs.Books.{AllFound, AreAll}

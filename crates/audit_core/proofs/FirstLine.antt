@@ -7,7 +7,7 @@ use Rattle.cap_reader.specs.declared.limits.Limits.{Limits}
 use Rattle.vat_log.specs.Log.{Log}
 use Rattle.vat_rules.specs.Audit.{Found, IsTrueOf, reads_within}
 use Rattle.vat_rules.specs.First.{AllGood}
-use Rattle.vat_rules.specs.Told.{Told}
+use Rattle.vat_rules.specs.LogFacts.{Told}
 use Rattle.vat_rules.specs.declared.outcome.Outcome.{Outcome}
 use Rattle.vat_rules.specs.declared.outcome.Outcome.TheVariants.{Good, Broken, Outside}
 use Rattle.link_check.specs.Prefix.{Ends, IsOutcome}

@@ -4,7 +4,7 @@ use Rattle.std.specs.Prelude.{◌⊎◌, Contains, min, max, slice_get}
 use Rattle.std.specs.List.{list_all}
 use Rattle.vat_log.specs.Log.{Log}
 use Rattle.vat_rules.specs.Audit.{Found}
-use Rattle.link_check.specs.Prefix.{Ends, IsPrefix, received, sent}
+use Rattle.link_check.specs.Prefix.{Ends, IsPrefix, frames_received, frames_sent}
 use Rattle.merge_order.specs.Fits.{IsRising, IsFitting}
 use Rattle.call_trace.specs.Findings.{is_good, Share, logs_of, MayBeNamed}
 use Rattle.case_book.specs.Case.{Contents, IsCase}
@@ -52,19 +52,19 @@ module _ (held : Contents) (case : IsCase held) (tied : tie_fault_of held ≡ No
   sorted_prefix : (k : ℕ) (one other : Log) (ends : Ends) → Contains held.logs one → Contains held.logs other → Contains held.logs ends.first → Contains held.logs ends.second
       → ends.connection ≡ k → AreGoodEnds ends
       → ((ends.first.vat ≡ one.vat) × (ends.second.vat ≡ other.vat)) ⊎ ((ends.first.vat ≡ other.vat) × (ends.second.vat ≡ one.vat))
-      → IsPrefix (received k one) (sent k other)
+      → IsPrefix (frames_received k one) (frames_sent k other)
   sorted_prefix k one other ends one_there other_there first_held second_held number good (inl vats) =
       let first : ends.first ≡ one = one_contained (λ (log : Log). log.vat) held.logs case.rising_vats ends.first one first_held one_there vats.0 in
       let second : ends.second ≡ other = one_contained (λ (log : Log). log.vat) held.logs case.rising_vats ends.second other second_held other_there vats.1 in
-      subst (λ (n : ℕ). IsPrefix (received n one) (sent n other)) number
-      (subst (λ (log : Log). IsPrefix (received ends.connection one) (sent ends.connection log)) second
-      (subst (λ (log : Log). IsPrefix (received ends.connection log) (sent ends.connection ends.second)) first good.at_first))
+      subst (λ (n : ℕ). IsPrefix (frames_received n one) (frames_sent n other)) number
+      (subst (λ (log : Log). IsPrefix (frames_received ends.connection one) (frames_sent ends.connection log)) second
+      (subst (λ (log : Log). IsPrefix (frames_received ends.connection log) (frames_sent ends.connection ends.second)) first good.at_first))
   sorted_prefix k one other ends one_there other_there first_held second_held number good (inr vats) =
       let first : ends.first ≡ other = one_contained (λ (log : Log). log.vat) held.logs case.rising_vats ends.first other first_held other_there vats.0 in
       let second : ends.second ≡ one = one_contained (λ (log : Log). log.vat) held.logs case.rising_vats ends.second one second_held one_there vats.1 in
-      subst (λ (n : ℕ). IsPrefix (received n one) (sent n other)) number
-      (subst (λ (log : Log). IsPrefix (received ends.connection one) (sent ends.connection log)) first
-      (subst (λ (log : Log). IsPrefix (received ends.connection log) (sent ends.connection ends.first)) second good.at_second))
+      subst (λ (n : ℕ). IsPrefix (frames_received n one) (frames_sent n other)) number
+      (subst (λ (log : Log). IsPrefix (frames_received ends.connection one) (frames_sent ends.connection log)) first
+      (subst (λ (log : Log). IsPrefix (frames_received ends.connection log) (frames_sent ends.connection ends.first)) second good.at_second))
 
   vats_of_ends : (link : Link) (ends : Ends) (one other : ℕ) → IsComparisonOf held.logs link ends
       → ((min link.a link.b ≡ one) × (max link.a link.b ≡ other)) ⊎ ((min link.a link.b ≡ other) × (max link.a link.b ≡ one))
@@ -73,7 +73,7 @@ module _ (held : Contents) (case : IsCase held) (tied : tie_fault_of held ≡ No
   vats_of_ends link ends one other own (inr x) = inr (own.smaller ∙ x.0, own.greater ∙ x.1)
 
   pub prefix_of : (k : ℕ) (one other : Log) (share : Share held.logs k one other) (ends : Ends)
-      → IsComparisonOf held.logs (between k one other share).link ends → AreGoodEnds ends → IsPrefix (received k one) (sent k other)
+      → IsComparisonOf held.logs (between k one other share).link ends → AreGoodEnds ends → IsPrefix (frames_received k one) (frames_sent k other)
   prefix_of k one other share ends own good =
       let shared = between k one other share in
       sorted_prefix k one other ends share.one_there share.other_there own.first_held own.second_held (own.connection ∙ shared.number) good
@@ -89,7 +89,7 @@ named_of held case tied vats logs_same each links order fits =
       rising = subst IsRising same case.rising_vats;
       fits = fits;
       two_ends = subst (λ (logs : List Log). (k : ℕ) (one other third : Log) → Share logs k one other → Share logs k one third → other.vat ≡ third.vat) same (two_ends held case tied);
-      linked = subst (λ (logs : List Log). (k : ℕ) (one other : Log) → Share logs k one other → IsPrefix (received k one) (sent k other)) same
+      linked = subst (λ (logs : List Log). (k : ℕ) (one other : Log) → Share logs k one other → IsPrefix (frames_received k one) (frames_sent k other)) same
           (λ k one other share. (let shared = between held case tied k one other share in
           let good = links shared.link (contained held.links shared.place shared.link shared.there) in
           prefix_of held case tied k one other share good.ends good.own good.good));

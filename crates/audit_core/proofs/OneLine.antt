@@ -8,14 +8,14 @@ use Rattle.cap_reader.specs.Defaults.{default_limits}
 use Rattle.vat_log.specs.Log.{Log}
 use Rattle.vat_view.specs.Past.{Each}
 use Rattle.vat_rules.specs.Audit.{Found, IsTrueOf, reads_within}
-use Rattle.vat_rules.specs.Told.{Told}
+use Rattle.vat_rules.specs.LogFacts.{Told}
 use Rattle.vat_rules.specs.Telling.{told_of}
 use Rattle.vat_rules.specs.declared.rule.Rule.{Rule as RuleType}
 use Rattle.vat_rules.specs.declared.outcome.Why.{Why}
 use Rattle.vat_rules.specs.declared.outcome.Outcome.{Outcome}
 use Rattle.vat_rules.specs.declared.outcome.Outcome.TheVariants.{Good, Broken, Outside}
 use Rattle.vat_rules.proofs.Unique.{one_outcome}
-use Rattle.link_check.specs.Prefix.{Ends, IsOutcome, received, sent}
+use Rattle.link_check.specs.Prefix.{Ends, IsOutcome, frames_received, frames_sent}
 use Rattle.link_check.specs.declared.outcome.LinkOutcome.TheVariants.{Good as GoodLink, Broken as BrokenAt}
 use Rattle.link_check.proofs.Faults.{one_outcome as one_link_outcome, length_prefix}
 use Rattle.merge_order.specs.Fits.{IsFitting}
@@ -27,8 +27,8 @@ use Rattle.run_model.specs.Edges.{AreEdges, Edge}
 use Rattle.run_model.specs.Early.{IsOrderFault}
 use Rattle.call_trace.specs.Balance.{IsBalanced}
 use Rattle.call_trace.specs.Findings.{AreEnds, AreTrue, logs_of, MayBeNamed}
-use Rattle.call_trace.specs.Lives.{UsesLives}
-use Rattle.call_trace.specs.Named.{past_of, taken, AtEachPoint, IsRunOf}
+use Rattle.call_trace.specs.InLife.{UsesLives}
+use Rattle.call_trace.specs.Named.{past_of, taken_before, AtEachPoint, IsRunOf}
 use Rattle.call_trace.specs.Part.{IsPart}
 use Rattle.call_trace.proofs.Orders.{one_order_fault, one_list_of_edges}
 use Rattle.case_book.specs.Case.{Contents, IsCase}
@@ -75,10 +75,10 @@ no_bad_log held v a first bad good = bad (told_of (reads_within default_limits) 
 
 good_outcome : (ends : Ends) → AreGoodEnds ends → (delivered : ℕ) × ((in_flight : ℕ) × IsOutcome ends (GoodLink delivered in_flight))
 good_outcome ends good =
-    let came = length (received ends.connection ends.first) + length (received ends.connection ends.second) in
-    let went = length (sent ends.connection ends.first) + length (sent ends.connection ends.second) in
-    let one = length_prefix (received ends.connection ends.first) (sent ends.connection ends.second) good.at_first in
-    let other = length_prefix (received ends.connection ends.second) (sent ends.connection ends.first) good.at_second in
+    let came = length (frames_received ends.connection ends.first) + length (frames_received ends.connection ends.second) in
+    let went = length (frames_sent ends.connection ends.first) + length (frames_sent ends.connection ends.second) in
+    let one = length_prefix (frames_received ends.connection ends.first) (frames_sent ends.connection ends.second) good.at_first in
+    let other = length_prefix (frames_received ends.connection ends.second) (frames_sent ends.connection ends.first) good.at_second in
     (came, (went - came, record { at_first = good.at_first; at_second = good.at_second; came = refl; went = omega (arith, one, other) }))
 
 not_both : (delivered in_flight end message : ℕ) → GoodLink delivered in_flight ≡ BrokenAt end message → ⊥
@@ -177,8 +177,8 @@ module _ (held : Contents) (case : IsCase held) (tied : tie_fault_of held ≡ No
         let first = subst (λ (log : Log). AreEnds held.logs k log other.log) (sym (ap (λ (found : Found). found.log) own.2)) here in
         let both = subst (λ (log : Log). AreEnds held.logs k own.0 log) (sym (ap (λ (found : Found). found.log) own_too.2)) first in
         let bare = so.balanced i k own.0 own_too.0 (contained held.logs one_at.0 own.0 own.1) (contained held.logs other_at.0 own_too.0 own_too.1) both n in
-        subst (λ (found : Found). IsBalanced k n (taken order i found) (taken order i other)) own.2
-        (subst (λ (found : Found). IsBalanced k n (taken order i (finding_for own.0)) (taken order i found)) own_too.2 bare)
+        subst (λ (found : Found). IsBalanced k n (taken_before order i found) (taken_before order i other)) own.2
+        (subst (λ (found : Found). IsBalanced k n (taken_before order i (finding_for own.0)) (taken_before order i found)) own_too.2 bare)
 
     run_of : IsRunOf (findings_for held.logs) order run
     run_of = record {

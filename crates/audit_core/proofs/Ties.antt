@@ -7,11 +7,11 @@ use Rattle.std.proofs.lemmas.Bool.{cases_lt, eqb-true}
 use Rattle.vat_log.specs.Log.{Log}
 use Rattle.vat_log.specs.declared.body.Body.{Body}
 use Rattle.vat_log.specs.declared.body.Body.TheVariants as body
-use Rattle.merge_order.specs.Fits.{sends, receives}
+use Rattle.merge_order.specs.Fits.{sends_frame, receives_frame}
 use Rattle.call_trace.specs.Findings.{uses}
 use Rattle.case_book.specs.Case.{Contents, or_else}
 use Rattle.case_book.specs.Least.{least, IsLeast}
-use Rattle.case_book.specs.Ties.{tie_fault_of, used_by, is_linked, is_unlinked, unlinked_in, missing, unlogged, same_ended}
+use Rattle.case_book.specs.Ties.{tie_fault_of, used_by, is_linked, is_unlinked, unlinked_in, missing_logs, links_without_log, links_of_one_vat}
 use Rattle.case_book.specs.declared.link.Link.{Link}
 use Rattle.case_book.specs.declared.ties.TieFault.{TieFault}
 use Rattle.case_book.specs.declared.ties.TieFault.TheVariants.{MissingLog, SameEnds}
@@ -36,8 +36,8 @@ back_empty (x ∷ xs) ys e = absurd cc
 none_missing : (held : Contents) → tie_fault_of held ≡ None → flat_map (unlinked_in held.links) held.logs ≡ []
 unfolding tie_fault_of
 none_missing held tied =
-    let none = first_none (least (missing held)) MissingLog (option_map SameEnds (least (same_ended held.links))) tied in
-    front_empty (flat_map (unlinked_in held.links) held.logs) (unlogged held.logs held.links) (subst (IsLeast (missing held)) none (least_of (missing held)))
+    let none = first_none (least (missing_logs held)) MissingLog (option_map SameEnds (least (links_of_one_vat held.links))) tied in
+    front_empty (flat_map (unlinked_in held.links) held.logs) (links_without_log held.logs held.links) (subst (IsLeast (missing_logs held)) none (least_of (missing_logs held)))
 
 each_empty : (f : Log → List ℕ) (logs : List Log) → flat_map f logs ≡ [] → (k : ℕ) (log : Log) → slice_get logs k ≡ Some log → f log ≡ []
 each_empty f [] e k log at = absurd cc
@@ -52,7 +52,7 @@ true_of : (b : Bool) → (b || false) ≡ true → b ≡ true
 true_of true e = refl
 true_of false e = absurd cc
 
-used : (b : Body) (k : ℕ) → (sends k b || receives k b) ≡ true → used_by b ≡ Some k
+used : (b : Body) (k : ℕ) → (sends_frame k b || receives_frame k b) ≡ true → used_by b ≡ Some k
 used (body.Host reference object) k e = absurd cc
 used (body.Vow reference) k e = absurd cc
 used (body.Fulfil reference to) k e = absurd cc
@@ -82,10 +82,10 @@ none_pass_later p (Some n) rest e =
       | inr fails ↦ rw fails at e
     ]
 
-none_pass : (p : ℕ → Bool) (records : List Body) (k : ℕ) → filter p (filter_map used_by records) ≡ [] → list_any (λ b. sends k b || receives k b) records ≡ true → p k ≡ false
+none_pass : (p : ℕ → Bool) (records : List Body) (k : ℕ) → filter p (filter_map used_by records) ≡ [] → list_any (λ b. sends_frame k b || receives_frame k b) records ≡ true → p k ≡ false
 none_pass p [] k e any = absurd cc
 none_pass p (b ∷ records) k e any =
-    elim (bool_cases (sends k b || receives k b)) [
+    elim (bool_cases (sends_frame k b || receives_frame k b)) [
       | inl here ↦ none_pass_here p (used_by b) (filter_map used_by records) k e (used b k here)
       | inr not_here ↦ none_pass p records k (none_pass_later p (used_by b) (filter_map used_by records) e) (rw not_here at any)
     ]

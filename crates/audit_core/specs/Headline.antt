@@ -16,7 +16,7 @@ use Rattle.run_model.specs.Links.{IsLinkedRun}
 use Rattle.run_model.specs.Right.{ReachesObject, IsOrdered, IsConnected}
 use Rattle.call_trace.specs.Balance.{IsBalanced}
 use Rattle.call_trace.specs.Findings.{AreEnds}
-use Rattle.call_trace.specs.Lives.{UsesLives}
+use Rattle.call_trace.specs.InLife.{UsesLives}
 use Rattle.call_trace.specs.Part.{IsPart}
 use Rattle.audit_core.specs.declared.report.Report.{Report}
 use Rattle.audit_core.specs.declared.report.Report.TheVariants as report

@@ -9,9 +9,9 @@ use Rattle.vat_rules.specs.Audit.{Found, IsTrueOf, reads_within}
 use Rattle.vat_rules.specs.First.{AllGood}
 use Rattle.vat_rules.specs.declared.outcome.Outcome.{Outcome}
 use Rattle.vat_rules.specs.declared.outcome.Outcome.TheVariants.{Broken, Outside}
-use Rattle.link_check.specs.Prefix.{Ends, IsPrefix, IsOutcome, sent, received}
+use Rattle.link_check.specs.Prefix.{Ends, IsPrefix, IsOutcome, frames_sent, frames_received}
 use Rattle.link_check.specs.declared.outcome.LinkOutcome.TheVariants.{Broken as BrokenAt}
-use Rattle.merge_order.specs.Fits.{IsFitting, TakesLeast, finding_of}
+use Rattle.merge_order.specs.Fits.{IsFitting, TakesLeast, finding_of_order}
 use Rattle.merge_order.specs.declared.checking.OrderFinding.TheVariants.{Fails}
 use Rattle.run_model.specs.declared.step.Step.{Step}
 use Rattle.run_model.specs.Early.{IsOrderFault}
@@ -39,8 +39,8 @@ pub record IsFirstBad (logs : List Log) (vat : ℕ) (outcome : Outcome) : Type 0
 
 -- each of two ends received a prefix of what the other sent
 pub record AreGoodEnds (ends : Ends) : Type 0 where
-  pub at_first : IsPrefix (received ends.connection ends.first) (sent ends.connection ends.second)
-  pub at_second : IsPrefix (received ends.connection ends.second) (sent ends.connection ends.first)
+  pub at_first : IsPrefix (frames_received ends.connection ends.first) (frames_sent ends.connection ends.second)
+  pub at_second : IsPrefix (frames_received ends.connection ends.second) (frames_sent ends.connection ends.first)
 
 -- the two ends of a link are so
 pub record IsGoodLink (logs : List Log) (link : Link) : Type 0 where
@@ -122,7 +122,7 @@ pub record IsYes (logs : List Log) (given : Option (List ℕ)) (vats records del
 
 -- the order that was given fails at this step
 abbrev pub FailsAt : List Log → Option (List ℕ) → ℕ → Type 0
-FailsAt logs (Some order) step = finding_of logs order ≡ Fails step
+FailsAt logs (Some order) step = finding_of_order logs order ≡ Fails step
 FailsAt logs None step = ⊥
 
 -- none was given, and none fits

@@ -19,7 +19,7 @@ use std::thread::Threads;
 /// How many workers there may be.
 const MAX_WORKERS: u32 = 64;
 
-/// Why a case isn't audited, want of memory apart.
+/// Why a case isn't audited, but for running out of memory.
 fn refused(case: &Case, workers: u32) -> Option<AuditError>
     ensures { result ≡ refusal_of case.now workers }
 {
@@ -64,7 +64,7 @@ fn find_all<G: Gate>(alloc: Global, case: Case, gate: &G) -> Result<Findings, Al
 /// # Errors
 ///
 /// The first that applies: `NoWorkers`; `TooManyWorkers` above 64; `MissingLog` or `SameEnds`, as the case's tie fault says;
-/// and else, at any time, want of memory.
+/// and else, at any time, out of memory.
 pub fn audit<R: Threads + Wait + Sync, G: Gate + Sync>(
     rt: &R,
     alloc: Global,

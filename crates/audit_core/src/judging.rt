@@ -8,7 +8,7 @@ ghost use Rattle.audit_core.specs.Headline.{YesMeansHeadline};
 ghost use Rattle.audit_core.specs.Report.{IsReport, IsOrderFor, delivers, sends, receives, count_all, records_in, AreGoodFindings};
 
 use crate::counts::{Kind, count_of, count_records};
-use crate::lines::{link_line, vat_line};
+use crate::first_bad::{link_line, vat_line};
 use crate::report::{Breach, Report};
 use call_trace::{name_run, order_fault};
 use case_book::Findings;
@@ -45,7 +45,8 @@ fn logs_in(alloc: Global, vats: &[VatFinding]) -> Result<Vec<Arc<VatLog>>, Alloc
 fn yes(vats: &[VatFinding], records: u64, run: Run) -> Report
     requires few { length vats.now ≤ 64 }
     requires all { records ≡ records_in (logs_of vats.now) }
-    ensures { result ≡ Report.Yes (length vats.now) (records_in (logs_of vats.now)) (count_all delivers (logs_of vats.now))
+    ensures { result ≡ Report.Yes (length vats.now) (records_in (logs_of vats.now))
+        (count_all delivers (logs_of vats.now))
         (count_all sends (logs_of vats.now) - count_all receives (logs_of vats.now)) run }
 {
     let sent = count_of(vats, Kind::Sending);
@@ -63,7 +64,8 @@ fn yes(vats: &[VatFinding], records: u64, run: Run) -> Report
 fn by_order(alloc: Global, findings: &Findings, order: &Order) -> Result<Report, AllocError>
     requires good { AreGoodFindings findings.now }
     requires fits { IsFitting (logs_of findings.now.vats) order.now }
-    ensures { IfOk result (λ answer. (given : Option (List ℕ)) → IsOrderFor findings.now.case.logs given order.now
+    ensures { IfOk result
+        (λ answer. (given : Option (List ℕ)) → IsOrderFor findings.now.case.logs given order.now
         → IsReport findings.now.case given answer) }
 {
     let vats = findings.vats();
@@ -84,7 +86,7 @@ fn by_order(alloc: Global, findings: &Findings, order: &Order) -> Result<Report,
 ///
 /// # Errors
 ///
-/// Want of memory.
+/// Out of memory.
 pub fn judge(alloc: Global, findings: Findings, order: Order) -> Result<Report, AllocError>
     ensures report { IfOk result (IsReport findings.case (Some order)) }
     // What a yes means.
@@ -105,7 +107,7 @@ pub fn judge(alloc: Global, findings: Findings, order: Order) -> Result<Report, 
 ///
 /// # Errors
 ///
-/// Want of memory.
+/// Out of memory.
 pub fn judge_unordered(alloc: Global, findings: Findings) -> Result<Report, AllocError>
     ensures report { IfOk result (IsReport findings.case None) }
     // What a yes means.

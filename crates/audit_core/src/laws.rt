@@ -15,9 +15,10 @@ ghost use Rattle.audit_core.specs.declared.report.Report.TheVariants.{Yes};
 /// Which order it is doesn't matter: a case that ties up has one line, by whatever order that fits, and where none is given.
 /// A yes by another order has a run with the steps in another order.
 pub fn a_case_has_one_line()
-    ensures { (held : Contents) → IsCase held → tie_fault_of held ≡ None → (given other_given : Option (List ℕ)) → IsFittingIfGiven held.logs given
-        → IsFittingIfGiven held.logs other_given → (one other : Report) → IsReport held given one → IsReport held other_given other
-        → line_in one ≡ line_in other }
+    ensures { (held : Contents) → IsCase held → tie_fault_of held ≡ None
+        → (given other_given : Option (List ℕ)) → IsFittingIfGiven held.logs given
+        → IsFittingIfGiven held.logs other_given → (one other : Report) → IsReport held given one
+        → IsReport held other_given other → line_in one ≡ line_in other }
 {}
 
 /// Nor does it matter for the graph: the runs of two yeses for a case that ties up have the same edges, in the same order.
@@ -32,5 +33,6 @@ pub fn a_case_has_one_graph()
 /// The findings of a case that are good name a run, by any order that fits: two of its logs at most use each connection, and
 /// either received there the beginning of what the other sent.
 pub fn good_findings_name_a_run()
-    ensures { (all : AllFound) (order : List ℕ) → AreGoodFindings all → IsFitting (logs_of all.vats) order → MayBeNamed all.vats order }
+    ensures { (all : AllFound) (order : List ℕ) → AreGoodFindings all
+        → IsFitting (logs_of all.vats) order → MayBeNamed all.vats order }
 {}

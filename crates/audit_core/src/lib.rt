@@ -11,10 +11,10 @@
 mod auditing;
 mod counts;
 mod error;
+mod first_bad;
 mod gate;
 mod judging;
 mod laws;
-mod lines;
 mod report;
 
 pub use auditing::audit;

@@ -5,28 +5,28 @@ use Rattle.std.proofs.lemmas.Bool.{eq-eqb, false≢true}
 use Rattle.std.proofs.lemmas.List.{append-nil, length-append, reverse-append, reverse-reverse}
 use Rattle.std.proofs.lemmas.List.Elements.{filter-append}
 use Rattle.run_model.specs.Edges.{Edge, IsBound, IsWitness}
-use Rattle.run_model.specs.Steps.{OneOf, Past, count, steps_of, vat_of}
+use Rattle.run_model.specs.Steps.{OneOf, PastSteps, count_steps, steps_of, vat_of}
 use Rattle.run_model.specs.declared.cap.Cap.{Cap}
 use Rattle.run_model.specs.declared.message.Message.{Message}
 use Rattle.run_model.specs.declared.step.Step.{Step}
 use Rattle.run_model.specs.declared.step.Step.TheVariants.{Host, Receive}
-use Rattle.authority.specs.Tables.{IsBoundIn, IsFound, edge_at}
+use Rattle.authority.specs.Glue.EdgeTables.{IsBoundIn, IsFound, edge_at}
 
 -- ---- steps of a vat, with one more
 
-steps_more : (v : ℕ) (s : Step) (past : Past) → steps_of v (reverse (s ∷ past)) ≡ steps_of v (reverse past) ++ (if vat_of s == v then s ∷ [] else [])
+steps_more : (v : ℕ) (s : Step) (past : PastSteps) → steps_of v (reverse (s ∷ past)) ≡ steps_of v (reverse past) ++ (if vat_of s == v then s ∷ [] else [])
 steps_more v s past = ap (steps_of v) (reverse-append (s ∷ []) past) ∙ filter-append (λ t. vat_of t == v) (reverse past) (s ∷ [])
 
 more_length : (b : Bool) (s : Step) (n k : ℕ) → n ≡ k → n + length (if b then s ∷ [] else []) ≡ (if b then suc k else k)
 more_length true s n k e = omega (arith, e)
 more_length false s n k e = omega (arith, e)
 
-counted : (v : ℕ) (past : Past) → length (steps_of v (reverse past)) ≡ count (λ s. vat_of s == v) past
+counted : (v : ℕ) (past : PastSteps) → length (steps_of v (reverse past)) ≡ count_steps (λ s. vat_of s == v) past
 counted v [] = refl
 counted v (s ∷ past) =
     ap (λ l. length l) (steps_more v s past)
     ∙ length-append (steps_of v (reverse past)) (if vat_of s == v then s ∷ [] else [])
-    ∙ more_length (vat_of s == v) s (length (steps_of v (reverse past))) (count (λ t. vat_of t == v) past) (counted v past)
+    ∙ more_length (vat_of s == v) s (length (steps_of v (reverse past))) (count_steps (λ t. vat_of t == v) past) (counted v past)
 
 -- ---- places in a list
 
@@ -57,12 +57,12 @@ get_more false xs s i z e = inl (sym (ap (λ l. slice_get l i) (append-nil xs)) 
 
 -- ---- there and back
 
-pub bound_more : (s : Step) (past : Past) (e : Edge) → IsBoundIn past e → IsBoundIn (s ∷ past) e
+pub bound_more : (s : Step) (past : PastSteps) (e : Edge) → IsBoundIn past e → IsBoundIn (s ∷ past) e
 bound_more (Receive v k m bound) past e h = inr h
 bound_more (Host v o) past e h = h
 bound_more _ past e h = h
 
-pub bound_in : (past : Past) (e : Edge) → IsBound (reverse past) e.vat e.cap e.at_record e.bound_index → IsBoundIn past e
+pub bound_in : (past : PastSteps) (e : Edge) → IsBound (reverse past) e.vat e.cap e.at_record e.bound_index → IsBoundIn past e
 bound_in [] e b = absurd (none_some b.step)
 bound_in (s ∷ past) e b =
     elim (get_more (vat_of s == e.vat) (steps_of e.vat (reverse past)) s e.at_record (Receive e.vat b.connection b.message b.bound) (sym (ap (λ l. slice_get l e.at_record) (steps_more e.vat s past)) ∙ b.step)) [
@@ -70,7 +70,7 @@ bound_in (s ∷ past) e b =
       | inr last ↦ subst (λ t. IsBoundIn (t ∷ past) e) (sym last.1) (inl (refl, last.0 ∙ counted e.vat past, b.cap_bound))
     ]
 
-bound_later : (s : Step) (past : Past) (v : ℕ) (a : Cap) (i p : ℕ) → IsBound (reverse past) v a i p → IsBound (reverse (s ∷ past)) v a i p
+bound_later : (s : Step) (past : PastSteps) (v : ℕ) (a : Cap) (i p : ℕ) → IsBound (reverse past) v a i p → IsBound (reverse (s ∷ past)) v a i p
 bound_later s past v a i p b = record {
   connection = b.connection;
   message = b.message;
@@ -79,19 +79,19 @@ bound_later s past v a i p b = record {
   cap_bound = b.cap_bound;
 }
 
-bound_last : (past : Past) (v k : ℕ) (m : Message) (bound : List Cap) (a : Cap) (p : ℕ) → slice_get bound p ≡ Some a → IsBound (reverse (Receive v k m bound ∷ past)) v a (count (λ s. vat_of s == v) past) p
+bound_last : (past : PastSteps) (v k : ℕ) (m : Message) (bound : List Cap) (a : Cap) (p : ℕ) → slice_get bound p ≡ Some a → IsBound (reverse (Receive v k m bound ∷ past)) v a (count_steps (λ s. vat_of s == v) past) p
 bound_last past v k m bound a p at = record {
   connection = k;
   message = m;
   bound = bound;
   step =
-      ap (λ l. slice_get l (count (λ s. vat_of s == v) past)) (steps_more v (Receive v k m bound) past)
+      ap (λ l. slice_get l (count_steps (λ s. vat_of s == v) past)) (steps_more v (Receive v k m bound) past)
       ∙ ap₂ (λ b i. slice_get (steps_of v (reverse past) ++ (if b then Receive v k m bound ∷ [] else [])) i) (eq-eqb v v refl) (sym (counted v past))
       ∙ get_last (steps_of v (reverse past)) (Receive v k m bound);
   cap_bound = at;
 }
 
-pub bound_by : (past : Past) (e : Edge) → IsBoundIn past e → IsBound (reverse past) e.vat e.cap e.at_record e.bound_index
+pub bound_by : (past : PastSteps) (e : Edge) → IsBoundIn past e → IsBound (reverse past) e.vat e.cap e.at_record e.bound_index
 bound_by [] e h = absurd h
 bound_by (Receive v k m bound ∷ past) e (inl h) =
     subst (λ w. IsBound (reverse (Receive v k m bound ∷ past)) w e.cap e.at_record e.bound_index) (sym h.0)
@@ -109,14 +109,14 @@ one_fewer : (b : Bool) (n : ℕ) → b ≡ true → n < (if b then suc n else n)
 one_fewer true n e = omega arith
 one_fewer false n e = absurd (false≢true e)
 
-pub came_before : (past : Past) (e : Edge) → IsBoundIn past e → e.at_record < count (λ s. vat_of s == e.vat) past
+pub came_before : (past : PastSteps) (e : Edge) → IsBoundIn past e → e.at_record < count_steps (λ s. vat_of s == e.vat) past
 came_before [] e h = absurd h
 came_before (Receive v k m bound ∷ past) e (inl h) =
-    subst (λ i. i < count (λ s. vat_of s == e.vat) (Receive v k m bound ∷ past)) (sym (h.1 ∙ ap (λ w. count (λ s. vat_of s == w) past) (sym h.0)))
-    (one_fewer (v == e.vat) (count (λ s. vat_of s == e.vat) past) (eq-eqb v e.vat (sym h.0)))
-came_before (Receive v k m bound ∷ past) e (inr h) = fewer (v == e.vat) e.at_record (count (λ s. vat_of s == e.vat) past) (came_before past e h)
-came_before (Host v o ∷ past) e h = fewer (v == e.vat) e.at_record (count (λ s. vat_of s == e.vat) past) (came_before past e h)
-came_before (s ∷ past) e h = fewer (vat_of s == e.vat) e.at_record (count (λ s. vat_of s == e.vat) past) (came_before past e h)
+    subst (λ i. i < count_steps (λ s. vat_of s == e.vat) (Receive v k m bound ∷ past)) (sym (h.1 ∙ ap (λ w. count_steps (λ s. vat_of s == w) past) (sym h.0)))
+    (one_fewer (v == e.vat) (count_steps (λ s. vat_of s == e.vat) past) (eq-eqb v e.vat (sym h.0)))
+came_before (Receive v k m bound ∷ past) e (inr h) = fewer (v == e.vat) e.at_record (count_steps (λ s. vat_of s == e.vat) past) (came_before past e h)
+came_before (Host v o ∷ past) e h = fewer (v == e.vat) e.at_record (count_steps (λ s. vat_of s == e.vat) past) (came_before past e h)
+came_before (s ∷ past) e h = fewer (vat_of s == e.vat) e.at_record (count_steps (λ s. vat_of s == e.vat) past) (came_before past e h)
 
 -- ---- the edges found are the witnesses
 

@@ -12,13 +12,13 @@ use Rattle.std.proofs.lemmas.Cmp.{ranked}
 use Rattle.std.proofs.lemmas.List.Elements.{All-from_recursion}
 use Rattle.std.proofs.lemmas.List.Kept.{AllPairs-cons}
 use Rattle.run_model.specs.Edges.{AreEdges, Edge, IsBefore, IsBound}
-use Rattle.run_model.specs.Steps.{OneOf, Past}
+use Rattle.run_model.specs.Steps.{OneOf, PastSteps}
 use Rattle.run_model.specs.declared.cap.Cap.{Cap}
 use Rattle.run_model.specs.declared.message.Message.{Message}
 use Rattle.run_model.specs.declared.step.Step.{Step}
 use Rattle.run_model.specs.declared.step.Step.TheVariants.{Receive}
-use Rattle.authority.specs.Places.{IsByPlace, IsSingle, place_cmp, place_edge}
-use Rattle.authority.specs.Tables.{IsBoundIn, IsFound}
+use Rattle.authority.specs.Glue.EdgePlaces.{IsByPlace, IsSingle, place_cmp, place_edge}
+use Rattle.authority.specs.Glue.EdgeTables.{IsBoundIn, IsFound}
 use Rattle.authority.proofs.Placing.{both_equal}
 use Rattle.authority.proofs.Bound.{bound_by, found_witness, witness_found}
 
@@ -33,7 +33,7 @@ same_some e = cc
 one_cap : (run : List Step) (v : ℕ) (a b : Cap) (i p : ℕ) → IsBound run v a i p → IsBound run v b i p → a ≡ b
 one_cap run v a b i p x y = same_some (sym x.cap_bound ∙ ap (λ l. slice_get l p) (same_bound (sym x.step ∙ y.step)) ∙ y.cap_bound)
 
-pub single : (past : Past) (edges : List Edge) → IsFound (IsBoundIn past) edges → IsSingle edges
+pub single : (past : PastSteps) (edges : List Edge) → IsFound (IsBoundIn past) edges → IsSingle edges
 single past edges found e f here there vat at place =
     let one = bound_by past e (found.sound e here).1 in
     let two = bound_by past f (found.sound f there).1 in

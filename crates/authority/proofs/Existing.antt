@@ -5,12 +5,12 @@ use Rattle.std.proofs.lemmas.Bool.{cases_Bool, cases_eq, both_ways}
 use Rattle.std.proofs.lemmas.Option.{slice_get-get_or}
 use Rattle.std.proofs.lemmas.Slice.Eq.{bytes_eq-Decides}
 use Rattle.run_model.specs.Edges.{Edge}
-use Rattle.run_model.specs.Steps.{OneOf, Past, call, count, vat_of}
+use Rattle.run_model.specs.Steps.{OneOf, PastSteps, call, count_steps, vat_of}
 use Rattle.run_model.specs.declared.cap.Cap.{Cap}
 use Rattle.run_model.specs.declared.cap.Cap.TheVariants as cap
 use Rattle.run_model.specs.declared.name.Name.{Name}
 use Rattle.run_model.specs.declared.step.Step.TheVariants.{Host, Receive}
-use Rattle.authority.specs.Tables.{AddsFirst, IsAlike, IsBoundIn, IsFound, edge_at, foreign}
+use Rattle.authority.specs.Glue.EdgeTables.{AddsFirst, IsAlike, IsBoundIn, IsFound, edge_at, foreign}
 use Rattle.authority.proofs.First.{found_same}
 use Rattle.authority.proofs.Stepping.{IsPartly, back, partly_more, partly_own, partly_start, within}
 
@@ -60,7 +60,7 @@ alike_decides b (e ∷ edges) = elim (cases_eq e.vat b.vat) [
 adds : (b : Edge) (edges : List Edge) → (more : List Edge) × AddsFirst b edges more
 adds b edges = elim (alike_decides b edges) [ inl there ↦ (edges, inl (there, refl)) | inr none ↦ (edges ++ b ∷ [], inr (none, refl)) ]
 
-part_found : (past : Past) (v i : ℕ) (caps : List Cap) → i ≡ count (λ t. vat_of t == v) past → (start : List Edge) → IsFound (IsBoundIn past) start → (p : ℕ) → p ≤ length caps
+part_found : (past : PastSteps) (v i : ℕ) (caps : List Cap) → i ≡ count_steps (λ t. vat_of t == v) past → (start : List Edge) → IsFound (IsBoundIn past) start → (p : ℕ) → p ≤ length caps
     → (edges : List Edge) × IsFound (IsPartly past v i caps p) edges
 part_found past v i caps number start found zero le = (start, partly_start past v i caps start found)
 part_found past v i caps number start found (suc p) le =
@@ -74,13 +74,13 @@ part_found past v i caps number start found (suc p) le =
       | inr own ↦ (before.0, subst (λ q. IsFound (IsPartly past v i caps q) before.0) (add-one p) (partly_own past v i caps p a at before.0 own before.1))
     ]
 
-pub some_found : (past : Past) → (edges : List Edge) × IsFound (IsBoundIn past) edges
+pub some_found : (past : PastSteps) → (edges : List Edge) × IsFound (IsBoundIn past) edges
 some_found [] = ([], record { sound = λ e h. absurd h; covers = λ f foreign h. absurd h })
 some_found (Receive v k m caps ∷ past) =
     let rest = some_found past in
-    let all = part_found past v (count (λ t. vat_of t == v) past) caps refl rest.0 rest.1 (length caps) (omega arith) in (
+    let all = part_found past v (count_steps (λ t. vat_of t == v) past) caps refl rest.0 rest.1 (length caps) (omega arith) in (
       all.0,
-      found_same (IsPartly past v (count (λ t. vat_of t == v) past) caps (length caps)) (IsBoundIn (Receive v k m caps ∷ past)) all.0 all.1
+      found_same (IsPartly past v (count_steps (λ t. vat_of t == v) past) caps (length caps)) (IsBoundIn (Receive v k m caps ∷ past)) all.0 all.1
           (λ f h. elim h [ inl here ↦ inl (here.0, here.1, within caps f.bound_index f.cap here.2, here.2) | inr was ↦ inr was ])
           (λ f h. elim h [ inl here ↦ inl (here.0, here.1, here.3) | inr was ↦ inr was ]),
     )

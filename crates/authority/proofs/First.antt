@@ -2,7 +2,7 @@
 use Rattle.std.proofs.Common.{◌≡◌, ◌∙◌, ◌⊎◌, inl, inr, refl, sym, ap, subst, List, [], ◌∷◌, ◌++◌, arith}
 use Rattle.run_model.specs.Edges.{Edge, IsForeign}
 use Rattle.run_model.specs.Steps.{OneOf}
-use Rattle.authority.specs.Tables.{AddsFirst, ComesBefore, IsAlike, IsFound}
+use Rattle.authority.specs.Glue.EdgeTables.{AddsFirst, ComesBefore, IsAlike, IsFound}
 
 -- ---- one of a list
 

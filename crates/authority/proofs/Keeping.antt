@@ -12,8 +12,8 @@ use Rattle.run_model.specs.declared.cap.Cap.TheVariants as cap
 use Rattle.run_model.specs.declared.name.Name.{Name}
 use Rattle.authority.specs.declared.key.Key.{Key}
 use Rattle.authority.specs.declared.key.Key.TheVariants.{Object, Promise, Field, Nothing}
-use Rattle.authority.specs.Keys.{IsKeyOf, entry_edge, key_cap, key_eq, key_vat}
-use Rattle.authority.specs.Tables.{AddsFirst, IsAlike, edge_at}
+use Rattle.authority.specs.Glue.Keys.{IsKeyOf, entry_edge, key_cap, key_eq, key_vat}
+use Rattle.authority.specs.Glue.EdgeTables.{AddsFirst, IsAlike, edge_at}
 
 object_same : {o n p m : ℕ} → cap.Object o n ≡ cap.Object p m → (o ≡ p) × (n ≡ m)
 object_same e = (cc, cc)

@@ -11,9 +11,9 @@ use Rattle.std.proofs.lemmas.List.{append_assoc, append-nil, map-append}
 use Rattle.run_model.specs.Edges.{Edge}
 use Rattle.run_model.specs.Steps.{OneOf}
 use Rattle.run_model.specs.declared.cap.Cap.{Cap}
-use Rattle.authority.specs.Keys.{IsKeyOf, entry_edge}
-use Rattle.authority.specs.Places.{IsByPlace, IsSingle, place_cmp, place_edge}
-use Rattle.authority.specs.Tables.{edge_at}
+use Rattle.authority.specs.Glue.Keys.{IsKeyOf, entry_edge}
+use Rattle.authority.specs.Glue.EdgePlaces.{IsByPlace, IsSingle, place_cmp, place_edge}
+use Rattle.authority.specs.Glue.EdgeTables.{edge_at}
 use Rattle.authority.specs.declared.key.Key.{Key}
 use Rattle.authority.proofs.First.{one_front, one_back, one_either}
 

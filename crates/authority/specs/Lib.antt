@@ -1,6 +1,4 @@
 pub mod Explained
-pub mod Keys
-pub mod Places
+pub mod Glue
 pub mod Records
 pub mod Shown
-pub mod Tables

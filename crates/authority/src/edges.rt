@@ -2,7 +2,7 @@
 
 ghost use Rattle.std.specs.Prelude.{◌≡◌, map, IfOk};
 ghost use Rattle.authority.specs.Shown.{edge_of};
-ghost use Rattle.authority.specs.Places.{place_edge};
+ghost use Rattle.authority.specs.Glue.EdgePlaces.{place_edge};
 
 use crate::edge::Edge;
 use crate::witnesses::ByPlace;

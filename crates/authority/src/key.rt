@@ -1,7 +1,7 @@
 //! Who has which capability, to be looked up.
 
 ghost use Rattle.std.specs.Prelude.{IfOk};
-ghost use Rattle.authority.specs.Keys.{IsKeyOf};
+ghost use Rattle.authority.specs.Glue.Keys.{IsKeyOf};
 
 use cap_frame::Path;
 use run_model::{Cap, Name};
@@ -38,7 +38,7 @@ impl Key {
         }
     }
 
-    /// The vat and the capability of the key. The only error is want of memory.
+    /// The vat and the capability of the key. The only error is that memory ran out.
     pub(crate) fn into_parts(self) -> Result<(u32, Cap), AllocError>
         ensures { IfOk result (λ parts. IsKeyOf parts.0 parts.1 self) }
     {

@@ -2,8 +2,8 @@
 
 ghost use Rattle.std.specs.Prelude.{◌≡◌, ◌++◌, ◌∷◌, List, reverse};
 ghost use Rattle.run_model.specs.Edges.{AreEdges, Edge, IsForeign};
-ghost use Rattle.run_model.specs.Legal.{IsLegalRun, uses};
-ghost use Rattle.run_model.specs.Steps.{OneOf, Past, vat_of};
+ghost use Rattle.run_model.specs.Legal.{IsLegalRun, used_caps};
+ghost use Rattle.run_model.specs.Steps.{OneOf, PastSteps, vat_of};
 ghost use Rattle.run_model.specs.declared.cap.Cap.{Cap};
 ghost use Rattle.run_model.specs.declared.step.Step.{Step};
 ghost use Rattle.authority.specs.Explained.{IsExplained};
@@ -13,7 +13,7 @@ ghost use Rattle.authority.specs.Explained.{IsExplained};
 /// and a Receive uses nothing: what it binds is what edges tell.)
 pub fn what_is_used_is_explained()
     ensures { (run : List Step) (edges : List Edge) → IsLegalRun run → AreEdges run edges
-        → (later before : Past) (s : Step) → reverse run ≡ later ++ s ∷ before → (a : Cap)
-        → OneOf (λ b. b ≡ a) (uses s) → IsForeign (vat_of s) a
+        → (later before : PastSteps) (s : Step) → reverse run ≡ later ++ s ∷ before → (a : Cap)
+        → OneOf (λ b. b ≡ a) (used_caps s) → IsForeign (vat_of s) a
         → IsExplained edges before (vat_of s) a }
 {}

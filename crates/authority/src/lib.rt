@@ -7,15 +7,15 @@
 #![tactic(auto)]
 
 mod edge;
+mod edge_search;
 mod edges;
-mod finding;
 mod key;
 mod laws;
-mod records;
+mod step_records;
 mod witnesses;
 
 pub use edge::Edge;
+pub use edge_search::graph;
 pub use edges::Graph;
-pub use finding::graph;
 pub use laws::what_is_used_is_explained;
-pub use records::record_numbers;
+pub use step_records::record_numbers;

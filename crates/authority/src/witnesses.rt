@@ -23,7 +23,7 @@ pub(crate) struct Witnesses {
 impl Model for Witnesses {
     ghost use Rattle.std.specs.Prelude.{List, map};
     ghost use Rattle.run_model.specs.Edges.{Edge};
-    ghost use Rattle.authority.specs.Keys.{entry_edge};
+    ghost use Rattle.authority.specs.Glue.Keys.{entry_edge};
 
     ghost Value = { List Edge };
 
@@ -31,8 +31,8 @@ impl Model for Witnesses {
 }
 
 impl Witnesses {
-    ghost use Rattle.authority.specs.Places.{IsSingle, IsByPlace};
-    ghost use Rattle.authority.specs.Tables.{AddsFirst, edge_at};
+    ghost use Rattle.authority.specs.Glue.EdgePlaces.{IsSingle, IsByPlace};
+    ghost use Rattle.authority.specs.Glue.EdgeTables.{AddsFirst, edge_at};
 
     /// None yet.
     pub(crate) fn new(alloc: Global) -> Witnesses

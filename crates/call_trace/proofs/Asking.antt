@@ -17,24 +17,24 @@ use Rattle.vat_rules.specs.declared.rule.Rule.TheVariants as rule
 use Rattle.vat_view.specs.Past.{Past, Point, point, Each, id, last_where}
 use Rattle.vat_view.specs.Questions.{opens, opening, is_free, is_opened, is_returned, is_finished, is_unfinished, is_unreturned, noted_call, call_at, call_of}
 use Rattle.vat_view.specs.Bindings.{Refers}
-use Rattle.vat_view.specs.declared.id.Id.{Id}
-use Rattle.call_trace.specs.Types.{Outcome, RpcMessage, Bootstrap, Call, Return, Event, Wire, Name, Cap, Message, Step}
-use Rattle.call_trace.specs.Naming.{naming, call_named, message_at, message_of}
-use Rattle.call_trace.specs.Said.{said, say_call, caps_named}
+use Rattle.vat_view.specs.declared.record.table_key.TableKey.{TableKey}
+use Rattle.call_trace.specs.Types.{Outcome, RpcMessage, Bootstrap, Call, Return, DecodedRecord, Wire, Name, Cap, Message, Step}
+use Rattle.call_trace.specs.Naming.{naming, call_named, message_at, message_of_step}
+use Rattle.call_trace.specs.Said.{message_of_record, say_call, caps_named}
 use Rattle.call_trace.specs.Part.{Says, PairsOff}
 use Rattle.call_trace.specs.Carried.{IsCarried}
 use Rattle.call_trace.specs.Running.{AreMet}
 use Rattle.call_trace.proofs.Naming.{mapped_is, call_keeps}
 use Rattle.call_trace.proofs.Carried.{IsPaired, paired_at, pairs_as_long, each_after}
 use Rattle.call_trace.proofs.Within.{message_back}
-use Rattle.run_model.specs.Has.{called}
+use Rattle.run_model.specs.Has.{call_in_message}
 use Rattle.run_model.specs.declared.message.Message.TheVariants as message
 use Rattle.run_model.specs.declared.step.Step.TheVariants as step
 use Rattle.vat_view.specs.Views.{view_of_target}
 
 -- ---- the record that opened a question
 
-found_there : (test : Past → Event → Bool) (past : Past) (p : Point) → last_where test past ≡ Some p → GoesOn past (p.event ∷ p.before) × (test p.before p.event ≡ true)
+found_there : (test : Past → DecodedRecord → Bool) (past : Past) (p : Point) → last_where test past ≡ Some p → GoesOn past (p.event ∷ p.before) × (test p.before p.event ≡ true)
 found_there test [] p h = absurd (let no : ⊥ = cc in no)
 found_there test (e ∷ before) p h = elim (cases_Bool (test before e)) [
   | inl here ↦
@@ -50,7 +50,7 @@ found_there test (e ∷ before) p h = elim (cases_Bool (test before e)) [
 
 -- a question was opened last by this message, as the n-th that went its way
 pub record IsOpened (k : ℕ) (s : Bool) (q n : ℕ) (past : Past) : Type 0 where
-  pub event : Event
+  pub event : DecodedRecord
   pub before : Past
   pub message : RpcMessage
   pub there : GoesOn past (event ∷ before)
@@ -67,7 +67,7 @@ opened_at k s q n past h =
     record { event = p.0.event; before = p.0.before; message = m.0; there = found.0; noted = ap call_at p.1; passed = m.1; asked = m.2; number = p.2 }
 
 -- where a question has a call, it has an opening
-pub opening_of_call : (q : Id) (past : Past) (c : ℕ) → call_at (opening q past) ≡ Some c → (n : ℕ) × (opening_number q past ≡ Some n)
+pub opening_of_call : (q : TableKey) (past : Past) (c : ℕ) → call_at (opening q past) ≡ Some c → (n : ℕ) × (opening_number q past ≡ Some n)
 opening_of_call q past c h =
     let p = mapped_is (λ p. noted_call p.event) (opening q past) c h in
     (length (stream q.connection q.ours p.0.before), ap (λ o. option_map (λ p. length (stream q.connection q.ours p.before)) o) p.1)
@@ -95,15 +95,15 @@ passed_alike k q n asker answerer a b link to_a to_b x y =
 -- ---- its name at each end
 
 -- the message of a Bootstrap or Call that is sent has the name of the call noted beside it
-pub record NamesCall (v : ℕ) (before : Past) (earlier : List Step) (e : Event) (s : Step) : Type 0 where
+pub record NamesCall (v : ℕ) (before : Past) (earlier : List Step) (e : DecodedRecord) (s : Step) : Type 0 where
   pub message : Message
   pub name : Name
-  pub sent : message_of s ≡ Some message
-  pub calls : called message ≡ Some name
+  pub sent : message_of_step s ≡ Some message
+  pub calls : call_in_message message ≡ Some name
   pub named : call_named v (e ∷ before) (s ∷ earlier) (noted_call e) ≡ Some name
 
-call_said : (interface method : ℕ) (caps : Option (List Cap)) (name : Option Name) (target : Option Cap) (m : Message) → say_call interface method caps name target ≡ Some m → (n : Name) × (name ≡ Some n) × (called m ≡ Some n)
-call_said interface method (Some caps) (Some name) (Some target) m h = (name, refl, let same : message.Call name target interface method caps ≡ m = cc in ap called (sym same))
+call_said : (interface method : ℕ) (caps : Option (List Cap)) (name : Option Name) (target : Option Cap) (m : Message) → say_call interface method caps name target ≡ Some m → (n : Name) × (name ≡ Some n) × (call_in_message m ≡ Some n)
+call_said interface method (Some caps) (Some name) (Some target) m h = (name, refl, let same : message.Call name target interface method caps ≡ m = cc in ap call_in_message (sym same))
 call_said interface method None name target m h = absurd (let no : ⊥ = cc in no)
 call_said interface method (Some caps) None target m h = absurd (let no : ⊥ = cc in no)
 call_said interface method (Some caps) (Some name) None m h = absurd (let no : ⊥ = cc in no)
@@ -112,25 +112,25 @@ asker_names : (v : ℕ) (before : Past) (earlier : List Step) (s : Step) (k c : 
 asker_names v before earlier s k c rs (Bootstrap p) q h says =
     let e = Wire true k c rs (Bootstrap p) in
     let names = naming v (e ∷ before) (s ∷ earlier) in
-    let M = mapped_is (λ M. step.Send v k M) (said names before e) s says in
+    let M = mapped_is (λ M. step.Send v k M) (message_of_record names before e) s says in
     let boot = mapped_is message.Boot (names.call c) M.0 M.1 in
-    record { message = M.0; name = boot.0; sent = ap message_of (sym M.2); calls = ap called (sym boot.2); named = boot.1 }
+    record { message = M.0; name = boot.0; sent = ap message_of_step (sym M.2); calls = ap call_in_message (sym boot.2); named = boot.1 }
 asker_names v before earlier s k c rs (Call p target interface method params) q h says =
     let e = Wire true k c rs (Call p target interface method params) in
     let names = naming v (e ∷ before) (s ∷ earlier) in
-    let M = mapped_is (λ M. step.Send v k M) (said names before e) s says in
+    let M = mapped_is (λ M. step.Send v k M) (message_of_record names before e) s says in
     let name = call_said interface method (caps_named names before e) (names.call c) (option_and_then names.cap (view_of_target before e)) M.0 M.1 in
-    record { message = M.0; name = name.0; sent = ap message_of (sym M.2); calls = name.2; named = name.1 }
+    record { message = M.0; name = name.0; sent = ap message_of_step (sym M.2); calls = name.2; named = name.1 }
 asker_names v before earlier s k c rs m q h says = absurd (let no : ⊥ = cc in no)
 
-pub answerer_names : (w : ℕ) (before : Past) (earlier : List Step) (s : Step) (k c : ℕ) (rs : List ℕ) (m : RpcMessage) (q : ℕ) (M : Message) (name : Name) → asks q m ≡ true → message_of s ≡ Some M → called M ≡ Some name →
+pub answerer_names : (w : ℕ) (before : Past) (earlier : List Step) (s : Step) (k c : ℕ) (rs : List ℕ) (m : RpcMessage) (q : ℕ) (M : Message) (name : Name) → asks q m ≡ true → message_of_step s ≡ Some M → call_in_message M ≡ Some name →
     call_named w (Wire false k c rs m ∷ before) (s ∷ earlier) c ≡ Some name
 answerer_names w before earlier s k c rs (Bootstrap p) q M name h is calls =
-    ap (λ b. option_or (if b then option_and_then called (message_of s) else None) (call_named w before earlier c)) (eq-eqb c c refl)
-    ∙ ap (λ o. option_or (option_and_then called o) (call_named w before earlier c)) is ∙ ap (λ o. option_or o (call_named w before earlier c)) calls
+    ap (λ b. option_or (if b then option_and_then call_in_message (message_of_step s) else None) (call_named w before earlier c)) (eq-eqb c c refl)
+    ∙ ap (λ o. option_or (option_and_then call_in_message o) (call_named w before earlier c)) is ∙ ap (λ o. option_or o (call_named w before earlier c)) calls
 answerer_names w before earlier s k c rs (Call p target interface method params) q M name h is calls =
-    ap (λ b. option_or (if b then option_and_then called (message_of s) else None) (call_named w before earlier c)) (eq-eqb c c refl)
-    ∙ ap (λ o. option_or (option_and_then called o) (call_named w before earlier c)) is ∙ ap (λ o. option_or o (call_named w before earlier c)) calls
+    ap (λ b. option_or (if b then option_and_then call_in_message (message_of_step s) else None) (call_named w before earlier c)) (eq-eqb c c refl)
+    ∙ ap (λ o. option_or (option_and_then call_in_message o) (call_named w before earlier c)) is ∙ ap (λ o. option_or o (call_named w before earlier c)) calls
 answerer_names w before earlier s k c rs m q M name h is calls = absurd (let no : ⊥ = cc in no)
 
 -- ---- names of a point last
@@ -148,18 +148,18 @@ call_lasts v one es xs steps log run all some refers c name h =
 pub message_from : (xs steps : List Step) → GoesOn xs steps → (i : ℕ) → i < length steps → message_at i xs ≡ message_at i steps
 message_from xs steps run i lt = ap (message_at i) run.1 ∙ message_back i run.0 steps lt
 
-pub message_of_pair : (v : ℕ) (xs : List Step) (later : List Event) (e : Event) (before : Past) (p : IsPaired v xs later e before) → message_at (length before) xs ≡ message_of p.step
+pub message_of_pair : (v : ℕ) (xs : List Step) (later : List DecodedRecord) (e : DecodedRecord) (before : Past) (p : IsPaired v xs later e before) → message_at (length before) xs ≡ message_of_step p.step
 message_of_pair v xs later e before p =
     let same : length p.earlier ≡ length before = sym (pairs_as_long v before p.earlier p.paired.1) in
     message_from xs (p.step ∷ p.earlier) (p.added, p.whole) (length before) (omega (arith, same))
-    ∙ ap (λ b. if b then message_of p.step else message_at (length before) p.earlier) (eq-eqb (length p.earlier) (length before) same)
+    ∙ ap (λ b. if b then message_of_step p.step else message_at (length before) p.earlier) (eq-eqb (length p.earlier) (length before) same)
 
 -- ---- both ends
 
 module _ (k v w : ℕ) (asker : Past) (xs : List Step) (answerer : Past) (ys : List Step) (part : PairsOff v asker xs) (other_part : PairsOff w answerer ys) (refers : Each Refers asker)
     (other_refers : Each Refers answerer) (carried : IsCarried k asker xs answerer ys) where
   -- the call of an opening that passed has one name at both ends
-  both_named : (m : RpcMessage) (q : ℕ) (a b : Past) (x y : Event) → asks q m ≡ true → IsPassed k m asker answerer a b x y →
+  both_named : (m : RpcMessage) (q : ℕ) (a b : Past) (x y : DecodedRecord) → asks q m ≡ true → IsPassed k m asker answerer a b x y →
       (name : Name) × (call_named v asker xs (noted_call x) ≡ Some name) × (call_named w answerer ys (noted_call y) ≡ Some name)
   both_named m q a b x y h p =
       let left = paired_at v p.sent_there.0 x a xs (subst (λ es. PairsOff v es xs) p.sent_there.1 part) in
@@ -168,7 +168,7 @@ module _ (k v w : ℕ) (asker : Past) (xs : List Step) (answerer : Past) (ys : L
       let came = passing_is k false m y p.receives in
       let e = Wire true k went.0 went.1 m in
       let n = asker_names v a left.earlier left.step k went.0 went.1 m q h (subst (λ e. Says v a left.earlier e left.step) went.2 left.paired.0) in
-      let got : message_of right.step ≡ Some n.message =
+      let got : message_of_step right.step ≡ Some n.message =
       sym (message_of_pair w ys p.received_there.0 y b right) ∙ carried m a b x y p ∙ message_of_pair v xs p.sent_there.0 x a left ∙ n.sent in
       let there : call_named v (x ∷ a) (left.step ∷ left.earlier) (noted_call x) ≡ Some n.name =
       ap (λ e. call_named v (e ∷ a) (left.step ∷ left.earlier) (noted_call e)) went.2 ∙ n.named in
@@ -212,7 +212,7 @@ unreturned_used true false f h = refl
 unreturned_used true true f h = absurd (let no : ⊥ = cc in no)
 unreturned_used false r f h = absurd (let no : ⊥ = cc in no)
 
-pub call_in_use : (q : Id) (past : Past) (c : ℕ) → call_of q past ≡ Some c → call_at (opening q past) ≡ Some c
+pub call_in_use : (q : TableKey) (past : Past) (c : ℕ) → call_of q past ≡ Some c → call_at (opening q past) ≡ Some c
 call_in_use q past c h = at (is_free q past) h
   where
     at : (b : Bool) → (if b then None else call_at (opening q past)) ≡ Some c → call_at (opening q past) ≡ Some c
@@ -226,7 +226,7 @@ same_some : {A : Type 0} (x y : A) → Some x ≡ Some y → x ≡ y
 same_some x y h = cc
 
 -- where a message from one end comes to the other
-module _ (k v w : ℕ) (one : Past) (its_steps : List Step) (other : Past) (steps : List Step) (m : RpcMessage) (from : Past) (sent e : Event) (met : AreMet k v one its_steps w other steps)
+module _ (k v w : ℕ) (one : Past) (its_steps : List Step) (other : Past) (steps : List Step) (m : RpcMessage) (from : Past) (sent e : DecodedRecord) (met : AreMet k v one its_steps w other steps)
     (linked : AreLinked k one (e ∷ other)) (good : IsGood other e) (passed : IsPassed k m one (e ∷ other) from other sent e) where
   -- a question of its sender's that it uses has one call at both ends
   pub call_is_one : (q c : ℕ) (name : Name) → is_unfinished (id k false q) other ≡ true → call_of (id k true q) from ≡ Some c → call_named v one its_steps c ≡ Some name →

@@ -6,26 +6,26 @@ use Rattle.std.proofs.lemmas.Bool.Decides.{nat_tests}
 use Rattle.std.proofs.lemmas.List.{take_all, take_more, drop_all, drop-append-le, length-take-le, length_push}
 use Rattle.std.proofs.lemmas.List.Folds.{list_any-append}
 use Rattle.run_model.specs.Early.{overtakes}
-use Rattle.run_model.specs.Legal.{delivers}
+use Rattle.run_model.specs.Legal.{delivers_call}
 use Rattle.run_model.specs.Right.{is_made_before, makes_through}
-use Rattle.run_model.specs.Steps.{Past, call, is_same}
+use Rattle.run_model.specs.Steps.{PastSteps, call, is_same_call}
 use Rattle.run_model.specs.declared.step.Step.TheVariants.{Host, Make, Deliver}
 use Rattle.run_model.proofs.Numbers.{past_more}
-use Rattle.call_trace.specs.Overtaking.{latest_of, IsRaised, AreDeliveries, AreOvertaken}
+use Rattle.call_trace.specs.Glue.Overtaking.{latest_of, IsRaised, AreDeliveries, AreOvertaken}
 use Rattle.call_trace.specs.Types.{Name, Cap, Step}
 use Rattle.call_trace.specs.declared.latest.Latest.{Latest}
 use Rattle.call_trace.proofs.Noting.{later_if}
 
 -- a step makes a call through this reference of this vat, and one of the later steps delivers it
 abbrev pub reaches : ℕ → ℕ → List Step → Step → Bool
-reaches v r later (Make w number cap reference interface method) = ((w == v) && (reference == r)) && list_any (delivers (call w number)) later
+reaches v r later (Make w number cap reference interface method) = ((w == v) && (reference == r)) && list_any (delivers_call (call w number)) later
 reaches v r later _ = false
 
 -- a call that was made before this one through its reference is delivered by one of the later steps
-abbrev pub is_behind : Name → List Step → Past → Bool
+abbrev pub is_behind : Name → List Step → PastSteps → Bool
 is_behind c later [] = false
 is_behind c later (Make v number cap reference interface method ∷ before) =
-    (is_same (call v number) c && list_any (reaches v reference later) before) || is_behind c later before
+    (is_same_call (call v number) c && list_any (reaches v reference later) before) || is_behind c later before
 is_behind c later (_ ∷ before) = is_behind c later before
 
 -- ---- where calls are delivered
@@ -66,7 +66,7 @@ any_more test run i s k lt is =
     ap (λ l. list_any test (drop k l)) (take_more run i s lt ∙ ap (λ t. take i run ++ t ∷ []) (sym is))
     ∙ any_pushed test (take i run) s k i (length-take-le i run (omega (arith, lt)))
 
-pub delivers_none : (s : Step) → ((v : ℕ) (d : Name) (o : ℕ) → s ≡ Deliver v d o → ⊥) → (c : Name) → delivers c s ≡ false
+pub delivers_none : (s : Step) → ((v : ℕ) (d : Name) (o : ℕ) → s ≡ Deliver v d o → ⊥) → (c : Name) → delivers_call c s ≡ false
 delivers_none (Deliver v d o) not c = absurd (not v d o refl)
 delivers_none (Host v o) not c = refl
 delivers_none _ not c = refl
@@ -76,7 +76,7 @@ reaches_none (Make w n cap q f m) not v r later = absurd (not w n cap q f m refl
 reaches_none (Host w o) not v r later = refl
 reaches_none _ not v r later = refl
 
-pub behind_none : (s : Step) → ((v n : ℕ) (cap : Cap) (r f m : ℕ) → s ≡ Make v n cap r f m → ⊥) → (c : Name) (later : List Step) (before : Past) → is_behind c later (s ∷ before) ≡ is_behind c later before
+pub behind_none : (s : Step) → ((v n : ℕ) (cap : Cap) (r f m : ℕ) → s ≡ Make v n cap r f m → ⊥) → (c : Name) (later : List Step) (before : PastSteps) → is_behind c later (s ∷ before) ≡ is_behind c later before
 behind_none (Make w n cap q f m) not c later before = absurd (not w n cap q f m refl)
 behind_none (Host w o) not c later before = refl
 behind_none _ not c later before = refl
@@ -106,7 +106,7 @@ any_and true f xs = refl
 any_and false f xs = any_never (λ s. false) xs (λ s. refl)
 
 -- a step delivers a call that was made through the reference
-abbrev through : ℕ → ℕ → Past → Step → Bool
+abbrev through : ℕ → ℕ → PastSteps → Step → Bool
 through v r before (Deliver w d o) = list_any (makes_through v r d) before
 through v r before _ = false
 
@@ -120,7 +120,7 @@ no_through v r (Deliver w d o) = refl
 no_through v r (Host w o) = refl
 no_through v r _ = refl
 
-through_more : (v r : ℕ) (u : Step) (before : Past) (s : Step) → through v r (u ∷ before) s ≡ (through_one v r u s || through v r before s)
+through_more : (v r : ℕ) (u : Step) (before : PastSteps) (s : Step) → through v r (u ∷ before) s ≡ (through_one v r u s || through v r before s)
 through_more v r u before (Deliver w d o) = refl
 through_more v r u before (Host w o) = refl
 through_more v r u before _ = refl
@@ -128,11 +128,11 @@ through_more v r u before _ = refl
 eq_swap : (m n : ℕ) → (m == n) ≡ (n == m)
 eq_swap m n = grind (arith, nat_tests)
 
-same_swap : (c d : Name) → is_same c d ≡ is_same d c
+same_swap : (c d : Name) → is_same_call c d ≡ is_same_call d c
 same_swap c d = ap₂ (λ a b. a && b) (eq_swap c.maker d.maker) (eq_swap c.number d.number)
 
 -- the call that a Make makes
-through_make : (v r w n : ℕ) (cap : Cap) (q f m : ℕ) (s : Step) → through_one v r (Make w n cap q f m) s ≡ (((w == v) && (q == r)) && delivers (call w n) s)
+through_make : (v r w n : ℕ) (cap : Cap) (q f m : ℕ) (s : Step) → through_one v r (Make w n cap q f m) s ≡ (((w == v) && (q == r)) && delivers_call (call w n) s)
 through_make v r w n cap q f m (Deliver x d o) = ap (λ b. ((w == v) && (q == r)) && b) (same_swap (call w n) d)
 through_make v r w n cap q f m (Host x o) = sym (and_swap ((w == v) && (q == r)) false)
 through_make v r w n cap q f m _ = sym (and_swap ((w == v) && (q == r)) false)
@@ -150,13 +150,13 @@ no_one v r u not _ = refl
 -- a step reaches what the later steps deliver of what it makes
 reaches_one : (v r : ℕ) (later : List Step) (u : Step) → list_any (through_one v r u) later ≡ reaches v r later u
 reaches_one v r later (Make w n cap q f m) =
-    any_same (through_one v r (Make w n cap q f m)) (λ s. ((w == v) && (q == r)) && delivers (call w n) s) later (through_make v r w n cap q f m)
-    ∙ any_and ((w == v) && (q == r)) (delivers (call w n)) later
+    any_same (through_one v r (Make w n cap q f m)) (λ s. ((w == v) && (q == r)) && delivers_call (call w n) s) later (through_make v r w n cap q f m)
+    ∙ any_and ((w == v) && (q == r)) (delivers_call (call w n)) later
 reaches_one v r later (Host w o) = any_never (through_one v r (Host w o)) later (no_one v r (Host w o) (λ w n cap q f m e. cc))
 reaches_one v r later u = any_never (through_one v r u) later (no_one v r u (λ w n cap q f m e. cc))
 
 -- the two ways to walk over pairs of steps
-reaches_through : (v r : ℕ) (later : List Step) (before : Past) → list_any (through v r before) later ≡ list_any (reaches v r later) before
+reaches_through : (v r : ℕ) (later : List Step) (before : PastSteps) → list_any (through v r before) later ≡ list_any (reaches v r later) before
 reaches_through v r later [] = any_never (through v r []) later (no_through v r)
 reaches_through v r later (u ∷ before) =
     any_same (through v r (u ∷ before)) (λ s. through_one v r u s || through v r before s) later (through_more v r u before)
@@ -168,29 +168,29 @@ overtakes_none c (Deliver v d o) = refl
 overtakes_none c (Host v o) = refl
 overtakes_none c _ = refl
 
-overtakes_make : (w n : ℕ) (cap : Cap) (q f m : ℕ) (before : Past) (c : Name) (s : Step)
-    → overtakes (Make w n cap q f m ∷ before) c s ≡ ((is_same (call w n) c && through w q before s) || overtakes before c s)
+overtakes_make : (w n : ℕ) (cap : Cap) (q f m : ℕ) (before : PastSteps) (c : Name) (s : Step)
+    → overtakes (Make w n cap q f m ∷ before) c s ≡ ((is_same_call (call w n) c && through w q before s) || overtakes before c s)
 overtakes_make w n cap q f m before c (Deliver v d o) = refl
-overtakes_make w n cap q f m before c (Host v o) = sym (or_nothing _ ∙ and_swap (is_same (call w n) c) false)
-overtakes_make w n cap q f m before c _ = sym (or_nothing _ ∙ and_swap (is_same (call w n) c) false)
+overtakes_make w n cap q f m before c (Host v o) = sym (or_nothing _ ∙ and_swap (is_same_call (call w n) c) false)
+overtakes_make w n cap q f m before c _ = sym (or_nothing _ ∙ and_swap (is_same_call (call w n) c) false)
 
-made_other : (u : Step) → ((w n : ℕ) (cap : Cap) (q f m : ℕ) → u ≡ Make w n cap q f m → ⊥) → (before : Past) (d c : Name) → is_made_before d c (u ∷ before) ≡ is_made_before d c before
+made_other : (u : Step) → ((w n : ℕ) (cap : Cap) (q f m : ℕ) → u ≡ Make w n cap q f m → ⊥) → (before : PastSteps) (d c : Name) → is_made_before d c (u ∷ before) ≡ is_made_before d c before
 made_other (Make w n cap q f m) not before d c = absurd (not w n cap q f m refl)
 made_other (Host w o) not before d c = refl
 made_other _ not before d c = refl
 
-overtakes_other : (u : Step) → ((w n : ℕ) (cap : Cap) (q f m : ℕ) → u ≡ Make w n cap q f m → ⊥) → (before : Past) (c : Name) (s : Step) → overtakes (u ∷ before) c s ≡ overtakes before c s
+overtakes_other : (u : Step) → ((w n : ℕ) (cap : Cap) (q f m : ℕ) → u ≡ Make w n cap q f m → ⊥) → (before : PastSteps) (c : Name) (s : Step) → overtakes (u ∷ before) c s ≡ overtakes before c s
 overtakes_other u not before c (Deliver v d o) = made_other u not before d c
 overtakes_other u not before c (Host v o) = refl
 overtakes_other u not before c _ = refl
 
-pub behind_is_overtaken : (c : Name) (later : List Step) (past : Past) → is_behind c later past ≡ list_any (overtakes past c) later
+pub behind_is_overtaken : (c : Name) (later : List Step) (past : PastSteps) → is_behind c later past ≡ list_any (overtakes past c) later
 behind_is_overtaken c later [] = sym (any_never (overtakes [] c) later (overtakes_none c))
 behind_is_overtaken c later (Make w n cap q f m ∷ before) =
     sym (
-    any_same (overtakes (Make w n cap q f m ∷ before) c) (λ s. (is_same (call w n) c && through w q before s) || overtakes before c s) later (overtakes_make w n cap q f m before c)
-    ∙ any_or (λ s. is_same (call w n) c && through w q before s) (overtakes before c) later
-    ∙ ap₂ (λ a b. a || b) (any_and (is_same (call w n) c) (through w q before) later ∙ ap (λ b. is_same (call w n) c && b) (reaches_through w q later before)) (sym (behind_is_overtaken c later before))
+    any_same (overtakes (Make w n cap q f m ∷ before) c) (λ s. (is_same_call (call w n) c && through w q before s) || overtakes before c s) later (overtakes_make w n cap q f m before c)
+    ∙ any_or (λ s. is_same_call (call w n) c && through w q before s) (overtakes before c) later
+    ∙ ap₂ (λ a b. a || b) (any_and (is_same_call (call w n) c) (through w q before) later ∙ ap (λ b. is_same_call (call w n) c && b) (reaches_through w q later before)) (sym (behind_is_overtaken c later before))
     )
 behind_is_overtaken c later (Host w o ∷ before) =
     behind_is_overtaken c later before ∙ sym (any_same (overtakes (Host w o ∷ before) c) (overtakes before c) later (overtakes_other (Host w o) (λ w n cap q f m e. cc) before c))
@@ -201,22 +201,22 @@ behind_is_overtaken c later (u ∷ before) =
 
 -- the table says where the calls are delivered last by the first steps
 abbrev pub IsDelivered : List Step → ℕ → Latest → Type 0
-IsDelivered run i table = (c : Name) (k : ℕ) → nat_lt k (latest_of table c.maker c.number) ≡ list_any (delivers c) (drop k (take i run))
+IsDelivered run i table = (c : Name) (k : ℕ) → nat_lt k (latest_of table c.maker c.number) ≡ list_any (delivers_call c) (drop k (take i run))
 
 pub delivered_more : (run : List Step) (i : ℕ) (s : Step) (v : ℕ) (d : Name) (o : ℕ) (old new : Latest) → i < length run → s ≡ get_or run i s → s ≡ Deliver v d o
     → IsRaised d.maker d.number (i + 1) old new → IsDelivered run i old → IsDelivered run (i + 1) new
 delivered_more run i s v d o old new lt at is raise before c k =
     ap (λ n. nat_lt k n) (raise c.maker c.number)
-    ∙ later_if (is_same d c) k (i + 1) (latest_of old c.maker c.number)
-    ∙ ap₂ (λ a b. (a && nat_lt k (i + 1)) || b) (sym (ap (delivers c) is)) (before c k)
-    ∙ sym (any_more (delivers c) run i s k lt at)
+    ∙ later_if (is_same_call d c) k (i + 1) (latest_of old c.maker c.number)
+    ∙ ap₂ (λ a b. (a && nat_lt k (i + 1)) || b) (sym (ap (delivers_call c) is)) (before c k)
+    ∙ sym (any_more (delivers_call c) run i s k lt at)
 
 pub delivered_same : (run : List Step) (i : ℕ) (s : Step) (old : Latest) → i < length run → s ≡ get_or run i s → ((v : ℕ) (d : Name) (o : ℕ) → s ≡ Deliver v d o → ⊥)
     → IsDelivered run i old → IsDelivered run (i + 1) old
 delivered_same run i s old lt at not before c k =
     before c k
-    ∙ ap (λ a. (a && nat_lt k (i + 1)) || list_any (delivers c) (drop k (take i run))) (sym (delivers_none s not c))
-    ∙ sym (any_more (delivers c) run i s k lt at)
+    ∙ ap (λ a. (a && nat_lt k (i + 1)) || list_any (delivers_call c) (drop k (take i run))) (sym (delivers_none s not c))
+    ∙ sym (any_more (delivers_call c) run i s k lt at)
 
 -- the tables say what of the first steps is reached and behind by the later ones
 abbrev pub IsReached : List Step → ℕ → Latest → Latest → Type 0
@@ -236,8 +236,8 @@ reached_more run i s w n cap q f m delivered references calls later_references l
           ∙ sym (ap (list_any (reaches v r (drop k run))) past),
       λ c k.
           ap (λ t. nat_lt k t) (raise_call c.maker c.number)
-          ∙ later_if (is_same (call w n) c) k (latest_of references w q) (latest_of calls c.maker c.number)
-          ∙ ap₂ (λ a b. (is_same (call w n) c && a) || b) (before.0 w q k) (before.1 c k)
+          ∙ later_if (is_same_call (call w n) c) k (latest_of references w q) (latest_of calls c.maker c.number)
+          ∙ ap₂ (λ a b. (is_same_call (call w n) c && a) || b) (before.0 w q k) (before.1 c k)
           ∙ sym (ap (is_behind c (drop k run)) past),
     )
 

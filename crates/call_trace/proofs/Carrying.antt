@@ -5,7 +5,7 @@ use Rattle.std.proofs.lemmas.List.{reverse-append, length-reverse}
 use Rattle.std.proofs.lemmas.List.Elements.{filter-append, filter_map-append}
 use Rattle.std.proofs.lemmas.Bool.{eq-eqb, cases_Bool, cases_lt}
 use Rattle.agree.specs.Points.{GoesOn, IsNth, AtEach}
-use Rattle.agree.specs.Rows.{Row, of_vat, log_of, IsTheirs, IsShared}
+use Rattle.agree.specs.Rows.{Row, of_vat, log_of_vat, IsTheirs, IsShared}
 use Rattle.agree.specs.Streams.{passing, stream, IsPassed}
 use Rattle.agree.proofs.Cuts.{taken, turned, others_are}
 use Rattle.agree.proofs.Dying.{eqb_turns}
@@ -13,19 +13,19 @@ use Rattle.agree.proofs.Openings.{passing_is}
 use Rattle.agree.proofs.Points.{before_it, heads, tails, shorter, no_longer, kept, at_each_before}
 use Rattle.vat_view.specs.Past.{Past, Each}
 use Rattle.vat_rules.specs.Judged.{IsGood}
-use Rattle.call_trace.specs.Types.{RpcMessage, Event, Host, Vow, Fulfil, Break, Make, Field, Deliver, Answer, Fault, Wire, Cap, Message, Step}
+use Rattle.call_trace.specs.Types.{RpcMessage, DecodedRecord, Host, Vow, Fulfil, Break, Make, Field, Deliver, Answer, Fault, Wire, Cap, Message, Step}
 use Rattle.call_trace.specs.Carried.{IsCarried}
-use Rattle.call_trace.specs.Naming.{naming, message_at, message_of}
+use Rattle.call_trace.specs.Naming.{naming, message_at, message_of_step}
 use Rattle.call_trace.specs.Part.{reference_named, promise_in, result_named, Says, PairsOff}
 use Rattle.call_trace.specs.Running.{coming_next, steps_by, AreMet, IsNamedRow}
-use Rattle.call_trace.specs.Said.{together, said}
+use Rattle.call_trace.specs.Said.{all_there, message_of_record}
 use Rattle.call_trace.proofs.Carried.{paired_at, pairs_as_long, message_there, message_later}
 use Rattle.call_trace.proofs.Naming.{mapped_is, then_is}
 use Rattle.call_trace.proofs.Reading.{kept_back}
 use Rattle.vat_view.specs.Views.{view_of_reference}
 use Rattle.run_model.specs.Legal.{IsLegal}
-use Rattle.run_model.specs.Links.{IsLinked, sent_to, receives}
-use Rattle.run_model.specs.Steps.{count, vat_of}
+use Rattle.run_model.specs.Links.{IsLinked, sent_to, receives_on}
+use Rattle.run_model.specs.Steps.{count_steps, vat_of}
 use Rattle.run_model.specs.declared.cap.Cap.TheVariants as cap
 use Rattle.run_model.specs.declared.step.Step.TheVariants as step
 
@@ -37,11 +37,11 @@ passed k sent (step.Receive v j m bound) = if (j == k) && not sent then Some m e
 passed k sent _ = None
 
 -- a record's step is its vat's, and passes a message exactly where the record does
-pub record IsAlike (v : ℕ) (e : Event) (s : Step) : Type 0 where
+pub record IsAlike (v : ℕ) (e : DecodedRecord) (s : Step) : Type 0 where
   pub vat : vat_of s ≡ v
   pub passes : (k : ℕ) (sent : Bool) → is_some (passed k sent s) ≡ is_some (passing k sent e)
 
-alike_of : (v : ℕ) (e : Event) (s t : Step) → s ≡ t → vat_of s ≡ v → ((k : ℕ) (sent : Bool) → is_some (passed k sent s) ≡ is_some (passing k sent e)) → IsAlike v e t
+alike_of : (v : ℕ) (e : DecodedRecord) (s t : Step) → s ≡ t → vat_of s ≡ v → ((k : ℕ) (sent : Bool) → is_some (passed k sent s) ≡ is_some (passing k sent e)) → IsAlike v e t
 alike_of v e s t same vat passes = subst (IsAlike v e) same (record { vat = vat; passes = passes })
 
 if_there : {A : Type 0} (b : Bool) (x : A) → is_some (if b then Some x else None) ≡ b
@@ -60,7 +60,7 @@ receive_passes v j c rs m M bound k false = if_there ((j == k) && true) M ∙ ap
 some_step : (s t : Step) → ◌≡◌ {A = Option Step} (Some s) (Some t) → s ≡ t
 some_step s t h = cc
 
-pub says_alike : (v : ℕ) (es : Past) (steps : List Step) (e : Event) (s : Step) → Says v es steps e s → IsAlike v e s
+pub says_alike : (v : ℕ) (es : Past) (steps : List Step) (e : DecodedRecord) (s : Step) → Says v es steps e s → IsAlike v e s
 says_alike v es steps (Host r object) s says = alike_of v (Host r object) (step.Host v object) s (some_step _ _ says) refl (λ k sent. refl)
 says_alike v es steps (Vow r) s says = alike_of v (Vow r) (step.Vow v r) s (some_step _ _ says) refl (λ k sent. refl)
 says_alike v es steps (Fulfil r to) s says =
@@ -85,8 +85,8 @@ says_alike v es steps (Deliver c object) s says =
     alike_of v (Deliver c object) (step.Deliver v name.0 object) s name.2 refl (λ k sent. refl)
 says_alike v es steps (Answer c results) s says =
     let names = naming v (Answer c results ∷ es) (s ∷ steps) in
-    let name = then_is (λ name. option_map (λ caps. step.Answer v name caps) (together (map (result_named names es) results))) (names.call c) s says in
-    let caps = mapped_is (λ caps. step.Answer v name.0 caps) (together (map (result_named names es) results)) s name.2 in
+    let name = then_is (λ name. option_map (λ caps. step.Answer v name caps) (all_there (map (result_named names es) results))) (names.call c) s says in
+    let caps = mapped_is (λ caps. step.Answer v name.0 caps) (all_there (map (result_named names es) results)) s name.2 in
     alike_of v (Answer c results) (step.Answer v name.0 caps.0) s caps.2 refl (λ k sent. refl)
 says_alike v es steps (Fault c) s says =
     let names = naming v (Fault c ∷ es) (s ∷ steps) in
@@ -94,13 +94,13 @@ says_alike v es steps (Fault c) s says =
     alike_of v (Fault c) (step.Fault v name.0) s name.2 refl (λ k sent. refl)
 says_alike v es steps (Wire true j c rs m) s says =
     let e = Wire true j c rs m in
-    let sent = mapped_is (λ M. step.Send v j M) (said (naming v (e ∷ es) (s ∷ steps)) es e) s says in
+    let sent = mapped_is (λ M. step.Send v j M) (message_of_record (naming v (e ∷ es) (s ∷ steps)) es e) s says in
     alike_of v e (step.Send v j sent.0) s sent.2 refl (send_passes v j c rs m sent.0)
 says_alike v es steps (Wire false j c rs m) s says =
     alike_of v (Wire false j c rs m) (step.Receive v j says.message says.bound) s (sym says.step) refl (receive_passes v j c rs m says.message says.bound)
 
 -- what a step passes is its message
-passed_message : (k : ℕ) (sent : Bool) (s : Step) (M : Message) → passed k sent s ≡ Some M → message_of s ≡ Some M
+passed_message : (k : ℕ) (sent : Bool) (s : Step) (M : Message) → passed k sent s ≡ Some M → message_of_step s ≡ Some M
 passed_message k sent (step.Send v j m) M h = at ((j == k) && sent) h
   where
     at : (b : Bool) → (if b then Some m else None) ≡ Some M → Some m ≡ Some M
@@ -138,22 +138,22 @@ as_many_passed k sent v (e ∷ es) (s ∷ steps) part =
 -- ---- a row and its steps, record by record
 
 -- the step of a row's last record, and the steps before it
-pub record IsNext (v : ℕ) (e : Event) (row : Row) (whole : List Step) : Type 0 where
+pub record IsNext (v : ℕ) (e : DecodedRecord) (row : Row) (whole : List Step) : Type 0 where
   pub step : Step
   pub before : List Step
   pub all : whole ≡ step ∷ before
   pub vat : vat_of step ≡ v
   pub alike : IsAlike v e step
-  pub says : Says v (log_of v row) (steps_by v before) e step
+  pub says : Says v (log_of_vat v row) (steps_by v before) e step
   pub legal : IsLegal before step
   pub linked : IsLinked before step
   pub rest : IsNamedRow row before
 
-pub log_here : (v u : ℕ) (e : Event) (row : Row) → u ≡ v → log_of v ((u, e) ∷ row) ≡ e ∷ log_of v row
-log_here v u e row same = ap (λ b. cons_option (if b then Some e else None) (log_of v row)) (eq-eqb u v same)
+pub log_here : (v u : ℕ) (e : DecodedRecord) (row : Row) → u ≡ v → log_of_vat v ((u, e) ∷ row) ≡ e ∷ log_of_vat v row
+log_here v u e row same = ap (λ b. cons_option (if b then Some e else None) (log_of_vat v row)) (eq-eqb u v same)
 
-pub log_there : (v u : ℕ) (e : Event) (row : Row) → (u == v) ≡ false → log_of v ((u, e) ∷ row) ≡ log_of v row
-log_there v u e row apart = ap (λ b. cons_option (if b then Some e else None) (log_of v row)) apart
+pub log_there : (v u : ℕ) (e : DecodedRecord) (row : Row) → (u == v) ≡ false → log_of_vat v ((u, e) ∷ row) ≡ log_of_vat v row
+log_there v u e row apart = ap (λ b. cons_option (if b then Some e else None) (log_of_vat v row)) apart
 
 pub steps_here : (v : ℕ) (s : Step) (before : List Step) → vat_of s ≡ v → steps_by v (s ∷ before) ≡ s ∷ steps_by v before
 steps_here v s before same = ap (λ b. if b then s ∷ steps_by v before else steps_by v before) (eq-eqb (vat_of s) v same)
@@ -161,20 +161,20 @@ steps_here v s before same = ap (λ b. if b then s ∷ steps_by v before else st
 pub steps_there : (v : ℕ) (s : Step) (before : List Step) → (vat_of s == v) ≡ false → steps_by v (s ∷ before) ≡ steps_by v before
 steps_there v s before apart = ap (λ b. if b then s ∷ steps_by v before else steps_by v before) apart
 
-pairs_here : (v u : ℕ) (e : Event) (row : Row) (s : Step) (before : List Step) → vat_of s ≡ u → u ≡ v → PairsOff v (log_of v ((u, e) ∷ row)) (steps_by v (s ∷ before)) →
-    Says v (log_of v row) (steps_by v before) e s × PairsOff v (log_of v row) (steps_by v before)
+pairs_here : (v u : ℕ) (e : DecodedRecord) (row : Row) (s : Step) (before : List Step) → vat_of s ≡ u → u ≡ v → PairsOff v (log_of_vat v ((u, e) ∷ row)) (steps_by v (s ∷ before)) →
+    Says v (log_of_vat v row) (steps_by v before) e s × PairsOff v (log_of_vat v row) (steps_by v before)
 pairs_here v u e row s before is same pairs =
     subst (λ es. PairsOff v es (s ∷ steps_by v before)) (log_here v u e row same)
-    (subst (λ steps. PairsOff v (log_of v ((u, e) ∷ row)) steps) (steps_here v s before (is ∙ same)) pairs)
+    (subst (λ steps. PairsOff v (log_of_vat v ((u, e) ∷ row)) steps) (steps_here v s before (is ∙ same)) pairs)
 
-pairs_there : (v u : ℕ) (e : Event) (row : Row) (s : Step) (before : List Step) → vat_of s ≡ u → (u == v) ≡ false → PairsOff v (log_of v ((u, e) ∷ row)) (steps_by v (s ∷ before)) →
-    PairsOff v (log_of v row) (steps_by v before)
+pairs_there : (v u : ℕ) (e : DecodedRecord) (row : Row) (s : Step) (before : List Step) → vat_of s ≡ u → (u == v) ≡ false → PairsOff v (log_of_vat v ((u, e) ∷ row)) (steps_by v (s ∷ before)) →
+    PairsOff v (log_of_vat v row) (steps_by v before)
 pairs_there v u e row s before is apart pairs =
     subst (λ es. PairsOff v es (steps_by v before)) (log_there v u e row apart)
-    (subst (λ steps. PairsOff v (log_of v ((u, e) ∷ row)) steps) (steps_there v s before (ap (λ w. w == v) is ∙ apart)) pairs)
+    (subst (λ steps. PairsOff v (log_of_vat v ((u, e) ∷ row)) steps) (steps_there v s before (ap (λ w. w == v) is ∙ apart)) pairs)
 
-pairs_earlier : (v u : ℕ) (e : Event) (row : Row) (s : Step) (before : List Step) → vat_of s ≡ u → PairsOff v (log_of v ((u, e) ∷ row)) (steps_by v (s ∷ before)) →
-    PairsOff v (log_of v row) (steps_by v before)
+pairs_earlier : (v u : ℕ) (e : DecodedRecord) (row : Row) (s : Step) (before : List Step) → vat_of s ≡ u → PairsOff v (log_of_vat v ((u, e) ∷ row)) (steps_by v (s ∷ before)) →
+    PairsOff v (log_of_vat v row) (steps_by v before)
 pairs_earlier v u e row s before is pairs = elim (cases_Bool (u == v)) [
   | inl own ↦ (pairs_here v u e row s before is (eqb-true u v own) pairs).1
   | inr apart ↦ pairs_there v u e row s before is apart pairs
@@ -183,7 +183,7 @@ pairs_earlier v u e row s before is pairs = elim (cases_Bool (u == v)) [
 none_first : {A : Type 0} {x : A} {xs : List A} → [] ≡ (x ∷ xs) → ⊥
 none_first e = cc
 
-pub named_next : (v : ℕ) (e : Event) (row : Row) (whole : List Step) → IsNamedRow ((v, e) ∷ row) whole → IsNext v e row whole
+pub named_next : (v : ℕ) (e : DecodedRecord) (row : Row) (whole : List Step) → IsNamedRow ((v, e) ∷ row) whole → IsNext v e row whole
 named_next v e row [] named = absurd (none_first named.by_row)
 named_next v e row (s ∷ before) named =
     let is : vat_of s ≡ v = heads named.by_row in
@@ -193,7 +193,7 @@ named_next v e row (s ∷ before) named =
       before = before;
       all = refl;
       vat = is;
-      alike = says_alike v (log_of v row) (steps_by v before) e s own.0;
+      alike = says_alike v (log_of_vat v row) (steps_by v before) e s own.0;
       says = own.0;
       legal = named.legal.0;
       linked = named.linked.0;
@@ -216,7 +216,7 @@ named_before ((v, e) ∷ later) row whole named =
 
 -- ---- what comes next
 
-received_alike : (v k : ℕ) (s : Step) → receives v k s ≡ ((vat_of s == v) && is_some (passed k false s))
+received_alike : (v k : ℕ) (s : Step) → receives_on v k s ≡ ((vat_of s == v) && is_some (passed k false s))
 received_alike v k (step.Receive w j m bound) = ap (λ b. (w == v) && b) (sym (if_there ((j == k) && true) m ∙ plain (j == k)))
   where
     plain : (b : Bool) → (b && true) ≡ b
@@ -235,14 +235,14 @@ received_alike v k s = none (vat_of s == v)
     none false = refl
 
 -- a vat received in the run as often as its steps say
-counted : (v k : ℕ) (before : List Step) → count (receives v k) before ≡ length (filter_map (passed k false) (steps_by v before))
+counted : (v k : ℕ) (before : List Step) → count_steps (receives_on v k) before ≡ length (filter_map (passed k false) (steps_by v before))
 counted v k [] = refl
 counted v k (s ∷ before) =
-    ap (λ b. if b then suc (count (receives v k) before) else count (receives v k) before) (received_alike v k s)
+    ap (λ b. if b then suc (count_steps (receives_on v k) before) else count_steps (receives_on v k) before) (received_alike v k s)
     ∙ at (vat_of s == v) (passed k false s) refl refl (counted v k before)
   where
-    at : (b : Bool) (o : Option Message) → (vat_of s == v) ≡ b → passed k false s ≡ o → count (receives v k) before ≡ length (filter_map (passed k false) (steps_by v before)) →
-        (if b && is_some o then suc (count (receives v k) before) else count (receives v k) before)
+    at : (b : Bool) (o : Option Message) → (vat_of s == v) ≡ b → passed k false s ≡ o → count_steps (receives_on v k) before ≡ length (filter_map (passed k false) (steps_by v before)) →
+        (if b && is_some o then suc (count_steps (receives_on v k) before) else count_steps (receives_on v k) before)
         ≡ length (filter_map (passed k false) (if b then s ∷ steps_by v before else steps_by v before))
     at true None own none rest = rest ∙ sym (ap (λ o. length (cons_option o (filter_map (passed k false) (steps_by v before)))) none)
     at true (Some m) own some rest = ap suc rest ∙ sym (ap (λ o. length (cons_option o (filter_map (passed k false) (steps_by v before)))) some)
@@ -308,8 +308,8 @@ at_turned xs x ys =
 abbrev pub ComesNext : ℕ → ℕ → ℕ → Past → List Step → Type 0
 ComesNext k v w from whole = (M : Message) × (coming_next v k whole ≡ Some M) × (message_at (length from) (steps_by w whole) ≡ Some M)
 
-pub comes_next : (k v w : ℕ) (row : Row) (whole : List Step) → v ≢ w → AtEach (IsTheirs k v w) row → IsNamedRow row whole → (m : RpcMessage) (from : Past) (sent : Event) → GoesOn (log_of w row) (sent ∷ from) →
-    passing k true sent ≡ Some m → length (stream k true from) ≡ length (stream k false (log_of v row)) → ComesNext k v w from whole
+pub comes_next : (k v w : ℕ) (row : Row) (whole : List Step) → v ≢ w → AtEach (IsTheirs k v w) row → IsNamedRow row whole → (m : RpcMessage) (from : Past) (sent : DecodedRecord) → GoesOn (log_of_vat w row) (sent ∷ from) →
+    passing k true sent ≡ Some m → length (stream k true from) ≡ length (stream k false (log_of_vat v row)) → ComesNext k v w from whole
 comes_next k v w row whole apart theirs named m from sent there sends number =
     let pair = paired_at w there.0 sent from (steps_by w whole) (subst (λ es. PairsOff w es (steps_by w whole)) there.1 (named.paired w)) in
     let alike = says_alike w from pair.earlier sent pair.step pair.paired.0 in
@@ -320,8 +320,8 @@ comes_next k v w row whole apart theirs named m from sent there sends number =
     ap (filter_map (passed k true)) pair.whole ∙ filter_map-append (passed k true) pair.added (pair.step ∷ pair.earlier) ∙ ap (λ o. later ++ cons_option o earlier) M.1 in
     let streamed : filter_map (sent_to v k) (reverse whole) ≡ reverse (later ++ M.0 ∷ earlier) =
     kept_back (sent_to v k) whole ∙ ap reverse (sent_by_steps k v w row whole apart theirs named ∙ list) in
-    let so_many : count (receives v k) whole ≡ length earlier =
-    counted v k whole ∙ as_many_passed k false v (log_of v row) (steps_by v whole) (named.paired v) ∙ sym number ∙ sym (as_many_passed k true w from pair.earlier pair.paired.1) in (
+    let so_many : count_steps (receives_on v k) whole ≡ length earlier =
+    counted v k whole ∙ as_many_passed k false v (log_of_vat v row) (steps_by v whole) (named.paired v) ∙ sym number ∙ sym (as_many_passed k true w from pair.earlier pair.paired.1) in (
       M.0,
       ap₂ (λ l n. slice_get l n) streamed so_many ∙ at_turned later M.0 earlier,
       ap (message_at (length from)) pair.whole
@@ -342,15 +342,15 @@ pub steps_on : (v : ℕ) (added before whole : List Step) → whole ≡ added ++
 steps_on v added before whole all = ap (steps_by v) all ∙ filter-append (λ s. vat_of s == v) added before
 
 -- a received record's step: what comes next, on its connection
-received_next : (w k c : ℕ) (rs : List ℕ) (m : RpcMessage) (row : Row) (before : List Step) (s : Step) → Says w (log_of w row) (steps_by w before) (Wire false k c rs m) s → IsLinked before s →
-    (M : Message) × (message_of s ≡ Some M) × (coming_next w k before ≡ Some M)
+received_next : (w k c : ℕ) (rs : List ℕ) (m : RpcMessage) (row : Row) (before : List Step) (s : Step) → Says w (log_of_vat w row) (steps_by w before) (Wire false k c rs m) s → IsLinked before s →
+    (M : Message) × (message_of_step s ≡ Some M) × (coming_next w k before ≡ Some M)
 received_next w k c rs m row before s says linked =
     let linked_there : IsLinked before (step.Receive w k says.message says.bound) = subst (IsLinked before) says.step linked in
-    (says.message, ap message_of says.step, linked_there.1)
+    (says.message, ap message_of_step says.step, linked_there.1)
 
 module _ (k v w : ℕ) (row : Row) (whole : List Step) (shared : IsShared k v w row) (named : IsNamedRow row whole) where
   -- so of one message
-  carried_at : (m : RpcMessage) (from to : Past) (sent received : Event) → IsPassed k m (log_of v row) (log_of w row) from to sent received →
+  carried_at : (m : RpcMessage) (from to : Past) (sent received : DecodedRecord) → IsPassed k m (log_of_vat v row) (log_of_vat w row) from to sent received →
       message_at (length to) (steps_by w whole) ≡ message_at (length from) (steps_by v whole)
   carried_at m from to sent received p =
       let b = taken w row received to p.received_there in
@@ -358,22 +358,22 @@ module _ (k v w : ℕ) (row : Row) (whole : List Step) (shared : IsShared k v w 
       let earlier : GoesOn row b.0 = before_it row (w, received) b.0 b.1 in
       let theirs : AtEach (IsTheirs k w v) b.0 = at_each_before (IsTheirs k w v) row b.0 earlier back.theirs in
       let others = others_are k w v b.0 back.apart theirs in
-      let there = nth_there (passing k true) (length (stream k false to)) (log_of v row) (log_of v b.0) from sent
+      let there = nth_there (passing k true) (length (stream k false to)) (log_of_vat v row) (log_of_vat v b.0) from sent
       (record { there = p.sent_there; some = (m, p.sends); number = p.same_number }) (kept (of_vat v) row b.0 earlier)
       (omega (arith, shared.fits b.0 (w, received) b.1 m p.receives, ap (λ l. length (stream k false l)) b.2, ap length others)) in
       let point = named_before b.1.0 ((w, received) ∷ b.0) whole (subst (λ r. IsNamedRow r whole) b.1.1 named) in
       let n = named_next w received b.0 point.before point.named in
-      let number : length (stream k true from) ≡ length (stream k false (log_of w b.0)) = p.same_number ∙ ap (λ l. length (stream k false l)) (sym b.2) in
+      let number : length (stream k true from) ≡ length (stream k false (log_of_vat w b.0)) = p.same_number ∙ ap (λ l. length (stream k false l)) (sym b.2) in
       let comes = comes_next k w v b.0 n.before back.apart theirs n.rest m from sent there p.sends number in
       let wire = passing_is k false m received p.receives in
-      let got = received_next w k wire.0 wire.1 m b.0 n.before n.step (subst (λ e. Says w (log_of w b.0) (steps_by w n.before) e n.step) wire.2 n.says) n.linked in
+      let got = received_next w k wire.0 wire.1 m b.0 n.before n.step (subst (λ e. Says w (log_of_vat w b.0) (steps_by w n.before) e n.step) wire.2 n.says) n.linked in
       let all : whole ≡ (point.added ++ n.step ∷ []) ++ n.before = point.all ∙ ap (λ l. point.added ++ l) n.all ∙ sym (append_assoc point.added (n.step ∷ []) n.before) in
       let one : message_at (length from) (steps_by v whole) ≡ Some comes.0 =
       ap (message_at (length from)) (steps_on v (point.added ++ n.step ∷ []) n.before whole all)
       ∙ message_later (length from) (steps_by v (point.added ++ n.step ∷ [])) (steps_by v n.before) comes.0 comes.2 in
       let its : steps_by w whole ≡ steps_by w point.added ++ n.step ∷ steps_by w n.before =
       steps_on w point.added point.before whole point.all ∙ ap (λ l. steps_by w point.added ++ l) (ap (steps_by w) n.all ∙ steps_here w n.step n.before n.vat) in
-      let len : length (steps_by w n.before) ≡ length to = sym (pairs_as_long w (log_of w b.0) (steps_by w n.before) (n.rest.paired w)) ∙ ap length b.2 in
+      let len : length (steps_by w n.before) ≡ length to = sym (pairs_as_long w (log_of_vat w b.0) (steps_by w n.before) (n.rest.paired w)) ∙ ap length b.2 in
       let other : message_at (length to) (steps_by w whole) ≡ Some got.0 =
       ap (message_at (length to)) its
       ∙ message_later (length to) (steps_by w point.added) (n.step ∷ steps_by w n.before) got.0 (message_there (length to) n.step (steps_by w n.before) got.0 len got.1) in
@@ -381,12 +381,12 @@ module _ (k v w : ℕ) (row : Row) (whole : List Step) (shared : IsShared k v w 
       other ∙ same ∙ sym one
 
 -- each message that one vat sent the other is received in the run as it was sent
-pub carried : (k v w : ℕ) (row : Row) (whole : List Step) → IsShared k v w row → IsNamedRow row whole → IsCarried k (log_of v row) (steps_by v whole) (log_of w row) (steps_by w whole)
+pub carried : (k v w : ℕ) (row : Row) (whole : List Step) → IsShared k v w row → IsNamedRow row whole → IsCarried k (log_of_vat v row) (steps_by v whole) (log_of_vat w row) (steps_by w whole)
 carried k v w row whole shared named = λ m from to sent received p. carried_at k v w row whole shared named m from to sent received p
 
 -- the logs of two vats that share a connection met in the run
-pub are_met : (k v w : ℕ) (row : Row) (whole : List Step) → IsShared k v w row → IsNamedRow row whole → Each IsGood (log_of v row) → Each IsGood (log_of w row) →
-    AreMet k v (log_of v row) (steps_by v whole) w (log_of w row) (steps_by w whole)
+pub are_met : (k v w : ℕ) (row : Row) (whole : List Step) → IsShared k v w row → IsNamedRow row whole → Each IsGood (log_of_vat v row) → Each IsGood (log_of_vat w row) →
+    AreMet k v (log_of_vat v row) (steps_by v whole) w (log_of_vat w row) (steps_by w whole)
 are_met k v w row whole shared named good good_other = record {
   one_paired = named.paired v;
   other_paired = named.paired w;

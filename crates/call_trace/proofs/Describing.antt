@@ -15,28 +15,28 @@ use Rattle.agree.proofs.Standing.{linked_before}
 use Rattle.agree.proofs.Good.{good_agree}
 use Rattle.vat_rules.specs.declared.rule.Rule.TheVariants as rule
 use Rattle.vat_rules.specs.Judged.{IsGood}
-use Rattle.vat_view.specs.Past.{Past, Each, id, names, last_answer, number_of}
-use Rattle.vat_view.specs.Questions.{finished, is_unfinished, is_late, call_of}
-use Rattle.vat_view.specs.Lives.{begins, introduced, introduces, held, descriptors_of, descriptors, is_in_life, GivesBackHeld}
-use Rattle.vat_view.specs.Views.{view_of_reference, view_given, number_view, field_view, view_of_number, view_of_target, targeted, target_of}
+use Rattle.vat_view.specs.Past.{Past, Each, id, names, last_answer, record_index}
+use Rattle.vat_view.specs.Questions.{question_finished, is_unfinished, is_late, call_of}
+use Rattle.vat_view.specs.Lives.{begins, number_introduced, introduces, held, descriptors_of, descriptors, is_in_life, GivesBackHeld}
+use Rattle.vat_view.specs.Views.{view_of_reference, view_given, number_view, field_view, view_of_number, view_of_target, target_view, target_of}
 use Rattle.vat_view.specs.Uses.{question_targeted, question_described, UsesQuestions}
 use Rattle.vat_view.specs.Bindings.{Refers}
-use Rattle.vat_view.specs.declared.id.Id.{Id}
+use Rattle.vat_view.specs.declared.record.table_key.TableKey.{TableKey}
 use Rattle.vat_view.proofs.Naming.{names_is}
 use Rattle.vat_view.proofs.Counting.{no_more_went}
 use Rattle.vat_view.proofs.Describing.{sender_keeps}
 use Rattle.vat_view.proofs.Lasting.{birth_kept}
 use Rattle.vat_view.proofs.Viewed.{begins_some, begins_parts, introduced_there}
-use Rattle.call_trace.specs.Types.{Descriptor, NoCap, SenderHosted, SenderPromise, ReceiverHosted, ReceiverAnswer, Target, Imported, Promised, Results, Capped, Unkept, Bootstrap, Call, Return, Finish, Resolve, Release, Disembargo, Abort, RpcMessage, Event, Wire, View, FieldOf, Import, Name, Cap, Message, Step}
-use Rattle.call_trace.specs.Naming.{Naming, naming, cap_at, names_call, call_named, cap_named, message_of}
-use Rattle.call_trace.specs.Said.{together, said, say_call, say_return, say_resolve, descriptor_named, caps_named, promise_named, answered, given}
+use Rattle.call_trace.specs.Types.{Descriptor, NoCap, SenderHosted, SenderPromise, ReceiverHosted, ReceiverAnswer, Target, Imported, Promised, Results, Capped, Unkept, Bootstrap, Call, Return, Finish, Resolve, Release, Disembargo, Abort, RpcMessage, DecodedRecord, Wire, View, FieldOf, Import, Name, Cap, Message, Step}
+use Rattle.call_trace.specs.Naming.{Naming, naming, cap_at, names_call, call_named, cap_named, message_of_step}
+use Rattle.call_trace.specs.Said.{all_there, message_of_record, say_call, say_return, say_resolve, descriptor_named, caps_named, promise_named, call_answered, caps_at_paths}
 use Rattle.call_trace.specs.Part.{PairsOff}
 use Rattle.call_trace.specs.Carried.{number_named}
 use Rattle.call_trace.specs.Running.{AreMet}
 use Rattle.call_trace.proofs.Naming.{then_is, mapped_is, cap_step, names_are_caps}
 use Rattle.call_trace.proofs.Carried.{pairs_as_long, message_there, together_at, resolve_is, one_name}
 use Rattle.call_trace.proofs.Asking.{all_refer, message_from}
-use Rattle.run_model.specs.Legal.{is_cap, present, brought}
+use Rattle.run_model.specs.Legal.{is_present, present, caps_brought}
 use Rattle.run_model.specs.declared.cap.Cap.TheVariants as cap
 use Rattle.run_model.specs.declared.message.Message.TheVariants as message
 use Rattle.run_model.specs.declared.step.Step.TheVariants as step
@@ -50,13 +50,13 @@ together_more c d o p cs h same so =
 
 -- where each that the one gives is given by the other, so are all together
 pub together_so : {A : Type 0} (f g : A → Option Cap) (xs : List A) → ((j : ℕ) (x : A) (c : Cap) → slice_get xs j ≡ Some x → f x ≡ Some c → g x ≡ Some c) → (cs : List Cap) →
-    together (map f xs) ≡ Some cs → together (map g xs) ≡ Some cs
+    all_there (map f xs) ≡ Some cs → all_there (map g xs) ≡ Some cs
 together_so f g [] so cs h = h
 together_so f g (x ∷ xs) so cs h = at (f x) refl h (together_so f g xs (λ j y c there. so (suc j) y c there))
   where
-    at : (o : Option Cap) → f x ≡ o → together (o ∷ map f xs) ≡ Some cs → ((ys : List Cap) → together (map f xs) ≡ Some ys → together (map g xs) ≡ Some ys) → together (g x ∷ map g xs) ≡ Some cs
+    at : (o : Option Cap) → f x ≡ o → all_there (o ∷ map f xs) ≡ Some cs → ((ys : List Cap) → all_there (map f xs) ≡ Some ys → all_there (map g xs) ≡ Some ys) → all_there (g x ∷ map g xs) ≡ Some cs
     at None e h rest = absurd (let no : ⊥ = cc in no)
-    at (Some c) e h rest = ap (λ o. together (o ∷ map g xs)) (so 0 x c refl e) ∙ together_more c c (together (map f xs)) (together (map g xs)) cs h refl rest
+    at (Some c) e h rest = ap (λ o. all_there (o ∷ map g xs)) (so 0 x c refl e) ∙ together_more c c (all_there (map f xs)) (all_there (map g xs)) cs h refl rest
 
 found_at : {A : Type 0} (test : A → Bool) (xs : List A) (p q : ℕ) → position_from test p xs ≡ Some q → (j : ℕ) × (x : A) × (q ≡ p + j) × (slice_get xs j ≡ Some x) × (test x ≡ true)
 found_at test [] p q h = absurd (let no : ⊥ = cc in no)
@@ -73,17 +73,17 @@ found_at test (x ∷ xs) p q h = elim (cases_Bool (test x)) [
 
 -- a message brings these caps: the same stand at each place, and the same are there
 abbrev pub Brings : List Cap → Message → Type 0
-Brings caps m = ((place : ℕ) → cap_at place (brought m) ≡ cap_at place caps) × (present (brought m) ≡ present caps)
+Brings caps m = ((place : ℕ) → cap_at place (caps_brought m) ≡ cap_at place caps) × (present (caps_brought m) ≡ present caps)
 
 abbrev CapsAre : Option (List Cap) → Message → Type 0
 CapsAre named m = (caps : List Cap) × (named ≡ Some caps) × Brings caps m
 
-brings_just : (m : Message) (caps : List Cap) → brought m ≡ caps → Brings caps m
+brings_just : (m : Message) (caps : List Cap) → caps_brought m ≡ caps → Brings caps m
 brings_just m caps same = (λ place. ap (cap_at place) same, ap present same)
 
 call_is : (interface method : ℕ) (caps : Option (List Cap)) (name : Option Name) (target : Option Cap) (m : Message) → say_call interface method caps name target ≡ Some m → CapsAre caps m
 call_is interface method (Some caps) (Some name) (Some target) m h =
-    let same : message.Call name target interface method caps ≡ m = cc in (caps, refl, brings_just m caps (ap brought (sym same)))
+    let same : message.Call name target interface method caps ≡ m = cc in (caps, refl, brings_just m caps (ap caps_brought (sym same)))
 call_is interface method None name target m h = absurd (let no : ⊥ = cc in no)
 call_is interface method (Some caps) None target m h = absurd (let no : ⊥ = cc in no)
 call_is interface method (Some caps) (Some name) None m h = absurd (let no : ⊥ = cc in no)
@@ -92,27 +92,27 @@ return_is : (late : Bool) (fields : List (List ℕ × ℕ)) (name : Name) (caps 
 return_is true fields name caps m late h = absurd (let no : ⊥ = cc in no)
 return_is false fields name None m late h = absurd (let no : ⊥ = cc in no)
 return_is false fields name (Some caps) m late h =
-    let same : message.Return name (given caps fields) caps ≡ m = cc in (caps, refl, brings_just m caps (ap brought (sym same)))
+    let same : message.Return name (caps_at_paths caps fields) caps ≡ m = cc in (caps, refl, brings_just m caps (ap caps_brought (sym same)))
 
 none_at : (place : ℕ) → cap_at place [] ≡ cap_at place (cap.Nothing ∷ [])
 none_at zero = refl
 none_at (suc place) = refl
 
-resolve_brings : (promise x : Cap) (b : Bool) → is_cap x ≡ b → Brings (x ∷ []) (say_resolve promise (x ∷ []))
+resolve_brings : (promise x : Cap) (b : Bool) → is_present x ≡ b → Brings (x ∷ []) (say_resolve promise (x ∷ []))
 resolve_brings promise cap.Nothing b is = (none_at, refl)
-resolve_brings promise x true is = brings_just (say_resolve promise (x ∷ [])) (x ∷ []) (ap brought (resolve_is promise x [] is))
+resolve_brings promise x true is = brings_just (say_resolve promise (x ∷ [])) (x ∷ []) (ap caps_brought (resolve_is promise x [] is))
 resolve_brings promise x false is = absurd (let no : ⊥ = cc in no)
 
-resolved_is : (promise : Cap) (o : Option Cap) (m : Message) → option_map (say_resolve promise) (together (o ∷ [])) ≡ Some m → CapsAre (together (o ∷ [])) m
+resolved_is : (promise : Cap) (o : Option Cap) (m : Message) → option_map (say_resolve promise) (all_there (o ∷ [])) ≡ Some m → CapsAre (all_there (o ∷ [])) m
 resolved_is promise None m h = absurd (let no : ⊥ = cc in no)
 resolved_is promise (Some x) m h =
-    let same : say_resolve promise (x ∷ []) ≡ m = cc in (x ∷ [], refl, subst (Brings (x ∷ [])) same (resolve_brings promise x (is_cap x) refl))
+    let same : say_resolve promise (x ∷ []) ≡ m = cc in (x ∷ [], refl, subst (Brings (x ∷ [])) same (resolve_brings promise x (is_present x) refl))
 
-nothing_is : (m n : Message) → brought m ≡ [] → ◌≡◌ {A = Option Message} (Some m) (Some n) → CapsAre (Some []) n
-nothing_is m n none h = let same : m ≡ n = cc in ([], refl, brings_just n [] (ap brought (sym same) ∙ none))
+nothing_is : (m n : Message) → caps_brought m ≡ [] → ◌≡◌ {A = Option Message} (Some m) (Some n) → CapsAre (Some []) n
+nothing_is m n none h = let same : m ≡ n = cc in ([], refl, brings_just n [] (ap caps_brought (sym same) ∙ none))
 
 -- the caps of a message that is sent have names, and the message brings them, where it isn't a late Return
-pub says_brings : (names : Naming) (es : Past) (k c : ℕ) (rs : List ℕ) (m : RpcMessage) (M : Message) → is_late es (Wire true k c rs m) ≡ false → said names es (Wire true k c rs m) ≡ Some M →
+pub says_brings : (names : Naming) (es : Past) (k c : ℕ) (rs : List ℕ) (m : RpcMessage) (M : Message) → is_late es (Wire true k c rs m) ≡ false → message_of_record names es (Wire true k c rs m) ≡ Some M →
     (caps : List Cap) × (caps_named names es (Wire true k c rs m) ≡ Some caps) × Brings caps M
 says_brings names es k c rs (Bootstrap q) M late h = let name = mapped_is message.Boot (names.call c) M h in nothing_is (message.Boot name.0) M refl (ap (λ m. Some m) name.2)
 says_brings names es k c rs (Call q target interface method params) M late h =
@@ -120,9 +120,9 @@ says_brings names es k c rs (Call q target interface method params) M late h =
     call_is interface method (caps_named names es e) (names.call c) (option_and_then names.cap (view_of_target es e)) M h
 says_brings names es k c rs (Return q release (Results payload)) M late h =
     let e = Wire true k c rs (Return q release (Results payload)) in
-    let name = then_is (λ name. say_return (is_late es e) payload.fields name (caps_named names es e)) (answered names es k true q) M h in
+    let name = then_is (λ name. say_return (is_late es e) payload.fields name (caps_named names es e)) (call_answered names es k true q) M h in
     return_is (is_late es e) payload.fields name.0 (caps_named names es e) M late name.2
-says_brings names es k c rs (Return q release _) M late h = let name = mapped_is message.Failed (answered names es k true q) M h in nothing_is (message.Failed name.0) M refl (ap (λ m. Some m) name.2)
+says_brings names es k c rs (Return q release _) M late h = let name = mapped_is message.Failed (call_answered names es k true q) M h in nothing_is (message.Failed name.0) M refl (ap (λ m. Some m) name.2)
 says_brings names es k c rs (Resolve n (Capped d)) M late h =
     let e = Wire true k c rs (Resolve n (Capped d)) in
     let promise = then_is (λ promise. option_map (say_resolve promise) (caps_named names es e)) (promise_named names es k true n) M h in
@@ -139,19 +139,19 @@ says_brings names es k c rs Abort M late h = nothing_is _ M refl h
 -- ---- numbers in life with a message counted
 
 -- what its sender gave out stays in life
-still : (i : Id) (before : Past) (s : Bool) (k c : ℕ) (rs : List ℕ) (m : RpcMessage) → i.ours ≡ s → is_in_life i before ≡ true → is_in_life i (Wire s k c rs m ∷ before) ≡ true
+still : (i : TableKey) (before : Past) (s : Bool) (k c : ℕ) (rs : List ℕ) (m : RpcMessage) → i.ours ≡ s → is_in_life i before ≡ true → is_in_life i (Wire s k c rs m ∷ before) ≡ true
 still i before s k c rs m same h =
     let none = sender_keeps i before s k c rs m same in
     let more = ltb-true 0 (held i before) h in lt-ltb 0 (held i (Wire s k c rs m ∷ before)) (omega (arith, none, more))
 
 -- what it introduces comes to life
-alive_now : (i : Id) (before : Past) (s : Bool) (k c : ℕ) (rs : List ℕ) (m : RpcMessage) → i.ours ≡ s → Each IsGood before → 0 < introduces i before (Wire s k c rs m) → is_in_life i (Wire s k c rs m ∷ before) ≡ true
+alive_now : (i : TableKey) (before : Past) (s : Bool) (k c : ℕ) (rs : List ℕ) (m : RpcMessage) → i.ours ≡ s → Each IsGood before → 0 < introduces i before (Wire s k c rs m) → is_in_life i (Wire s k c rs m ∷ before) ≡ true
 alive_now i before s k c rs m same good more =
     let none = sender_keeps i before s k c rs m same in
     let below = no_more_went before (each_so IsGood GivesBackHeld (λ b e g. g rule.Count) before good) i in
     lt-ltb 0 (held i (Wire s k c rs m ∷ before)) (omega (arith, none, below, more))
 
-number_alive : (named : ℕ → Option View) (i : Id) (past : Past) (view : View) → number_view named i past ≡ Some view → is_in_life i past ≡ true
+number_alive : (named : ℕ → Option View) (i : TableKey) (past : Past) (view : View) → number_view named i past ≡ Some view → is_in_life i past ≡ true
 number_alive named i past view h = at (is_in_life i past) h
   where
     at : (b : Bool) → option_and_then (view_given named i.ours) (if b then last_answer (begins i) past else None) ≡ Some view → b ≡ true
@@ -159,7 +159,7 @@ number_alive named i past view h = at (is_in_life i past) h
     at false h = absurd (let no : ⊥ = cc in no)
 
 -- a number in life keeps its name, also where it is introduced once more
-named_still : (u : ℕ) (i : Id) (es : Past) (steps : List Step) (s : Bool) (k c : ℕ) (rs : List ℕ) (m : RpcMessage) (st : Step) (x : Cap) → i.ours ≡ s → Refers es (Wire s k c rs m) → number_named u i es steps ≡ Some x →
+named_still : (u : ℕ) (i : TableKey) (es : Past) (steps : List Step) (s : Bool) (k c : ℕ) (rs : List ℕ) (m : RpcMessage) (st : Step) (x : Cap) → i.ours ≡ s → Refers es (Wire s k c rs m) → number_named u i es steps ≡ Some x →
     option_and_then (cap_named u (Wire s k c rs m ∷ es) (st ∷ steps)) (number_view (view_of_reference es) i (Wire s k c rs m ∷ es)) ≡ Some x
 named_still u i es steps s k c rs m st x same refers h =
     let e = Wire s k c rs m in
@@ -169,30 +169,30 @@ named_still u i es steps s k c rs m st x same refers h =
     ap (λ o. option_and_then (cap_named u (e ∷ es) (st ∷ steps)) o) (kept ∙ view.1) ∙ cap_step u es e steps st view.0 x refers view.2
 
 -- so where it isn't counted
-named_before : (u : ℕ) (i : Id) (es : Past) (steps : List Step) (e : Event) (st : Step) (x : Cap) → Refers es e → number_named u i es steps ≡ Some x →
+named_before : (u : ℕ) (i : TableKey) (es : Past) (steps : List Step) (e : DecodedRecord) (st : Step) (x : Cap) → Refers es e → number_named u i es steps ≡ Some x →
     option_and_then (cap_named u (e ∷ es) (st ∷ steps)) (view_of_number i es) ≡ Some x
 named_before u i es steps e st x refers h =
     let view = then_is (cap_named u es steps) (view_of_number i es) x h in
     ap (λ o. option_and_then (cap_named u (e ∷ es) (st ∷ steps)) o) view.1 ∙ cap_step u es e steps st view.0 x refers view.2
 
 -- a number that comes to life stands for the import at the first place that introduces it
-abbrev IsNewAt : ℕ → Past → Event → ℕ → Type 0
-IsNewAt k other e n = (place : ℕ) × (d : Descriptor) × (slice_get (descriptors e) place ≡ Some d) × (names (id k false n) (introduced e d) ≡ true)
+abbrev IsNewAt : ℕ → Past → DecodedRecord → ℕ → Type 0
+IsNewAt k other e n = (place : ℕ) × (d : Descriptor) × (slice_get (descriptors e) place ≡ Some d) × (names (id k false n) (number_introduced e d) ≡ true)
     × (number_view (view_of_reference other) (id k false n) (e ∷ other) ≡ Some (Import (length other) place))
 
-new_at : (k n : ℕ) (other : Past) (e : Event) → is_in_life (id k false n) other ≡ false → is_in_life (id k false n) (e ∷ other) ≡ true → IsNewAt k other e n
+new_at : (k n : ℕ) (other : Past) (e : DecodedRecord) → is_in_life (id k false n) other ≡ false → is_in_life (id k false n) (e ∷ other) ≡ true → IsNewAt k other e n
 new_at k n other e out now =
     let i = id k false n in
     let b = begins_some i other e out now in
     let parts = begins_parts i other e b.0 b.1 in
-    let d = found_at (λ d. names i (introduced e d)) (descriptors e) 0 parts.0 parts.1 in
+    let d = found_at (λ d. names i (number_introduced e d)) (descriptors e) 0 parts.0 parts.1 in
     let first : parts.0 ≡ d.0 = let q = d.2 in omega (arith, q) in
     let born = ap (λ c. if c then option_or (begins i other e) (last_answer (begins i) other) else None) now ∙ ap (λ o. option_or o (last_answer (begins i) other)) b.1 in (
       d.0,
       d.1,
       d.3,
       d.4,
-      ap (λ o. option_and_then (view_given (view_of_reference other) false) o) born ∙ ap (λ b. Some (Import (number_of b.from) b.place)) parts.2 ∙ ap (λ q. Some (Import (length other) q)) first,
+      ap (λ o. option_and_then (view_given (view_of_reference other) false) o) born ∙ ap (λ b. Some (Import (record_index b.from) b.place)) parts.2 ∙ ap (λ q. Some (Import (length other) q)) first,
     )
 
 -- ---- the two ends of a message
@@ -209,8 +209,8 @@ pub record IsTold (k v : ℕ) (from : Past) (its_from : List Step) (s : Step) (w
   pub linked : AreLinked k from other
   pub good : IsGood from (Wire true k c rs m)
   pub good_there : IsGood other (Wire false k d references m)
-  pub says : said (naming v (Wire true k c rs m ∷ from) (s ∷ its_from)) from (Wire true k c rs m) ≡ Some message
-  pub receives : message_of r ≡ Some message
+  pub says : message_of_record (naming v (Wire true k c rs m ∷ from) (s ∷ its_from)) from (Wire true k c rs m) ≡ Some message
+  pub receives : message_of_step r ≡ Some message
   pub late : is_late other (Wire false k d references m) ≡ false
   pub late_sent : is_late from (Wire true k c rs m) ≡ false
   pub one_call : CallsAreOne k v from its_from w other steps
@@ -239,37 +239,37 @@ target_in_time before k d references m t is = absurd (let no : ⊥ = cc in no)
 
 -- ---- the questions that a received message uses
 
-all_given : {A : Type 0} (f : A → Option Id) (test : Id → Bool) (xs : List A) (j : ℕ) (x : A) (i : Id) → list_all test (filter_map f xs) ≡ true → slice_get xs j ≡ Some x → f x ≡ Some i → test i ≡ true
+all_given : {A : Type 0} (f : A → Option TableKey) (test : TableKey → Bool) (xs : List A) (j : ℕ) (x : A) (i : TableKey) → list_all test (filter_map f xs) ≡ true → slice_get xs j ≡ Some x → f x ≡ Some i → test i ≡ true
 all_given f test [] j x i h there is = absurd (let no : ⊥ = cc in no)
 all_given f test (y ∷ ys) zero x i h there is =
     let same : y ≡ x = cc in (and_parts (test i) (list_all test (filter_map f ys)) (sym (ap (λ o. list_all test (cons_option o (filter_map f ys))) (ap f same ∙ is)) ∙ h)).0
 all_given f test (y ∷ ys) (suc j) x i h there is = all_given f test ys j x i (at (f y) h) there is
   where
-    at : (o : Option Id) → list_all test (cons_option o (filter_map f ys)) ≡ true → list_all test (filter_map f ys) ≡ true
+    at : (o : Option TableKey) → list_all test (cons_option o (filter_map f ys)) ≡ true → list_all test (filter_map f ys) ≡ true
     at None h = h
     at (Some z) h = (and_parts (test z) (list_all test (filter_map f ys)) h).1
 
-both_of : (test : Id → Bool) (xs ys : List Id) → list_all test (xs ++ ys) ≡ true → (list_all test xs ≡ true) × (list_all test ys ≡ true)
+both_of : (test : TableKey → Bool) (xs ys : List TableKey) → list_all test (xs ++ ys) ≡ true → (list_all test xs ≡ true) × (list_all test ys ≡ true)
 both_of test xs ys h = and_parts (list_all test xs) (list_all test ys) (sym (list_all-append test xs ys) ∙ h)
 
 described_used : (k d : ℕ) (references : List ℕ) (m : RpcMessage) (other : Past) → UsesQuestions other (Wire false k d references m) → (j q : ℕ) (path : List ℕ) → slice_get (descriptors_of m) j ≡ Some (ReceiverAnswer q path) →
     is_unfinished (id k false q) other ≡ true
 described_used k d references m other uses j q path there =
     let e = Wire false k d references m in
-    let test : Id → Bool = λ i. is_unfinished i other in
-    let given = filter_map (question_described e) (descriptors_of m) in
-    let last = option_to_list (finished e) in
+    let test : TableKey → Bool = λ i. is_unfinished i other in
+    let caps_at_paths = filter_map (question_described e) (descriptors_of m) in
+    let last = option_to_list (question_finished e) in
     all_given (question_described e) test (descriptors_of m) j (ReceiverAnswer q path) (id k false q)
-    (both_of test (option_to_list (question_targeted e)) given (both_of test (option_to_list (question_targeted e) ++ given) last uses.used).0).1 there refl
+    (both_of test (option_to_list (question_targeted e)) caps_at_paths (both_of test (option_to_list (question_targeted e) ++ caps_at_paths) last uses.used).0).1 there refl
 
 target_used : (k d : ℕ) (references : List ℕ) (m : RpcMessage) (other : Past) → UsesQuestions other (Wire false k d references m) → (q : ℕ) (path : List ℕ) → target_of m ≡ Some (Promised q path) →
     is_unfinished (id k false q) other ≡ true
 target_used k d references m other uses q path is =
     let e = Wire false k d references m in
-    let test : Id → Bool = λ i. is_unfinished i other in
-    let targeted = option_to_list (question_targeted e) in
-    let given = filter_map (question_described e) (descriptors_of m) in
-    let first : list_all test targeted ≡ true = (both_of test targeted given (both_of test (targeted ++ given) (option_to_list (finished e)) uses.used).0).0 in
+    let test : TableKey → Bool = λ i. is_unfinished i other in
+    let target_view = option_to_list (question_targeted e) in
+    let caps_at_paths = filter_map (question_described e) (descriptors_of m) in
+    let first : list_all test target_view ≡ true = (both_of test target_view caps_at_paths (both_of test (target_view ++ caps_at_paths) (option_to_list (question_finished e)) uses.used).0).0 in
     (and_parts (test (id k false q)) true (sym (ap (λ o. list_all test (option_to_list o)) (named k d references m q path is)) ∙ first)).0
   where
     named : (k d : ℕ) (references : List ℕ) (m : RpcMessage) (q : ℕ) (path : List ℕ) → target_of m ≡ Some (Promised q path) → question_targeted (Wire false k d references m) ≡ Some (id k false q)
@@ -281,10 +281,10 @@ target_used k d references m other uses q path is =
 
 module _ (k v : ℕ) (from : Past) (its_from : List Step) (s : Step) (w : ℕ) (other : Past) (steps : List Step) (r : Step) (c d : ℕ) (rs references : List ℕ) (m : RpcMessage) (message : Message)
     (told : IsTold k v from its_from s w other steps r c d rs references m message) where
-  abbrev sent : Event
+  abbrev sent : DecodedRecord
   sent = Wire true k c rs m
 
-  abbrev received : Event
+  abbrev received : DecodedRecord
   received = Wire false k d references m
 
   abbrev its_names : Naming
@@ -334,22 +334,22 @@ module _ (k v : ℕ) (from : Past) (its_from : List Step) (s : Step) (w : ℕ) (
       named_still w (id k false n) other steps false k d references m r x refl refers_there (one.2 ∙ ap (λ x. Some x) same)
 
   -- who introduces a number stands for what it does with the record counted
-  introduces_it : (n : ℕ) (e : Descriptor) → names (id k false n) (introduced received e) ≡ true → descriptor_named its_names from sent e ≡ option_and_then its_names.cap (number_view (view_of_reference from) (id k true n) (sent ∷ from))
+  introduces_it : (n : ℕ) (e : Descriptor) → names (id k false n) (number_introduced received e) ≡ true → descriptor_named its_names from sent e ≡ option_and_then its_names.cap (number_view (view_of_reference from) (id k true n) (sent ∷ from))
   introduces_it n (SenderHosted j) h =
-      let same : Some (id k false j) ≡ Some (id k false n) = names_is (id k false n) (introduced received (SenderHosted j)) h in
+      let same : Some (id k false j) ≡ Some (id k false n) = names_is (id k false n) (number_introduced received (SenderHosted j)) h in
       let is : id k false j ≡ id k false n = cc in ap (λ i. option_and_then its_names.cap (number_view (view_of_reference from) (id k true i.number) (sent ∷ from))) is
   introduces_it n (SenderPromise j) h =
-      let same : Some (id k false j) ≡ Some (id k false n) = names_is (id k false n) (introduced received (SenderPromise j)) h in
+      let same : Some (id k false j) ≡ Some (id k false n) = names_is (id k false n) (number_introduced received (SenderPromise j)) h in
       let is : id k false j ≡ id k false n = cc in ap (λ i. option_and_then its_names.cap (number_view (view_of_reference from) (id k true i.number) (sent ∷ from))) is
   introduces_it n NoCap h = absurd (false≢true h)
   introduces_it n (ReceiverHosted j) h = absurd (false≢true h)
   introduces_it n (ReceiverAnswer q path) h = absurd (false≢true h)
 
   -- the name of an import of this message
-  import_named : (place : ℕ) (x : Cap) → cap_at place (brought message) ≡ Some x → names_there.cap (Import (length other) place) ≡ Some x
+  import_named : (place : ℕ) (x : Cap) → cap_at place (caps_brought message) ≡ Some x → names_there.cap (Import (length other) place) ≡ Some x
   import_named place x h =
       let as_long = sym (pairs_as_long w other steps told.met.other_paired) in
-      ap (λ o. option_and_then (λ m. cap_at place (brought m)) o) (message_there (length other) r steps message as_long told.receives) ∙ h
+      ap (λ o. option_and_then (λ m. cap_at place (caps_brought m)) o) (message_there (length other) r steps message as_long told.receives) ∙ h
 
   -- and one that comes to life
   new_named : (n : ℕ) (x : Cap) (caps : List Cap) → caps_named its_names from sent ≡ Some caps → Brings caps message → is_in_life (id k false n) other ≡ false → is_in_life (id k false n) (received ∷ other) ≡ true →
@@ -362,10 +362,10 @@ module _ (k v : ℕ) (from : Past) (its_from : List Step) (s : Step) (w : ℕ) (
       let view = then_is its_names.cap (number_view (view_of_reference from) (id k true n) (sent ∷ from)) x h in
       let is = names_are_caps v (sent ∷ from) (s ∷ its_from) view.0 x view.2 in
       let there : cap_at new.0 caps ≡ Some x =
-      ap (λ o. option_and_then (λ c. if is_cap c then Some c else None) o) (at.2 ∙ ap (λ x. Some x) same) ∙ ap (λ b. if b then Some x else None) is in
+      ap (λ o. option_and_then (λ c. if is_present c then Some c else None) o) (at.2 ∙ ap (λ x. Some x) same) ∙ ap (λ b. if b then Some x else None) is in
       ap (λ o. option_and_then names_there.cap o) new.4 ∙ import_named new.0 x (brings.0 new.0 ∙ there)
 
-  given_named : (j n : ℕ) (e : Descriptor) (x : Cap) → introduced received e ≡ Some (id k false n) → slice_get (descriptors_of m) j ≡ Some e → option_and_then its_names.cap (number_view (view_of_reference from) (id k true n) (sent ∷ from)) ≡ Some x →
+  given_named : (j n : ℕ) (e : Descriptor) (x : Cap) → number_introduced received e ≡ Some (id k false n) → slice_get (descriptors_of m) j ≡ Some e → option_and_then its_names.cap (number_view (view_of_reference from) (id k true n) (sent ∷ from)) ≡ Some x →
       option_and_then names_there.cap (number_view (view_of_reference other) (id k false n) (received ∷ other)) ≡ Some x
   given_named j n e x is there h = elim (cases_Bool (is_in_life (id k false n) other)) [
     | inl alive ↦ old_named n x alive h
@@ -387,14 +387,14 @@ module _ (k v : ℕ) (from : Past) (its_from : List Step) (s : Step) (w : ℕ) (
   pub told_caps : (caps : List Cap) → caps_named its_names from sent ≡ Some caps → caps_named names_there other received ≡ Some caps
   told_caps caps h = together_so (descriptor_named its_names from sent) (descriptor_named names_there other received) (descriptors_of m) descriptor_is_one caps h
 
-  target_is_one : (t : Target) (x : Cap) → target_of m ≡ Some t → option_and_then its_names.cap (targeted from k true t) ≡ Some x → option_and_then names_there.cap (targeted other k false t) ≡ Some x
+  target_is_one : (t : Target) (x : Cap) → target_of m ≡ Some t → option_and_then its_names.cap (target_view from k true t) ≡ Some x → option_and_then names_there.cap (target_view other k false t) ≡ Some x
   target_is_one (Imported n) x is h = back_named n x h
   target_is_one (Promised q path) x is h = field_named q path x (target_used k d references m other (told.good_there rule.QUse) q path is) (untargeted v k c rs m (Promised q path) s is) h
 
   pub told_target : (x : Cap) → option_and_then its_names.cap (view_of_target from sent) ≡ Some x → option_and_then names_there.cap (view_of_target other received) ≡ Some x
   told_target x h = at (target_of m) refl h
     where
-      at : (o : Option Target) → target_of m ≡ o → option_and_then its_names.cap (option_and_then (targeted from k true) o) ≡ Some x → option_and_then names_there.cap (option_and_then (targeted other k false) o) ≡ Some x
+      at : (o : Option Target) → target_of m ≡ o → option_and_then its_names.cap (option_and_then (target_view from k true) o) ≡ Some x → option_and_then names_there.cap (option_and_then (target_view other k false) o) ≡ Some x
       at (Some t) is h = target_is_one t x is h
       at None is h = absurd (let no : ⊥ = cc in no)
 
@@ -417,14 +417,14 @@ met_before k v one its_steps w other steps from its_from added met on whole pair
       sym (message_from its_steps its_from (added, whole) (length to) (within to received p.received_there)) ∙ met.back m before to sent received q;
 }
   where
-    within : (before : Past) (e : Event) → GoesOn from (e ∷ before) → length before < length its_from
+    within : (before : Past) (e : DecodedRecord) → GoesOn from (e ∷ before) → length before < length its_from
     within before e p = omega (arith, no_longer from (e ∷ before) p, pairs_as_long v from its_from paired)
 
 -- ---- a message that one log sent and that the other receives next
 
 -- the next record of one log receives a message that the other sent; the step of its SEND stands among the other's, and the
 -- message is what the SEND says
-pub record IsHeard (k v : ℕ) (one : Past) (its_steps : List Step) (w : ℕ) (other : Past) (steps : List Step) (e : Event) (m : RpcMessage) (from : Past) (its_from : List Step) (sent : Event) (s : Step) (message : Message) : Type 0 where
+pub record IsHeard (k v : ℕ) (one : Past) (its_steps : List Step) (w : ℕ) (other : Past) (steps : List Step) (e : DecodedRecord) (m : RpcMessage) (from : Past) (its_from : List Step) (sent : DecodedRecord) (s : Step) (message : Message) : Type 0 where
   pub met : AreMet k v one its_steps w other steps
   pub linked : AreLinked k one (e ∷ other)
   pub good : IsGood other e
@@ -432,7 +432,7 @@ pub record IsHeard (k v : ℕ) (one : Past) (its_steps : List Step) (w : ℕ) (o
   pub added : List Step
   pub whole : its_steps ≡ added ++ s ∷ its_from
   pub paired : PairsOff v (sent ∷ from) (s ∷ its_from)
-  pub says : said (naming v (sent ∷ from) (s ∷ its_from)) from sent ≡ Some message
+  pub says : message_of_record (naming v (sent ∷ from) (s ∷ its_from)) from sent ≡ Some message
   pub one_call : CallsAreOne k v from its_from w other steps
 
 not_late : (b c : Bool) → (b ≡ true → c ≡ true) → c ≡ false → b ≡ false
@@ -440,16 +440,16 @@ not_late false c h e = refl
 not_late true c h e = sym (h refl) ∙ e
 
 module _ (k v : ℕ) (one : Past) (its_steps : List Step) (w : ℕ) (other : Past) (steps : List Step) (d : ℕ) (references : List ℕ) (m : RpcMessage) (from : Past) (its_from : List Step) (s : Step) (message : Message) where
-  abbrev heard : Event
+  abbrev heard : DecodedRecord
   heard = Wire false k d references m
 
   -- it wasn't late where it was sent, if it isn't where it comes
-  pub sent_in_time : (sent : Event) → IsHeard k v one its_steps w other steps heard m from its_from sent s message → is_late other heard ≡ false → is_late from sent ≡ false
+  pub sent_in_time : (sent : DecodedRecord) → IsHeard k v one its_steps w other steps heard m from its_from sent s message → is_late other heard ≡ false → is_late from sent ≡ false
   sent_in_time sent h late =
       let agree = good_agree k one (heard ∷ other) h.met.one_good (h.good, h.met.other_good) h.linked in
       not_late (is_late from sent) (is_late other heard) (agree.there.late m from other sent heard h.passed) late
 
-  as_told : (c : ℕ) (rs : List ℕ) (r : Step) → IsHeard k v one its_steps w other steps heard m from its_from (Wire true k c rs m) s message → message_of r ≡ Some message → is_late other heard ≡ false →
+  as_told : (c : ℕ) (rs : List ℕ) (r : Step) → IsHeard k v one its_steps w other steps heard m from its_from (Wire true k c rs m) s message → message_of_step r ≡ Some message → is_late other heard ≡ false →
       IsTold k v from its_from s w other steps r c d rs references m message
   as_told c rs r h receives late =
       let sent = Wire true k c rs m in
@@ -466,27 +466,27 @@ module _ (k v : ℕ) (one : Past) (its_steps : List Step) (w : ℕ) (other : Pas
         one_call = h.one_call;
       }
 
-  abbrev OneCaps : Step → Event → Type 0
+  abbrev OneCaps : Step → DecodedRecord → Type 0
   OneCaps r sent = IsHeard k v one its_steps w other steps heard m from its_from sent s message → (caps : List Cap) → caps_named (naming v (sent ∷ from) (s ∷ its_from)) from sent ≡ Some caps →
       caps_named (naming w (heard ∷ other) (r ∷ steps)) other heard ≡ Some caps
 
-  abbrev OneTarget : Step → Event → Type 0
+  abbrev OneTarget : Step → DecodedRecord → Type 0
   OneTarget r sent = IsHeard k v one its_steps w other steps heard m from its_from sent s message → (x : Cap) → option_and_then (cap_named v (sent ∷ from) (s ∷ its_from)) (view_of_target from sent) ≡ Some x →
       option_and_then (cap_named w (heard ∷ other) (r ∷ steps)) (view_of_target other heard) ≡ Some x
 
   -- its descriptors stand for the same caps at both ends, where it isn't a Return that is late at the receiver
-  pub caps_are_one : (sent : Event) (bound : List Cap) → is_late other heard ≡ false → OneCaps (step.Receive w k message bound) sent
+  pub caps_are_one : (sent : DecodedRecord) (bound : List Cap) → is_late other heard ≡ false → OneCaps (step.Receive w k message bound) sent
   caps_are_one sent bound late h =
       let r = step.Receive w k message bound in
       let wire = passing_is k true m sent h.passed.sends in
       subst (OneCaps r) (sym wire.2) (λ h. told_caps k v from its_from s w other steps r wire.0 d wire.1 references m message (as_told wire.0 wire.1 r h refl late)) h
 
   -- so does its target
-  pub targets_are_one : (sent : Event) (bound : List Cap) → OneTarget (step.Receive w k message bound) sent
+  pub targets_are_one : (sent : DecodedRecord) (bound : List Cap) → OneTarget (step.Receive w k message bound) sent
   targets_are_one sent bound h x named =
       let r = step.Receive w k message bound in
       let wire = passing_is k true m sent h.passed.sends in
       let view = then_is (cap_named v (sent ∷ from) (s ∷ its_from)) (view_of_target from sent) x named in
-      let target = then_is (targeted from k true) (target_of m) view.0 (ap (view_of_target from) (sym wire.2) ∙ view.1) in
+      let target = then_is (target_view from k true) (target_of m) view.0 (ap (view_of_target from) (sym wire.2) ∙ view.1) in
       subst (OneTarget r) (sym wire.2)
       (λ h. told_target k v from its_from s w other steps r wire.0 d wire.1 references m message (as_told wire.0 wire.1 r h refl (target_in_time other k d references m target.0 target.1))) h x named

@@ -5,13 +5,13 @@ use Rattle.std.proofs.lemmas.Bool.{false≢true, eq-eqb, and_cases, eqb-false, e
 use Rattle.std.proofs.lemmas.List.{take_all, drop_all, drop_more, reverse-append, length-append, take-append-drop}
 use Rattle.std.proofs.lemmas.List.Elements.{filter-append}
 use Rattle.run_model.specs.Early.{early, early_from, is_early, IsAtMost, IsOrderFault}
-use Rattle.run_model.specs.Steps.{count, steps_of, vat_of, OneOf}
+use Rattle.run_model.specs.Steps.{count_steps, steps_of, vat_of, OneOf}
 use Rattle.run_model.specs.declared.step.Step.TheVariants.{Host, Deliver}
 use Rattle.run_model.proofs.Numbers.{past_more}
 use Rattle.run_model.proofs.Order.{ordered_unless_early}
 use Rattle.call_trace.specs.Types.{Step}
 use Rattle.call_trace.specs.declared.latest.Latest.{Latest}
-use Rattle.call_trace.specs.Overtaking.{AreOvertaken, goes_before, lesser}
+use Rattle.call_trace.specs.Glue.Overtaking.{AreOvertaken, goes_before, lesser}
 
 -- ---- counting
 
@@ -19,23 +19,23 @@ one_more : (b : Bool) (n k m : ℕ) → n ≡ k + m → (if b then suc n else n)
 one_more true n k m e = omega (arith, e)
 one_more false n k m e = e
 
-count_append : (test : Step → Bool) (front back : List Step) → count test (front ++ back) ≡ count test front + count test back
+count_append : (test : Step → Bool) (front back : List Step) → count_steps test (front ++ back) ≡ count_steps test front + count_steps test back
 count_append test [] back = omega arith
-count_append test (s ∷ front) back = one_more (test s) (count test (front ++ back)) (count test front) (count test back) (count_append test front back)
+count_append test (s ∷ front) back = one_more (test s) (count_steps test (front ++ back)) (count_steps test front) (count_steps test back) (count_append test front back)
 
 filter_one : (b : Bool) (s : Step) (kept : List Step) (n : ℕ) → n ≡ length kept → n + (if b then 1 else 0) ≡ length (if b then s ∷ kept else kept)
 filter_one true s kept n e = omega (arith, e)
 filter_one false s kept n e = omega (arith, e)
 
-count_reverse : (test : Step → Bool) (steps : List Step) → count test (reverse steps) ≡ length (filter test steps)
+count_reverse : (test : Step → Bool) (steps : List Step) → count_steps test (reverse steps) ≡ length (filter test steps)
 count_reverse test [] = refl
 count_reverse test (s ∷ steps) =
-    ap (count test) (reverse-append (s ∷ []) steps)
+    ap (count_steps test) (reverse-append (s ∷ []) steps)
     ∙ count_append test (reverse steps) (s ∷ [])
-    ∙ filter_one (test s) s (filter test steps) (count test (reverse steps)) (count_reverse test steps)
+    ∙ filter_one (test s) s (filter test steps) (count_steps test (reverse steps)) (count_reverse test steps)
 
 -- the first steps have no more of these than all
-count_first : (test : Step → Bool) (run : List Step) (i : ℕ) → count test (reverse (take i run)) ≤ length (filter test run)
+count_first : (test : Step → Bool) (run : List Step) (i : ℕ) → count_steps test (reverse (take i run)) ≤ length (filter test run)
 count_first test run i =
     let parts = filter-append test (take i run) (drop i run) in
     let whole : length (filter test run) ≡ length (filter test (take i run)) + length (filter test (drop i run)) =
@@ -48,9 +48,9 @@ if_true false n e = absurd (false≢true e)
 
 -- a step that is still to be counted leaves room
 pub room : (run : List Step) (i : ℕ) (s : Step) (vat most : ℕ) → i < length run → s ≡ get_or run i s → vat ≡ vat_of s → length (steps_of vat run) < most
-    → count (λ t. vat_of t == vat) (reverse (take i run)) + 1 < most
+    → count_steps (λ t. vat_of t == vat) (reverse (take i run)) + 1 < most
 room run i s vat most lt at is few =
-    let more = ap (count (λ t. vat_of t == vat)) (past_more run i s lt at) ∙ if_true (vat_of s == vat) (count (λ t. vat_of t == vat) (reverse (take i run))) (eq-eqb (vat_of s) vat (sym is)) in
+    let more = ap (count_steps (λ t. vat_of t == vat)) (past_more run i s lt at) ∙ if_true (vat_of s == vat) (count_steps (λ t. vat_of t == vat) (reverse (take i run))) (eq-eqb (vat_of s) vat (sym is)) in
     let first = count_first (λ t. vat_of t == vat) run (i + 1) in
     omega (arith, more, first, few)
 
@@ -115,20 +115,20 @@ IsFault run i known = IsLeastOf (early_from (reverse run) (drop i run) (reverse 
 
 early_more : (run : List Step) (i : ℕ) (s : Step) → i < length run → s ≡ get_or run i s
     → early_from (reverse run) (drop (i + 1) run) (reverse (take (i + 1) run))
-    ≡ (if is_early (reverse run) s (drop (i + 1) run) then (vat_of s, count (λ t. vat_of t == vat_of s) (reverse (take i run))) ∷ early_from (reverse run) (drop i run) (reverse (take i run))
+    ≡ (if is_early (reverse run) s (drop (i + 1) run) then (vat_of s, count_steps (λ t. vat_of t == vat_of s) (reverse (take i run))) ∷ early_from (reverse run) (drop i run) (reverse (take i run))
     else early_from (reverse run) (drop i run) (reverse (take i run)))
 early_more run i s lt at =
     let back : s ∷ drop (i + 1) run ≡ drop i run = ap (λ t. t ∷ drop (i + 1) run) at ∙ sym (drop_more run i s lt) in
     ap (early_from (reverse run) (drop (i + 1) run)) (past_more run i s lt at)
-    ∙ ap (λ l. if is_early (reverse run) s (drop (i + 1) run) then (vat_of s, count (λ t. vat_of t == vat_of s) (reverse (take i run))) ∷ early_from (reverse run) l (reverse (take i run))
+    ∙ ap (λ l. if is_early (reverse run) s (drop (i + 1) run) then (vat_of s, count_steps (λ t. vat_of t == vat_of s) (reverse (take i run))) ∷ early_from (reverse run) l (reverse (take i run))
     else early_from (reverse run) l (reverse (take i run))) back
 
 pub fault_more : (run : List Step) (i : ℕ) (s : Step) (until : Latest) (vat number : ℕ) (known : Option (ℕ × ℕ)) → i < length run → s ≡ get_or run i s → AreOvertaken run until → vat ≡ vat_of s
-    → number ≡ count (λ t. vat_of t == vat) (reverse (take i run)) → goes_before until (i + 1) s ≡ true → IsFault run i known → IsFault run (i + 1) (Some (lesser known (vat, number)))
+    → number ≡ count_steps (λ t. vat_of t == vat) (reverse (take i run)) → goes_before until (i + 1) s ≡ true → IsFault run i known → IsFault run (i + 1) (Some (lesser known (vat, number)))
 fault_more run i s until vat number known lt at are is count_is goes before =
-    let place : (vat, number) ≡ (vat_of s, count (λ t. vat_of t == vat_of s) (reverse (take i run))) =
-    ap₂ {C = ℕ × ℕ} (λ v n. (v, n)) is (count_is ∙ ap (λ v. count (λ t. vat_of t == v) (reverse (take i run))) is) in
-    let all = early_more run i s lt at ∙ ap (λ b. if b then (vat_of s, count (λ t. vat_of t == vat_of s) (reverse (take i run))) ∷ early_from (reverse run) (drop i run) (reverse (take i run))
+    let place : (vat, number) ≡ (vat_of s, count_steps (λ t. vat_of t == vat_of s) (reverse (take i run))) =
+    ap₂ {C = ℕ × ℕ} (λ v n. (v, n)) is (count_is ∙ ap (λ v. count_steps (λ t. vat_of t == v) (reverse (take i run))) is) in
+    let all = early_more run i s lt at ∙ ap (λ b. if b then (vat_of s, count_steps (λ t. vat_of t == vat_of s) (reverse (take i run))) ∷ early_from (reverse run) (drop i run) (reverse (take i run))
     else early_from (reverse run) (drop i run) (reverse (take i run))) (sym (early_is run until (i + 1) s are) ∙ goes) in
     subst (λ places. IsLeastOf places (Some (lesser known (vat, number)))) (sym all)
     (subst (λ p. IsLeastOf (p ∷ early_from (reverse run) (drop i run) (reverse (take i run))) (Some (lesser known (vat, number)))) place
@@ -137,7 +137,7 @@ fault_more run i s until vat number known lt at are is count_is goes before =
 pub fault_same : (run : List Step) (i : ℕ) (s : Step) (until : Latest) (known : Option (ℕ × ℕ)) → i < length run → s ≡ get_or run i s → AreOvertaken run until → goes_before until (i + 1) s ≡ false
     → IsFault run i known → IsFault run (i + 1) known
 fault_same run i s until known lt at are stays before =
-    let all = early_more run i s lt at ∙ ap (λ b. if b then (vat_of s, count (λ t. vat_of t == vat_of s) (reverse (take i run))) ∷ early_from (reverse run) (drop i run) (reverse (take i run))
+    let all = early_more run i s lt at ∙ ap (λ b. if b then (vat_of s, count_steps (λ t. vat_of t == vat_of s) (reverse (take i run))) ∷ early_from (reverse run) (drop i run) (reverse (take i run))
     else early_from (reverse run) (drop i run) (reverse (take i run))) (sym (early_is run until (i + 1) s are) ∙ stays) in
     subst (λ places. IsLeastOf places known) (sym all) before
 

@@ -1,5 +1,5 @@
 -- What an order that fits says of each of its steps.
-use Rattle.std.proofs.Common.{◌≡◌, ◌≢◌, refl, sym, ◌∙◌, ap, ap₂, subst, ℕ, zero, suc, ◌+◌, ◌<◌, ◌≤◌, ◌==◌, List, [], ◌∷◌, ◌++◌, length, map, reverse, Bool, true, false, Option, Some, None, if◌then◌else◌, arith, eqb-true, append_assoc, inl, inr, append_assoc}
+use Rattle.std.proofs.Common.{◌≡◌, ◌≢◌, refl, sym, ◌∙◌, ap, ap₂, subst, ℕ, zero, suc, ◌+◌, ◌<◌, ◌≤◌, ◌==◌, List, [], ◌∷◌, ◌++◌, length, map, reverse, Bool, true, false, Option, Some, None, if◌then◌else◌, arith, eqb-true, append_assoc, inl, inr}
 use Rattle.std.specs.Prelude.{⊤, Contains, IsTrue}
 use Rattle.std.specs.List.{cons_option, AllByRecursion}
 use Rattle.std.proofs.lemmas.List.{reverse-append, append-nil}
@@ -7,23 +7,23 @@ use Rattle.std.proofs.lemmas.Bool.{eq-eqb, cases_Bool}
 use Rattle.agree.specs.Points.{AtEach}
 use Rattle.agree.proofs.Points.{tails}
 use Rattle.vat_log.specs.Log.{Log}
-use Rattle.merge_order.specs.Fits.{Part, FitsFrom, IsFitting, IsRising, after, further, may_come, used_up, sent}
-use Rattle.merge_order.specs.Fits.{sent_by_others as others}
+use Rattle.merge_order.specs.Fits.{Part, FitsFrom, IsFitting, IsRising, after, further, may_come, used_up, sent_so_far}
+use Rattle.merge_order.specs.Fits.{sent_by_the_others as others}
 use Rattle.merge_order.proofs.Greedy.{others_own}
 use Rattle.merge_order.proofs.Greedy.{others_more as others_of_more}
-use Rattle.agree.specs.Rows.{Row, log_of, sent_by, sent_by_others}
+use Rattle.agree.specs.Rows.{Row, log_of_vat, sent_stream, stream_of_others}
 use Rattle.agree.specs.Streams.{passing, stream}
-use Rattle.call_trace.specs.Types.{RpcMessage, Event}
+use Rattle.call_trace.specs.Types.{RpcMessage, DecodedRecord}
 use Rattle.merge_order.proofs.Greedy.{own_moves, other_stays, eqb_apart}
 use Rattle.merge_order.proofs.Steps.{rising_tail}
 use Rattle.std.specs.List.Sorted.{IsStrictlyIncreasing}
-use Rattle.call_trace.specs.Taking.{steps_by}
+use Rattle.call_trace.specs.Taking.{steps_counted_by}
 use Rattle.call_trace.proofs.Taking.{steps_own, steps_other}
 
 -- ---- how far the logs are after some steps, the newest first
 
 abbrev pub part_after : List ℕ → Log → Part
-part_after steps log = record { log = log; came = steps_by log.vat steps }
+part_after steps log = record { log = log; came = steps_counted_by log.vat steps }
 
 abbrev pub parts_after : List Log → List ℕ → List Part
 parts_after logs steps = map (part_after steps) logs
@@ -134,11 +134,11 @@ total_one u d g h same more (w ∷ ws) up = elim (cases_Bool (u == w)) [
 
 -- what a vat sent, if it isn't this one
 abbrev by_other : ℕ → ℕ → Row → ℕ → ℕ
-by_other k v row w = if w == v then 0 else length (sent_by k w row)
+by_other k v row w = if w == v then 0 else length (sent_stream k w row)
 
-sent_later : (k w : ℕ) (r : ℕ × Event) (before : Row) (b : Bool) → (r.0 == w) ≡ b → sent_by k w (r ∷ before) ≡ (if b then cons_option (passing k true r.1) (sent_by k w before) else sent_by k w before)
-sent_later k w r before true e = ap (λ b. stream k true (cons_option (if b then Some r.1 else None) (log_of w before))) e
-sent_later k w r before false e = ap (λ b. stream k true (cons_option (if b then Some r.1 else None) (log_of w before))) e
+sent_later : (k w : ℕ) (r : ℕ × DecodedRecord) (before : Row) (b : Bool) → (r.0 == w) ≡ b → sent_stream k w (r ∷ before) ≡ (if b then cons_option (passing k true r.1) (sent_stream k w before) else sent_stream k w before)
+sent_later k w r before true e = ap (λ b. stream k true (cons_option (if b then Some r.1 else None) (log_of_vat w before))) e
+sent_later k w r before false e = ap (λ b. stream k true (cons_option (if b then Some r.1 else None) (log_of_vat w before))) e
 
 longer : (o : Option RpcMessage) (ms : List RpcMessage) → length (cons_option o ms) ≡ length ms + length (cons_option o [])
 longer None ms = omega arith
@@ -148,7 +148,7 @@ if_less : (c : Bool) (o : Option RpcMessage) (ms : List RpcMessage) → (if c th
 if_less true o ms = omega arith
 if_less false o ms = omega (arith, longer o ms)
 
-others_more : (k v : ℕ) (vs : List ℕ) → Rises vs → (row : Row) → total (by_other k v row) vs ≤ length (sent_by_others k v row)
+others_more : (k v : ℕ) (vs : List ℕ) → Rises vs → (row : Row) → total (by_other k v row) vs ≤ length (stream_of_others k v row)
 others_more k v vs up [] = let none = total_none (by_other k v []) (λ w. at (w == v)) vs in omega (arith, none)
   where
     at : (b : Bool) → ◌≡◌ {A = ℕ} (if b then 0 else 0) 0
@@ -158,35 +158,35 @@ others_more k v vs up (r ∷ before) =
     let o : Option RpcMessage = if r.0 == v then None else passing k true r.1 in
     let rest = others_more k v vs up before in
     let one = total_one r.0 (length (cons_option o [])) (by_other k v before) (by_other k v (r ∷ before)) (same k v r before) (own k v r before) vs up in
-    omega (arith, rest, one, longer o (sent_by_others k v before))
+    omega (arith, rest, one, longer o (stream_of_others k v before))
   where
-    same : (k v : ℕ) (r : ℕ × Event) (before : Row) (w : ℕ) → r.0 ≢ w → by_other k v (r ∷ before) w ≡ by_other k v before w
+    same : (k v : ℕ) (r : ℕ × DecodedRecord) (before : Row) (w : ℕ) → r.0 ≢ w → by_other k v (r ∷ before) w ≡ by_other k v before w
     same k v r before w apart = ap (λ l. if w == v then 0 else length l) (sent_later k w r before false (eqb_apart r.0 w apart))
 
-    own : (k v : ℕ) (r : ℕ × Event) (before : Row) → by_other k v (r ∷ before) r.0 ≤ by_other k v before r.0 + length (cons_option (if r.0 == v then None else passing k true r.1) [])
+    own : (k v : ℕ) (r : ℕ × DecodedRecord) (before : Row) → by_other k v (r ∷ before) r.0 ≤ by_other k v before r.0 + length (cons_option (if r.0 == v then None else passing k true r.1) [])
     own k v r before =
         subst (λ (l : List RpcMessage). (if r.0 == v then 0 else length l) ≤ by_other k v before r.0 + length (cons_option (if r.0 == v then None else passing k true r.1) []))
-        (sym (sent_later k r.0 r before true (eq-eqb r.0 r.0 refl))) (if_less (r.0 == v) (passing k true r.1) (sent_by k r.0 before))
+        (sym (sent_later k r.0 r before true (eq-eqb r.0 r.0 refl))) (if_less (r.0 == v) (passing k true r.1) (sent_stream k r.0 before))
 
 -- the count of an order's check, vat by vat
-sent_parts : (k v : ℕ) (steps : List ℕ) (row : Row) (logs : List Log) → AllByRecursion (λ log. sent k (part_after steps log) ≡ length (sent_by k log.vat row)) logs →
+sent_parts : (k v : ℕ) (steps : List ℕ) (row : Row) (logs : List Log) → AllByRecursion (λ log. sent_so_far k (part_after steps log) ≡ length (sent_stream k log.vat row)) logs →
     others v k (parts_after logs steps) ≡ total (by_other k v row) (map (λ log. log.vat) logs)
 sent_parts k v steps row [] same = refl
 sent_parts k v steps row (log ∷ logs) same = elim (cases_Bool (log.vat == v)) [
   | inl own ↦
-      let none : ◌≡◌ {A = ℕ} (by_other k v row log.vat) 0 = ap (λ b. if b then 0 else length (sent_by k log.vat row)) own in
+      let none : ◌≡◌ {A = ℕ} (by_other k v row log.vat) 0 = ap (λ b. if b then 0 else length (sent_stream k log.vat row)) own in
       let rest = sent_parts k v steps row logs same.1 in
       others_own v k (part_after steps log) (parts_after logs steps) (eqb-true log.vat v own) ∙ omega (arith, rest, none)
   | inr other ↦
-      let some : by_other k v row log.vat ≡ length (sent_by k log.vat row) = ap (λ b. if b then 0 else length (sent_by k log.vat row)) other in
+      let some : by_other k v row log.vat ≡ length (sent_stream k log.vat row) = ap (λ b. if b then 0 else length (sent_stream k log.vat row)) other in
       let rest = sent_parts k v steps row logs same.1 in
       let first = same.0 in
       others_of_more v k (part_after steps log) (parts_after logs steps) (λ e. let no : true ≡ false = sym (eq-eqb log.vat v e) ∙ other in absurd (let n : ⊥ = cc in n)) ∙ omega (arith, rest, some, first)
 ]
 
 -- the others sent at least as many messages as the order's check counts
-pub others_sent : (k v : ℕ) (steps : List ℕ) (row : Row) (logs : List Log) → IsRising logs → AllByRecursion (λ log. sent k (part_after steps log) ≡ length (sent_by k log.vat row)) logs →
-    others v k (parts_after logs steps) ≤ length (sent_by_others k v row)
+pub others_sent : (k v : ℕ) (steps : List ℕ) (row : Row) (logs : List Log) → IsRising logs → AllByRecursion (λ log. sent_so_far k (part_after steps log) ≡ length (sent_stream k log.vat row)) logs →
+    others v k (parts_after logs steps) ≤ length (stream_of_others k v row)
 others_sent k v steps row logs up same =
     let count = sent_parts k v steps row logs same in
     let few = others_more k v (map (λ log. log.vat) logs) (rises _ up) row in

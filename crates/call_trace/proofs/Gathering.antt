@@ -1,18 +1,18 @@
 -- Lists that are gathered item by item, where each is there.
 use Rattle.std.proofs.Common.{◌≡◌, refl, ap, List, [], ◌∷◌, ◌++◌, Option, Some, None, option_map, append_assoc, append-nil}
-use Rattle.call_trace.specs.Said.{together}
-use Rattle.call_trace.specs.Glue.{gathered}
+use Rattle.call_trace.specs.Said.{all_there}
+use Rattle.call_trace.specs.Glue.Ledgers.{gathered_behind}
 
 gathered_by : {A : Type 0} (xs : List A) (x : A) (o : Option (List A)) → option_map (λ ys. (xs ++ x ∷ []) ++ ys) o ≡ option_map (λ ys. xs ++ ys) (option_map (λ ys. x ∷ ys) o)
 gathered_by xs x None = refl
 gathered_by xs x (Some ys) = ap Some (append_assoc xs (x ∷ []) ys)
 
 -- one more that is there
-pub gathered_more : {A : Type 0} (xs : List A) (x : A) (os : List (Option A)) → gathered (xs ++ x ∷ []) os ≡ gathered xs (Some x ∷ os)
-gathered_more xs x os = gathered_by xs x (together os)
+pub gathered_more : {A : Type 0} (xs : List A) (x : A) (os : List (Option A)) → gathered_behind (xs ++ x ∷ []) os ≡ gathered_behind xs (Some x ∷ os)
+gathered_more xs x os = gathered_by xs x (all_there os)
 
 -- none is left
-pub gathered_all : {A : Type 0} (xs : List A) → gathered xs [] ≡ Some xs
+pub gathered_all : {A : Type 0} (xs : List A) → gathered_behind xs [] ≡ Some xs
 gathered_all xs = ap Some (append-nil xs)
 
 of_none : {A : Type 0} (o : Option (List A)) → option_map (λ ys. [] ++ ys) o ≡ o
@@ -20,5 +20,5 @@ of_none None = refl
 of_none (Some ys) = refl
 
 -- none is gathered yet
-pub gathered_none : {A : Type 0} (os : List (Option A)) → gathered [] os ≡ together os
-gathered_none os = of_none (together os)
+pub gathered_none : {A : Type 0} (os : List (Option A)) → gathered_behind [] os ≡ all_there os
+gathered_none os = of_none (all_there os)

@@ -10,7 +10,7 @@ use Rattle.call_trace.specs.Named.{IsRunOf}
 use Rattle.call_trace.specs.Part.{Says}
 use Rattle.call_trace.specs.Running.{steps_of_row}
 use Rattle.call_trace.specs.Taking.{row_of}
-use Rattle.call_trace.specs.Types.{Bootstrap, Call, Return, Finish, Resolve, Release, Disembargo, Abort, Event, Host, Vow, Fulfil, Break, Make, Field, Deliver, Answer, Fault, Wire, Step}
+use Rattle.call_trace.specs.Types.{Bootstrap, Call, Return, Finish, Resolve, Release, Disembargo, Abort, DecodedRecord, Host, Vow, Fulfil, Break, Make, Field, Deliver, Answer, Fault, Wire, Step}
 use Rattle.call_trace.specs.Within.{IsWithin}
 use Rattle.call_trace.proofs.Binding.{receipts_bind}
 use Rattle.call_trace.proofs.Making.{own_may_come}
@@ -23,7 +23,7 @@ use Rattle.call_trace.proofs.Settling.{answer_may_come, fault_may_come}
 use Rattle.run_model.specs.Legal.{MayCome}
 
 -- each kind of record by its own law
-step_may_come : (v : ℕ) (es : Past) (steps before : List Step) (e : Event) (s : Step) → IsWithin v es steps before → Each IsGood es → IsGood es e → is_received e ≡ false →
+step_may_come : (v : ℕ) (es : Past) (steps before : List Step) (e : DecodedRecord) (s : Step) → IsWithin v es steps before → Each IsGood es → IsGood es e → is_received e ≡ false →
     Says v es steps e s → MayCome before s
 step_may_come v es steps before (Host r object) s w goods good own says = own_may_come v es steps before (Host r object) s w good refl says
 step_may_come v es steps before (Vow r) s w goods good own says = own_may_come v es steps before (Vow r) s w good refl says

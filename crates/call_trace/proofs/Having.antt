@@ -8,14 +8,14 @@ use Rattle.vat_view.specs.Past.{Past, Each}
 use Rattle.vat_view.specs.Bindings.{Refers, contains, is_bound, new_references}
 use Rattle.vat_view.specs.Views.{view_of_reference}
 use Rattle.vat_view.proofs.Lasting.{view_step}
-use Rattle.call_trace.specs.Types.{Bootstrap, Call, Event, Host, Vow, Field, Make, Wire, Object, Promise, FieldOf, Name, Cap, Message, Step}
-use Rattle.call_trace.specs.Naming.{Naming, naming, names_call, call_named, cap_named, message_of}
-use Rattle.call_trace.specs.Said.{together, said}
+use Rattle.call_trace.specs.Types.{Bootstrap, Call, DecodedRecord, Host, Vow, Field, Make, Wire, Object, Promise, FieldOf, Name, Cap, Message, Step}
+use Rattle.call_trace.specs.Naming.{Naming, naming, names_call, call_named, cap_named, message_of_step}
+use Rattle.call_trace.specs.Said.{all_there, message_of_record}
 use Rattle.call_trace.specs.Part.{reference_named, Says, SaysReceive, PairsOff}
 use Rattle.call_trace.specs.Within.{IsWithin}
 use Rattle.call_trace.proofs.Naming.{then_is, mapped_is, cap_step, is_one}
 use Rattle.call_trace.proofs.Within.{StandsIn, stands_in}
-use Rattle.run_model.specs.Has.{Gets, Has, IsField, called}
+use Rattle.run_model.specs.Has.{Gets, Has, IsField, call_in_message}
 use Rattle.run_model.specs.Steps.{OneOf, call, vat_of}
 use Rattle.run_model.specs.declared.cap.Cap.TheVariants as cap
 use Rattle.run_model.specs.declared.message.Message.TheVariants as message
@@ -44,16 +44,16 @@ chosen_is false o x h = absurd (let no : ⊥ = cc in no)
 name_same : (m n : Name) → ◌≡◌ {A = Option Name} (Some m) (Some n) → m ≡ n
 name_same m n h = cc
 
-receive_gets : (v k : ℕ) (m : Message) (bound : List Cap) (name : Name) (path : List ℕ) → called m ≡ Some name → Gets v (cap.Field name path) (step.Receive v k m bound)
+receive_gets : (v k : ℕ) (m : Message) (bound : List Cap) (name : Name) (path : List ℕ) → call_in_message m ≡ Some name → Gets v (cap.Field name path) (step.Receive v k m bound)
 receive_gets v k m bound name path is = (refl, inr (subst (λ o. IsSomeAnd o (IsField (cap.Field name path))) (sym is) (path, refl)))
 
-received_gets : (names : Naming) (es : Past) (e : Event) (k : ℕ) (rs : List ℕ) (s : Step) (name : Name) (path : List ℕ) → SaysReceive names es e k rs s → option_and_then called (message_of s) ≡ Some name →
+received_gets : (names : Naming) (es : Past) (e : DecodedRecord) (k : ℕ) (rs : List ℕ) (s : Step) (name : Name) (path : List ℕ) → SaysReceive names es e k rs s → option_and_then call_in_message (message_of_step s) ≡ Some name →
     Gets names.vat (cap.Field name path) s
 received_gets names es e k rs s name path says is =
     subst (Gets names.vat (cap.Field name path)) (sym says.step)
-    (receive_gets names.vat k says.message says.bound name path (sym (ap (λ s. option_and_then called (message_of s)) says.step) ∙ is))
+    (receive_gets names.vat k says.message says.bound name path (sym (ap (λ s. option_and_then call_in_message (message_of_step s)) says.step) ∙ is))
 
-call_got : (v : ℕ) (es : Past) (steps : List Step) (e : Event) (s : Step) (c : ℕ) (name : Name) (path : List ℕ) → Says v es steps e s → names_call v c e s ≡ Some name → Gets v (cap.Field name path) s
+call_got : (v : ℕ) (es : Past) (steps : List Step) (e : DecodedRecord) (s : Step) (c : ℕ) (name : Name) (path : List ℕ) → Says v es steps e s → names_call v c e s ≡ Some name → Gets v (cap.Field name path) s
 call_got v es steps (Make d r interface method) s c name path says h =
     let own = chosen_is (d == c) (Some (call v c)) name h in
     let is = mapped_is (λ to. step.Make v d to r interface method) _ s says in
@@ -63,15 +63,15 @@ call_got v es steps (Wire true k d rs (Bootstrap q)) s c name path says h =
     let e = Wire true k d rs (Bootstrap q) in
     let names = naming v (e ∷ es) (s ∷ steps) in
     let own = chosen_is (d == c) (Some (call v c)) name h in
-    let sent = mapped_is (λ m. step.Send v k m) (said names es e) s says in
+    let sent = mapped_is (λ m. step.Send v k m) (message_of_record names es e) s says in
     let boot = mapped_is message.Boot (names.call d) sent.0 sent.1 in
     let first : call_named v (e ∷ es) (s ∷ steps) d ≡ Some (call v d) = ap (λ b. option_or (if b then Some (call v d) else None) (call_named v es steps d)) (eq-eqb d d refl) in
     let same : boot.0 ≡ name = name_same boot.0 (call v d) (sym boot.1 ∙ first) ∙ ap (λ n. call v n) (eqb-true d c own.0) ∙ name_same (call v c) name own.1 in
     subst (Gets v (cap.Field name path)) (ap (λ m. step.Send v k m) boot.2 ∙ sent.2) (refl, (path, ap (λ n. cap.Field n path) (sym same)))
 call_got v es steps (Wire false k d rs (Bootstrap q)) s c name path says h =
-    received_gets _ es (Wire false k d rs (Bootstrap q)) k rs s name path says (chosen_is (d == c) (option_and_then called (message_of s)) name h).1
+    received_gets _ es (Wire false k d rs (Bootstrap q)) k rs s name path says (chosen_is (d == c) (option_and_then call_in_message (message_of_step s)) name h).1
 call_got v es steps (Wire false k d rs (Call q target interface method params)) s c name path says h =
-    received_gets _ es (Wire false k d rs (Call q target interface method params)) k rs s name path says (chosen_is (d == c) (option_and_then called (message_of s)) name h).1
+    received_gets _ es (Wire false k d rs (Call q target interface method params)) k rs s name path says (chosen_is (d == c) (option_and_then call_in_message (message_of_step s)) name h).1
 call_got v es steps e s c name path says h = absurd (let no : ⊥ = cc in no)
 
 calls_had : (before : List Step) (v : ℕ) (es : Past) (steps : List Step) → PairsOff v es steps → AllByRecursion (StandsIn before) steps → (c : ℕ) (name : Name) → call_named v es steps c ≡ Some name → (path : List ℕ) → Has before v (cap.Field name path)
@@ -88,21 +88,21 @@ calls_had before v (e ∷ es) (s ∷ steps) part stand c name h path = at (names
 abbrev IsHad : List Step → ℕ → Option Cap → Type 0
 IsHad before v o = (c : Cap) × (o ≡ Some c) × Has before v c
 
-together_has : (f : ℕ → Option Cap) (rs : List ℕ) (caps : List Cap) (r : ℕ) → together (map f rs) ≡ Some caps → contains r rs ≡ true → (c : Cap) × (f r ≡ Some c) × OneOf (λ b. b ≡ c) caps
+together_has : (f : ℕ → Option Cap) (rs : List ℕ) (caps : List Cap) (r : ℕ) → all_there (map f rs) ≡ Some caps → contains r rs ≡ true → (c : Cap) × (f r ≡ Some c) × OneOf (λ b. b ≡ c) caps
 together_has f [] caps r h there = absurd (let no : ⊥ = cc in no)
 together_has f (q ∷ rs) caps r h there = at (f q) refl h (together_has f rs)
   where
-    at : (o : Option Cap) → f q ≡ o → together (o ∷ map f rs) ≡ Some caps → ((caps : List Cap) (r : ℕ) → together (map f rs) ≡ Some caps → contains r rs ≡ true → (c : Cap) × (f r ≡ Some c) × OneOf (λ b. b ≡ c) caps) →
+    at : (o : Option Cap) → f q ≡ o → all_there (o ∷ map f rs) ≡ Some caps → ((caps : List Cap) (r : ℕ) → all_there (map f rs) ≡ Some caps → contains r rs ≡ true → (c : Cap) × (f r ≡ Some c) × OneOf (λ b. b ≡ c) caps) →
         (c : Cap) × (f r ≡ Some c) × OneOf (λ b. b ≡ c) caps
     at None e h rest = absurd (let no : ⊥ = cc in no)
     at (Some x) e h rest =
-        let more = mapped_is (λ ys. x ∷ ys) (together (map f rs)) caps h in
+        let more = mapped_is (λ ys. x ∷ ys) (all_there (map f rs)) caps h in
         subst (λ l. (c : Cap) × (f r ≡ Some c) × OneOf (λ b. b ≡ c) l) more.2 (elim (cases_Bool (q == r)) [
           | inl own ↦ (x, ap f (sym (eqb-true q r own)) ∙ e, inl refl)
           | inr other ↦ let t = rest more.0 r more.1 (sym (ap (λ b. b || contains r rs) other) ∙ there) in (t.0, t.1, inr t.2)
         ])
 
-bound_had : (before : List Step) (v : ℕ) (es : Past) (steps : List Step) (e : Event) (s : Step) (r : ℕ) → PairsOff v (e ∷ es) (s ∷ steps) → AllByRecursion (StandsIn before) (s ∷ steps) → contains r (new_references e) ≡ true →
+bound_had : (before : List Step) (v : ℕ) (es : Past) (steps : List Step) (e : DecodedRecord) (s : Step) (r : ℕ) → PairsOff v (e ∷ es) (s ∷ steps) → AllByRecursion (StandsIn before) (s ∷ steps) → contains r (new_references e) ≡ true →
     IsHad before v (reference_named (naming v (e ∷ es) (s ∷ steps)) (e ∷ es) r)
 bound_had before v es steps (Host q object) s r part stand there =
     let is : step.Host v object ≡ s = let h : ◌≡◌ {A = Option Step} (Some (step.Host v object)) (Some s) = part.0 in cc in (

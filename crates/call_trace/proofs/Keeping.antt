@@ -4,23 +4,23 @@ use Rattle.std.specs.Option.{option_or}
 use Rattle.std.proofs.lemmas.Bool.{cases_Bool, false≢true, eq-eqb}
 use Rattle.std.proofs.lemmas.List.{reverse-append, reverse-reverse, length-reverse}
 use Rattle.vat_view.specs.Past.{Past, Point, point, id, names, last_since}
-use Rattle.vat_view.specs.Questions.{opens, releases, opened, released, is_released, is_late}
+use Rattle.vat_view.specs.Questions.{opens, releases, question_opened, question_released, is_released, is_late}
 use Rattle.vat_view.specs.Views.{view_of_reference}
-use Rattle.vat_view.specs.declared.id.Id.{Id}
+use Rattle.vat_view.specs.declared.record.table_key.TableKey.{TableKey}
 use Rattle.vat_rules.specs.OfCaps.{is_received}
-use Rattle.vat_rules.specs.Told.{Sight}
+use Rattle.vat_rules.specs.LogFacts.{Sight}
 use Rattle.vat_rules.specs.Telling.{seen_of}
-use Rattle.call_trace.specs.declared.ledger.Ledger.{Ledger}
-use Rattle.call_trace.specs.Types.{RpcMessage, Bootstrap, Call, Return, Finish, Resolve, Release, Disembargo, Abort, Event, Host, Vow, Fulfil, Break, Make, Field, Deliver, Answer, Fault, Wire, View, Object, Promise, FieldOf, Import, Name, Cap, Message, Step}
-use Rattle.call_trace.specs.Naming.{Naming, naming, cap_at, names_call, call_named, cap_named, message_at, message_of}
+use Rattle.call_trace.specs.declared.records.vat_ledger.VatLedger.{VatLedger}
+use Rattle.call_trace.specs.Types.{RpcMessage, Bootstrap, Call, Return, Finish, Resolve, Release, Disembargo, Abort, DecodedRecord, Host, Vow, Fulfil, Break, Make, Field, Deliver, Answer, Fault, Wire, View, Object, Promise, FieldOf, Import, Name, Cap, Message, Step}
+use Rattle.call_trace.specs.Naming.{Naming, naming, cap_at, names_call, call_named, cap_named, message_at, message_of_step}
 use Rattle.call_trace.specs.Part.{reference_named, step_said}
 use Rattle.call_trace.specs.Running.{step_received, step_of}
-use Rattle.call_trace.specs.Said.{together}
-use Rattle.call_trace.specs.Glue.{message_in, call_in, cap_in, names_in, binding, bound_call, released_at, released_after, late_in, named_said, with_bound, received_step, step_by, IsBound, IsNoted, IsKept, IsTaken}
+use Rattle.call_trace.specs.Said.{all_there}
+use Rattle.call_trace.specs.Glue.Ledgers.{step_message_in, call_name_in, cap_in, names_in, call_bound_by, bound_call, released_at, released_after, late_in, named_said, with_bound, received_step, step_by, IsBound, IsNoted, IsKept, IsTaken}
 use Rattle.call_trace.proofs.Naming.{message_within}
 use Rattle.call_trace.proofs.Seeing.{step_as}
-use Rattle.run_model.specs.Has.{called}
-use Rattle.run_model.specs.Legal.{brought}
+use Rattle.run_model.specs.Has.{call_in_message}
+use Rattle.run_model.specs.Legal.{caps_brought}
 use Rattle.run_model.specs.Steps.{call}
 use Rattle.run_model.specs.declared.cap.Cap.TheVariants as cap
 use Rattle.run_model.specs.declared.step.Step.TheVariants as step
@@ -78,24 +78,24 @@ numbers_more run s ns own h =
     ∙ ap₂ (λ os o. os ++ o ∷ []) (map_longer run s ns (reverse own) h) (get_last run s)
     ∙ sym (map_append Some (reverse own) (s ∷ [])) ∙ ap (map Some) (sym (reverse_one s own))
 
-message_back : (own : List Step) (i : ℕ) → option_and_then message_of (slice_get (reverse own) i) ≡ message_at i own
+message_back : (own : List Step) (i : ℕ) → option_and_then message_of_step (slice_get (reverse own) i) ≡ message_at i own
 message_back [] i = refl
 message_back (s ∷ own) i = elim (cases_Bool (length own == i)) [
   | inl same ↦
       let is : length (reverse own) ≡ i = length-reverse own ∙ eqb-true (length own) i same in
-      ap (option_and_then message_of) (ap (λ xs. slice_get xs i) (reverse_one s own) ∙ ap (slice_get (reverse own ++ s ∷ [])) (sym is) ∙ get_last (reverse own) s)
-      ∙ sym (ap (λ b. if b then message_of s else message_at i own) same)
+      ap (option_and_then message_of_step) (ap (λ xs. slice_get xs i) (reverse_one s own) ∙ ap (slice_get (reverse own ++ s ∷ [])) (sym is) ∙ get_last (reverse own) s)
+      ∙ sym (ap (λ b. if b then message_of_step s else message_at i own) same)
   | inr other ↦
-      ap (option_and_then message_of) (ap (λ xs. slice_get xs i) (reverse_one s own) ∙ get_others (reverse own) s i (λ e. differ other (sym (length-reverse own) ∙ e)))
-      ∙ message_back own i ∙ sym (ap (λ b. if b then message_of s else message_at i own) other)
+      ap (option_and_then message_of_step) (ap (λ xs. slice_get xs i) (reverse_one s own) ∙ get_others (reverse own) s i (λ e. differ other (sym (length-reverse own) ∙ e)))
+      ∙ message_back own i ∙ sym (ap (λ b. if b then message_of_step s else message_at i own) other)
 ]
   where
     differ : (length own == i) ≡ false → length own ≡ i → ⊥
     differ other e = false≢true (sym other ∙ eq-eqb (length own) i e)
 
-pub message_as : (run : List Step) (ns : List ℕ) (own : List Step) (i : ℕ) → map (slice_get run) ns ≡ map Some (reverse own) → message_in run ns i ≡ message_at i own
+pub message_as : (run : List Step) (ns : List ℕ) (own : List Step) (i : ℕ) → map (slice_get run) ns ≡ map Some (reverse own) → step_message_in run ns i ≡ message_at i own
 message_as run ns own i h =
-    ap (option_and_then message_of) (got_of (slice_get run) ns i ∙ ap (λ os. got (slice_get os i)) h ∙ got_some (reverse own) i) ∙ message_back own i
+    ap (option_and_then message_of_step) (got_of (slice_get run) ns i ∙ ap (λ os. got (slice_get os i)) h ∙ got_some (reverse own) i) ∙ message_back own i
 
 -- a step without a message brings nothing
 message_hosted : (v : ℕ) (own : List Step) (i : ℕ) → message_at i (step.Host v 0 ∷ own) ≡ message_at i own
@@ -123,40 +123,40 @@ called_one d c None o = at (d == c)
     at true = refl
     at false = refl
 
-pub binding_names : (v c : ℕ) (e : Event) (s : Step) (o : Option Name) → bound_call (binding v e (message_of s)) c o ≡ option_or (names_call v c e s) o
+pub binding_names : (v c : ℕ) (e : DecodedRecord) (s : Step) (o : Option Name) → bound_call (call_bound_by v e (message_of_step s)) c o ≡ option_or (names_call v c e s) o
 binding_names v c (Make d r interface method) s o = one_of d c (call v d) (call v c) o (λ e. ap (call v) e)
 binding_names v c (Wire true k d references (Bootstrap q)) s o = one_of d c (call v d) (call v c) o (λ e. ap (call v) e)
-binding_names v c (Wire false k d references (Bootstrap q)) s o = called_one d c (option_and_then called (message_of s)) o
-binding_names v c (Wire false k d references (Call q target interface method params)) s o = called_one d c (option_and_then called (message_of s)) o
+binding_names v c (Wire false k d references (Bootstrap q)) s o = called_one d c (option_and_then call_in_message (message_of_step s)) o
+binding_names v c (Wire false k d references (Call q target interface method params)) s o = called_one d c (option_and_then call_in_message (message_of_step s)) o
 binding_names v c (Wire true k d references (Call q target interface method params)) s o = refl
 binding_names v c (Wire sent k d references (Return q release outcome)) s o = at sent
   where
-    at : (sent : Bool) → bound_call (binding v (Wire sent k d references (Return q release outcome)) (message_of s)) c o ≡ option_or (names_call v c (Wire sent k d references (Return q release outcome)) s) o
+    at : (sent : Bool) → bound_call (call_bound_by v (Wire sent k d references (Return q release outcome)) (message_of_step s)) c o ≡ option_or (names_call v c (Wire sent k d references (Return q release outcome)) s) o
     at true = refl
     at false = refl
 binding_names v c (Wire sent k d references (Finish q release)) s o = at sent
   where
-    at : (sent : Bool) → bound_call (binding v (Wire sent k d references (Finish q release)) (message_of s)) c o ≡ option_or (names_call v c (Wire sent k d references (Finish q release)) s) o
+    at : (sent : Bool) → bound_call (call_bound_by v (Wire sent k d references (Finish q release)) (message_of_step s)) c o ≡ option_or (names_call v c (Wire sent k d references (Finish q release)) s) o
     at true = refl
     at false = refl
 binding_names v c (Wire sent k d references (Resolve n resolution)) s o = at sent
   where
-    at : (sent : Bool) → bound_call (binding v (Wire sent k d references (Resolve n resolution)) (message_of s)) c o ≡ option_or (names_call v c (Wire sent k d references (Resolve n resolution)) s) o
+    at : (sent : Bool) → bound_call (call_bound_by v (Wire sent k d references (Resolve n resolution)) (message_of_step s)) c o ≡ option_or (names_call v c (Wire sent k d references (Resolve n resolution)) s) o
     at true = refl
     at false = refl
 binding_names v c (Wire sent k d references (Release n count)) s o = at sent
   where
-    at : (sent : Bool) → bound_call (binding v (Wire sent k d references (Release n count)) (message_of s)) c o ≡ option_or (names_call v c (Wire sent k d references (Release n count)) s) o
+    at : (sent : Bool) → bound_call (call_bound_by v (Wire sent k d references (Release n count)) (message_of_step s)) c o ≡ option_or (names_call v c (Wire sent k d references (Release n count)) s) o
     at true = refl
     at false = refl
 binding_names v c (Wire sent k d references (Disembargo n loopback target)) s o = at sent
   where
-    at : (sent : Bool) → bound_call (binding v (Wire sent k d references (Disembargo n loopback target)) (message_of s)) c o ≡ option_or (names_call v c (Wire sent k d references (Disembargo n loopback target)) s) o
+    at : (sent : Bool) → bound_call (call_bound_by v (Wire sent k d references (Disembargo n loopback target)) (message_of_step s)) c o ≡ option_or (names_call v c (Wire sent k d references (Disembargo n loopback target)) s) o
     at true = refl
     at false = refl
 binding_names v c (Wire sent k d references Abort) s o = at sent
   where
-    at : (sent : Bool) → bound_call (binding v (Wire sent k d references Abort) (message_of s)) c o ≡ option_or (names_call v c (Wire sent k d references Abort) s) o
+    at : (sent : Bool) → bound_call (call_bound_by v (Wire sent k d references Abort) (message_of_step s)) c o ≡ option_or (names_call v c (Wire sent k d references Abort) s) o
     at true = refl
     at false = refl
 binding_names v c (Host r object) s o = refl
@@ -169,7 +169,7 @@ binding_names v c (Answer d results) s o = refl
 binding_names v c (Fault d) s o = refl
 
 -- what isn't received gives no name that a message has
-pub binding_own : (v : ℕ) (e : Event) (m : Option Message) → is_received e ≡ false → binding v e m ≡ binding v e None
+pub binding_own : (v : ℕ) (e : DecodedRecord) (m : Option Message) → is_received e ≡ false → call_bound_by v e m ≡ call_bound_by v e None
 binding_own v (Make d r interface method) m own = refl
 binding_own v (Host r object) m own = refl
 binding_own v (Vow r) m own = refl
@@ -192,26 +192,26 @@ binding_own v (Wire true k d references Abort) m own = refl
 -- ---- the whole of what is kept
 
 -- how the tables name is how the records with their steps do, once the call that the record binds is named
-pub names_are : (v : ℕ) (es : Past) (own run : List Step) (e : Event) (s : Step) (old new : Ledger) → IsKept v es own run old → is_received e ≡ false →
-    IsBound (binding v e None) old new → names_in run new ≡ naming v (e ∷ es) (step.Host v 0 ∷ own)
+pub names_are : (v : ℕ) (es : Past) (own run : List Step) (e : DecodedRecord) (s : Step) (old new : VatLedger) → IsKept v es own run old → is_received e ≡ false →
+    IsBound (call_bound_by v e None) old new → names_in run new ≡ naming v (e ∷ es) (step.Host v 0 ∷ own)
 names_are v es own run e s old new kept mine bound = λ i. record {
   vat = (bound.vat ∙ kept.vat) i;
   call = λ c. calls c i;
   cap = λ view. caps view i;
 }
   where
-    calls : (c : ℕ) → call_in new c ≡ call_named v (e ∷ es) (step.Host v 0 ∷ own) c
-    calls c = bound.calls c ∙ ap (bound_call (binding v e None) c) (kept.calls c) ∙ binding_names v c e (step.Host v 0) (call_named v es own c)
+    calls : (c : ℕ) → call_name_in new c ≡ call_named v (e ∷ es) (step.Host v 0 ∷ own) c
+    calls c = bound.calls c ∙ ap (bound_call (call_bound_by v e None) c) (kept.calls c) ∙ binding_names v c e (step.Host v 0) (call_named v es own c)
 
     caps : (view : View) → cap_in run new view ≡ cap_named v (e ∷ es) (step.Host v 0 ∷ own) view
     caps (Object object) = ap (λ w. Some (cap.Object w object)) (bound.vat ∙ kept.vat)
     caps (Promise r) = ap (λ w. Some (cap.Promise w r)) (bound.vat ∙ kept.vat)
     caps (FieldOf c path) = ap (option_map (λ name. cap.Field name path)) (calls c)
-    caps (Import i place) = ap (option_and_then (λ m. cap_at place (brought m)))
-        (ap (λ ns. message_in run ns i) bound.numbers ∙ message_as run old.numbers.items own i kept.numbers ∙ sym (message_hosted v own i))
+    caps (Import i place) = ap (option_and_then (λ m. cap_at place (caps_brought m)))
+        (ap (λ ns. step_message_in run ns i) bound.numbers ∙ message_as run old.numbers.items own i kept.numbers ∙ sym (message_hosted v own i))
 
 -- so they name after the record and its step
-pub names_after : (v : ℕ) (es : Past) (own run : List Step) (ledger : Ledger) → IsKept v es own run ledger → names_in run ledger ≡ naming v es own
+pub names_after : (v : ℕ) (es : Past) (own run : List Step) (ledger : VatLedger) → IsKept v es own run ledger → names_in run ledger ≡ naming v es own
 names_after v es own run ledger kept = λ i. record {
   vat = kept.vat i;
   call = λ c. kept.calls c i;
@@ -222,10 +222,10 @@ names_after v es own run ledger kept = λ i. record {
     caps (Object object) = ap (λ w. Some (cap.Object w object)) kept.vat
     caps (Promise r) = ap (λ w. Some (cap.Promise w r)) kept.vat
     caps (FieldOf c path) = ap (option_map (λ name. cap.Field name path)) (kept.calls c)
-    caps (Import i place) = ap (option_and_then (λ m. cap_at place (brought m))) (message_as run ledger.numbers.items own i kept.numbers)
+    caps (Import i place) = ap (option_and_then (λ m. cap_at place (caps_brought m))) (message_as run ledger.numbers.items own i kept.numbers)
 
 -- a question is opened by no record that gives its results back
-apart : (e : Event) (q : Id) → names q (opened e) ≡ true → names q (released e) ≡ false
+apart : (e : DecodedRecord) (q : TableKey) → names q (question_opened e) ≡ true → names q (question_released e) ≡ false
 apart (Wire sent k c references (Bootstrap n)) q h = refl
 apart (Wire sent k c references (Call n target interface method params)) q h = refl
 apart (Wire sent k c references (Return n release outcome)) q h = refl
@@ -244,8 +244,8 @@ apart (Deliver c object) q h = refl
 apart (Answer c results) q h = refl
 apart (Fault c) q h = refl
 
-released_more : (e : Event) (q : Id) (es : Past) → released_after e q (is_released q es) ≡ is_released q (e ∷ es)
-released_more e q es = at (names q (opened e)) (names q (released e)) (apart e q) (last_since (opens q) (releases q) es)
+released_more : (e : DecodedRecord) (q : TableKey) (es : Past) → released_after e q (is_released q es) ≡ is_released q (e ∷ es)
+released_more e q es = at (names q (question_opened e)) (names q (question_released e)) (apart e q) (last_since (opens q) (releases q) es)
   where
     at : (o r : Bool) → (o ≡ true → r ≡ false) → (rest : Option Point) →
         (if r then true else if o then false else is_some rest) ≡ is_some (if o then None else if r then Some (point es e) else rest)
@@ -255,17 +255,17 @@ released_more e q es = at (names q (opened e)) (names q (released e)) (apart e q
     at false false h rest = refl
 
 -- one record more with its step: its call is named, and it is noted under its step's number
-pub kept_more : (v : ℕ) (es : Past) (own run : List Step) (e : Event) (s : Step) (old bound new : Ledger) → IsKept v es own run old →
-    IsBound (binding v e (message_of s)) old bound → IsNoted (length run) e bound new → IsKept v (e ∷ es) (s ∷ own) (run ++ s ∷ []) new
+pub kept_more : (v : ℕ) (es : Past) (own run : List Step) (e : DecodedRecord) (s : Step) (old bound new : VatLedger) → IsKept v es own run old →
+    IsBound (call_bound_by v e (message_of_step s)) old bound → IsNoted (length run) e bound new → IsKept v (e ∷ es) (s ∷ own) (run ++ s ∷ []) new
 kept_more v es own run e s old bound new kept b n = record {
   vat = n.vat ∙ b.vat ∙ kept.vat;
   numbers = ap (map (slice_get (run ++ s ∷ []))) (n.numbers ∙ ap (λ ns. ns ++ length run ∷ []) b.numbers) ∙ numbers_more run s old.numbers.items own kept.numbers;
-  calls = λ c. n.calls c ∙ b.calls c ∙ ap (bound_call (binding v e (message_of s)) c) (kept.calls c) ∙ binding_names v c e s (call_named v es own c);
+  calls = λ c. n.calls c ∙ b.calls c ∙ ap (bound_call (call_bound_by v e (message_of_step s)) c) (kept.calls c) ∙ binding_names v c e s (call_named v es own c);
   released = λ q. n.released q ∙ ap (released_after e q) (b.released q ∙ kept.released q) ∙ released_more e q es;
 }
 
 -- a step of another vat
-pub kept_beside : (v : ℕ) (es : Past) (own run : List Step) (s : Step) (ledger : Ledger) → IsKept v es own run ledger → IsKept v es own (run ++ s ∷ []) ledger
+pub kept_beside : (v : ℕ) (es : Past) (own run : List Step) (s : Step) (ledger : VatLedger) → IsKept v es own run ledger → IsKept v es own (run ++ s ∷ []) ledger
 kept_beside v es own run s ledger kept = record {
   vat = kept.vat;
   numbers = map_longer run s ledger.numbers.items (reverse own) kept.numbers;
@@ -275,7 +275,7 @@ kept_beside v es own run s ledger kept = record {
 
 -- ---- the step of a record that isn't received
 
-late_as : (es : Past) (ledger : Ledger) (e : Event) → ((q : Id) → released_at ledger.released q ≡ is_released q es) → late_in ledger e ≡ is_late es e
+late_as : (es : Past) (ledger : VatLedger) (e : DecodedRecord) → ((q : TableKey) → released_at ledger.released q ≡ is_released q es) → late_in ledger e ≡ is_late es e
 late_as es ledger (Wire sent k c references (Bootstrap n)) h = refl
 late_as es ledger (Wire sent k c references (Call n target interface method params)) h = refl
 late_as es ledger (Wire sent k c references (Return n release outcome)) h = h (id k (not sent) n)
@@ -294,7 +294,7 @@ late_as es ledger (Deliver c object) h = refl
 late_as es ledger (Answer c results) h = refl
 late_as es ledger (Fault c) h = refl
 
-own_step_of : (v : ℕ) (es : Past) (own before : List Step) (e : Event) → is_received e ≡ false → step_said (naming v (e ∷ es) (step.Host v 0 ∷ own)) es e ≡ step_of v es own before e
+own_step_of : (v : ℕ) (es : Past) (own before : List Step) (e : DecodedRecord) → is_received e ≡ false → step_said (naming v (e ∷ es) (step.Host v 0 ∷ own)) es e ≡ step_of v es own before e
 own_step_of v es own before (Host r object) mine = refl
 own_step_of v es own before (Vow r) mine = refl
 own_step_of v es own before (Fulfil r to) mine = refl
@@ -308,8 +308,8 @@ own_step_of v es own before (Wire true k c references m) mine = refl
 own_step_of v es own before (Wire false k c references m) mine = absurd (let none : ⊥ = cc in none)
 
 -- what it says by the tables and by what was seen of it is its step
-pub own_step_is : (v : ℕ) (es : Past) (own run before : List Step) (e : Event) (seen : Sight) (old new : Ledger) → IsKept v es own run old → is_received e ≡ false →
-    seen ≡ seen_of es e → IsBound (binding v e None) old new → step_by (names_in run new) (late_in new e) seen e ≡ step_of v es own before e
+pub own_step_is : (v : ℕ) (es : Past) (own run before : List Step) (e : DecodedRecord) (seen : Sight) (old new : VatLedger) → IsKept v es own run old → is_received e ≡ false →
+    seen ≡ seen_of es e → IsBound (call_bound_by v e None) old new → step_by (names_in run new) (late_in new e) seen e ≡ step_of v es own before e
 own_step_is v es own run before e seen old new kept mine is bound =
     ap₂ (λ names late. step_by names late seen e) (names_are v es own run e (step.Host v 0) old new kept mine bound)
     (late_as es new e (λ q. bound.released q ∙ kept.released q))
@@ -323,7 +323,7 @@ named_map names es [] = refl
 named_map names es (r ∷ rs) = ap (λ os. reference_named names es r ∷ os) (named_map names es rs)
 
 -- what the references noted beside it are bound to, by the tables and by what was seen of it
-pub received_binds : (v : ℕ) (es : Past) (own run : List Step) (k c : ℕ) (references : List ℕ) (m : RpcMessage) (message : Message) (seen : Sight) (ledger : Ledger) →
+pub received_binds : (v : ℕ) (es : Past) (own run : List Step) (k c : ℕ) (references : List ℕ) (m : RpcMessage) (message : Message) (seen : Sight) (ledger : VatLedger) →
     let e = Wire false k c references m in IsKept v (e ∷ es) (step.Receive v k message [] ∷ own) run ledger → seen ≡ seen_of es e →
     option_map (λ bound. step.Receive v k message bound) (named_said (names_in run ledger) seen.references) ≡ step_received v es own e k references message
 received_binds v es own run k c references m message seen ledger kept is =
@@ -332,7 +332,7 @@ received_binds v es own run k c references m message seen ledger kept is =
     ap (option_map (λ bound. step.Receive v k message bound))
     (ap₂ (λ ns (sight : Sight). named_said ns sight.references) (names_after v (e ∷ es) (step.Receive v k message [] ∷ own) run ledger kept) is
     ∙ ap (λ rs. named_said names (map (view_of_reference (e ∷ es)) rs)) (append-nil references)
-    ∙ ap together (named_map names (e ∷ es) references))
+    ∙ ap all_there (named_map names (e ∷ es) references))
 
 -- ---- what a function that takes a step has to show
 
@@ -340,23 +340,23 @@ some_is : {A : Type 0} {x y : A} → Some x ≡ Some y → x ≡ y
 some_is e = cc
 
 -- a record that isn't received took its step
-pub own_taken : (v : ℕ) (es : Past) (own before run taken : List Step) (e : Event) (seen : Sight) (number : ℕ) (old bound new : Ledger) (s : Step) →
-    IsKept v es own run old → is_received e ≡ false → seen ≡ seen_of es e → IsBound (binding old.vat e None) old bound →
+pub own_taken : (v : ℕ) (es : Past) (own before run taken : List Step) (e : DecodedRecord) (seen : Sight) (number : ℕ) (old bound new : VatLedger) (s : Step) →
+    IsKept v es own run old → is_received e ≡ false → seen ≡ seen_of es e → IsBound (call_bound_by old.vat e None) old bound →
     Some s ≡ step_by (names_in run bound) (late_in bound e) seen e → IsNoted number e bound new → number ≡ length run → taken ≡ run ++ s ∷ [] →
     IsTaken v es e own (step_of v es own before e) run taken new true
 own_taken v es own before run taken e seen number old bound new s kept mine is b says n at more =
-    let named : IsBound (binding v e None) old bound = subst (λ w. IsBound (binding w e None) old bound) kept.vat b in
+    let named : IsBound (call_bound_by v e None) old bound = subst (λ w. IsBound (call_bound_by w e None) old bound) kept.vat b in
     let step_is = own_step_is v es own run before e seen old bound kept mine is named in
     let here : IsNoted (length run) e bound new = subst (λ i. IsNoted i e bound new) at n in
-    let by_step : IsBound (binding v e (message_of s)) old bound = subst (λ o. IsBound o old bound) (sym (binding_own v e (message_of s) mine)) named in
+    let by_step : IsBound (call_bound_by v e (message_of_step s)) old bound = subst (λ o. IsBound o old bound) (sym (binding_own v e (message_of_step s) mine)) named in
     (s, sym (says ∙ step_is), more, subst (λ xs. IsKept v (e ∷ es) (s ∷ own) xs new) (sym more) (kept_more v es own run e s old bound new kept by_step here))
 
 -- it has none
-pub own_none : (v : ℕ) (es : Past) (own before run : List Step) (e : Event) (seen : Sight) (old bound : Ledger) →
-    IsKept v es own run old → is_received e ≡ false → seen ≡ seen_of es e → IsBound (binding old.vat e None) old bound →
+pub own_none : (v : ℕ) (es : Past) (own before run : List Step) (e : DecodedRecord) (seen : Sight) (old bound : VatLedger) →
+    IsKept v es own run old → is_received e ≡ false → seen ≡ seen_of es e → IsBound (call_bound_by old.vat e None) old bound →
     None ≡ step_by (names_in run bound) (late_in bound e) seen e → step_of v es own before e ≡ None
 own_none v es own before run e seen old bound kept mine is b says =
-    sym (says ∙ own_step_is v es own run before e seen old bound kept mine is (subst (λ w. IsBound (binding w e None) old bound) kept.vat b))
+    sym (says ∙ own_step_is v es own run before e seen old bound kept mine is (subst (λ w. IsBound (call_bound_by w e None) old bound) kept.vat b))
 
 last_one : {A : Type 0} (xs ys : List A) (x y : A) → xs ++ x ∷ [] ≡ ys ++ y ∷ [] → (xs ≡ ys) × (x ≡ y)
 last_one xs ys x y e =
@@ -367,15 +367,15 @@ last_one xs ys x y e =
 
 -- what a received record is bound to by the tables, where its step stands last and binds nothing yet
 received_said : (v : ℕ) (es : Past) (own run pushed : List Step) (k c : ℕ) (references : List ℕ) (m : RpcMessage) (message : Message) (seen : Sight) (number : ℕ)
-    (old bound new : Ledger) (w : ℕ) → let e = Wire false k c references m in
-    IsKept v es own run old → seen ≡ seen_of es e → IsBound (binding old.vat e (Some message)) old bound → IsNoted number e bound new → number ≡ length run →
+    (old bound new : VatLedger) (w : ℕ) → let e = Wire false k c references m in
+    IsKept v es own run old → seen ≡ seen_of es e → IsBound (call_bound_by old.vat e (Some message)) old bound → IsNoted number e bound new → number ≡ length run →
     w ≡ new.vat → pushed ≡ run ++ step.Receive w k message [] ∷ [] →
     (pushed ≡ run ++ step.Receive v k message [] ∷ [])
     × (option_map (λ b. step.Receive v k message b) (named_said (names_in pushed new) seen.references) ≡ step_received v es own e k references message)
     × ((b : List Cap) → IsKept v (e ∷ es) (step.Receive v k message b ∷ own) (run ++ step.Receive v k message b ∷ []) new)
 received_said v es own run pushed k c references m message seen number old bound new w kept is b n at whose more =
     let e = Wire false k c references m in
-    let named : IsBound (binding v e (Some message)) old bound = subst (λ u. IsBound (binding u e (Some message)) old bound) kept.vat b in
+    let named : IsBound (call_bound_by v e (Some message)) old bound = subst (λ u. IsBound (call_bound_by u e (Some message)) old bound) kept.vat b in
     let here : IsNoted (length run) e bound new = subst (λ i. IsNoted i e bound new) at n in
     let by : w ≡ v = whose ∙ n.vat ∙ b.vat ∙ kept.vat in
     let all : pushed ≡ run ++ step.Receive v k message [] ∷ [] = more ∙ ap (λ u. run ++ step.Receive u k message [] ∷ []) by in
@@ -385,8 +385,8 @@ received_said v es own run pushed k c references m message seen number old bound
 
 -- a received record took its step
 pub received_taken : (v : ℕ) (es : Past) (own run pushed rest taken : List Step) (k c : ℕ) (references : List ℕ) (m : RpcMessage) (message : Message) (seen : Sight)
-    (number : ℕ) (old bound new : Ledger) (w : ℕ) (caps : List Cap) (last : Step) → let e = Wire false k c references m in
-    IsKept v es own run old → seen ≡ seen_of es e → IsBound (binding old.vat e (Some message)) old bound → IsNoted number e bound new → number ≡ length run →
+    (number : ℕ) (old bound new : VatLedger) (w : ℕ) (caps : List Cap) (last : Step) → let e = Wire false k c references m in
+    IsKept v es own run old → seen ≡ seen_of es e → IsBound (call_bound_by old.vat e (Some message)) old bound → IsNoted number e bound new → number ≡ length run →
     w ≡ new.vat → pushed ≡ run ++ step.Receive w k message [] ∷ [] → Some caps ≡ named_said (names_in pushed new) seen.references →
     pushed ≡ rest ++ last ∷ [] → taken ≡ rest ++ with_bound caps last ∷ [] →
     IsTaken v es e own (step_received v es own e k references message) run taken new true
@@ -400,8 +400,8 @@ received_taken v es own run pushed rest taken k c references m message seen numb
 
 -- it has none
 pub received_none : (v : ℕ) (es : Past) (own run pushed : List Step) (k c : ℕ) (references : List ℕ) (m : RpcMessage) (message : Message) (seen : Sight)
-    (number : ℕ) (old bound new : Ledger) (w : ℕ) → let e = Wire false k c references m in
-    IsKept v es own run old → seen ≡ seen_of es e → IsBound (binding old.vat e (Some message)) old bound → IsNoted number e bound new → number ≡ length run →
+    (number : ℕ) (old bound new : VatLedger) (w : ℕ) → let e = Wire false k c references m in
+    IsKept v es own run old → seen ≡ seen_of es e → IsBound (call_bound_by old.vat e (Some message)) old bound → IsNoted number e bound new → number ≡ length run →
     w ≡ new.vat → pushed ≡ run ++ step.Receive w k message [] ∷ [] → None ≡ named_said (names_in pushed new) seen.references →
     step_received v es own e k references message ≡ None
 received_none v es own run pushed k c references m message seen number old bound new w kept is b n at whose more says =
@@ -409,13 +409,13 @@ received_none v es own run pushed k c references m message seen number old bound
     sym said.1 ∙ ap (option_map (λ l. step.Receive v k message l)) (sym says)
 
 -- the same of a record of either way that is known to be received
-abbrev Takes : Event → ℕ → Type 0
-Takes e k = (v : ℕ) (es : Past) (own run pushed rest taken : List Step) (message : Message) (seen : Sight) (number : ℕ) (old bound new : Ledger) (w : ℕ) (caps : List Cap)
-    (last : Step) → IsKept v es own run old → seen ≡ seen_of es e → IsBound (binding old.vat e (Some message)) old bound → IsNoted number e bound new →
+abbrev Takes : DecodedRecord → ℕ → Type 0
+Takes e k = (v : ℕ) (es : Past) (own run pushed rest taken : List Step) (message : Message) (seen : Sight) (number : ℕ) (old bound new : VatLedger) (w : ℕ) (caps : List Cap)
+    (last : Step) → IsKept v es own run old → seen ≡ seen_of es e → IsBound (call_bound_by old.vat e (Some message)) old bound → IsNoted number e bound new →
     number ≡ length run → w ≡ new.vat → pushed ≡ run ++ step.Receive w k message [] ∷ [] → Some caps ≡ named_said (names_in pushed new) seen.references →
     pushed ≡ rest ++ last ∷ [] → taken ≡ rest ++ with_bound caps last ∷ [] → IsTaken v es e own (received_step v es own e message) run taken new true
 
-pub takes : (e : Event) → is_received e ≡ true → (sent : Bool) (k c : ℕ) (references : List ℕ) (m : RpcMessage) → Wire sent k c references m ≡ e → Takes e k
+pub takes : (e : DecodedRecord) → is_received e ≡ true → (sent : Bool) (k c : ℕ) (references : List ℕ) (m : RpcMessage) → Wire sent k c references m ≡ e → Takes e k
 takes e h sent k c references m is = subst (λ e. is_received e ≡ true → Takes e k) is (at sent) h
   where
     at : (sent : Bool) → is_received (Wire sent k c references m) ≡ true → Takes (Wire sent k c references m) k
@@ -423,13 +423,13 @@ takes e h sent k c references m is = subst (λ e. is_received e ≡ true → Tak
     at false h = λ v es own run pushed rest taken message seen number old bound new w caps last.
         received_taken v es own run pushed rest taken k c references m message seen number old bound new w caps last
 
-abbrev TakesNone : Event → ℕ → Type 0
-TakesNone e k = (v : ℕ) (es : Past) (own run pushed : List Step) (message : Message) (seen : Sight) (number : ℕ) (old bound new : Ledger) (w : ℕ) →
-    IsKept v es own run old → seen ≡ seen_of es e → IsBound (binding old.vat e (Some message)) old bound → IsNoted number e bound new →
+abbrev TakesNone : DecodedRecord → ℕ → Type 0
+TakesNone e k = (v : ℕ) (es : Past) (own run pushed : List Step) (message : Message) (seen : Sight) (number : ℕ) (old bound new : VatLedger) (w : ℕ) →
+    IsKept v es own run old → seen ≡ seen_of es e → IsBound (call_bound_by old.vat e (Some message)) old bound → IsNoted number e bound new →
     number ≡ length run → w ≡ new.vat → pushed ≡ run ++ step.Receive w k message [] ∷ [] → None ≡ named_said (names_in pushed new) seen.references →
     received_step v es own e message ≡ None
 
-pub takes_none : (e : Event) → is_received e ≡ true → (sent : Bool) (k c : ℕ) (references : List ℕ) (m : RpcMessage) → Wire sent k c references m ≡ e → TakesNone e k
+pub takes_none : (e : DecodedRecord) → is_received e ≡ true → (sent : Bool) (k c : ℕ) (references : List ℕ) (m : RpcMessage) → Wire sent k c references m ≡ e → TakesNone e k
 takes_none e h sent k c references m is = subst (λ e. is_received e ≡ true → TakesNone e k) is (at sent) h
   where
     at : (sent : Bool) → is_received (Wire sent k c references m) ≡ true → TakesNone (Wire sent k c references m) k

@@ -11,10 +11,10 @@ use Rattle.rpc_view.specs.Message.{message_of_bytes}
 use Rattle.rpc_view.proofs.Deeper.{is_one}
 use Rattle.vat_log.specs.declared.body.Body.{Body}
 use Rattle.vat_log.specs.declared.body.Body.TheVariants as body
-use Rattle.link_check.specs.Prefix.{IsPrefix, sent_by, received_by, sent, received}
+use Rattle.link_check.specs.Prefix.{IsPrefix, frame_sent, frame_received, frames_sent, frames_received}
 use Rattle.vat_rules.specs.Audit.{Found, reads_within, read_as}
 use Rattle.vat_rules.specs.Events.{event_of}
-use Rattle.call_trace.specs.Types.{RpcMessage, Event, Wire}
+use Rattle.call_trace.specs.Types.{RpcMessage, DecodedRecord, Wire}
 use Rattle.call_trace.specs.Named.{past_of}
 use Rattle.call_trace.specs.Taking.{event_in}
 use Rattle.call_trace.proofs.Reading.{AllRecordsGood, message_in, message_or_none, with_is, passed_are, message_sent, message_received}
@@ -25,7 +25,7 @@ abbrev IsRead : Found → List ℕ → Type 0
 IsRead f frame = (m : RpcMessage) × (reads_within f.limits frame ≡ Ok m)
 
 abbrev IsReadRecord : Found → Body → Type 0
-IsReadRecord f b = (e : Event) × (event_of (reads_within f.limits) b ≡ Ok e)
+IsReadRecord f b = (e : DecodedRecord) × (event_of (reads_within f.limits) b ≡ Ok e)
 
 there_of : {A : Type 0} (P : A → Type 0) (x : A) → ((y : A) × (Some x ≡ Some y) × P y) → P x
 there_of P x r = let same : r.0 ≡ x = cc in subst P same r.2
@@ -52,11 +52,11 @@ frame_is on k frame y P p e = at (on == k) e
     at true e = let same : frame ≡ y = cc in subst P same p
     at false e = absurd (let no : ⊥ = cc in no)
 
-sent_read : (k : ℕ) (f : Found) (b : Body) (frame : List ℕ) → IsReadRecord f b → sent_by k b ≡ Some frame → IsRead f frame
+sent_read : (k : ℕ) (f : Found) (b : Body) (frame : List ℕ) → IsReadRecord f b → frame_sent k b ≡ Some frame → IsRead f frame
 sent_read k f (body.Send on c rs fr) frame r e = let m = with_is (Wire true on c rs) (reads_within f.limits fr) r.0 r.1 in frame_is on k fr frame (IsRead f) (m.0, m.1) e
 sent_read k f b frame r e = absurd (let no : ⊥ = cc in no)
 
-received_read : (k : ℕ) (f : Found) (b : Body) (frame : List ℕ) → IsReadRecord f b → received_by k b ≡ Some frame → IsRead f frame
+received_read : (k : ℕ) (f : Found) (b : Body) (frame : List ℕ) → IsReadRecord f b → frame_received k b ≡ Some frame → IsRead f frame
 received_read k f (body.Receive on c rs fr) frame r e = let m = with_is (Wire false on c rs) (reads_within f.limits fr) r.0 r.1 in frame_is on k fr frame (IsRead f) (m.0, m.1) e
 received_read k f b frame r e = absurd (let no : ⊥ = cc in no)
 
@@ -80,17 +80,17 @@ first_alike f g (fr ∷ frames) rest p q = ap₂ (λ o l. cons_option o l) (alik
 all_of : (f : Found) → past_of f ≡ reverse (filter_map (event_in f) f.log.records)
 all_of f = ap (λ l. reverse (filter_map (event_in f) l)) (take_all (length f.log.records) f.log.records (omega arith))
 
-sent_all : (k : ℕ) (f : Found) → stream k true (past_of f) ≡ reverse (filter_map (message_in f) (sent k f.log))
-sent_all k f = ap (stream k true) (all_of f) ∙ passed_are k true f (sent_by k) (message_sent k f) f.log.records
+sent_all : (k : ℕ) (f : Found) → stream k true (past_of f) ≡ reverse (filter_map (message_in f) (frames_sent k f.log))
+sent_all k f = ap (stream k true) (all_of f) ∙ passed_are k true f (frame_sent k) (message_sent k f) f.log.records
 
-received_all : (k : ℕ) (f : Found) → stream k false (past_of f) ≡ reverse (filter_map (message_in f) (received k f.log))
-received_all k f = ap (stream k false) (all_of f) ∙ passed_are k false f (received_by k) (message_received k f) f.log.records
+received_all : (k : ℕ) (f : Found) → stream k false (past_of f) ≡ reverse (filter_map (message_in f) (frames_received k f.log))
+received_all k f = ap (stream k false) (all_of f) ∙ passed_are k false f (frame_received k) (message_received k f) f.log.records
 
-pub received_first : (k : ℕ) (f g : Found) → AllRecordsGood f → AllRecordsGood g → IsPrefix (received k f.log) (sent k g.log) → GoesOn (stream k true (past_of g)) (stream k false (past_of f))
+pub received_first : (k : ℕ) (f g : Found) → AllRecordsGood f → AllRecordsGood g → IsPrefix (frames_received k f.log) (frames_sent k g.log) → GoesOn (stream k true (past_of g)) (stream k false (past_of f))
 received_first k f g good_f good_g link =
-    let frames = received k f.log in
-    let read_f = all_kept (IsReadRecord f) (IsRead f) (received_by k) (received_read k f) f.log.records (records_read f good_f) in
-    let read_g = all_kept (IsReadRecord g) (IsRead g) (sent_by k) (sent_read k g) g.log.records (records_read g good_g) in
+    let frames = frames_received k f.log in
+    let read_f = all_kept (IsReadRecord f) (IsRead f) (frame_received k) (received_read k f) f.log.records (records_read f good_f) in
+    let read_g = all_kept (IsReadRecord g) (IsRead g) (frame_sent k) (sent_read k g) g.log.records (records_read g good_g) in
     let same = first_alike f g frames link.0 read_f (subst (λ l. AllByRecursion (IsRead g) l) link.1 read_g) in (
       reverse (filter_map (message_in g) link.0),
       sent_all k g ∙ ap (λ l. reverse (filter_map (message_in g) l)) link.1 ∙ ap reverse (filter_map-append (message_in g) frames link.0)

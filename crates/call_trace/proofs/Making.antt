@@ -10,26 +10,26 @@ use Rattle.vat_rules.specs.declared.rule.Rule.TheVariants as rule
 use Rattle.vat_view.specs.Past.{Past, Each, id, last_answer}
 use Rattle.vat_view.specs.Bindings.{Refers, contains, is_bound_call, new_calls}
 use Rattle.vat_view.specs.Lives.{birth, descriptors}
-use Rattle.vat_view.specs.Views.{binds, described, described_at, noted, view_given, view_of_reference, view_of_target}
+use Rattle.vat_view.specs.Views.{binds, descriptor_view, described_at, placed_references, view_given, view_of_reference, view_of_target}
 use Rattle.vat_view.specs.Walks.{Next, stays, stops, on_to, keeps, is_promise, turn, next}
 use Rattle.vat_view.specs.Questions.{is_late, call_of}
-use Rattle.call_trace.specs.Types.{Descriptor, SenderHosted, SenderPromise, ReceiverHosted, ReceiverAnswer, Results, RpcMessage, Bootstrap, Call, Return, Finish, Resolve, Release, Disembargo, Abort, Event, Host, Vow, Fulfil, Break, Make, Field, Deliver, Answer, Fault, Wire, View, Object, Promise, FieldOf, Name, Cap, Message, Step}
+use Rattle.call_trace.specs.Types.{Descriptor, SenderHosted, SenderPromise, ReceiverHosted, ReceiverAnswer, Results, RpcMessage, Bootstrap, Call, Return, Finish, Resolve, Release, Disembargo, Abort, DecodedRecord, Host, Vow, Fulfil, Break, Make, Field, Deliver, Answer, Fault, Wire, View, Object, Promise, FieldOf, Name, Cap, Message, Step}
 use Rattle.call_trace.specs.Kinds.{is_own_making}
 use Rattle.call_trace.specs.Naming.{Naming, naming, call_named}
-use Rattle.call_trace.specs.Said.{together, said, say_call, say_return, say_resolve, caps_named, promise_named, answered}
+use Rattle.call_trace.specs.Said.{all_there, message_of_record, say_call, say_return, say_resolve, caps_named, promise_named, call_answered}
 use Rattle.call_trace.specs.Part.{reference_named, promise_in, result_named, Says, SaysReceive, PairsOff}
 use Rattle.call_trace.specs.Within.{IsWithin}
 use Rattle.call_trace.proofs.Naming.{then_is, mapped_is}
-use Rattle.run_model.specs.Legal.{IsLegal, MayCome, IsNew, MayEnd, begins, ends, vows}
-use Rattle.run_model.specs.Steps.{call, is_same, vat_of}
-use Rattle.run_model.specs.Steps.{Each as EachStep}
+use Rattle.run_model.specs.Legal.{IsLegal, MayCome, IsNew, MayEnd, begins_call, ends, vows}
+use Rattle.run_model.specs.Steps.{call, is_same_call, vat_of}
+use Rattle.run_model.specs.Steps.{EachStep}
 use Rattle.run_model.specs.declared.cap.Cap.TheVariants as cap
 use Rattle.run_model.specs.declared.message.Message.TheVariants as message
 use Rattle.run_model.specs.declared.step.Step.TheVariants as step
 
 -- ---- the step that a record says, by its parts
 
-abbrev pub Form : ℕ → Past → List Step → Event → Step → Type 0
+abbrev pub Form : ℕ → Past → List Step → DecodedRecord → Step → Type 0
 Form v es steps (Host r object) s = step.Host v object ≡ s
 Form v es steps (Vow r) s = step.Vow v r ≡ s
 Form v es steps (Fulfil r to) s = (p : ℕ) × (c : Cap) × (promise_in (view_of_reference es r) ≡ Some p) × (step.Fulfil v p c ≡ s)
@@ -39,16 +39,16 @@ Form v es steps (Field r c path) s = (name : Name) × (step.Name v (cap.Field na
 Form v es steps (Deliver c object) s = (name : Name) × (call_named v es steps c ≡ Some name) × (step.Deliver v name object ≡ s)
 Form v es steps (Answer c results) s =
     (name : Name) × (caps : List (List ℕ × Cap)) × (call_named v es steps c ≡ Some name)
-    × (together (map (result_named (naming v (Answer c results ∷ es) (s ∷ steps)) es) results) ≡ Some caps) × (step.Answer v name caps ≡ s)
+    × (all_there (map (result_named (naming v (Answer c results ∷ es) (s ∷ steps)) es) results) ≡ Some caps) × (step.Answer v name caps ≡ s)
 Form v es steps (Fault c) s = (name : Name) × (call_named v es steps c ≡ Some name) × (step.Fault v name ≡ s)
 Form v es steps (Wire true k c rs m) s =
-    (M : Message) × (said (naming v (Wire true k c rs m ∷ es) (s ∷ steps)) es (Wire true k c rs m) ≡ Some M) × (step.Send v k M ≡ s)
+    (M : Message) × (message_of_record (naming v (Wire true k c rs m ∷ es) (s ∷ steps)) es (Wire true k c rs m) ≡ Some M) × (step.Send v k M ≡ s)
 Form v es steps (Wire false k c rs m) s = SaysReceive (naming v (Wire false k c rs m ∷ es) (s ∷ steps)) es (Wire false k c rs m) k rs s
 
 pub only : {A : Type 0} (x y : A) → ◌≡◌ {A = Option A} (Some x) (Some y) → x ≡ y
 only x y h = cc
 
-pub form : (v : ℕ) (es : Past) (steps : List Step) (e : Event) (s : Step) → Says v es steps e s → Form v es steps e s
+pub form : (v : ℕ) (es : Past) (steps : List Step) (e : DecodedRecord) (s : Step) → Says v es steps e s → Form v es steps e s
 form v es steps (Host r object) s says = only (step.Host v object) s says
 form v es steps (Vow r) s says = only (step.Vow v r) s says
 form v es steps (Fulfil r to) s says =
@@ -66,13 +66,13 @@ form v es steps (Field r c path) s says =
 form v es steps (Deliver c object) s says = mapped_is (λ name. step.Deliver v name object) (call_named v es steps c) s says
 form v es steps (Answer c results) s says =
     let names = naming v (Answer c results ∷ es) (s ∷ steps) in
-    let all = together (map (result_named names es) results) in
+    let all = all_there (map (result_named names es) results) in
     let name = then_is (λ name. option_map (λ caps. step.Answer v name caps) all) (call_named v es steps c) s says in
     let caps = mapped_is (λ caps. step.Answer v name.0 caps) all s name.2 in
     (name.0, caps.0, name.1, caps.1, caps.2)
 form v es steps (Fault c) s says = mapped_is (λ name. step.Fault v name) (call_named v es steps c) s says
 form v es steps (Wire true k c rs m) s says =
-    mapped_is (λ M. step.Send v k M) (said (naming v (Wire true k c rs m ∷ es) (s ∷ steps)) es (Wire true k c rs m)) s says
+    mapped_is (λ M. step.Send v k M) (message_of_record (naming v (Wire true k c rs m ∷ es) (s ∷ steps)) es (Wire true k c rs m)) s says
 form v es steps (Wire false k c rs m) s says = says
 
 -- ---- tests of steps
@@ -103,7 +103,7 @@ some_in_run p test (s ∷ before) h = elim (cases_Bool (p s)) [
     at false h rest = rest h
 
 -- no step of a vat passes a test where no record says one that does
-pub none_said : (v : ℕ) (test : Step → Bool) (Q : Past → Event → Type 0) → ((es : Past) (steps : List Step) (e : Event) (s : Step) → Says v es steps e s → Q es e → test s ≡ false) →
+pub none_said : (v : ℕ) (test : Step → Bool) (Q : Past → DecodedRecord → Type 0) → ((es : Past) (steps : List Step) (e : DecodedRecord) (s : Step) → Says v es steps e s → Q es e → test s ≡ false) →
     (es : Past) (steps : List Step) → PairsOff v es steps → Each Q es → list_any test steps ≡ false
 none_said v test Q so [] [] part all = refl
 none_said v test Q so [] (s ∷ steps) part all = absurd part
@@ -117,10 +117,10 @@ bound_view : (p : ℕ) (b : Bool) (view : View) → (if b then Some view else No
 bound_view p true view h = (refl, only view (Promise p) h)
 bound_view p false view h = absurd (let no : ⊥ = cc in no)
 
-abbrev IsFrom : ℕ → Past → Event → Type 0
+abbrev IsFrom : ℕ → Past → DecodedRecord → Type 0
 IsFrom p es e = (e ≡ Vow p) ⊎ ((r : ℕ) × (view_of_reference es r ≡ Some (Promise p)))
 
-described_from : (p k c : ℕ) (rs : List ℕ) (m : RpcMessage) (es : Past) (d : Descriptor) → described (view_of_reference es) es (Wire false k c rs m) d ≡ Some (Promise p) →
+described_from : (p k c : ℕ) (rs : List ℕ) (m : RpcMessage) (es : Past) (d : Descriptor) → descriptor_view (view_of_reference es) es (Wire false k c rs m) d ≡ Some (Promise p) →
     (r : ℕ) × (view_of_reference es r ≡ Some (Promise p))
 described_from p k c rs m es (SenderHosted n) h =
     let b = then_is (view_given (view_of_reference es) false) (birth (id k false n) (Wire false k c rs m ∷ es)) (Promise p) h in absurd (let no : ⊥ = let e = b.2 in cc in no)
@@ -128,13 +128,13 @@ described_from p k c rs m es (SenderPromise n) h =
     let b = then_is (view_given (view_of_reference es) false) (birth (id k false n) (Wire false k c rs m ∷ es)) (Promise p) h in absurd (let no : ⊥ = let e = b.2 in cc in no)
 described_from p k c rs m es (ReceiverHosted n) h =
     let b = then_is (view_given (view_of_reference es) true) (birth (id k true n) es) (Promise p) h in
-    let n = then_is (λ n. view_of_reference es n.0) (find (λ n. n.1 == b.0.place) (noted b.0.from.event)) (Promise p) b.2 in
+    let n = then_is (λ n. view_of_reference es n.0) (find (λ n. n.1 == b.0.place) (placed_references b.0.from.event)) (Promise p) b.2 in
     (n.0.0, n.2)
 described_from p k c rs m es (ReceiverAnswer q path) h =
     let c = mapped_is (λ call. FieldOf call path) (call_of (id k false q) es) (Promise p) h in absurd (let no : ⊥ = let e = c.2 in cc in no)
 described_from p k c rs m es d h = absurd (let no : ⊥ = cc in no)
 
-bound_from : (p : ℕ) (es : Past) (e : Event) (r : ℕ) → binds (view_of_reference es) es e r ≡ Some (Promise p) → IsFrom p es e
+bound_from : (p : ℕ) (es : Past) (e : DecodedRecord) (r : ℕ) → binds (view_of_reference es) es e r ≡ Some (Promise p) → IsFrom p es e
 bound_from p es (Host q object) r h = absurd (let t = bound_view p (q == r) (Object object) h in let no : ⊥ = let e = t.1 in cc in no)
 bound_from p es (Vow q) r h =
     let t = bound_view p (q == r) (Promise q) h in
@@ -142,12 +142,12 @@ bound_from p es (Vow q) r h =
 bound_from p es (Field q c path) r h = absurd (let t = bound_view p (q == r) (FieldOf c path) h in let no : ⊥ = let e = t.1 in cc in no)
 bound_from p es (Wire false k c rs m) r h =
     let e = Wire false k c rs m in
-    let n = then_is (λ n. described_at (view_of_reference es) es e n.1) (find (λ n. n.0 == r) (noted e)) (Promise p) h in
-    let d = then_is (described (view_of_reference es) es e) (slice_get (descriptors e) n.0.1) (Promise p) n.2 in
+    let n = then_is (λ n. described_at (view_of_reference es) es e n.1) (find (λ n. n.0 == r) (placed_references e)) (Promise p) h in
+    let d = then_is (descriptor_view (view_of_reference es) es e) (slice_get (descriptors e) n.0.1) (Promise p) n.2 in
     inr (described_from p k c rs m es d.0 d.2)
 bound_from p es e r h = absurd (let no : ⊥ = cc in no)
 
-vow_said : (v p : ℕ) (es : Past) (steps : List Step) (e : Event) (s : Step) → Says v es steps e s → e ≡ Vow p → vows v p s ≡ true
+vow_said : (v p : ℕ) (es : Past) (steps : List Step) (e : DecodedRecord) (s : Step) → Says v es steps e s → e ≡ Vow p → vows v p s ≡ true
 vow_said v p es steps e s says is =
     let said_so : Says v es steps (Vow p) s = subst (λ e. Says v es steps e s) is says in
     subst (λ s. vows v p s ≡ true) (only (step.Vow v p) s said_so) (and_from (v == v) (p == p) (eq-eqb v v refl) (eq-eqb p p refl))
@@ -178,7 +178,7 @@ unturned false n h e = let no : ⊥ = cc in no
 ended_only : (v p q : ℕ) (o : Option View) (n : Next) → promise_in o ≡ Some q → (if is_promise p o then Some n else None) ≡ None → ((v == v) && (q == p)) ≡ false
 ended_only v p q o n there h = and_right (v == v) (q == p) (false_from_ne_true (q == p) (λ e. unturned (is_promise p o) n h (promise_tested p q o there e)))
 
-ends_said : (v p : ℕ) (es : Past) (steps : List Step) (e : Event) (s : Step) → Says v es steps e s → keeps p es e ≡ None → ends v p s ≡ false
+ends_said : (v p : ℕ) (es : Past) (steps : List Step) (e : DecodedRecord) (s : Step) → Says v es steps e s → keeps p es e ≡ None → ends v p s ≡ false
 ends_said v p es steps (Fulfil r to) s says h =
     let f = form v es steps (Fulfil r to) s says in
     subst (λ s. ends v p s ≡ false) f.3 (ended_only v p f.0 (view_of_reference es r) (on_to (view_of_reference es to)) f.2 h)
@@ -200,7 +200,7 @@ never_stays : (o : Option Next) → unwrap_or o stays ≡ stays → (o ≡ None)
 never_stays None h = inl refl
 never_stays (Some n) h = inr (ap (λ n. Some n) h)
 
-keeps_moves : (p : ℕ) (es : Past) (e : Event) → keeps p es e ≡ Some stays → ⊥
+keeps_moves : (p : ℕ) (es : Past) (e : DecodedRecord) → keeps p es e ≡ Some stays → ⊥
 keeps_moves p es (Fulfil r to) h = at (is_promise p (view_of_reference es r)) (view_of_reference es to) h
   where
     at : (b : Bool) (o : Option View) → (if b then Some (on_to o) else None) ≡ Some stays → ⊥
@@ -270,17 +270,17 @@ resolve_said promise [] = refl
 resolve_said promise (cap.Nothing ∷ rest) = refl
 resolve_said promise (c ∷ rest) = refl
 
-no_boot_said : (names : Naming) (es : Past) (sent : Bool) (k c : ℕ) (rs : List ℕ) (m : RpcMessage) (M : Message) → opens_boot m ≡ false → said names es (Wire sent k c rs m) ≡ Some M → is_boot M ≡ false
+no_boot_said : (names : Naming) (es : Past) (sent : Bool) (k c : ℕ) (rs : List ℕ) (m : RpcMessage) (M : Message) → opens_boot m ≡ false → message_of_record names es (Wire sent k c rs m) ≡ Some M → is_boot M ≡ false
 no_boot_said names es sent k c rs (Bootstrap q) M other h = absurd (let no : ⊥ = cc in no)
 no_boot_said names es sent k c rs (Call q target interface method params) M other h =
     let e = Wire sent k c rs (Call q target interface method params) in
     call_said interface method (caps_named names es e) (names.call c) (option_and_then names.cap (view_of_target es e)) M h
 no_boot_said names es sent k c rs (Return q release (Results payload)) M other h =
     let e = Wire sent k c rs (Return q release (Results payload)) in
-    let name = then_is (λ name. say_return (is_late es e) payload.fields name (caps_named names es e)) (answered names es k sent q) M h in
+    let name = then_is (λ name. say_return (is_late es e) payload.fields name (caps_named names es e)) (call_answered names es k sent q) M h in
     return_said (is_late es e) payload.fields name.0 (caps_named names es e) M name.2
 no_boot_said names es sent k c rs (Return q release outcome) M other h =
-    let name = mapped_is message.Failed (answered names es k sent q) M h in ap is_boot (sym name.2)
+    let name = mapped_is message.Failed (call_answered names es k sent q) M h in ap is_boot (sym name.2)
 no_boot_said names es sent k c rs (Resolve n resolution) M other h =
     let e = Wire sent k c rs (Resolve n resolution) in
     let promise = then_is (λ promise. option_map (say_resolve promise) (caps_named names es e)) (promise_named names es k sent n) M h in
@@ -303,32 +303,32 @@ boot_said v es steps k d rs q s says =
     let name = mapped_is message.Boot (call_named v (Wire true k d rs (Bootstrap q) ∷ es) (s ∷ steps) d) f.0 f.1 in
     ap (λ n. step.Send v k (message.Boot n)) (boot_name v es steps k d rs q s name.0 name.1) ∙ ap (λ M. step.Send v k M) name.2 ∙ f.2
 
-other_call : (v d c : ℕ) → ((d == c) || false) ≡ false → is_same (call v d) (call v c) ≡ false
+other_call : (v d c : ℕ) → ((d == c) || false) ≡ false → is_same_call (call v d) (call v c) ≡ false
 other_call v d c h = and_right (v == v) (d == c) (or_parts (d == c) false h).0
 
-no_boot_begins : (c : Name) (v k : ℕ) (M : Message) → is_boot M ≡ false → begins c (step.Send v k M) ≡ false
+no_boot_begins : (c : Name) (v k : ℕ) (M : Message) → is_boot M ≡ false → begins_call c (step.Send v k M) ≡ false
 no_boot_begins c v k (message.Boot d) h = absurd (let no : ⊥ = cc in no)
 no_boot_begins c v k M h = refl
 
-begins_said : (v c : ℕ) (es : Past) (steps : List Step) (e : Event) (s : Step) → Says v es steps e s → contains c (new_calls e) ≡ false → begins (call v c) s ≡ false
-begins_said v c es steps (Make d r interface method) s says h = subst (λ s. begins (call v c) s ≡ false) (form v es steps (Make d r interface method) s says).1 (other_call v d c h)
-begins_said v c es steps (Wire true k d rs (Bootstrap q)) s says h = subst (λ s. begins (call v c) s ≡ false) (boot_said v es steps k d rs q s says) (other_call v d c h)
+begins_said : (v c : ℕ) (es : Past) (steps : List Step) (e : DecodedRecord) (s : Step) → Says v es steps e s → contains c (new_calls e) ≡ false → begins_call (call v c) s ≡ false
+begins_said v c es steps (Make d r interface method) s says h = subst (λ s. begins_call (call v c) s ≡ false) (form v es steps (Make d r interface method) s says).1 (other_call v d c h)
+begins_said v c es steps (Wire true k d rs (Bootstrap q)) s says h = subst (λ s. begins_call (call v c) s ≡ false) (boot_said v es steps k d rs q s says) (other_call v d c h)
 begins_said v c es steps (Wire true k d rs m) s says h =
     let e = Wire true k d rs m in
     let f = form v es steps e s says in
-    subst (λ s. begins (call v c) s ≡ false) f.2 (no_boot_begins (call v c) v k f.0 (no_boot_said (naming v (e ∷ es) (s ∷ steps)) es true k d rs m f.0 refl f.1))
-begins_said v c es steps (Wire false k d rs m) s says h = subst (λ s. begins (call v c) s ≡ false) (sym says.step) refl
-begins_said v c es steps (Host r object) s says h = subst (λ s. begins (call v c) s ≡ false) (form v es steps (Host r object) s says) refl
-begins_said v c es steps (Vow r) s says h = subst (λ s. begins (call v c) s ≡ false) (form v es steps (Vow r) s says) refl
-begins_said v c es steps (Fulfil r to) s says h = subst (λ s. begins (call v c) s ≡ false) (form v es steps (Fulfil r to) s says).3 refl
-begins_said v c es steps (Break r) s says h = subst (λ s. begins (call v c) s ≡ false) (form v es steps (Break r) s says).2 refl
-begins_said v c es steps (Field r d path) s says h = subst (λ s. begins (call v c) s ≡ false) (form v es steps (Field r d path) s says).1 refl
-begins_said v c es steps (Deliver d object) s says h = subst (λ s. begins (call v c) s ≡ false) (form v es steps (Deliver d object) s says).2 refl
-begins_said v c es steps (Answer d results) s says h = subst (λ s. begins (call v c) s ≡ false) (form v es steps (Answer d results) s says).4 refl
-begins_said v c es steps (Fault d) s says h = subst (λ s. begins (call v c) s ≡ false) (form v es steps (Fault d) s says).2 refl
+    subst (λ s. begins_call (call v c) s ≡ false) f.2 (no_boot_begins (call v c) v k f.0 (no_boot_said (naming v (e ∷ es) (s ∷ steps)) es true k d rs m f.0 refl f.1))
+begins_said v c es steps (Wire false k d rs m) s says h = subst (λ s. begins_call (call v c) s ≡ false) (sym says.step) refl
+begins_said v c es steps (Host r object) s says h = subst (λ s. begins_call (call v c) s ≡ false) (form v es steps (Host r object) s says) refl
+begins_said v c es steps (Vow r) s says h = subst (λ s. begins_call (call v c) s ≡ false) (form v es steps (Vow r) s says) refl
+begins_said v c es steps (Fulfil r to) s says h = subst (λ s. begins_call (call v c) s ≡ false) (form v es steps (Fulfil r to) s says).3 refl
+begins_said v c es steps (Break r) s says h = subst (λ s. begins_call (call v c) s ≡ false) (form v es steps (Break r) s says).2 refl
+begins_said v c es steps (Field r d path) s says h = subst (λ s. begins_call (call v c) s ≡ false) (form v es steps (Field r d path) s says).1 refl
+begins_said v c es steps (Deliver d object) s says h = subst (λ s. begins_call (call v c) s ≡ false) (form v es steps (Deliver d object) s says).2 refl
+begins_said v c es steps (Answer d results) s says h = subst (λ s. begins_call (call v c) s ≡ false) (form v es steps (Answer d results) s says).4 refl
+begins_said v c es steps (Fault d) s says h = subst (λ s. begins_call (call v c) s ≡ false) (form v es steps (Fault d) s says).2 refl
 
 -- another vat begins no call of this vat's numbers
-begins_own : (v c : ℕ) (before : List Step) (s : Step) → IsLegal before s → begins (call v c) s ≡ true → (vat_of s == v) ≡ true
+begins_own : (v c : ℕ) (before : List Step) (s : Step) → IsLegal before s → begins_call (call v c) s ≡ true → (vat_of s == v) ≡ true
 begins_own v c before (step.Make w n to r interface method) legal e = (and_parts (w == v) (n == c) e).0
 begins_own v c before (step.Send w k (message.Boot d)) legal e = ap (λ x. x == v) (sym legal.1.0) ∙ (and_parts (d.maker == v) (d.number == c) e).0
 begins_own v c before (step.Send w k m) legal e = absurd (let no : ⊥ = cc in no)
@@ -345,13 +345,13 @@ unbound_one true h = absurd (let no : ⊥ = cc in no)
 is_new : (v : ℕ) (es : Past) (steps before : List Step) → IsWithin v es steps before → (c : ℕ) → (not (is_bound_call es c) && true) ≡ true → IsNew before (call v c)
 is_new v es steps before w c unbound =
     let own : Step → Bool = λ s. vat_of s == v in
-    none_by_others IsLegal own (begins (call v c)) (begins_own v c) before w.legal
-    (ap (list_any (begins (call v c))) w.own
-    ∙ none_said v (begins (call v c)) (λ es e. contains c (new_calls e) ≡ false) (begins_said v c) es steps w.paired (each_unbound c es (unbound_one (is_bound_call es c) unbound)))
+    none_by_others IsLegal own (begins_call (call v c)) (begins_own v c) before w.legal
+    (ap (list_any (begins_call (call v c))) w.own
+    ∙ none_said v (begins_call (call v c)) (λ es e. contains c (new_calls e) ≡ false) (begins_said v c) es steps w.paired (each_unbound c es (unbound_one (is_bound_call es c) unbound)))
 
 -- ---- together
 
-pub own_may_come : (v : ℕ) (es : Past) (steps before : List Step) (e : Event) (s : Step) → IsWithin v es steps before → IsGood es e → is_own_making e ≡ true → Says v es steps e s → MayCome before s
+pub own_may_come : (v : ℕ) (es : Past) (steps before : List Step) (e : DecodedRecord) (s : Step) → IsWithin v es steps before → IsGood es e → is_own_making e ≡ true → Says v es steps e s → MayCome before s
 own_may_come v es steps before (Host r object) s w good own says = subst (MayCome before) (form v es steps (Host r object) s says) tt
 own_may_come v es steps before (Vow r) s w good own says = subst (MayCome before) (form v es steps (Vow r) s says) tt
 own_may_come v es steps before (Fulfil r to) s w good own says =

@@ -10,16 +10,16 @@ use Rattle.vat_view.proofs.Lasting.{view_step}
 use Rattle.vat_view.specs.Bindings.{Refers, contains, is_bound, is_bound_call, new_calls, new_references}
 use Rattle.vat_view.specs.Laws.{EachAfter}
 use Rattle.vat_view.proofs.Viewed.{all_at}
-use Rattle.call_trace.specs.Types.{Bootstrap, Call, Event, Host, Vow, Field, Make, Wire, View, Object, Promise, FieldOf, Import, Name, Cap, Message, Step}
-use Rattle.call_trace.specs.Naming.{Naming, naming, cap_at, names_call, call_named, cap_named, message_at, message_of}
-use Rattle.call_trace.specs.Said.{together, said, say_call, caps_named}
+use Rattle.call_trace.specs.Types.{Bootstrap, Call, DecodedRecord, Host, Vow, Field, Make, Wire, View, Object, Promise, FieldOf, Import, Name, Cap, Message, Step}
+use Rattle.call_trace.specs.Naming.{Naming, naming, cap_at, names_call, call_named, cap_named, message_at, message_of_step}
+use Rattle.call_trace.specs.Said.{all_there, message_of_record, say_call, caps_named}
 use Rattle.call_trace.specs.Part.{reference_named, resolves_released, SaysReceive, Says, PairsOff}
 use Rattle.call_trace.proofs.AsSent.{read, says_read}
-use Rattle.run_model.specs.Has.{called}
+use Rattle.run_model.specs.Has.{call_in_message}
 use Rattle.run_model.specs.Steps.{call}
 use Rattle.run_model.specs.declared.message.Message.TheVariants as message
 use Rattle.run_model.specs.declared.step.Step.TheVariants as step
-use Rattle.run_model.specs.Legal.{is_cap, brought}
+use Rattle.run_model.specs.Legal.{is_present, caps_brought}
 use Rattle.run_model.specs.declared.cap.Cap.TheVariants as cap
 
 -- ---- a call that is named is bound
@@ -32,7 +32,7 @@ one_there : (b : Bool) → b ≡ true → (b || false) ≡ true
 one_there true e = refl
 one_there false e = e
 
-names_new : (v c : ℕ) (e : Event) (s : Step) (name : Name) → names_call v c e s ≡ Some name → contains c (new_calls e) ≡ true
+names_new : (v c : ℕ) (e : DecodedRecord) (s : Step) (name : Name) → names_call v c e s ≡ Some name → contains c (new_calls e) ≡ true
 names_new v c (Make d r interface method) s name h = one_there (d == c) (chosen (d == c) _ name h)
 names_new v c (Wire true k d references (Bootstrap q)) s name h = one_there (d == c) (chosen (d == c) _ name h)
 names_new v c (Wire false k d references (Bootstrap q)) s name h = one_there (d == c) (chosen (d == c) _ name h)
@@ -59,7 +59,7 @@ unbound : (b : Bool) → not b ≡ true → b ≡ true → ⊥
 unbound true h e = let no : ⊥ = cc in no
 unbound false h e = let no : ⊥ = cc in no
 
-call_step : (v : ℕ) (es : Past) (e : Event) (steps : List Step) (s : Step) (c : ℕ) (name : Name) → Refers es e → call_named v es steps c ≡ Some name → call_named v (e ∷ es) (s ∷ steps) c ≡ Some name
+call_step : (v : ℕ) (es : Past) (e : DecodedRecord) (steps : List Step) (s : Step) (c : ℕ) (name : Name) → Refers es e → call_named v es steps c ≡ Some name → call_named v (e ∷ es) (s ∷ steps) c ≡ Some name
 call_step v es e steps s c name refers h = at (names_call v c e s) refl
   where
     at : (o : Option Name) → names_call v c e s ≡ o → option_or o (call_named v es steps c) ≡ Some name
@@ -70,13 +70,13 @@ pub message_within : (i : ℕ) (steps : List Step) (m : Message) → message_at 
 message_within i [] m h = absurd (let no : ⊥ = cc in no)
 message_within i (s ∷ steps) m h = elim (cases_Bool (length steps == i)) [
   | inl here ↦ omega (arith, eqb-true (length steps) i here)
-  | inr other ↦ omega (arith, message_within i steps m (sym (ap (λ b. if b then message_of s else message_at i steps) other) ∙ h))
+  | inr other ↦ omega (arith, message_within i steps m (sym (ap (λ b. if b then message_of_step s else message_at i steps) other) ∙ h))
 ]
 
 pub message_step : (i : ℕ) (steps : List Step) (s : Step) (m : Message) → message_at i steps ≡ Some m → message_at i (s ∷ steps) ≡ Some m
 message_step i steps s m h = elim (cases_Bool (length steps == i)) [
   | inl here ↦ absurd (let lt = message_within i steps m h in omega (arith, lt, eqb-true (length steps) i here))
-  | inr other ↦ ap (λ b. if b then message_of s else message_at i steps) other ∙ h
+  | inr other ↦ ap (λ b. if b then message_of_step s else message_at i steps) other ∙ h
 ]
 
 -- the name that there is, is this
@@ -88,17 +88,17 @@ pub then_is : {A B : Type 0} (f : A → Option B) (o : Option A) (y : B) → opt
 then_is f (Some x) y h = (x, refl, h)
 then_is f None y h = absurd (let no : ⊥ = cc in no)
 
-pub cap_step : (v : ℕ) (es : Past) (e : Event) (steps : List Step) (s : Step) (view : View) (c : Cap) → Refers es e → cap_named v es steps view ≡ Some c → cap_named v (e ∷ es) (s ∷ steps) view ≡ Some c
+pub cap_step : (v : ℕ) (es : Past) (e : DecodedRecord) (steps : List Step) (s : Step) (view : View) (c : Cap) → Refers es e → cap_named v es steps view ≡ Some c → cap_named v (e ∷ es) (s ∷ steps) view ≡ Some c
 cap_step v es e steps s (Object object) c refers h = h
 cap_step v es e steps s (Promise r) c refers h = h
 cap_step v es e steps s (FieldOf call path) c refers h =
     let name = mapped_is (λ name. cap.Field name path) (call_named v es steps call) c h in
     ap (λ o. option_map (λ name. cap.Field name path) o) (call_step v es e steps s call name.0 refers name.1) ∙ ap (λ x. Some x) name.2
 cap_step v es e steps s (Import i place) c refers h =
-    let m = then_is (λ m. cap_at place (brought m)) (message_at i steps) c h in
-    ap (λ o. option_and_then (λ m. cap_at place (brought m)) o) (message_step i steps s m.0 m.1) ∙ m.2
+    let m = then_is (λ m. cap_at place (caps_brought m)) (message_at i steps) c h in
+    ap (λ o. option_and_then (λ m. cap_at place (caps_brought m)) o) (message_step i steps s m.0 m.1) ∙ m.2
 
-pub call_keeps : (v : ℕ) (later : List Event) (es : Past) (added steps : List Step) → length later ≡ length added → EachAfter Refers later es → (c : ℕ) (name : Name) →
+pub call_keeps : (v : ℕ) (later : List DecodedRecord) (es : Past) (added steps : List Step) → length later ≡ length added → EachAfter Refers later es → (c : ℕ) (name : Name) →
     call_named v es steps c ≡ Some name → call_named v (later ++ es) (added ++ steps) c ≡ Some name
 call_keeps v [] es [] steps len refers c name h = h
 call_keeps v [] es (s ∷ added) steps len refers c name h = absurd (omega (arith, len))
@@ -106,7 +106,7 @@ call_keeps v (e ∷ later) es [] steps len refers c name h = absurd (omega (arit
 call_keeps v (e ∷ later) es (s ∷ added) steps len refers c name h =
     call_step v (later ++ es) e (added ++ steps) s c name refers.0 (call_keeps v later es added steps (omega (arith, len)) refers.1 c name h)
 
-pub cap_keeps : (v : ℕ) (later : List Event) (es : Past) (added steps : List Step) → length later ≡ length added → EachAfter Refers later es → (view : View) (c : Cap) →
+pub cap_keeps : (v : ℕ) (later : List DecodedRecord) (es : Past) (added steps : List Step) → length later ≡ length added → EachAfter Refers later es → (view : View) (c : Cap) →
     cap_named v es steps view ≡ Some c → cap_named v (later ++ es) (added ++ steps) view ≡ Some c
 cap_keeps v [] es [] steps len refers view c h = h
 cap_keeps v [] es (s ∷ added) steps len refers view c h = absurd (omega (arith, len))
@@ -134,47 +134,47 @@ second_or None p h = h
 second_or (Some x) p h = (x, refl)
 
 -- an end reads a message as a call only where it is that call
-read_called : (es : Past) (e : Event) (m : Message) (name : Name) → called (read es e m) ≡ Some name → called m ≡ Some name
+read_called : (es : Past) (e : DecodedRecord) (m : Message) (name : Name) → call_in_message (read es e m) ≡ Some name → call_in_message m ≡ Some name
 read_called es e (message.Return c results caps) name h = absurd (let no : ⊥ = at (is_late es e) h in no)
   where
-    at : (b : Bool) → called (if b then message.Late c else message.Return c results caps) ≡ Some name → ⊥
+    at : (b : Bool) → call_in_message (if b then message.Late c else message.Return c results caps) ≡ Some name → ⊥
     at true h = cc
     at false h = cc
 read_called es e (message.Resolve promise c) name h = absurd (let no : ⊥ = at (resolves_released es e) h in no)
   where
-    at : (b : Bool) → called (if b then message.Resolve cap.Nothing c else message.Resolve promise c) ≡ Some name → ⊥
+    at : (b : Bool) → call_in_message (if b then message.Resolve cap.Nothing c else message.Resolve promise c) ≡ Some name → ⊥
     at true h = cc
     at false h = cc
 read_called es e (message.Broken promise) name h = absurd (let no : ⊥ = at (resolves_released es e) h in no)
   where
-    at : (b : Bool) → called (if b then message.Broken cap.Nothing else message.Broken promise) ≡ Some name → ⊥
+    at : (b : Bool) → call_in_message (if b then message.Broken cap.Nothing else message.Broken promise) ≡ Some name → ⊥
     at true h = cc
     at false h = cc
 read_called es e m name h = h
 
-say_call_is : (interface method : ℕ) (caps : Option (List Cap)) (name : Option Name) (target : Option Cap) (m : Message) → say_call interface method caps name target ≡ Some m → Has (called m)
-say_call_is interface method (Some caps) (Some name) (Some target) m h = (name, let same : message.Call name target interface method caps ≡ m = cc in ap called (sym same))
+say_call_is : (interface method : ℕ) (caps : Option (List Cap)) (name : Option Name) (target : Option Cap) (m : Message) → say_call interface method caps name target ≡ Some m → Has (call_in_message m)
+say_call_is interface method (Some caps) (Some name) (Some target) m h = (name, let same : message.Call name target interface method caps ≡ m = cc in ap call_in_message (sym same))
 say_call_is interface method None name target m h = absurd (let no : ⊥ = cc in no)
 say_call_is interface method (Some caps) None target m h = absurd (let no : ⊥ = cc in no)
 say_call_is interface method (Some caps) (Some name) None m h = absurd (let no : ⊥ = cc in no)
 
-received_call : (names : Naming) (es : Past) (e : Event) (k : ℕ) (references : List ℕ) (s : Step) → SaysReceive names es e k references s → ((m : Message) → said names es e ≡ Some m → Has (called m)) →
-    Has (option_and_then called (message_of s))
+received_call : (names : Naming) (es : Past) (e : DecodedRecord) (k : ℕ) (references : List ℕ) (s : Step) → SaysReceive names es e k references s → ((m : Message) → message_of_record names es e ≡ Some m → Has (call_in_message m)) →
+    Has (option_and_then call_in_message (message_of_step s))
 received_call names es e k references s says says_call =
     let name = says_call (read es e says.message) (says_read says) in
-    (name.0, ap (λ s. option_and_then called (message_of s)) says.step ∙ read_called es e says.message name.0 name.1)
+    (name.0, ap (λ s. option_and_then call_in_message (message_of_step s)) says.step ∙ read_called es e says.message name.0 name.1)
 
 if_own : {A : Type 0} (b : Bool) (o : Option A) → b ≡ true → Has o → Has (if b then o else None)
 if_own b o own h = (h.0, ap (λ b. if b then o else None) own ∙ h.1)
 
-names_some : (v : ℕ) (es : Past) (steps : List Step) (e : Event) (s : Step) (c : ℕ) → Says v es steps e s → contains c (new_calls e) ≡ true → Has (names_call v c e s)
+names_some : (v : ℕ) (es : Past) (steps : List Step) (e : DecodedRecord) (s : Step) (c : ℕ) → Says v es steps e s → contains c (new_calls e) ≡ true → Has (names_call v c e s)
 names_some v es steps (Make d r interface method) s c says there = if_own (d == c) _ (is_one (d == c) there) (call v d, ap (λ n. Some (call v n)) (sym (eqb-true d c (is_one (d == c) there))))
 names_some v es steps (Wire true k d references (Bootstrap q)) s c says there = if_own (d == c) _ (is_one (d == c) there) (call v c, refl)
 names_some v es steps (Wire false k d references (Bootstrap q)) s c says there =
     let e = Wire false k d references (Bootstrap q) in
     let names = naming v (e ∷ es) (s ∷ steps) in
     if_own (d == c) _ (is_one (d == c) there)
-    (received_call names es e k references s says (λ m h. let name = mapped_is message.Boot (names.call d) m h in (name.0, ap called (sym name.2))))
+    (received_call names es e k references s says (λ m h. let name = mapped_is message.Boot (names.call d) m h in (name.0, ap call_in_message (sym name.2))))
 names_some v es steps (Wire false k d references (Call q target interface method params)) s c says there =
     let e = Wire false k d references (Call q target interface method params) in
     let names = naming v (e ∷ es) (s ∷ steps) in
@@ -191,19 +191,19 @@ calls_named v (e ∷ es) (s ∷ steps) part c bound = elim (cases_Bool (contains
   | inr old ↦ second_or (names_call v c e s) (call_named v es steps c) (calls_named v es steps part.1 c (sym (ap (λ b. b || is_bound_call es c) old) ∙ bound))
 ]
 
-together_each : (f : ℕ → Option Cap) (rs : List ℕ) (caps : List Cap) (r : ℕ) → together (map f rs) ≡ Some caps → contains r rs ≡ true → Has (f r)
+together_each : (f : ℕ → Option Cap) (rs : List ℕ) (caps : List Cap) (r : ℕ) → all_there (map f rs) ≡ Some caps → contains r rs ≡ true → Has (f r)
 together_each f [] caps r h there = absurd (let no : ⊥ = cc in no)
 together_each f (q ∷ rs) caps r h there = at (f q) refl h (together_each f rs)
   where
-    at : (o : Option Cap) → f q ≡ o → together (o ∷ map f rs) ≡ Some caps → ((caps : List Cap) (r : ℕ) → together (map f rs) ≡ Some caps → contains r rs ≡ true → Has (f r)) → Has (f r)
+    at : (o : Option Cap) → f q ≡ o → all_there (o ∷ map f rs) ≡ Some caps → ((caps : List Cap) (r : ℕ) → all_there (map f rs) ≡ Some caps → contains r rs ≡ true → Has (f r)) → Has (f r)
     at None e h rest = absurd (let no : ⊥ = cc in no)
     at (Some x) e h rest = elim (cases_Bool (q == r)) [
       | inl own ↦ (x, ap f (sym (eqb-true q r own)) ∙ e)
-      | inr other ↦ let more = mapped_is (λ ys. x ∷ ys) (together (map f rs)) caps h in rest more.0 r more.1 (sym (ap (λ b. b || contains r rs) other) ∙ there)
+      | inr other ↦ let more = mapped_is (λ ys. x ∷ ys) (all_there (map f rs)) caps h in rest more.0 r more.1 (sym (ap (λ b. b || contains r rs) other) ∙ there)
     ]
 
 -- the reference that a record binds has a name
-bound_named : (v : ℕ) (es : Past) (steps : List Step) (e : Event) (s : Step) (r : ℕ) → Says v es steps e s → contains r (new_references e) ≡ true → Has (reference_named (naming v (e ∷ es) (s ∷ steps)) (e ∷ es) r)
+bound_named : (v : ℕ) (es : Past) (steps : List Step) (e : DecodedRecord) (s : Step) (r : ℕ) → Says v es steps e s → contains r (new_references e) ≡ true → Has (reference_named (naming v (e ∷ es) (s ∷ steps)) (e ∷ es) r)
 bound_named v es steps (Host q object) s r says there =
     (cap.Object v object, ap (λ b. option_and_then (cap_named v (Host q object ∷ es) (s ∷ steps)) (option_or (if b then Some (Object object) else None) (view_of_reference es r))) (is_one (q == r) there))
 bound_named v es steps (Vow q) s r says there =
@@ -230,17 +230,17 @@ references_named v (e ∷ es) (s ∷ steps) part refers r bound = elim (cases_Bo
 ]
 
 -- no name is Nothing
-pub names_are_caps : (v : ℕ) (es : Past) (steps : List Step) (view : View) (c : Cap) → cap_named v es steps view ≡ Some c → is_cap c ≡ true
-names_are_caps v es steps (Object object) c h = let same : cap.Object v object ≡ c = cc in ap is_cap (sym same)
-names_are_caps v es steps (Promise r) c h = let same : cap.Promise v r ≡ c = cc in ap is_cap (sym same)
-names_are_caps v es steps (FieldOf call path) c h = let name = mapped_is (λ name. cap.Field name path) (call_named v es steps call) c h in ap is_cap (sym name.2)
+pub names_are_caps : (v : ℕ) (es : Past) (steps : List Step) (view : View) (c : Cap) → cap_named v es steps view ≡ Some c → is_present c ≡ true
+names_are_caps v es steps (Object object) c h = let same : cap.Object v object ≡ c = cc in ap is_present (sym same)
+names_are_caps v es steps (Promise r) c h = let same : cap.Promise v r ≡ c = cc in ap is_present (sym same)
+names_are_caps v es steps (FieldOf call path) c h = let name = mapped_is (λ name. cap.Field name path) (call_named v es steps call) c h in ap is_present (sym name.2)
 names_are_caps v es steps (Import i place) c h =
-    let m = then_is (λ m. cap_at place (brought m)) (message_at i steps) c h in
-    let x = then_is (λ c. if is_cap c then Some c else None) (slice_get (brought m.0) place) c m.2 in
-    at x.0 (is_cap x.0) refl x.2
+    let m = then_is (λ m. cap_at place (caps_brought m)) (message_at i steps) c h in
+    let x = then_is (λ c. if is_present c then Some c else None) (slice_get (caps_brought m.0) place) c m.2 in
+    at x.0 (is_present x.0) refl x.2
   where
-    at : (x : Cap) (b : Bool) → is_cap x ≡ b → (if b then Some x else None) ≡ Some c → is_cap c ≡ true
-    at x true e h = let same : x ≡ c = cc in ap is_cap (sym same) ∙ e
+    at : (x : Cap) (b : Bool) → is_present x ≡ b → (if b then Some x else None) ≡ Some c → is_present c ≡ true
+    at x true e h = let same : x ≡ c = cc in ap is_present (sym same) ∙ e
     at x false e h = absurd (let no : ⊥ = cc in no)
 
 pub calls_have_names : (v : ℕ) (es : Past) (steps : List Step) → PairsOff v es steps → (c : ℕ) → is_bound_call es c ≡ true → IsSome (call_named v es steps c)

@@ -7,13 +7,13 @@ use Rattle.std.proofs.lemmas.Option.{slice_get_within, get_or_from_slice_get}
 use Rattle.std.proofs.lemmas.Bool.{eq-eqb, cases_Bool}
 use Rattle.agree.specs.Agreeing.{AreLinked}
 use Rattle.agree.specs.Points.{GoesOn, AtEach}
-use Rattle.agree.specs.Rows.{Row, log_of, received_by, sent_by, sent_by_others, FitsAt, IsTheirs, IsShared}
+use Rattle.agree.specs.Rows.{Row, log_of_vat, received_stream, sent_stream, stream_of_others, FitsAt, IsTheirs, IsShared}
 use Rattle.agree.specs.Streams.{passing, stream, IsPassed}
 use Rattle.agree.proofs.Cuts.{row_cut, turned, shared_linked}
 use Rattle.agree.proofs.Openings.{passing_is}
 use Rattle.agree.proofs.Points.{through, before_it, at_each_before, lifted}
 use Rattle.vat_log.specs.declared.body.Body.{Body}
-use Rattle.merge_order.specs.Fits.{sends, receives}
+use Rattle.merge_order.specs.Fits.{sends_frame, receives_frame}
 use Rattle.vat_rules.specs.Audit.{Found, reads_within}
 use Rattle.vat_rules.specs.Events.{event_of}
 use Rattle.vat_rules.specs.Judged.{IsGood}
@@ -22,11 +22,11 @@ use Rattle.vat_rules.specs.declared.outcome.Why.{Why}
 use Rattle.vat_view.specs.Past.{Past, Each}
 use Rattle.call_trace.specs.Findings.{uses, Share, AreEnds, logs_of, AreTrue, MayBeNamed}
 use Rattle.call_trace.specs.Named.{past_before}
-use Rattle.call_trace.specs.Running.{coming_next, steps_by, AreMet, IsNamedRow, Passes, IsUser, IsGoodAt, MayRun}
+use Rattle.call_trace.specs.Running.{coming_next, steps_by, AreMet, IsNamedRow, Passes, IsUser, IsGoodNext, MayRun}
 use Rattle.call_trace.specs.Naming.{message_at}
 use Rattle.call_trace.specs.Taking.{row_of}
-use Rattle.call_trace.specs.Taking.{steps_by as turns_of}
-use Rattle.call_trace.specs.Types.{RpcMessage, Event, Wire, Message, Step}
+use Rattle.call_trace.specs.Taking.{steps_counted_by as turns_of}
+use Rattle.call_trace.specs.Types.{RpcMessage, DecodedRecord, Wire, Message, Step}
 use Rattle.call_trace.proofs.Carrying.{apart_from, passed, IsAlike, there_too, named_next, log_here, log_there, comes_next, are_met}
 use Rattle.call_trace.proofs.Sharing.{found_in, taken_at, stored_at, sends_it, receives_it, all_good, fits, shared}
 use Rattle.call_trace.proofs.Taking.{log_taken}
@@ -40,9 +40,9 @@ right_true : (a b : Bool) → b ≡ true → (a || b) ≡ true
 right_true true b h = refl
 right_true false b h = h
 
-passes_it : (k : ℕ) (f : Found) (b : Body) (e : Event) (sent : Bool) (m : RpcMessage) → event_of (reads_within f.limits) b ≡ Ok e → passing k sent e ≡ Some m → (sends k b || receives k b) ≡ true
-passes_it k f b e true m reads h = ap (λ c. c || receives k b) (sends_it k (reads_within f.limits) b e m reads h)
-passes_it k f b e false m reads h = right_true (sends k b) (receives k b) (receives_it k (reads_within f.limits) b e m reads h)
+passes_it : (k : ℕ) (f : Found) (b : Body) (e : DecodedRecord) (sent : Bool) (m : RpcMessage) → event_of (reads_within f.limits) b ≡ Ok e → passing k sent e ≡ Some m → (sends_frame k b || receives_frame k b) ≡ true
+passes_it k f b e true m reads h = ap (λ c. c || receives_frame k b) (sends_it k (reads_within f.limits) b e m reads h)
+passes_it k f b e false m reads h = right_true (sends_frame k b) (receives_frame k b) (receives_it k (reads_within f.limits) b e m reads h)
 
 -- the finding of a user of a connection
 record IsUsing (findings : List Found) (k v : ℕ) : Type 0 where
@@ -55,11 +55,11 @@ record IsUsing (findings : List Found) (k v : ℕ) : Type 0 where
 some_same : {A : Type 0} (o : Option A) (x y : A) → o ≡ Some x → o ≡ Some y → x ≡ y
 some_same o x y h g = let same : Some x ≡ Some y = sym h ∙ g in cc
 
-ok_same : (r : Result Event Why) (x y : Event) → r ≡ Ok x → r ≡ Ok y → x ≡ y
-ok_same r x y h g = let same : ◌≡◌ {A = Result Event Why} (Ok x) (Ok y) = sym h ∙ g in cc
+ok_same : (r : Result DecodedRecord Why) (x y : DecodedRecord) → r ≡ Ok x → r ≡ Ok y → x ≡ y
+ok_same r x y h g = let same : ◌≡◌ {A = Result DecodedRecord Why} (Ok x) (Ok y) = sym h ∙ g in cc
 
 module _ (findings : List Found) (order : List ℕ) (true_all : AreTrue findings) (asked : MayBeNamed findings order) where
-  goods : AtEach IsGoodAt (row_of findings order)
+  goods : AtEach IsGoodNext (row_of findings order)
   goods before r p =
       let t = taken_at findings (reverse order) r before p in
       let s = stored_at findings t.vat t.before r.1 t.next in
@@ -69,8 +69,8 @@ module _ (findings : List Found) (order : List ℕ) (true_all : AreTrue findings
       let g = all_good findings order true_all asked f at.1 i (slice_get_within f.log.records i s.stored s.there) in
       let body = some_same (slice_get f.log.records i) g.body s.stored g.there s.there in
       let event = ok_same (event_of (reads_within f.limits) s.stored) g.event r.1 (ap (event_of (reads_within f.limits)) (sym body) ∙ g.reads) s.reads in
-      let log : past_before f i ≡ log_of r.0 before =
-      sym (log_taken findings t.vat f s.found t.before) ∙ ap₂ (λ v row. log_of v row) (sym t.own) t.earlier in
+      let log : past_before f i ≡ log_of_vat r.0 before =
+      sym (log_taken findings t.vat f s.found t.before) ∙ ap₂ (λ v row. log_of_vat v row) (sym t.own) t.earlier in
       subst (λ es. IsGood es r.1) log (subst (IsGood (past_before f i)) event g.good)
 
   using : (k v : ℕ) → IsUser k v (row_of findings order) → IsUsing findings k v
@@ -85,8 +85,8 @@ module _ (findings : List Found) (order : List ℕ) (true_all : AreTrue findings
         there = at.1;
         log_there = at.2;
         own = at.0 ∙ sym t.own;
-        used = list_any_at (λ b. sends k b || receives k b) f.log.records i s.stored (slice_get_within f.log.records i s.stored s.there)
-            (ap (λ b. sends k b || receives k b) (get_or_from_slice_get f.log.records i s.stored s.stored s.there) ∙ passes_it k f s.stored e passes.0 passes.1 s.reads passes.2);
+        used = list_any_at (λ b. sends_frame k b || receives_frame k b) f.log.records i s.stored (slice_get_within f.log.records i s.stored s.there)
+            (ap (λ b. sends_frame k b || receives_frame k b) (get_or_from_slice_get f.log.records i s.stored s.stored s.there) ∙ passes_it k f s.stored e passes.0 passes.1 s.reads passes.2);
       }
 
   share : (k v w : ℕ) (one : IsUsing findings k v) (other : IsUsing findings k w) → v ≢ w → Share (logs_of findings) k one.finding.log other.finding.log
@@ -123,13 +123,13 @@ module _ (findings : List Found) (order : List ℕ) (true_all : AreTrue findings
     ];
   }
 
-  linked_ends : (k v w : ℕ) → IsUser k v (row_of findings order) → IsUser k w (row_of findings order) → v ≢ w → GoesOn (sent_by k w (row_of findings order)) (received_by k v (row_of findings order))
+  linked_ends : (k v w : ℕ) → IsUser k v (row_of findings order) → IsUser k w (row_of findings order) → v ≢ w → GoesOn (sent_stream k w (row_of findings order)) (received_stream k v (row_of findings order))
   linked_ends k v w at_v at_w apart =
       let one = using k v at_v in
       let other = using k w at_w in
       let s = shared findings order true_all asked k one.finding other.finding one.there other.there (are_ends k v w one other apart) in
-      subst (λ u. GoesOn (sent_by k w (row_of findings order)) (received_by k u (row_of findings order))) one.own
-      (subst (λ u. GoesOn (sent_by k u (row_of findings order)) (received_by k one.finding.log.vat (row_of findings order))) other.own s.to_one)
+      subst (λ u. GoesOn (sent_stream k w (row_of findings order)) (received_stream k u (row_of findings order))) one.own
+      (subst (λ u. GoesOn (sent_stream k u (row_of findings order)) (received_stream k one.finding.log.vat (row_of findings order))) other.own s.to_one)
 
   pub may_run : MayRun (row_of findings order)
   may_run = record { good = goods; fits = fits findings order true_all asked; two_ends = two_ends; linked = linked_ends }
@@ -169,19 +169,19 @@ shared_before k v w row before p s =
 
 pub run_before : (row before : Row) → GoesOn row before → MayRun row → MayRun before
 run_before row before p run = record {
-  good = at_each_before IsGoodAt row before p run.good;
+  good = at_each_before IsGoodNext row before p run.good;
   fits = λ k. at_each_before (FitsAt k) row before p (run.fits k);
   two_ends = λ k v w u at_v at_w at_u. run.two_ends k v w u (user_before k v row before p at_v) (user_before k w row before p at_w) (user_before k u row before p at_u);
   linked = λ k v w at_v at_w apart.
       (row_cut k v w row before (shared_users k v w row run (user_before k v row before p at_v) (user_before k w row before p at_w) apart) p).to_one;
 }
 
-pub logs_good : (v : ℕ) (row : Row) → AtEach IsGoodAt row → Each IsGood (log_of v row)
+pub logs_good : (v : ℕ) (row : Row) → AtEach IsGoodNext row → Each IsGood (log_of_vat v row)
 logs_good v [] good = tt
-logs_good v ((u, e) ∷ row) good = at (u == v) refl (logs_good v row (at_each_before IsGoodAt ((u, e) ∷ row) row ((u, e) ∷ [], refl) good))
+logs_good v ((u, e) ∷ row) good = at (u == v) refl (logs_good v row (at_each_before IsGoodNext ((u, e) ∷ row) row ((u, e) ∷ [], refl) good))
   where
-    at : (b : Bool) → (u == v) ≡ b → Each IsGood (log_of v row) → Each IsGood (cons_option (if b then Some e else None) (log_of v row))
-    at true same rest = (subst (λ w. IsGood (log_of w row) e) (eqb-true u v same) (good row (u, e) ([], refl)), rest)
+    at : (b : Bool) → (u == v) ≡ b → Each IsGood (log_of_vat v row) → Each IsGood (cons_option (if b then Some e else None) (log_of_vat v row))
+    at true same rest = (subst (λ w. IsGood (log_of_vat w row) e) (eqb-true u v same) (good row (u, e) ([], refl)), rest)
     at false apart rest = rest
 
 -- ---- a connection has two ends
@@ -241,7 +241,7 @@ others_use k v whole ((u, e) ∷ row) before p named =
         let user : IsUser k u whole = (row, e, p, (other.sent, m.0, m.1)) in
         ((other.apart, subst (λ x. IsUser k x whole) (sym vat ∙ other.vat) user), rest)
 
-pub is_end : (k v : ℕ) (e : Event) (row : Row) (before : List Step) → MayRun ((v, e) ∷ row) → Passes k e → IsNamedRow row before → IsEnd before v k
+pub is_end : (k v : ℕ) (e : DecodedRecord) (row : Row) (before : List Step) → MayRun ((v, e) ∷ row) → Passes k e → IsNamedRow row before → IsEnd before v k
 is_end k v e row before run passes named =
     let whole : Row = (v, e) ∷ row in
     let own : IsUser k v whole = (row, e, ([], refl), passes) in
@@ -249,7 +249,7 @@ is_end k v e row before run passes named =
     (others_use k v whole row before ((v, e) ∷ [], refl) named)
 
 -- a record that isn't received keeps to its link
-pub keeps_link : (v : ℕ) (e : Event) (row : Row) (before : List Step) (s : Step) → MayRun ((v, e) ∷ row) → IsNamedRow row before → is_received e ≡ false → IsAlike v e s → IsLinked before s
+pub keeps_link : (v : ℕ) (e : DecodedRecord) (row : Row) (before : List Step) (s : Step) → MayRun ((v, e) ∷ row) → IsNamedRow row before → is_received e ≡ false → IsAlike v e s → IsLinked before s
 keeps_link v e row before (step.Send u j m) run named own alike =
     let here : passed j true (step.Send u j m) ≡ Some m = ap (λ b. if b && true then Some m else None) (eq-eqb j j refl) in
     let sent = there_too (passing j true e) (passed j true (step.Send u j m)) m (sym (alike.passes j true)) here in
@@ -269,13 +269,13 @@ record IsSender (k v : ℕ) (row : Row) : Type 0 where
   pub apart : v ≢ vat
   pub used : IsUser k vat row
 
-sent_by_one : (k v : ℕ) (row : Row) (sent : List RpcMessage) → sent_by_others k v row ≡ sent → 0 < length sent → IsSender k v row
+sent_by_one : (k v : ℕ) (row : Row) (sent : List RpcMessage) → stream_of_others k v row ≡ sent → 0 < length sent → IsSender k v row
 sent_by_one k v row [] same lt = absurd (omega (arith, lt))
 sent_by_one k v row (m ∷ rest) same lt =
-    let r = lifted (λ (r : ℕ × Event). if r.0 == v then None else passing k true r.1) row m rest ([], same) in
+    let r = lifted (λ (r : ℕ × DecodedRecord). if r.0 == v then None else passing k true r.1) row m rest ([], same) in
     at r.0 r.1 r.2 (r.0.0 == v) refl r.3
   where
-    at : (x : ℕ × Event) (before : Row) → GoesOn row (x ∷ before) → (b : Bool) → (x.0 == v) ≡ b → (if b then None else passing k true x.1) ≡ Some m → IsSender k v row
+    at : (x : ℕ × DecodedRecord) (before : Row) → GoesOn row (x ∷ before) → (b : Bool) → (x.0 == v) ≡ b → (if b then None else passing k true x.1) ≡ Some m → IsSender k v row
     at x before p true own h = absurd (let no : ⊥ = cc in no)
     at x before p false apart h = record { vat = x.0; apart = λ e. apart_from x.0 v apart (sym e); used = (before, x.1, p, (true, m, h)) }
 
@@ -284,11 +284,11 @@ pub record IsComing (k c v : ℕ) (rs : List ℕ) (m : RpcMessage) (row : Row) (
   pub other : ℕ
   pub apart : v ≢ other
   pub from : Past
-  pub sent : Event
+  pub sent : DecodedRecord
   pub message : Message
-  pub met : AreMet k other (log_of other row) (steps_by other before) v (log_of v row) (steps_by v before)
-  pub linked : AreLinked k (log_of other row) (Wire false k c rs m ∷ log_of v row)
-  pub passed : IsPassed k m (log_of other row) (Wire false k c rs m ∷ log_of v row) from (log_of v row) sent (Wire false k c rs m)
+  pub met : AreMet k other (log_of_vat other row) (steps_by other before) v (log_of_vat v row) (steps_by v before)
+  pub linked : AreLinked k (log_of_vat other row) (Wire false k c rs m ∷ log_of_vat v row)
+  pub passed : IsPassed k m (log_of_vat other row) (Wire false k c rs m ∷ log_of_vat v row) from (log_of_vat v row) sent (Wire false k c rs m)
   pub comes : coming_next v k before ≡ Some message
   pub was : message_at (length from) (steps_by other before) ≡ Some message
 
@@ -298,21 +298,21 @@ received_here k c rs m = ap (λ b. if b && true then Some m else None) (eq-eqb k
 module _ (k c v : ℕ) (rs : List ℕ) (m : RpcMessage) (row : Row) (before : List Step) (run : MayRun ((v, Wire false k c rs m) ∷ row)) (named : IsNamedRow row before) where
   coming_of : (w : ℕ) → IsShared k v w ((v, Wire false k c rs m) ∷ row) → IsComing k c v rs m row before
   coming_of w shared =
-      let e : Event = Wire false k c rs m in
+      let e : DecodedRecord = Wire false k c rs m in
       let whole : Row = (v, e) ∷ row in
       let p : GoesOn whole row = ((v, e) ∷ [], refl) in
       let before_now = shared_before k v w whole row p shared in
       let apart : (v == w) ≡ false = at (v == w) refl shared.apart in
-      let own : log_of v whole ≡ e ∷ log_of v row = log_here v v e row refl in
-      let its : log_of w whole ≡ log_of w row = log_there w v e row apart in
-      let streams : GoesOn (stream k true (log_of w row)) (stream k false (e ∷ log_of v row)) =
-      subst (λ es. GoesOn (stream k true es) (stream k false (e ∷ log_of v row))) its (subst (λ es. GoesOn (sent_by k w whole) (stream k false es)) own shared.to_one) in
-      let with_it : GoesOn (stream k true (log_of w row)) (m ∷ stream k false (log_of v row)) =
-      subst (λ o. GoesOn (stream k true (log_of w row)) (cons_option o (stream k false (log_of v row)))) (received_here k c rs m) streams in
-      let l = lifted (passing k true) (log_of w row) m (stream k false (log_of v row)) with_it in
+      let own : log_of_vat v whole ≡ e ∷ log_of_vat v row = log_here v v e row refl in
+      let its : log_of_vat w whole ≡ log_of_vat w row = log_there w v e row apart in
+      let streams : GoesOn (stream k true (log_of_vat w row)) (stream k false (e ∷ log_of_vat v row)) =
+      subst (λ es. GoesOn (stream k true es) (stream k false (e ∷ log_of_vat v row))) its (subst (λ es. GoesOn (sent_stream k w whole) (stream k false es)) own shared.to_one) in
+      let with_it : GoesOn (stream k true (log_of_vat w row)) (m ∷ stream k false (log_of_vat v row)) =
+      subst (λ o. GoesOn (stream k true (log_of_vat w row)) (cons_option o (stream k false (log_of_vat v row)))) (received_here k c rs m) streams in
+      let l = lifted (passing k true) (log_of_vat w row) m (stream k false (log_of_vat v row)) with_it in
       let comes = comes_next k v w row before shared.apart before_now.theirs named m l.1 l.0 l.2 l.3 (ap length l.4) in
-      let good = logs_good v row (at_each_before IsGoodAt whole row p run.good) in
-      let good_other = logs_good w row (at_each_before IsGoodAt whole row p run.good) in
+      let good = logs_good v row (at_each_before IsGoodNext whole row p run.good) in
+      let good_other = logs_good w row (at_each_before IsGoodNext whole row p run.good) in
       let back : IsShared k w v whole = turned k v w whole shared in
       record {
         other = w;
@@ -321,7 +321,7 @@ module _ (k c v : ℕ) (rs : List ℕ) (m : RpcMessage) (row : Row) (before : Li
         sent = l.0;
         message = comes.0;
         met = are_met k w v row before (turned k v w row before_now) named good_other good;
-        linked = subst (λ es. AreLinked k es (e ∷ log_of v row)) its (subst (AreLinked k (log_of w whole)) own (shared_linked k w v whole back));
+        linked = subst (λ es. AreLinked k es (e ∷ log_of_vat v row)) its (subst (AreLinked k (log_of_vat w whole)) own (shared_linked k w v whole back));
         passed = record { sent_there = l.2; received_there = ([], refl); sends = l.3; receives = received_here k c rs m; same_number = ap length l.4 };
         comes = comes.1;
         was = comes.2;
@@ -333,10 +333,10 @@ module _ (k c v : ℕ) (rs : List ℕ) (m : RpcMessage) (row : Row) (before : Li
 
   pub is_coming : IsComing k c v rs m row before
   is_coming =
-      let e : Event = Wire false k c rs m in
+      let e : DecodedRecord = Wire false k c rs m in
       let whole : Row = (v, e) ∷ row in
       let less = run.fits k row (v, e) ([], refl) m (received_here k c rs m) in
-      let sender = sent_by_one k v row (sent_by_others k v row) refl (omega (arith, less)) in
+      let sender = sent_by_one k v row (stream_of_others k v row) refl (omega (arith, less)) in
       let own : IsUser k v whole = (row, e, ([], refl), (false, m, received_here k c rs m)) in
       let its : IsUser k sender.vat whole = user_before k sender.vat whole row ((v, e) ∷ [], refl) sender.used in
       coming_of sender.vat (shared_users k v sender.vat whole run own its sender.apart)

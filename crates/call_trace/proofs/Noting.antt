@@ -4,7 +4,7 @@ use Rattle.std.specs.Prelude.{unwrap_or}
 use Rattle.std.specs.Ordering.{is_eq}
 use Rattle.std.proofs.lemmas.Bool.{and_parts, eqb-true}
 use Rattle.std.proofs.lemmas.Bool.Decides.{nat_tests}
-use Rattle.call_trace.specs.Overtaking.{key_cmp}
+use Rattle.call_trace.specs.Glue.Overtaking.{key_cmp}
 
 -- keys are one where both parts are
 pub at_key : (vat number v n : ℕ) → is_eq (key_cmp (vat, number) (v, n)) ≡ ((vat == v) && (number == n))

@@ -2,7 +2,7 @@
 use Rattle.std.proofs.Common.{◌≡◌, refl, sym, ◌∙◌, ap, subst, ℕ, List, [], ◌∷◌, reverse, true, false, Option, Some, None, option_and_then, option_map, inl, inr}
 use Rattle.std.specs.Prelude.{map}
 use Rattle.std.proofs.lemmas.List.{reverse-reverse}
-use Rattle.agree.specs.Rows.{Row, log_of}
+use Rattle.agree.specs.Rows.{Row, log_of_vat}
 use Rattle.vat_rules.specs.Audit.{Found}
 use Rattle.vat_view.specs.Bindings.{Refers}
 use Rattle.vat_view.specs.Past.{Past, Each}
@@ -13,9 +13,9 @@ use Rattle.call_trace.specs.Named.{IsRunOf}
 use Rattle.call_trace.specs.Naming.{naming, cap_named}
 use Rattle.call_trace.specs.Part.{reference_named, promise_in, result_named, Says, PairsOff}
 use Rattle.call_trace.specs.Running.{steps_by, IsNamedRow, MayRun}
-use Rattle.call_trace.specs.Said.{together, said}
+use Rattle.call_trace.specs.Said.{all_there, message_of_record}
 use Rattle.call_trace.specs.Taking.{finding_of, row_of}
-use Rattle.call_trace.specs.Types.{Event, Host, Vow, Fulfil, Break, Make, Field, Deliver, Answer, Fault, Wire, Cap, Step}
+use Rattle.call_trace.specs.Types.{DecodedRecord, Host, Vow, Fulfil, Break, Make, Field, Deliver, Answer, Fault, Wire, Cap, Step}
 use Rattle.call_trace.proofs.Naming.{mapped_is, then_is, cap_step}
 use Rattle.call_trace.proofs.Next.{may_run, logs_good}
 use Rattle.call_trace.proofs.Running.{refers_all}
@@ -40,14 +40,14 @@ some_cap : (a b : Cap) → ◌≡◌ {A = Option Cap} (Some a) (Some b) → a �
 some_cap a b h = cc
 
 -- a reference that has a name keeps it
-reference_step : (v : ℕ) (es : Past) (steps : List Step) (e : Event) (s : Step) → Refers es e → (r : ℕ) (a : Cap) → reference_named (naming v es steps) es r ≡ Some a →
+reference_step : (v : ℕ) (es : Past) (steps : List Step) (e : DecodedRecord) (s : Step) → Refers es e → (r : ℕ) (a : Cap) → reference_named (naming v es steps) es r ≡ Some a →
     reference_named (naming v (e ∷ es) (s ∷ steps)) (e ∷ es) r ≡ Some a
 reference_step v es steps e s refers r a h =
     let view = then_is (cap_named v es steps) (view_of_reference es r) a h in
     ap (option_and_then (cap_named v (e ∷ es) (s ∷ steps))) (view_step es e r view.0 refers view.1) ∙ cap_step v es e steps s view.0 a refers view.2
 
 -- a call is made through the cap that its reference is named
-made_now : (v : ℕ) (es : Past) (steps : List Step) (e : Event) (s : Step) → Says v es steps e s → Refers es e → (r : ℕ) (a : Cap) → MakesThrough v r a s →
+made_now : (v : ℕ) (es : Past) (steps : List Step) (e : DecodedRecord) (s : Step) → Says v es steps e s → Refers es e → (r : ℕ) (a : Cap) → MakesThrough v r a s →
     reference_named (naming v (e ∷ es) (s ∷ steps)) (e ∷ es) r ≡ Some a
 made_now v es steps (Make c q interface method) s says refers r a made =
     let e = Make c q interface method in
@@ -72,12 +72,12 @@ made_now v es steps (Deliver c object) s says refers r a made =
     let names = naming v (Deliver c object ∷ es) (s ∷ steps) in absurd (subst (MakesThrough v r a) (sym (mapped_is (λ name. step.Deliver v name object) (names.call c) s says).2) made)
 made_now v es steps (Answer c results) s says refers r a made =
     let names = naming v (Answer c results ∷ es) (s ∷ steps) in
-    let name = then_is (λ name. option_map (λ caps. step.Answer v name caps) (together (map (result_named names es) results))) (names.call c) s says in
-    absurd (subst (MakesThrough v r a) (sym (mapped_is (λ caps. step.Answer v name.0 caps) (together (map (result_named names es) results)) s name.2).2) made)
+    let name = then_is (λ name. option_map (λ caps. step.Answer v name caps) (all_there (map (result_named names es) results))) (names.call c) s says in
+    absurd (subst (MakesThrough v r a) (sym (mapped_is (λ caps. step.Answer v name.0 caps) (all_there (map (result_named names es) results)) s name.2).2) made)
 made_now v es steps (Fault c) s says refers r a made =
     let names = naming v (Fault c ∷ es) (s ∷ steps) in absurd (subst (MakesThrough v r a) (sym (mapped_is (λ name. step.Fault v name) (names.call c) s says).2) made)
 made_now v es steps (Wire true k c rs m) s says refers r a made =
-    let e = Wire true k c rs m in absurd (subst (MakesThrough v r a) (sym (mapped_is (λ M. step.Send v k M) (said (naming v (e ∷ es) (s ∷ steps)) es e) s says).2) made)
+    let e = Wire true k c rs m in absurd (subst (MakesThrough v r a) (sym (mapped_is (λ M. step.Send v k M) (message_of_record (naming v (e ∷ es) (s ∷ steps)) es e) s says).2) made)
 made_now v es steps (Wire false k c rs m) s says refers r a made = absurd (subst (MakesThrough v r a) says.step made)
 
 made_named : (v : ℕ) (es : Past) (steps : List Step) → PairsOff v es steps → Each Refers es → (r : ℕ) (a : Cap) → OneOf (MakesThrough v r a) steps → reference_named (naming v es steps) es r ≡ Some a
@@ -90,22 +90,22 @@ made_named v (e ∷ es) (s ∷ steps) part refers r a (inr old) = reference_step
 keeps_references : (row : Row) (before : List Step) → MayRun row → IsNamedRow row before → KeepsReferences before
 keeps_references row before run named v r a b h k = some_cap a b (sym (cap_is a h) ∙ cap_is b k)
   where
-    cap_is : (c : Cap) → OneOf (MakesThrough v r c) before → reference_named (naming v (log_of v row) (steps_by v before)) (log_of v row) r ≡ Some c
+    cap_is : (c : Cap) → OneOf (MakesThrough v r c) before → reference_named (naming v (log_of_vat v row) (steps_by v before)) (log_of_vat v row) r ≡ Some c
     cap_is c there =
-        made_named v (log_of v row) (steps_by v before) (named.paired v) (refers_all (log_of v row) (logs_good v row run.good)) r c
+        made_named v (log_of_vat v row) (steps_by v before) (named.paired v) (refers_all (log_of_vat v row) (logs_good v row run.good)) r c
         (one_of_own v (MakesThrough v r c) (own_through v r c) before there)
 
 -- ---- two orders take the same logs
 
 same_logs : (findings : List Found) (order other : List ℕ) → AreTrue findings → MayBeNamed findings order → MayBeNamed findings other → (v : ℕ) →
-    log_of v (row_of findings order) ≡ log_of v (row_of findings other)
+    log_of_vat v (row_of findings order) ≡ log_of_vat v (row_of findings other)
 same_logs findings order other true_all asked asked_too v = at (finding_of v findings) refl
   where
-    at : (o : Option Found) → finding_of v findings ≡ o → log_of v (row_of findings order) ≡ log_of v (row_of findings other)
+    at : (o : Option Found) → finding_of v findings ≡ o → log_of_vat v (row_of findings order) ≡ log_of_vat v (row_of findings other)
     at None none = no_log findings v none (reverse order) ∙ sym (no_log findings v none (reverse other))
     at (Some f) found =
         let r = found_in v findings f found in
-        subst (λ u. log_of u (row_of findings order) ≡ log_of u (row_of findings other)) r.0 (whole_log findings order true_all asked f r.1 ∙ sym (whole_log findings other true_all asked_too f r.1))
+        subst (λ u. log_of_vat u (row_of findings order) ≡ log_of_vat u (row_of findings other)) r.0 (whole_log findings order true_all asked f r.1 ∙ sym (whole_log findings other true_all asked_too f r.1))
 
 -- ---- and their runs
 

@@ -8,15 +8,15 @@ use Rattle.std.proofs.lemmas.Bool.{and_parts, eq-eqb, eqb-true, ne_eqb}
 use Rattle.std.proofs.lemmas.Bool.Decides.{nat_tests}
 use Rattle.std.proofs.lemmas.List.{take_more, length_push, reverse-append, length-reverse, append-nil, map-append}
 use Rattle.std.proofs.lemmas.List.Elements.{filter_map-append}
-use Rattle.call_trace.specs.Lines.{sends_on, passed_on, by_other, by_others, sends_of, message_by, AreLines}
+use Rattle.call_trace.specs.Glue.Channels.{sends_on, passed_on, by_other, by_others, sends_of, message_by, AreLines}
 use Rattle.call_trace.proofs.Noting.{at_key}
-use Rattle.call_trace.specs.Naming.{message_of, message_at}
-use Rattle.call_trace.specs.Overtaking.{key_cmp}
+use Rattle.call_trace.specs.Naming.{message_of_step, message_at}
+use Rattle.call_trace.specs.Glue.Overtaking.{key_cmp}
 use Rattle.call_trace.specs.Running.{coming_next}
 use Rattle.call_trace.specs.Types.{Message, Step, Cap}
-use Rattle.call_trace.specs.declared.lines.Lines.{Lines}
-use Rattle.run_model.specs.Links.{receives, sent_to}
-use Rattle.run_model.specs.Steps.{count}
+use Rattle.call_trace.specs.declared.steps.channels.Channels.{Channels}
+use Rattle.run_model.specs.Links.{receives_on, sent_to}
+use Rattle.run_model.specs.Steps.{count_steps}
 use Rattle.run_model.specs.declared.step.Step.TheVariants.{Host, Send, Receive}
 
 -- ---- others' sends
@@ -97,7 +97,7 @@ sends_below v k (s ∷ before) = below_later (length before) (by_others v (sends
 messages_later : (s : Step) (before : List Step) (numbers : List ℕ) → AreBelow (length before) numbers → map (λ i. message_at i (s ∷ before)) numbers ≡ map (λ i. message_at i before) numbers
 messages_later s before [] all = refl
 messages_later s before (i ∷ numbers) all =
-    ap₂ (λ x xs. x ∷ xs) (ap (λ b. if b then message_of s else message_at i before) (ne_eqb (length before) i (λ e. let lt = all.0 in omega (arith, lt, e)))) (messages_later s before numbers all.1)
+    ap₂ (λ x xs. x ∷ xs) (ap (λ b. if b then message_of_step s else message_at i before) (ne_eqb (length before) i (λ e. let lt = all.0 in omega (arith, lt, e)))) (messages_later s before numbers all.1)
 
 -- what is sent to a vat are the messages of the steps by which others sent
 abbrev AreSent : ℕ → ℕ → List Step → Type 0
@@ -113,7 +113,7 @@ nothing_sent v k s before none are =
     ap (map (λ m. Some m)) (turned_more v k s before ∙ ap (λ o. filter_map (sent_to v k) (reverse before) ++ cons_option o []) none ∙ append-nil (filter_map (sent_to v k) (reverse before)))
     ∙ are ∙ sym (messages_later s before (by_others v (sends_of k before)) (sends_below v k before))
 
-one_sent : (v k : ℕ) (s : Step) (m : Message) (before : List Step) → sent_to v k s ≡ Some m → message_of s ≡ Some m → AreSent v k before
+one_sent : (v k : ℕ) (s : Step) (m : Message) (before : List Step) → sent_to v k s ≡ Some m → message_of_step s ≡ Some m → AreSent v k before
     → map (λ m. Some m) (filter_map (sent_to v k) (reverse (s ∷ before))) ≡ map (λ i. message_at i (s ∷ before)) (by_others v (sends_of k before) ++ length before ∷ [])
 one_sent v k s m before one is are =
     let numbers = by_others v (sends_of k before) in
@@ -121,7 +121,7 @@ one_sent v k s m before one is are =
     ap (map (λ m. Some m)) (turned_more v k s before ∙ ap (λ o. sent ++ cons_option o []) one)
     ∙ map-append (λ m. Some m) sent (m ∷ [])
     ∙ ap₂ (λ xs o. xs ++ o ∷ []) (are ∙ sym (messages_later s before numbers (sends_below v k before)))
-    (sym (ap (λ b. if b then message_of s else message_at (length before) before) (eq-eqb (length before) (length before) refl) ∙ is))
+    (sym (ap (λ b. if b then message_of_step s else message_at (length before) before) (eq-eqb (length before) (length before) refl) ∙ is))
     ∙ sym (map-append (λ i. message_at i (s ∷ before)) numbers (length before ∷ []))
 
 are_sent : (v k : ℕ) (before : List Step) → AreSent v k before
@@ -159,20 +159,20 @@ last_at f (x ∷ xs) s (suc i) = last_at f xs s i ∙ ap (λ b. if b then f s el
 by_number : (before : List Step) (i : ℕ) → message_by before i ≡ message_at i before
 by_number [] i = refl
 by_number (s ∷ before) i =
-    ap (λ l. option_and_then message_of (slice_get l i)) (reverse-append (s ∷ []) before)
-    ∙ last_at message_of (reverse before) s i
-    ∙ ap₂ (λ n o. if n == i then message_of s else o) (length-reverse before) (by_number before i)
+    ap (λ l. option_and_then message_of_step (slice_get l i)) (reverse-append (s ∷ []) before)
+    ∙ last_at message_of_step (reverse before) s i
+    ∙ ap₂ (λ n o. if n == i then message_of_step s else o) (length-reverse before) (by_number before i)
 
 by_numbers : (before : List Step) (o : Option ℕ) → option_and_then (λ i. message_at i before) o ≡ option_and_then (message_by before) o
 by_numbers before None = refl
 by_numbers before (Some i) = sym (by_number before i)
 
 -- this is the place of the first of the others' sends that a vat has before it, or one behind them all
-pub record IsFirst (v k : ℕ) (table : Lines) (place : ℕ) : Type 0 where
+pub record IsFirst (v k : ℕ) (table : Channels) (place : ℕ) : Type 0 where
   pub none_between : by_others v (take place (sends_on table k)) ≡ by_others v (take (passed_on table v k) (sends_on table k))
   pub other : place < length (sends_on table k) → (get_or (sends_on table k) place (0, 0)).0 ≢ v
 
-pub is_first : (v k : ℕ) (table : Lines) (place from : ℕ) (sends : List (ℕ × ℕ)) → sends ≡ sends_on table k → from ≡ passed_on table v k → by_others v (take place sends) ≡ by_others v (take from sends)
+pub is_first : (v k : ℕ) (table : Channels) (place from : ℕ) (sends : List (ℕ × ℕ)) → sends ≡ sends_on table k → from ≡ passed_on table v k → by_others v (take place sends) ≡ by_others v (take from sends)
     → (place < length sends → (get_or sends place (0, 0)).0 ≢ v) → IsFirst v k table place
 is_first v k table place from sends is begins none_between other =
     record {
@@ -180,27 +180,27 @@ is_first v k table place from sends is begins none_between other =
       other = subst (λ l. place < length l → (get_or l place (0, 0)).0 ≢ v) is other;
     }
 
-comes_next : (v k : ℕ) (before : List Step) (table : Lines) (place : ℕ) → AreLines before table → IsFirst v k table place
+comes_next : (v k : ℕ) (before : List Step) (table : Channels) (place : ℕ) → AreLines before table → IsFirst v k table place
     → coming_next v k before ≡ option_and_then (message_by before) (option_map (λ x. x.1) (slice_get (sends_on table k) place))
 comes_next v k before table place are first =
-    let so_many : count (receives v k) before ≡ length (by_others v (take place (sends_on table k))) = sym (are.received v k) ∙ sym (ap (λ l. length l) first.none_between) in
-    at_one (λ i. message_at i before) (filter_map (sent_to v k) (reverse before)) (by_others v (sends_of k before)) (count (receives v k) before) (are_sent v k before)
+    let so_many : count_steps (receives_on v k) before ≡ length (by_others v (take place (sends_on table k))) = sym (are.received v k) ∙ sym (ap (λ l. length l) first.none_between) in
+    at_one (λ i. message_at i before) (filter_map (sent_to v k) (reverse before)) (by_others v (sends_of k before)) (count_steps (receives_on v k) before) (are_sent v k before)
     ∙ ap₂ (λ l n. option_and_then (λ i. message_at i before) (slice_get (by_others v l) n)) (sym (are.sends k)) so_many
     ∙ ap (option_and_then (λ i. message_at i before)) (first_there v (sends_on table k) place first.other)
     ∙ by_numbers before (option_map (λ x. x.1) (slice_get (sends_on table k) place))
 
-pub nothing_comes : (v k : ℕ) (before : List Step) (table : Lines) (place : ℕ) → AreLines before table → IsFirst v k table place → length (sends_on table k) ≤ place → coming_next v k before ≡ None
+pub nothing_comes : (v k : ℕ) (before : List Step) (table : Channels) (place : ℕ) → AreLines before table → IsFirst v k table place → length (sends_on table k) ≤ place → coming_next v k before ≡ None
 nothing_comes v k before table place are first le =
     comes_next v k before table place are first ∙ ap (λ o. option_and_then (message_by before) (option_map (λ x. x.1) o)) (slice_get_past (sends_on table k) place le)
 
-pub one_comes : (v k : ℕ) (before : List Step) (table : Lines) (place : ℕ) (x : ℕ × ℕ) → AreLines before table → IsFirst v k table place → slice_get (sends_on table k) place ≡ Some x
+pub one_comes : (v k : ℕ) (before : List Step) (table : Channels) (place : ℕ) (x : ℕ × ℕ) → AreLines before table → IsFirst v k table place → slice_get (sends_on table k) place ≡ Some x
     → coming_next v k before ≡ message_by before x.1
 one_comes v k before table place x are first there = comes_next v k before table place are first ∙ ap (λ o. option_and_then (message_by before) (option_map (λ x. x.1) o)) there
 
 -- ---- the table, one step further
 
 -- a receipt
-pub received_more : (v k : ℕ) (m : Message) (bound : List Cap) (before : List Step) (place : ℕ) (old new : Lines) → AreLines before old → IsFirst v k old place → place < length (sends_on old k)
+pub received_more : (v k : ℕ) (m : Message) (bound : List Cap) (before : List Step) (place : ℕ) (old new : Channels) → AreLines before old → IsFirst v k old place → place < length (sends_on old k)
     → ((n : ℕ) → sends_on new n ≡ sends_on old n) → ((w n : ℕ) → passed_on new w n ≡ (if (v == w) && (k == n) then place + 1 else passed_on old w n))
     → AreLines (Receive v k m bound ∷ before) new
 received_more v k m bound before place old new are first lt sends passed =
@@ -217,7 +217,7 @@ received_more v k m bound before place old new are first lt sends passed =
     far w n true e = subst (λ n. place + 1 ≤ length (sends_on old n)) (same_place w n e).1 (omega (arith, lt))
     far w n false e = are.within w n
 
-    one_more : length (by_others v (take (place + 1) (sends_on old k))) ≡ suc (count (receives v k) before)
+    one_more : length (by_others v (take (place + 1) (sends_on old k))) ≡ suc (count_steps (receives_on v k) before)
     one_more =
         let longer = ap (λ l. length l) (other_passed v (sends_on old k) place lt (ne_eqb _ v (first.other lt))) in
         let pushed = length_push (by_others v (take place (sends_on old k))) (get_or (sends_on old k) place (0, 0)).1 in
@@ -225,15 +225,15 @@ received_more v k m bound before place old new are first lt sends passed =
         omega (arith, longer, pushed, before_it)
 
     so_far : (w n : ℕ) (b : Bool) → ((v == w) && (k == n)) ≡ b
-        → length (by_others w (take (if b then place + 1 else passed_on old w n) (sends_on old n))) ≡ (if b then suc (count (receives w n) before) else count (receives w n) before)
+        → length (by_others w (take (if b then place + 1 else passed_on old w n) (sends_on old n))) ≡ (if b then suc (count_steps (receives_on w n) before) else count_steps (receives_on w n) before)
     so_far w n true e =
         let same = same_place w n e in
-        subst (λ w. length (by_others w (take (place + 1) (sends_on old n))) ≡ suc (count (receives w n) before)) same.0
-        (subst (λ n. length (by_others v (take (place + 1) (sends_on old n))) ≡ suc (count (receives v n) before)) same.1 one_more)
+        subst (λ w. length (by_others w (take (place + 1) (sends_on old n))) ≡ suc (count_steps (receives_on w n) before)) same.0
+        (subst (λ n. length (by_others v (take (place + 1) (sends_on old n))) ≡ suc (count_steps (receives_on v n) before)) same.1 one_more)
     so_far w n false e = are.received w n
 
 -- a step that neither sends nor receives
-pub other_more : (s : Step) (before : List Step) (table : Lines) → message_of s ≡ None → AreLines before table → AreLines (s ∷ before) table
+pub other_more : (s : Step) (before : List Step) (table : Channels) → message_of_step s ≡ None → AreLines before table → AreLines (s ∷ before) table
 other_more (Send v k m) before table none are = absurd (let no : ⊥ = cc in no)
 other_more (Receive v k m bound) before table none are = absurd (let no : ⊥ = cc in no)
 other_more (Host v o) before table none are = record { sends = are.sends; within = are.within; received = are.received }

@@ -2,7 +2,7 @@
 -- what the answer will be. The two logs, their run, and that it has what a run is promised to have.
 use Rattle.std.proofs.Common.{◌≡◌, refl, inl, inr, List, [], ◌∷◌, true, false, reverse}
 use Rattle.vat_view.specs.Past.{Each as EachRecord}
-use Rattle.call_trace.specs.Types.{SenderHosted, Promised, Results, Bootstrap, Call, Return, Event, Host, Make, Field, Deliver, Answer, Wire, Step}
+use Rattle.call_trace.specs.Types.{SenderHosted, Promised, Results, Bootstrap, Call, Return, DecodedRecord, Host, Make, Field, Deliver, Answer, Wire, Step}
 use Rattle.run_model.specs.declared.cap.Cap.TheVariants as cap
 use Rattle.run_model.specs.declared.message.Message.TheVariants as message
 use Rattle.run_model.specs.declared.step.Step.TheVariants as step
@@ -13,9 +13,9 @@ use Rattle.run_model.specs.Links.{IsLinkedRun}
 use Rattle.run_model.specs.Right.{ReachesObject, IsConnected}
 use Rattle.run_model.specs.Early.{early}
 use Rattle.call_trace.specs.Part.{IsPart}
-use Rattle.call_trace.specs.Lives.{UsesLives}
+use Rattle.call_trace.specs.InLife.{UsesLives}
 
-abbrev pub log_1 : List Event
+abbrev pub log_1 : List DecodedRecord
 log_1 =
     (Wire true 0 1 [] (Bootstrap 0)) ∷
     (Field 1 1 []) ∷
@@ -25,7 +25,7 @@ log_1 =
     (Wire false 0 0 [] (Return 1 true (Results (record { descriptors = []; fields = [] })))) ∷
     []
 
-abbrev pub log_2 : List Event
+abbrev pub log_2 : List DecodedRecord
 log_2 =
     (Host 1 7) ∷
     (Wire false 0 1 [] (Bootstrap 0)) ∷

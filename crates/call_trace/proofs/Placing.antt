@@ -6,7 +6,7 @@ use Rattle.std.specs.Option.{option_or}
 use Rattle.std.proofs.lemmas.Bool.{cases_Bool, eq-eqb, and_left, and_right, and_from, and_parts, or_left, or_right, false_from_ne_true, false≢true}
 use Rattle.vat_view.specs.Past.{Past, Each, point, last_answer, last_where}
 use Rattle.vat_view.specs.Bindings.{Refers}
-use Rattle.vat_view.specs.Calls.{brings, takes, asked, delivers, boots, has_passed, is_at_vat, is_served, is_settled}
+use Rattle.vat_view.specs.Calls.{brings, takes, request_of, delivers, boots, has_passed, is_at_vat, is_served, is_settled}
 use Rattle.vat_view.specs.Calls.{moves as log_moves}
 use Rattle.vat_view.specs.Views.{view_of_reference, view_of_target}
 use Rattle.vat_view.specs.Questions.{is_late}
@@ -15,9 +15,9 @@ use Rattle.vat_rules.specs.Judged.{IsGood}
 use Rattle.vat_rules.specs.Ways.{LeadsTo}
 use Rattle.vat_rules.specs.declared.rule.Rule.TheVariants as rule
 use Rattle.rpc_view.specs.declared.message.Payload.{Payload}
-use Rattle.call_trace.specs.Types.{RpcMessage, Target, Results, Exception, Canceled, Bootstrap, Call, Return, Finish, Resolve, Release, Disembargo, Abort, Event, Host, Vow, Fulfil, Break, Make, Field, Deliver, Answer, Fault, Wire, View, Object, Name, Cap, Message, Step}
+use Rattle.call_trace.specs.Types.{RpcMessage, Target, Results, Exception, Canceled, Bootstrap, Call, Return, Finish, Resolve, Release, Disembargo, Abort, DecodedRecord, Host, Vow, Fulfil, Break, Make, Field, Deliver, Answer, Fault, Wire, View, Object, Name, Cap, Message, Step}
 use Rattle.call_trace.specs.Naming.{Naming, naming, call_named, cap_named}
-use Rattle.call_trace.specs.Said.{said, say_call, say_return, say_resolve, caps_named, promise_named, answered, together, given}
+use Rattle.call_trace.specs.Said.{message_of_record, say_call, say_return, say_resolve, caps_named, promise_named, call_answered, all_there, caps_at_paths}
 use Rattle.call_trace.specs.Part.{reference_named, promise_in, result_named, resolves_released, Says, PairsOff}
 use Rattle.call_trace.specs.Placed.{AsksFor, IsThere}
 use Rattle.call_trace.specs.Within.{IsWithin}
@@ -25,11 +25,11 @@ use Rattle.call_trace.proofs.AsSent.{read, says_read}
 use Rattle.call_trace.proofs.Naming.{mapped_is, then_is, call_keeps, cap_keeps}
 use Rattle.call_trace.proofs.Within.{heads, tails, each_earlier, all_leads}
 use Rattle.run_model.specs.Leads.{Leads as RunLeads}
-use Rattle.run_model.specs.Legal.{IsLegal, MayCome, begins, arrives}
+use Rattle.run_model.specs.Legal.{IsLegal, MayCome, begins_call, arrives}
 use Rattle.run_model.specs.Links.{IsLinked}
-use Rattle.run_model.specs.Places.{Asked, asks, Move, brings_it, takes_it_away, leaves_it, move_of, asked_after, at_vat}
-use Rattle.run_model.specs.Steps.{is_same, call, vat_of}
-use Rattle.run_model.specs.Steps.{Each as EachStep}
+use Rattle.run_model.specs.Places.{Asked, asked_by_parts, Move, brings_it, takes_it_away, leaves_it, move_of, asked_after, at_vat}
+use Rattle.run_model.specs.Steps.{is_same_call, call, vat_of}
+use Rattle.run_model.specs.Steps.{EachStep}
 use Rattle.run_model.proofs.Once.{names_same, or_either}
 use Rattle.run_model.proofs.Places.{Place, idle, held, flying, place, this_call, at_no_vat}
 use Rattle.run_model.proofs.Spent.{spends, arrived_spent}
@@ -64,7 +64,7 @@ pub record IsStepBack (v : ℕ) (es : Past) (s : Step) (steps before : List Step
   pub legal : IsLegal earlier s
   pub linked : IsLinked earlier s
 
-pub step_back : (v : ℕ) (e : Event) (es : Past) (s : Step) (steps before : List Step) → IsWithin v (e ∷ es) (s ∷ steps) before → IsStepBack v es s steps before
+pub step_back : (v : ℕ) (e : DecodedRecord) (es : Past) (s : Step) (steps before : List Step) → IsWithin v (e ∷ es) (s ∷ steps) before → IsStepBack v es s steps before
 step_back v e es s steps before w =
     let at = stands_last (λ s. vat_of s == v) before steps s w.own in
     let legal = each_earlier IsLegal at.0 (s ∷ at.1) (subst (EachStep IsLegal) at.2 w.legal) in
@@ -84,13 +84,13 @@ move_off : (a b : Bool) (m : Move) → a ≡ false → (if a && b then m else le
 move_off a b m e = ap (λ t. if t then m else leaves_it) (and_left a b e)
 
 moved_elsewhere : (name : Name) (v : ℕ) (s : Step) → (vat_of s == v) ≡ false → move_of name v s ≡ leaves_it
-moved_elsewhere name v (step.Make w number c r interface method) apart = move_off (w == v) (is_same (call w number) name) _ apart
-moved_elsewhere name v (step.Receive w k (message.Call d target interface method caps) bound) apart = move_off (w == v) (is_same d name) _ apart
+moved_elsewhere name v (step.Make w number c r interface method) apart = move_off (w == v) (is_same_call (call w number) name) _ apart
+moved_elsewhere name v (step.Receive w k (message.Call d target interface method caps) bound) apart = move_off (w == v) (is_same_call d name) _ apart
 moved_elsewhere name v (step.Receive w k m bound) apart = refl
-moved_elsewhere name v (step.Send w k (message.Call d target interface method caps)) apart = move_off (w == v) (is_same d name) _ apart
+moved_elsewhere name v (step.Send w k (message.Call d target interface method caps)) apart = move_off (w == v) (is_same_call d name) _ apart
 moved_elsewhere name v (step.Send w k m) apart = refl
-moved_elsewhere name v (step.Deliver w d object) apart = move_off (w == v) (is_same d name) _ apart
-moved_elsewhere name v (step.Fault w d) apart = move_off (w == v) (is_same d name) _ apart
+moved_elsewhere name v (step.Deliver w d object) apart = move_off (w == v) (is_same_call d name) _ apart
+moved_elsewhere name v (step.Fault w d) apart = move_off (w == v) (is_same_call d name) _ apart
 moved_elsewhere name v s apart = refl
 
 at_by_own : (name : Name) (v : ℕ) (before : List Step) → at_vat (filter (λ s. vat_of s == v) before) name v ≡ at_vat before name v
@@ -109,7 +109,7 @@ at_own name v before steps own = ap (λ l. at_vat l name v) (sym own) ∙ at_by_
 
 -- ---- a call that isn't begun, or is spent, is at no vat
 
-unbegun_nowhere : (before : List Step) (name : Name) (v : ℕ) → Place name before → list_any (begins name) before ≡ false → at_vat before name v ≡ None
+unbegun_nowhere : (before : List Step) (name : Name) (v : ℕ) → Place name before → list_any (begins_call name) before ≡ false → at_vat before name v ≡ None
 unbegun_nowhere before name v (idle none all) h = none v
 unbegun_nowhere before name v (held u rest all begun fresh) h = absurd (clash begun h)
 unbegun_nowhere before name v (flying none left begun fresh) h = none v
@@ -138,8 +138,8 @@ one_answer {A} x y o p q = let same : ◌≡◌ {A = Option A} (Some x) (Some y)
 abbrev HasArrived : ℕ → Past → List Step → ℕ → Type 0
 HasArrived v es steps c = (name : Name) × (call_named v es steps c ≡ Some name) × (list_any (arrives name v) steps ≡ true)
 
-arrived_here : (v : ℕ) (name : Name) → ((v == v) && is_same name name) ≡ true
-arrived_here v name = and_from (v == v) (is_same name name) (eq-eqb v v refl) (same_to_itself name)
+arrived_here : (v : ℕ) (name : Name) → ((v == v) && is_same_call name name) ≡ true
+arrived_here v name = and_from (v == v) (is_same_call name name) (eq-eqb v v refl) (same_to_itself name)
 
 delivery_arrives : (v c object : ℕ) (es : Past) (steps : List Step) (s : Step) → Says v es steps (Deliver c object) s → HasArrived v (Deliver c object ∷ es) (s ∷ steps) c
 delivery_arrives v c object es steps s says =
@@ -147,7 +147,7 @@ delivery_arrives v c object es steps s says =
     (name.0, name.1, or_left (arrives name.0 v s) (list_any (arrives name.0 v) steps) (ap (arrives name.0 v) (sym name.2) ∙ arrived_here v name.0))
 
 -- what is read as a Bootstrap is one
-read_boot : (es : Past) (e : Event) (m : Message) (name : Name) → read es e m ≡ message.Boot name → m ≡ message.Boot name
+read_boot : (es : Past) (e : DecodedRecord) (m : Message) (name : Name) → read es e m ≡ message.Boot name → m ≡ message.Boot name
 read_boot es e (message.Return c results caps) name h = absurd (at (is_late es e) h)
   where
     at : (b : Bool) → (if b then message.Late c else message.Return c results caps) ≡ message.Boot name → ⊥
@@ -174,24 +174,24 @@ boot_arrives v k c q rs es steps s says =
     let is : s ≡ step.Receive v k (message.Boot name.0) says.bound = says.step ∙ ap (λ m. step.Receive v k m says.bound) booted in
     (name.0, name.1, or_left (arrives name.0 v s) (list_any (arrives name.0 v) steps) (ap (arrives name.0 v) is ∙ arrived_here v name.0))
 
-passed_first : (test : Past → Event → Bool) (es : Past) (e : Event) → has_passed test (e ∷ es) ≡ true → (test es e ≡ true) ⊎ (has_passed test es ≡ true)
+passed_first : (test : Past → DecodedRecord → Bool) (es : Past) (e : DecodedRecord) → has_passed test (e ∷ es) ≡ true → (test es e ≡ true) ⊎ (has_passed test es ≡ true)
 passed_first test es e h = elim (cases_Bool (test es e)) [
   | inl now ↦ inl now
   | inr old ↦ inr (sym (ap (λ b. is_some (if b then Some (point es e) else last_where test es)) old) ∙ h)
 ]
 
-call_grows : (v : ℕ) (es : Past) (steps : List Step) (e : Event) (s : Step) (c : ℕ) (name : Name) → Refers es e → call_named v es steps c ≡ Some name →
+call_grows : (v : ℕ) (es : Past) (steps : List Step) (e : DecodedRecord) (s : Step) (c : ℕ) (name : Name) → Refers es e → call_named v es steps c ≡ Some name →
     call_named v (e ∷ es) (s ∷ steps) c ≡ Some name
 call_grows v es steps e s c name refers h = call_keeps v (e ∷ []) es (s ∷ []) steps refl (refers, tt) c name h
 
-arrived_then : (v : ℕ) (es : Past) (steps : List Step) (e : Event) (s : Step) (c : ℕ) → Refers es e → HasArrived v es steps c → HasArrived v (e ∷ es) (s ∷ steps) c
+arrived_then : (v : ℕ) (es : Past) (steps : List Step) (e : DecodedRecord) (s : Step) (c : ℕ) → Refers es e → HasArrived v es steps c → HasArrived v (e ∷ es) (s ∷ steps) c
 arrived_then v es steps e s c refers a = (a.0, call_grows v es steps e s c a.0 refers a.1, or_right (arrives a.0 v s) (list_any (arrives a.0 v) steps) a.2)
 
-delivered_now : (v : ℕ) (es : Past) (steps : List Step) (e : Event) (s : Step) (c : ℕ) → Says v es steps e s → delivers c es e ≡ true → HasArrived v (e ∷ es) (s ∷ steps) c
+delivered_now : (v : ℕ) (es : Past) (steps : List Step) (e : DecodedRecord) (s : Step) (c : ℕ) → Says v es steps e s → delivers c es e ≡ true → HasArrived v (e ∷ es) (s ∷ steps) c
 delivered_now v es steps (Deliver d object) s c says h = subst (HasArrived v (Deliver d object ∷ es) (s ∷ steps)) (eqb-true d c h) (delivery_arrives v d object es steps s says)
 delivered_now v es steps e s c says h = absurd (false≢true h)
 
-booted_now : (v : ℕ) (es : Past) (steps : List Step) (e : Event) (s : Step) (c : ℕ) → Says v es steps e s → boots c es e ≡ true → HasArrived v (e ∷ es) (s ∷ steps) c
+booted_now : (v : ℕ) (es : Past) (steps : List Step) (e : DecodedRecord) (s : Step) (c : ℕ) → Says v es steps e s → boots c es e ≡ true → HasArrived v (e ∷ es) (s ∷ steps) c
 booted_now v es steps (Wire false k d rs (Bootstrap q)) s c says h = subst (HasArrived v (Wire false k d rs (Bootstrap q) ∷ es) (s ∷ steps)) (eqb-true d c h) (boot_arrives v k d q rs es steps s says)
 booted_now v es steps e s c says h = absurd (false≢true h)
 
@@ -225,16 +225,16 @@ served_arrived v es steps before w c h =
 
 -- ---- what a record with its step does to the places of calls
 
-data Effect (v : ℕ) (es : Past) (steps : List Step) (e : Event) (s : Step) : Type 0 where
+data Effect (v : ℕ) (es : Past) (steps : List Step) (e : DecodedRecord) (s : Step) : Type 0 where
   -- nothing, in the run
   quiet : ((c : ℕ) → brings c es e ≡ None) → ((name : Name) → move_of name v s ≡ leaves_it) → Effect v es steps e s
   -- a call comes, whose name was nowhere
   comes : (d : ℕ) (name : Name) (a : AskedOf) (here : Asked) → ((c : ℕ) → brings c es e ≡ (if d == c then Some a else None)) → call_named v (e ∷ es) (s ∷ steps) d ≡ Some name →
-      ((other : Name) → move_of other v s ≡ (if (v == v) && is_same name other then brings_it here else leaves_it)) → at_vat steps name v ≡ None →
+      ((other : Name) → move_of other v s ≡ (if (v == v) && is_same_call name other then brings_it here else leaves_it)) → at_vat steps name v ≡ None →
       AsksFor (cap_named v (e ∷ es) (s ∷ steps)) here a → Effect v es steps e s
   -- a call goes that was at the vat, or was nowhere
   goes : (d : ℕ) (name : Name) → ((c : ℕ) → brings c es e ≡ None) → ((c : ℕ) → takes c es e ≡ (d == c)) → call_named v es steps d ≡ Some name →
-      ((other : Name) → move_of other v s ≡ (if (v == v) && is_same name other then takes_it_away else leaves_it)) → (is_at_vat d es ≡ true) ⊎ (at_vat steps name v ≡ None) → Effect v es steps e s
+      ((other : Name) → move_of other v s ≡ (if (v == v) && is_same_call name other then takes_it_away else leaves_it)) → (is_at_vat d es ≡ true) ⊎ (at_vat steps name v ≡ None) → Effect v es steps e s
 
 -- ---- what messages say that aren't Calls
 
@@ -242,7 +242,7 @@ abbrev call_in : Message → Bool
 call_in (message.Call c target interface method caps) = true
 call_in m = false
 
-read_call_in : (es : Past) (e : Event) (m : Message) → call_in (read es e m) ≡ call_in m
+read_call_in : (es : Past) (e : DecodedRecord) (m : Message) → call_in (read es e m) ≡ call_in m
 read_call_in es e (message.Return c results caps) = at (is_late es e)
   where
     at : (b : Bool) → call_in (if b then message.Late c else message.Return c results caps) ≡ false
@@ -261,7 +261,7 @@ read_call_in es e (message.Broken promise) = at (resolves_released es e)
 read_call_in es e m = refl
 
 -- what is read as a Call is one
-read_call : (es : Past) (e : Event) (m : Message) (c : Name) (target : Cap) (interface method : ℕ) (caps : List Cap) →
+read_call : (es : Past) (e : DecodedRecord) (m : Message) (c : Name) (target : Cap) (interface method : ℕ) (caps : List Cap) →
     read es e m ≡ message.Call c target interface method caps → m ≡ message.Call c target interface method caps
 read_call es e (message.Call d to i n cs) c target interface method caps h = h
 read_call es e m c target interface method caps h = absurd (let no : false ≡ true = sym (read_call_in es e m) ∙ ap call_in h in false≢true no)
@@ -280,7 +280,7 @@ carries_call m = false
 
 return_no_call : (late : Bool) (fields : List (List ℕ × ℕ)) (name : Name) (caps : Option (List Cap)) (m : Message) → say_return late fields name caps ≡ Some m → call_in m ≡ false
 return_no_call true fields name caps m h = let same : message.Late name ≡ m = cc in ap call_in (sym same)
-return_no_call false fields name (Some caps) m h = ap call_in (sym (mapped_is (λ caps. message.Return name (given caps fields) caps) (Some caps) m h).2)
+return_no_call false fields name (Some caps) m h = ap call_in (sym (mapped_is (λ caps. message.Return name (caps_at_paths caps fields) caps) (Some caps) m h).2)
 return_no_call false fields name None m h = absurd (let no : ⊥ = cc in no)
 
 resolve_no_call : (promise : Cap) (caps : List Cap) → call_in (say_resolve promise caps) ≡ false
@@ -289,15 +289,15 @@ resolve_no_call promise (c ∷ rest) = refl
 resolve_no_call promise [] = refl
 
 said_no_call : (names : Naming) (es : Past) (sent : Bool) (k c : ℕ) (rs : List ℕ) (m : RpcMessage) (sent_message : Message) → carries_call m ≡ false →
-    said names es (Wire sent k c rs m) ≡ Some sent_message → call_in sent_message ≡ false
+    message_of_record names es (Wire sent k c rs m) ≡ Some sent_message → call_in sent_message ≡ false
 said_no_call names es sent k c rs (Bootstrap q) M isnt h = ap call_in (sym (mapped_is message.Boot (names.call c) M h).2)
 said_no_call names es sent k c rs (Call q target interface method params) M isnt h = absurd (false≢true (sym isnt))
 said_no_call names es sent k c rs (Return q release (Results payload)) M isnt h =
     let e = Wire sent k c rs (Return q release (Results payload)) in
-    let name = then_is (λ name. say_return (is_late es e) payload.fields name (caps_named names es e)) (answered names es k sent q) M h in
+    let name = then_is (λ name. say_return (is_late es e) payload.fields name (caps_named names es e)) (call_answered names es k sent q) M h in
     return_no_call (is_late es e) payload.fields name.0 (caps_named names es e) M name.2
-said_no_call names es sent k c rs (Return q release Exception) M isnt h = ap call_in (sym (mapped_is message.Failed (answered names es k sent q) M h).2)
-said_no_call names es sent k c rs (Return q release Canceled) M isnt h = ap call_in (sym (mapped_is message.Failed (answered names es k sent q) M h).2)
+said_no_call names es sent k c rs (Return q release Exception) M isnt h = ap call_in (sym (mapped_is message.Failed (call_answered names es k sent q) M h).2)
+said_no_call names es sent k c rs (Return q release Canceled) M isnt h = ap call_in (sym (mapped_is message.Failed (call_answered names es k sent q) M h).2)
 said_no_call names es sent k c rs (Resolve n resolution) M isnt h =
     let e = Wire sent k c rs (Resolve n resolution) in
     let promise = then_is (λ promise. option_map (say_resolve promise) (caps_named names es e)) (promise_named names es k sent n) M h in
@@ -328,7 +328,7 @@ call_said interface method (Some caps) (Some name) None m h = absurd (let no : �
 -- ---- each record with its step
 
 module _ (v : ℕ) (es : Past) (steps earlier : List Step) (w : IsWithin v es steps earlier) where
-  nowhere_yet : (name : Name) → list_any (begins name) earlier ≡ false → at_vat steps name v ≡ None
+  nowhere_yet : (name : Name) → list_any (begins_call name) earlier ≡ false → at_vat steps name v ≡ None
   nowhere_yet name h = at_own name v earlier steps w.own ∙ unbegun_nowhere earlier name v (place earlier name w.legal w.linked) h
 
   nowhere_more : (name : Name) → list_any (spends name) earlier ≡ true → at_vat steps name v ≡ None
@@ -339,7 +339,7 @@ module _ (v : ℕ) (es : Past) (steps earlier : List Step) (w : IsWithin v es st
       let e = Make d r interface method in
       let to = mapped_is (λ to. step.Make v d to r interface method) (reference_named (naming v (e ∷ es) (s ∷ steps)) es r) s says in
       let new = (subst (IsLegal earlier) (sym to.2) legal).1 in
-      comes d (call v d) (record { goal = view_of_reference es r; interface = interface; method = method }) (asks to.0 interface method) (λ c. refl)
+      comes d (call v d) (record { goal = view_of_reference es r; interface = interface; method = method }) (asked_by_parts to.0 interface method) (λ c. refl)
       (ap (λ b. option_or (if b then Some (call v d) else None) (call_named v es steps d)) (eq-eqb d d refl)) (λ other. ap (move_of other v) (sym to.2)) (nowhere_yet (call v d) new) (to.1, refl, refl)
 
   deliver_effect : (d object : ℕ) (s : Step) → is_at_vat d es ≡ true → Says v es steps (Deliver d object) s → Effect v es steps (Deliver d object) s
@@ -362,7 +362,7 @@ module _ (v : ℕ) (es : Past) (steps earlier : List Step) (w : IsWithin v es st
   call_sent_effect k d rs q target interface method params s here says =
       let e = Wire true k d rs (Call q target interface method params) in
       let names = naming v (e ∷ es) (s ∷ steps) in
-      let sent = mapped_is (λ m. step.Send v k m) (said names es e) s says in
+      let sent = mapped_is (λ m. step.Send v k m) (message_of_record names es e) s says in
       let call_is = call_said interface method (caps_named names es e) (names.call d) (option_and_then names.cap (view_of_target es e)) sent.0 sent.1 in
       let is : s ≡ step.Send v k (message.Call call_is.call call_is.to interface method call_is.caps) = sym sent.2 ∙ ap (λ m. step.Send v k m) call_is.is in
       goes d call_is.call (λ c. refl) (λ c. refl) call_is.named (λ other. ap (move_of other v) is) (inl here)
@@ -377,14 +377,14 @@ module _ (v : ℕ) (es : Past) (steps earlier : List Step) (w : IsWithin v es st
       let was = read_call es e says.message call_is.call call_is.to interface method call_is.caps call_is.is in
       let is : s ≡ step.Receive v k (message.Call call_is.call call_is.to interface method call_is.caps) says.bound = says.step ∙ ap (λ m. step.Receive v k m says.bound) was in
       let nowhere = at_no_vat earlier w.legal w.linked call_is.call v k v call_is.to interface method call_is.caps says.bound (subst (IsLinked earlier) is linked) in
-      comes d call_is.call (record { goal = goal; interface = interface; method = method }) (asks call_is.to interface method) (λ c. refl)
+      comes d call_is.call (record { goal = goal; interface = interface; method = method }) (asked_by_parts call_is.to interface method) (λ c. refl)
       call_is.named (λ other. ap (move_of other v) is) (at_own call_is.call v earlier steps w.own ∙ nowhere) (call_is.targeted, refl, refl)
 
   sent_effect : (k d : ℕ) (rs : List ℕ) (m : RpcMessage) (s : Step) → carries_call m ≡ false → Says v es steps (Wire true k d rs m) s → Effect v es steps (Wire true k d rs m) s
   sent_effect k d rs m s isnt says =
       let e = Wire true k d rs m in
       let names = naming v (e ∷ es) (s ∷ steps) in
-      let sent = mapped_is (λ m. step.Send v k m) (said names es e) s says in
+      let sent = mapped_is (λ m. step.Send v k m) (message_of_record names es e) s says in
       quiet (λ c. refl) (λ name. ap (move_of name v) (sym sent.2) ∙ send_stays v k sent.0 (said_no_call names es true k d rs m sent.0 isnt sent.1) name)
 
   received_effect : (k d : ℕ) (rs : List ℕ) (m : RpcMessage) (s : Step) → carries_call m ≡ false → ((c : ℕ) → brings c es (Wire false k d rs m) ≡ None) →
@@ -395,7 +395,7 @@ module _ (v : ℕ) (es : Past) (steps earlier : List Step) (w : IsWithin v es st
       let still = sym (read_call_in es e says.message) ∙ said_no_call names es false k d rs m (read es e says.message) isnt (says_read says) in
       quiet none (λ name. ap (move_of name v) says.step ∙ receive_stays v k says.message says.bound still name)
 
-  effect : (e : Event) (s : Step) → IsLegal earlier s → IsLinked earlier s → IsGood es e → Says v es steps e s → Effect v es steps e s
+  effect : (e : DecodedRecord) (s : Step) → IsLegal earlier s → IsLinked earlier s → IsGood es e → Says v es steps e s → Effect v es steps e s
   effect (Host r object) s legal linked good says =
       let is : step.Host v object ≡ s = let h : ◌≡◌ {A = Option Step} (Some (step.Host v object)) (Some s) = says in cc in quiet (λ c. refl) (λ name. ap (move_of name v) (sym is))
   effect (Vow r) s legal linked good says =
@@ -415,8 +415,8 @@ module _ (v : ℕ) (es : Past) (steps earlier : List Step) (w : IsWithin v es st
   effect (Deliver d object) s legal linked good says = deliver_effect d object s (good rule.Here) says
   effect (Answer d results) s legal linked good says =
       let names = naming v (Answer d results ∷ es) (s ∷ steps) in
-      let name = then_is (λ name. option_map (λ caps. step.Answer v name caps) (together (map (result_named names es) results))) (call_named v es steps d) s says in
-      let caps = mapped_is (λ caps. step.Answer v name.0 caps) (together (map (result_named names es) results)) s name.2 in
+      let name = then_is (λ name. option_map (λ caps. step.Answer v name caps) (all_there (map (result_named names es) results))) (call_named v es steps d) s says in
+      let caps = mapped_is (λ caps. step.Answer v name.0 caps) (all_there (map (result_named names es) results)) s name.2 in
       quiet (λ c. refl) (λ name. ap (move_of name v) (sym caps.2))
   effect (Fault d) s legal linked good says = fault_effect d s (and_parts (is_at_vat d es || is_served d es) (not (is_settled d es)) (good rule.Answer)).0 says
   effect (Wire true k d rs (Call q target interface method params)) s legal linked good says = call_sent_effect k d rs q target interface method params s (good rule.Here) says
@@ -431,14 +431,14 @@ record ArePlaced (v : ℕ) (es : Past) (steps : List Step) : Type 0 where
   there : (c : ℕ) → is_at_vat c es ≡ true → IsThere v es steps steps c
   alone : (c d : ℕ) (name : Name) → is_at_vat c es ≡ true → is_at_vat d es ≡ true → call_named v es steps c ≡ Some name → call_named v es steps d ≡ Some name → c ≡ d
 
-was_here : (c : ℕ) (es : Past) (e : Event) → brings c es e ≡ None → is_at_vat c (e ∷ es) ≡ true → (takes c es e ≡ false) × (is_at_vat c es ≡ true)
+was_here : (c : ℕ) (es : Past) (e : DecodedRecord) → brings c es e ≡ None → is_at_vat c (e ∷ es) ≡ true → (takes c es e ≡ false) × (is_at_vat c es ≡ true)
 was_here c es e none h = at (takes c es e) refl (sym (ap (λ o. unwrap_or (option_or (if is_some o then Some true else if takes c es e then Some false else None) (last_answer (log_moves c) es)) false) none) ∙ h)
   where
     at : (b : Bool) → takes c es e ≡ b → unwrap_or (option_or (if b then Some false else None) (last_answer (log_moves c) es)) false ≡ true → (takes c es e ≡ false) × (is_at_vat c es ≡ true)
     at true taken h = absurd (false≢true h)
     at false left h = (left, h)
 
-module _ (v : ℕ) (es : Past) (steps : List Step) (e : Event) (s : Step) (refers : Refers es e) (placed : ArePlaced v es steps) where
+module _ (v : ℕ) (es : Past) (steps : List Step) (e : DecodedRecord) (s : Step) (refers : Refers es e) (placed : ArePlaced v es steps) where
   asks_still : (here : Asked) (o : Option AskedOf) → IsSomeAnd o (AsksFor (cap_named v es steps) here) → IsSomeAnd o (AsksFor (cap_named v (e ∷ es) (s ∷ steps)) here)
   asks_still here None f = absurd f
   asks_still here (Some a) f =
@@ -452,8 +452,8 @@ module _ (v : ℕ) (es : Past) (steps : List Step) (e : Event) (s : Step) (refer
     named = call_grows v es steps e s c t.name refers t.named;
     there = ap (λ m. asked_after m (at_vat steps t.name v)) unmoved ∙ t.there;
     asks =
-        subst (λ o. IsSomeAnd o (AsksFor (cap_named v (e ∷ es) (s ∷ steps)) t.here)) (sym (ap (λ o. option_or o (asked c es)) unbrought))
-        (asks_still t.here (asked c es) t.asks);
+        subst (λ o. IsSomeAnd o (AsksFor (cap_named v (e ∷ es) (s ∷ steps)) t.here)) (sym (ap (λ o. option_or o (request_of c es)) unbrought))
+        (asks_still t.here (request_of c es) t.asks);
   }
 
   old_name : (c : ℕ) (name : Name) → is_at_vat c es ≡ true → call_named v (e ∷ es) (s ∷ steps) c ≡ Some name → call_named v es steps c ≡ Some name
@@ -466,25 +466,25 @@ module _ (v : ℕ) (es : Past) (steps : List Step) (e : Event) (s : Step) (refer
   not_nowhere : (c : ℕ) (name : Name) (t : IsThere v es steps steps c) → at_vat steps name v ≡ None → name ≡ t.name → ⊥
   not_nowhere c name t none same = let no : ◌≡◌ {A = Option Asked} None (Some t.here) = sym none ∙ ap (λ n. at_vat steps n v) same ∙ t.there in cc
 
-  differs : (c : ℕ) (name : Name) (t : IsThere v es steps steps c) → at_vat steps name v ≡ None → is_same name t.name ≡ false
-  differs c name t none = false_from_ne_true (is_same name t.name) (λ same. not_nowhere c name t none (names_same name t.name same))
+  differs : (c : ℕ) (name : Name) (t : IsThere v es steps steps c) → at_vat steps name v ≡ None → is_same_call name t.name ≡ false
+  differs c name t none = false_from_ne_true (is_same_call name t.name) (λ same. not_nowhere c name t none (names_same name t.name same))
 
   other_call : (b : Bool) (m : Move) → b ≡ false → (if (v == v) && b then m else leaves_it) ≡ leaves_it
   other_call b m apart = ap (λ t. if t then m else leaves_it) (and_right (v == v) b apart)
 
   -- a call that comes
   module _ (d : ℕ) (name : Name) (a : AskedOf) (here : Asked) (brought : (c : ℕ) → brings c es e ≡ (if d == c then Some a else None)) (named : call_named v (e ∷ es) (s ∷ steps) d ≡ Some name)
-      (moved : (other : Name) → move_of other v s ≡ (if (v == v) && is_same name other then brings_it here else leaves_it)) (none : at_vat steps name v ≡ None)
+      (moved : (other : Name) → move_of other v s ≡ (if (v == v) && is_same_call name other then brings_it here else leaves_it)) (none : at_vat steps name v ≡ None)
       (for : AsksFor (cap_named v (e ∷ es) (s ∷ steps)) here a) where
     come : IsThere v (e ∷ es) (s ∷ steps) (s ∷ steps) d
     come = record {
       name = name;
       here = here;
       named = named;
-      there = ap (λ m. asked_after m (at_vat steps name v)) (moved name ∙ this_call v (is_same name name) (brings_it here) (same_to_itself name));
+      there = ap (λ m. asked_after m (at_vat steps name v)) (moved name ∙ this_call v (is_same_call name name) (brings_it here) (same_to_itself name));
       asks =
           subst (λ o. IsSomeAnd o (AsksFor (cap_named v (e ∷ es) (s ∷ steps)) here))
-          (sym (ap (λ o. option_or o (asked d es)) (brought d ∙ ap (λ b. if b then Some a else None) (eq-eqb d d refl)))) for;
+          (sym (ap (λ o. option_or o (request_of d es)) (brought d ∙ ap (λ b. if b then Some a else None) (eq-eqb d d refl)))) for;
     }
 
     not_brought : (c : ℕ) → (d == c) ≡ false → brings c es e ≡ None
@@ -498,7 +498,7 @@ module _ (v : ℕ) (es : Past) (steps : List Step) (e : Event) (s : Step) (refer
       | inl same ↦ subst (IsThere v (e ∷ es) (s ∷ steps) (s ∷ steps)) (eqb-true d c same) come
       | inr apart ↦
           let t = placed.there c (old c apart h) in
-          stays c t (not_brought c apart) (moved t.name ∙ other_call (is_same name t.name) (brings_it here) (differs c name t none))
+          stays c t (not_brought c apart) (moved t.name ∙ other_call (is_same_call name t.name) (brings_it here) (differs c name t none))
     ]
 
     not_again : (c : ℕ) (x : Name) → (d == c) ≡ false → is_at_vat c (e ∷ es) ≡ true → call_named v (e ∷ es) (s ∷ steps) c ≡ Some x → call_named v (e ∷ es) (s ∷ steps) d ≡ Some x → ⊥
@@ -526,10 +526,10 @@ module _ (v : ℕ) (es : Past) (steps : List Step) (e : Event) (s : Step) (refer
 
   gone_differs : (d c : ℕ) (name : Name) (t : IsThere v es steps steps c) → (d == c) ≡ false → is_at_vat c es ≡ true → call_named v es steps d ≡ Some name →
       (is_at_vat d es ≡ true) ⊎ (at_vat steps name v ≡ None) →
-      is_same name t.name ≡ false
+      is_same_call name t.name ≡ false
   gone_differs d c name t apart here named (inr none) = differs c name t none
   gone_differs d c name t apart here named (inl there) =
-      false_from_ne_true (is_same name t.name) (λ same. clash (eq-eqb d c (placed.alone d c t.name there here (named ∙ ap (λ n. Some n) (names_same name t.name same)) t.named)) apart)
+      false_from_ne_true (is_same_call name t.name) (λ same. clash (eq-eqb d c (placed.alone d c t.name there here (named ∙ ap (λ n. Some n) (names_same name t.name same)) t.named)) apart)
 
   placed_next : Effect v es steps e s → ArePlaced v (e ∷ es) (s ∷ steps)
   placed_next (quiet unbrought unmoved) = record {
@@ -544,7 +544,7 @@ module _ (v : ℕ) (es : Past) (steps : List Step) (e : Event) (s : Step) (refer
     there = λ c h.
         let was = was_here c es e (unbrought c) h in
         let t = placed.there c was.1 in
-        stays c t (unbrought c) (moved t.name ∙ other_call (is_same name t.name) takes_it_away (gone_differs d c name t (sym (taken c) ∙ was.0) was.1 named gone));
+        stays c t (unbrought c) (moved t.name ∙ other_call (is_same_call name t.name) takes_it_away (gone_differs d c name t (sym (taken c) ∙ was.0) was.1 named gone));
     alone = unbrought_alone unbrought;
   }
 
@@ -597,7 +597,7 @@ pub delivery_may_come : (v : ℕ) (es : Past) (steps before : List Step) (c obje
 delivery_may_come v es steps before c object s w goods good says =
     let name = mapped_is (λ name. step.Deliver v name object) (call_named v es steps c) s says in
     let t = is_there v es steps before w goods c (good rule.Here) in
-    let leads = goal_leads v es steps before w (cap_named v es steps) (λ view c h. h) t.here (asked c es) (Some (Object object)) (cap.Object v object) t.asks refl (good rule.Goal) in
+    let leads = goal_leads v es steps before w (cap_named v es steps) (λ view c h. h) t.here (request_of c es) (Some (Object object)) (cap.Object v object) t.asks refl (good rule.Goal) in
     subst (MayCome before) name.2
     (subst (λ n. IsSomeAnd (at_vat before n v) (λ asked. RunLeads before asked.goal (cap.Object v object))) (one_answer t.name name.0 (call_named v es steps c) t.named name.1)
     (subst (λ o. IsSomeAnd o (λ asked. RunLeads before asked.goal (cap.Object v object))) (sym t.there) leads))
@@ -617,14 +617,14 @@ pub sent_call_may_come : (v : ℕ) (es : Past) (steps before : List Step) (k c :
 sent_call_may_come v es steps before k c rs q target interface method params s w goods good says =
     let e = Wire true k c rs (Call q target interface method params) in
     let names = naming v (e ∷ es) (s ∷ steps) in
-    let sent = mapped_is (λ m. step.Send v k m) (said names es e) s says in
+    let sent = mapped_is (λ m. step.Send v k m) (message_of_record names es e) s says in
     let m = call_said interface method (caps_named names es e) (names.call c) (option_and_then names.cap (view_of_target es e)) sent.0 sent.1 in
     let is : step.Send v k (message.Call m.call m.to interface method m.caps) ≡ s = ap (λ m. step.Send v k m) (sym m.is) ∙ sent.2 in
     let t = is_there v es steps before w goods c (good rule.Here) in
-    let goal = goes_by (cap_named v es steps) es t.here interface method (view_of_target es e) (asked c es) t.asks (good rule.Goal) in
+    let goal = goes_by (cap_named v es steps) es t.here interface method (view_of_target es e) (request_of c es) t.asks (good rule.Goal) in
     let keeps : (view : View) (x : Cap) → cap_named v es steps view ≡ Some x → names.cap view ≡ Some x =
     λ view x h. cap_keeps v (e ∷ []) es (s ∷ []) steps refl (good rule.Ref, tt) view x h in
-    let leads = goal_leads v es steps before w names.cap keeps t.here (asked c es) (view_of_target es e) m.to t.asks m.targeted goal.0 in
+    let leads = goal_leads v es steps before w names.cap keeps t.here (request_of c es) (view_of_target es e) m.to t.asks m.targeted goal.0 in
     let P : Asked → Type 0 = λ asked. RunLeads before asked.goal m.to × (interface ≡ asked.interface) × (method ≡ asked.method) in
     subst (MayCome before) is
     (subst (λ n. IsSomeAnd (at_vat before n v) P) (one_answer t.name m.call (call_named v es steps c) t.named m.named)

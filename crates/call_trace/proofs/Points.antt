@@ -6,7 +6,7 @@ use Rattle.std.proofs.lemmas.Bool.{cases_lt}
 use Rattle.std.proofs.lemmas.List.{reverse-append, take-append-drop}
 use Rattle.std.proofs.lemmas.List.Sums.{sum_by-cons, sum_by_push}
 use Rattle.agree.specs.Points.{GoesOn}
-use Rattle.agree.specs.Rows.{log_of}
+use Rattle.agree.specs.Rows.{log_of_vat}
 use Rattle.agree.specs.Streams.{IsCut}
 use Rattle.agree.specs.Agreeing.{AreLinked}
 use Rattle.agree.specs.Standing.{Agree}
@@ -17,20 +17,20 @@ use Rattle.agree.proofs.Good.{good_agree, good_balanced}
 use Rattle.vat_rules.specs.Audit.{Found}
 use Rattle.vat_rules.specs.Judged.{IsGood}
 use Rattle.vat_view.specs.Past.{Each}
-use Rattle.call_trace.specs.Types.{Event}
+use Rattle.call_trace.specs.Types.{DecodedRecord}
 use Rattle.call_trace.specs.Findings.{AreTrue, MayBeNamed}
-use Rattle.call_trace.specs.Named.{past_before, taken, AtEachPoint, AreBalanced}
-use Rattle.call_trace.specs.Taking.{steps_by, next_record, taken_by, row_of}
+use Rattle.call_trace.specs.Named.{past_before, taken_before, AtEachPoint, AreBalanced}
+use Rattle.call_trace.specs.Taking.{steps_counted_by, next_record, taken_by, row_of}
 use Rattle.call_trace.proofs.Reading.{AllRecordsGood, each_good}
 use Rattle.call_trace.proofs.Sharing.{all_good, log_by, shared, past_whole}
 
 -- ---- points of an order
 
-steps_back : (v : ℕ) (steps : List ℕ) → steps_by v (reverse steps) ≡ steps_by v steps
+steps_back : (v : ℕ) (steps : List ℕ) → steps_counted_by v (reverse steps) ≡ steps_counted_by v steps
 steps_back v [] = refl
 steps_back v (u ∷ steps) =
     let one : ℕ → ℕ = λ u. cond (u == v) 1 0 in
-    let last = ap (steps_by v) (reverse-append (u ∷ []) steps) ∙ sum_by_push one (reverse steps) u in
+    let last = ap (steps_counted_by v) (reverse-append (u ∷ []) steps) ∙ sum_by_push one (reverse steps) u in
     let first = sum_by-cons one u steps in
     let rest = steps_back v steps in
     omega (arith, last, first, rest)
@@ -39,7 +39,7 @@ pub rows_on : (findings : List Found) (later steps : List ℕ) → GoesOn (taken
 rows_on findings [] steps = ([], refl)
 rows_on findings (u ∷ later) steps = at (next_record findings (later ++ steps) u) (rows_on findings later steps)
   where
-    at : (o : Option Event) → GoesOn (taken_by findings (later ++ steps)) (taken_by findings steps) →
+    at : (o : Option DecodedRecord) → GoesOn (taken_by findings (later ++ steps)) (taken_by findings steps) →
         GoesOn (cons_option (option_map (λ e. (u, e)) o) (taken_by findings (later ++ steps))) (taken_by findings steps)
     at None p = p
     at (Some e) p = ((u, e) ∷ p.0, ap (λ l. (u, e) ∷ l) p.1)
@@ -52,10 +52,10 @@ point_of findings order i =
 -- ---- together
 
 module _ (findings : List Found) (order : List ℕ) (true_all : AreTrue findings) (asked : MayBeNamed findings order) where
-  pub log_taken_by : (i : ℕ) (f : Found) → Contains findings f → log_of f.log.vat (row_of findings (take i order)) ≡ taken order i f
+  pub log_taken_by : (i : ℕ) (f : Found) → Contains findings f → log_of_vat f.log.vat (row_of findings (take i order)) ≡ taken_before order i f
   log_taken_by i f there = log_by findings order true_all asked f there (reverse (take i order)) ∙ ap (past_before f) (steps_back f.log.vat (take i order))
 
-  pub taken_good : (i : ℕ) (f : Found) → Contains findings f → Each IsGood (taken order i f)
+  pub taken_good : (i : ℕ) (f : Found) → Contains findings f → Each IsGood (taken_before order i f)
   taken_good i f there = at (count_by (λ v. v == f.log.vat) (take i order))
     where
       good : AllRecordsGood f
@@ -71,26 +71,26 @@ module _ (findings : List Found) (order : List ℕ) (true_all : AreTrue findings
   taken_cut i k one other there_one there_other share =
       let s = shared findings order true_all asked k one other there_one there_other share in
       let cut = row_cut k one.log.vat other.log.vat (row_of findings order) (row_of findings (take i order)) s (point_of findings order i) in
-      subst (λ p. IsCut k p (taken order i other)) (log_taken_by i one there_one)
-      (subst (λ p. IsCut k (log_of one.log.vat (row_of findings (take i order))) p) (log_taken_by i other there_other) cut)
+      subst (λ p. IsCut k p (taken_before order i other)) (log_taken_by i one there_one)
+      (subst (λ p. IsCut k (log_of_vat one.log.vat (row_of findings (take i order))) p) (log_taken_by i other there_other) cut)
 
   pub taken_linked : AtEachPoint findings order AreLinked
   taken_linked i k one other there_one there_other share =
       let s = shared findings order true_all asked k one other there_one there_other share in
       let point = point_of findings order i in
-      let before : (f : Found) → Contains findings f → GoesOn (log_of f.log.vat (row_of findings order)) (taken order i f) =
-      λ f there. subst (λ p. GoesOn (log_of f.log.vat (row_of findings order)) p) (log_taken_by i f there) (kept _ (row_of findings order) (row_of findings (take i order)) point) in
-      linked_before k _ _ (taken order i one) (taken order i other) (before one there_one) (before other there_other)
+      let before : (f : Found) → Contains findings f → GoesOn (log_of_vat f.log.vat (row_of findings order)) (taken_before order i f) =
+      λ f there. subst (λ p. GoesOn (log_of_vat f.log.vat (row_of findings order)) p) (log_taken_by i f there) (kept _ (row_of findings order) (row_of findings (take i order)) point) in
+      linked_before k _ _ (taken_before order i one) (taken_before order i other) (before one there_one) (before other there_other)
       (taken_cut i k one other there_one there_other share) (shared_linked k one.log.vat other.log.vat (row_of findings order) s)
 
   pub taken_agree : AtEachPoint findings order Agree
   taken_agree i k one other there_one there_other share =
-      good_agree k (taken order i one) (taken order i other) (taken_good i one there_one) (taken_good i other there_other) (taken_linked i k one other there_one there_other share)
+      good_agree k (taken_before order i one) (taken_before order i other) (taken_good i one there_one) (taken_good i other there_other) (taken_linked i k one other there_one there_other share)
 
   pub taken_balanced : AreBalanced findings order
   taken_balanced i k one other there_one there_other share n =
-      let x = taken order i one in
-      let y = taken order i other in
+      let x = taken_before order i one in
+      let y = taken_before order i other in
       let cut = taken_cut i k one other there_one there_other share in
       let there = cut.to_other in
       let back = cut.to_one in

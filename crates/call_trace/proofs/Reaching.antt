@@ -6,14 +6,14 @@ use Rattle.std.proofs.lemmas.List.{take_all, take_more, take-append-drop, revers
 use Rattle.agree.specs.Rows.{Row}
 use Rattle.merge_order.proofs.Greedy.{eqb_apart}
 use Rattle.vat_rules.specs.Audit.{Found, IsTrueOf}
-use Rattle.call_trace.specs.declared.ledger.Ledger.{Ledger}
-use Rattle.call_trace.specs.declared.turns.Turns.{Turns}
+use Rattle.call_trace.specs.declared.records.vat_ledger.VatLedger.{VatLedger}
+use Rattle.call_trace.specs.declared.steps.turns.Turns.{Turns}
 use Rattle.call_trace.specs.Findings.{AreTrue, MayBeNamed, is_good, logs_of}
-use Rattle.call_trace.specs.Glue.{IsKept}
+use Rattle.call_trace.specs.Glue.Ledgers.{IsKept}
 use Rattle.call_trace.specs.Named.{IsRunOf}
 use Rattle.call_trace.specs.Running.{steps_of_row}
-use Rattle.call_trace.specs.Taking.{finding_of, record_in, steps_by, next_record, taken_by}
-use Rattle.call_trace.specs.Turns.{IsKeptOf, Goes, vats_of, AreKept, MayTurn, IsReached, IsTurned}
+use Rattle.call_trace.specs.Taking.{finding_of, record_in, steps_counted_by, next_record, taken_by}
+use Rattle.call_trace.specs.Glue.Turns.{IsKeptOf, TakesTurn, vats_of_ledgers, AreKept, MayTurn, IsReached, IsTurned}
 use Rattle.call_trace.specs.Types.{Step}
 use Rattle.call_trace.proofs.Fitting.{Rises, rises}
 use Rattle.call_trace.proofs.Good.{good_run}
@@ -28,7 +28,7 @@ abbrev pub vats_in : List Found → List ℕ
 vats_in findings = map (λ log. log.vat) (logs_of findings)
 
 -- what is kept stands in the order of the findings
-pub vats_kept : (row : Row) (before : List Step) (findings : List Found) (ledgers : List Ledger) → AreKept row before findings ledgers → vats_of ledgers ≡ vats_in findings
+pub vats_kept : (row : Row) (before : List Step) (findings : List Found) (ledgers : List VatLedger) → AreKept row before findings ledgers → vats_of_ledgers ledgers ≡ vats_in findings
 vats_kept row before [] [] kept = refl
 vats_kept row before [] (l ∷ ls) kept = absurd kept
 vats_kept row before (f ∷ fs) [] kept = absurd kept
@@ -38,7 +38,7 @@ some_same : {A : Type 0} {x y : A} → Some x ≡ Some y → x ≡ y
 some_same e = cc
 
 -- that of a vat stands at this place
-pub place_is : (ledgers : List Ledger) (i v : ℕ) → i < length ledgers → ((d : Ledger) → (get_or ledgers i d).vat ≡ v) → slice_get (vats_of ledgers) i ≡ Some v
+pub place_is : (ledgers : List VatLedger) (i v : ℕ) → i < length ledgers → ((d : VatLedger) → (get_or ledgers i d).vat ≡ v) → slice_get (vats_of_ledgers ledgers) i ≡ Some v
 place_is [] i v lt is = absurd (omega (arith, lt))
 place_is (l ∷ ls) zero v lt is = ap Some (is l)
 place_is (l ∷ ls) (suc i) v lt is = place_is ls i v (omega (arith, lt)) is
@@ -48,11 +48,11 @@ finding_at [] i v is = absurd (let none : ⊥ = cc in none)
 finding_at (f ∷ fs) zero v is = (omega arith, λ d. some_same is)
 finding_at (f ∷ fs) (suc i) v is = let rest = finding_at fs i v is in (omega (arith, rest.0), rest.1)
 
-pub place_in : (findings : List Found) (ledgers : List Ledger) (i v : ℕ) → MayTurn findings ledgers → slice_get (vats_of ledgers) i ≡ Some v → i < length findings
+pub place_in : (findings : List Found) (ledgers : List VatLedger) (i v : ℕ) → MayTurn findings ledgers → slice_get (vats_of_ledgers ledgers) i ≡ Some v → i < length findings
 place_in findings ledgers i v may is = (finding_at findings i v (ap (λ vs. slice_get vs i) (sym may.vats) ∙ is)).0
 
 -- a vat for which nothing is kept has no finding
-any_vat : (v : ℕ) (ledgers : List Ledger) → list_any (λ (ledger : Ledger). ledger.vat == v) ledgers ≡ list_any (λ u. u == v) (vats_of ledgers)
+any_vat : (v : ℕ) (ledgers : List VatLedger) → list_any (λ (ledger : VatLedger). ledger.vat == v) ledgers ≡ list_any (λ u. u == v) (vats_of_ledgers ledgers)
 any_vat v [] = refl
 any_vat v (l ∷ ls) = ap (λ b. (l.vat == v) || b) (any_vat v ls)
 
@@ -70,7 +70,7 @@ above_at u [] i v above is = absurd (let none : ⊥ = cc in none)
 above_at u (w ∷ ws) zero v above is = let same : w ≡ v = some_same is in omega (arith, above.0, same)
 above_at u (w ∷ ws) (suc i) v above is = above_at u ws i v above.1 is
 
-kept_at : (row : Row) (before : List Step) (findings : List Found) (ledgers : List Ledger) (i : ℕ) (f : Found) (l : Ledger) → AreKept row before findings ledgers → i < length findings →
+kept_at : (row : Row) (before : List Step) (findings : List Found) (ledgers : List VatLedger) (i : ℕ) (f : Found) (l : VatLedger) → AreKept row before findings ledgers → i < length findings →
     IsKeptOf (get_or findings i f).log.vat row before (get_or ledgers i l)
 kept_at row before [] ledgers i f l kept lt = absurd (omega (arith, lt))
 kept_at row before (x ∷ fs) [] i f l kept lt = absurd kept
@@ -79,13 +79,13 @@ kept_at row before (x ∷ fs) (y ∷ ls) (suc i) f l kept lt = kept_at row befor
 
 -- ---- before any turn
 
-kept_last : (findings : List Found) (ledgers : List Ledger) (f : Found) (l : Ledger) → AreKept [] [] findings ledgers → IsKept f.log.vat [] [] [] l → AreKept [] [] (findings ++ f ∷ []) (ledgers ++ l ∷ [])
+kept_last : (findings : List Found) (ledgers : List VatLedger) (f : Found) (l : VatLedger) → AreKept [] [] findings ledgers → IsKept f.log.vat [] [] [] l → AreKept [] [] (findings ++ f ∷ []) (ledgers ++ l ∷ [])
 kept_last [] [] f l kept new = ((new, refl), tt)
 kept_last [] (y ∷ ls) f l kept new = absurd kept
 kept_last (x ∷ fs) [] f l kept new = absurd kept
 kept_last (x ∷ fs) (y ∷ ls) f l kept new = (kept.0, kept_last fs ls f l kept.1 new)
 
-pub kept_more : (findings : List Found) (ledgers : List Ledger) (i : ℕ) (f : Found) (l : Ledger) → i < length findings → f ≡ get_or findings i f → AreKept [] [] (take i findings) ledgers →
+pub kept_more : (findings : List Found) (ledgers : List VatLedger) (i : ℕ) (f : Found) (l : VatLedger) → i < length findings → f ≡ get_or findings i f → AreKept [] [] (take i findings) ledgers →
     IsKept f.log.vat [] [] [] l → AreKept [] [] (take (i + 1) findings) (ledgers ++ l ∷ [])
 kept_more findings ledgers i f l lt is kept new =
     subst (λ fs. AreKept [] [] fs (ledgers ++ l ∷ [])) (sym (take_more findings i f lt ∙ ap (λ x. take i findings ++ x ∷ []) (sym is)))
@@ -93,8 +93,8 @@ kept_more findings ledgers i f l lt is kept new =
 
 -- ---- what is kept after a turn
 
-module _ (row longer : Row) (before more : List Step) (v : ℕ) (stays : (w : ℕ) (other : Ledger) → (v == w) ≡ false → IsKeptOf w row before other → IsKeptOf w longer more other) where
-  kept_on : (findings : List Found) (ledgers : List Ledger) → AllByRecursion (λ w. v < w) (vats_in findings) → AreKept row before findings ledgers → AreKept longer more findings ledgers
+module _ (row longer : Row) (before more : List Step) (v : ℕ) (stays : (w : ℕ) (other : VatLedger) → (v == w) ≡ false → IsKeptOf w row before other → IsKeptOf w longer more other) where
+  kept_on : (findings : List Found) (ledgers : List VatLedger) → AllByRecursion (λ w. v < w) (vats_in findings) → AreKept row before findings ledgers → AreKept longer more findings ledgers
   kept_on [] [] above kept = tt
   kept_on [] (l ∷ ls) above kept = absurd kept
   kept_on (f ∷ fs) [] above kept = absurd kept
@@ -102,7 +102,7 @@ module _ (row longer : Row) (before more : List Step) (v : ℕ) (stays : (w : �
       let less = above.0 in
       (stays f.log.vat l (eqb_apart v f.log.vat (λ same. omega (arith, less, same))) kept.0, kept_on fs ls above.1 kept.1)
 
-  kept_turned : (findings : List Found) (ledgers : List Ledger) (i : ℕ) (now : Ledger) → Rises (vats_in findings) → slice_get (vats_in findings) i ≡ Some v → AreKept row before findings ledgers →
+  kept_turned : (findings : List Found) (ledgers : List VatLedger) (i : ℕ) (now : VatLedger) → Rises (vats_in findings) → slice_get (vats_in findings) i ≡ Some v → AreKept row before findings ledgers →
       IsKeptOf v longer more now → AreKept longer more findings (set ledgers i now)
   kept_turned [] ledgers i now up is kept turned = absurd (let none : ⊥ = cc in none)
   kept_turned (f ∷ fs) [] i now up is kept turned = absurd kept
@@ -118,11 +118,11 @@ module _ (row longer : Row) (before more : List Step) (v : ℕ) (stays : (w : �
 -- ---- a turn
 
 -- of a vat that has no finding nothing is taken
-pub passes : (findings : List Found) (turns : List ℕ) (v : ℕ) (state : Turns) → MayTurn findings state.ledgers.items → list_any (λ (ledger : Ledger). ledger.vat == v) state.ledgers.items ≡ false →
+pub passes : (findings : List Found) (turns : List ℕ) (v : ℕ) (state : Turns) → MayTurn findings state.ledgers.items → list_any (λ (ledger : VatLedger). ledger.vat == v) state.ledgers.items ≡ false →
     IsReached findings turns state → IsReached findings (v ∷ turns) state
 passes findings turns v state may none reached =
     let no = no_finding v findings (ap (list_any (λ u. u == v)) (sym may.vats) ∙ sym (any_vat v state.ledgers.items) ∙ none) in
-    let next : next_record findings turns v ≡ None = ap (λ o. option_and_then (λ f. record_in f (steps_by v turns)) o) no in
+    let next : next_record findings turns v ≡ None = ap (λ o. option_and_then (λ f. record_in f (steps_counted_by v turns)) o) no in
     let same : taken_by findings (v ∷ turns) ≡ taken_by findings turns = ap (λ o. cons_option (option_map (λ e. (v, e)) o) (taken_by findings turns)) next in
     record {
       before = reached.before;
@@ -132,7 +132,7 @@ passes findings turns v state may none reached =
     }
 
 -- the finding of a vat, and what is kept of it, stand at one place
-pub record IsPlaced (findings : List Found) (turns : List ℕ) (v : ℕ) (before : List Step) (f : Found) (l : Ledger) : Type 0 where
+pub record IsPlaced (findings : List Found) (turns : List ℕ) (v : ℕ) (before : List Step) (f : Found) (l : VatLedger) : Type 0 where
   pub found : finding_of v findings ≡ Some f
   pub kept : IsKeptOf v (taken_by findings turns) before l
 
@@ -146,8 +146,8 @@ pub true_at : (findings : List Found) (i : ℕ) (f : Found) → AreTrue findings
 true_at findings i f all lt is =
     subst (λ (x : Found). IsTrueOf x.log x.limits x.outcome) (sym is) (All-get_or (λ (finding : Found). IsTrueOf finding.log finding.limits finding.outcome) findings i f lt all)
 
-pub placed : (findings : List Found) (ledgers : List Ledger) (turns : List ℕ) (v : ℕ) (before : List Step) (i : ℕ) (f : Found) (l : Ledger) → MayTurn findings ledgers →
-    slice_get (vats_of ledgers) i ≡ Some v → f ≡ get_or findings i f → l ≡ get_or ledgers i l → AreKept (taken_by findings turns) before findings ledgers → IsPlaced findings turns v before f l
+pub placed : (findings : List Found) (ledgers : List VatLedger) (turns : List ℕ) (v : ℕ) (before : List Step) (i : ℕ) (f : Found) (l : VatLedger) → MayTurn findings ledgers →
+    slice_get (vats_of_ledgers ledgers) i ≡ Some v → f ≡ get_or findings i f → l ≡ get_or ledgers i l → AreKept (taken_by findings turns) before findings ledgers → IsPlaced findings turns v before f l
 placed findings ledgers turns v before i f l may is one its kept =
     let there = finding_at findings i v (ap (λ vs. slice_get vs i) (sym may.vats) ∙ is) in
     let own : f.log.vat ≡ v = ap (λ (x : Found). x.log.vat) one ∙ there.1 f in
@@ -156,12 +156,12 @@ placed findings ledgers turns v before i f l may is one its kept =
       found = subst (λ u. finding_of u findings ≡ Some f) own (own_found findings f (rises _ may.rising) (i, there.0, sym one));
       kept =
           subst (λ u. IsKeptOf u (taken_by findings turns) before l) (there.1 f)
-          (subst (λ (x : Ledger). IsKeptOf (get_or findings i f).log.vat (taken_by findings turns) before x) (sym its) at);
+          (subst (λ (x : VatLedger). IsKeptOf (get_or findings i f).log.vat (taken_by findings turns) before x) (sym its) at);
     }
 
-pub turned : (findings : List Found) (turns : List ℕ) (v : ℕ) (ledgers : List Ledger) (i : ℕ) (before : List Step) (now : Ledger) (new : Turns) (taken : Bool) → MayTurn findings ledgers →
-    slice_get (vats_of ledgers) i ≡ Some v → AreKept (taken_by findings turns) before findings ledgers → new.ledgers.items ≡ set ledgers i now →
-    Goes v (taken_by findings turns) (taken_by findings (v ∷ turns)) before new.trail now taken → IsTurned findings (v ∷ turns) new taken
+pub turned : (findings : List Found) (turns : List ℕ) (v : ℕ) (ledgers : List VatLedger) (i : ℕ) (before : List Step) (now : VatLedger) (new : Turns) (taken : Bool) → MayTurn findings ledgers →
+    slice_get (vats_of_ledgers ledgers) i ≡ Some v → AreKept (taken_by findings turns) before findings ledgers → new.ledgers.items ≡ set ledgers i now →
+    TakesTurn v (taken_by findings turns) (taken_by findings (v ∷ turns)) before new.trail now taken → IsTurned findings (v ∷ turns) new taken
 turned findings turns v ledgers i before now new false may is kept items goes = goes
 turned findings turns v ledgers i before now new true may is kept items goes =
     let all =

@@ -12,8 +12,8 @@ use Rattle.agree.specs.Streams.{passing, stream}
 use Rattle.agree.proofs.Dying.{eqb_turns}
 use Rattle.vat_log.specs.declared.body.Body.{Body}
 use Rattle.vat_log.specs.declared.body.Body.TheVariants as body
-use Rattle.link_check.specs.Prefix.{sent_by, received_by}
-use Rattle.merge_order.specs.Fits.{sends, receives}
+use Rattle.link_check.specs.Prefix.{frame_sent, frame_received}
+use Rattle.merge_order.specs.Fits.{sends_frame, receives_frame}
 use Rattle.vat_rules.specs.declared.outcome.Why.{Why}
 use Rattle.vat_rules.specs.declared.outcome.Outcome.{Outcome}
 use Rattle.vat_rules.specs.declared.outcome.Outcome.TheVariants as outcome
@@ -22,7 +22,7 @@ use Rattle.vat_rules.specs.Events.{Reader, event_of, event_or_none, with_message
 use Rattle.vat_rules.specs.First.{IsGoodAt, AllGood, IsFirst}
 use Rattle.vat_rules.specs.Judged.{IsGood}
 use Rattle.vat_view.specs.Past.{Each}
-use Rattle.call_trace.specs.Types.{RpcMessage, Event, Wire}
+use Rattle.call_trace.specs.Types.{RpcMessage, DecodedRecord, Wire}
 use Rattle.call_trace.specs.Findings.{is_good}
 use Rattle.call_trace.specs.Named.{past_before}
 use Rattle.call_trace.specs.Taking.{event_in, record_in}
@@ -33,7 +33,7 @@ use Rattle.call_trace.proofs.Taking.{log_more}
 -- record i of a finding's log is there, is read, and is good after those before it
 pub record IsGoodRecord (f : Found) (i : ℕ) : Type 0 where
   pub body : Body
-  pub event : Event
+  pub event : DecodedRecord
   pub there : slice_get f.log.records i ≡ Some body
   pub reads : event_of (reads_within f.limits) body ≡ Ok event
   pub good : IsGood (past_before f i) event
@@ -74,7 +74,7 @@ each_good f all (suc n) le =
 
 -- ---- how many messages passed
 
-pub with_is : (event : RpcMessage → Event) (r : Result RpcMessage Why) (e : Event) → with_message event r ≡ Ok e → (m : RpcMessage) × (r ≡ Ok m) × (e ≡ event m)
+pub with_is : (event : RpcMessage → DecodedRecord) (r : Result RpcMessage Why) (e : DecodedRecord) → with_message event r ≡ Ok e → (m : RpcMessage) × (r ≡ Ok m) × (e ≡ event m)
 with_is event (Ok m) e h = (m, refl, let same : e ≡ event m = cc in same)
 with_is event (Err why) e h = absurd (let no : ⊥ = cc in no)
 
@@ -87,13 +87,13 @@ none_if true m str = omega arith
 none_if false m str = omega arith
 
 -- a record of the vat's own passes nothing
-passes_none : (k : ℕ) (s : Bool) (x e : Event) → ◌≡◌ {A = Result Event Why} (Ok x) (Ok e) → passing k s x ≡ None → (str : List RpcMessage) → length (cons_option (passing k s e) str) ≡ length str + 0
+passes_none : (k : ℕ) (s : Bool) (x e : DecodedRecord) → ◌≡◌ {A = Result DecodedRecord Why} (Ok x) (Ok e) → passing k s x ≡ None → (str : List RpcMessage) → length (cons_option (passing k s e) str) ≡ length str + 0
 passes_none k s x e same none str =
     let at : x ≡ e = cc in
     ap (λ o. length (cons_option o str)) (ap (passing k s) (sym at) ∙ none) ∙ (let more : length str ≡ length str + 0 = omega arith in more)
 
 -- a record that is read passes a message on the connection exactly where it sends a frame there
-pub read_sends : (k : ℕ) (read : Reader) (b : Body) (e : Event) → event_of read b ≡ Ok e → (str : List RpcMessage) → length (cons_option (passing k true e) str) ≡ length str + cond (sends k b) 1 0
+pub read_sends : (k : ℕ) (read : Reader) (b : Body) (e : DecodedRecord) → event_of read b ≡ Ok e → (str : List RpcMessage) → length (cons_option (passing k true e) str) ≡ length str + cond (sends_frame k b) 1 0
 read_sends k read (body.Send on c rs fr) e h str =
     let at = with_is (Wire true on c rs) (read fr) e h in
     ap (λ e. length (cons_option (passing k true e) str)) at.2 ∙ ap (λ b. length (cons_option (if b && true then Some at.0 else None) str)) (eqb_turns k on) ∙ counts_if (on == k) at.0 str
@@ -103,7 +103,7 @@ read_sends k read (body.Receive on c rs fr) e h str =
 read_sends k read b e h str = passes_none k true _ e h refl str
 
 -- or receives one
-pub read_receives : (k : ℕ) (read : Reader) (b : Body) (e : Event) → event_of read b ≡ Ok e → (str : List RpcMessage) → length (cons_option (passing k false e) str) ≡ length str + cond (receives k b) 1 0
+pub read_receives : (k : ℕ) (read : Reader) (b : Body) (e : DecodedRecord) → event_of read b ≡ Ok e → (str : List RpcMessage) → length (cons_option (passing k false e) str) ≡ length str + cond (receives_frame k b) 1 0
 read_receives k read (body.Receive on c rs fr) e h str =
     let at = with_is (Wire false on c rs) (read fr) e h in
     ap (λ e. length (cons_option (passing k false e) str)) at.2 ∙ ap (λ b. length (cons_option (if b && true then Some at.0 else None) str)) (eqb_turns k on) ∙ counts_if (on == k) at.0 str
@@ -126,7 +126,7 @@ count_more p xs n b there =
 
 -- so many messages passed by the first n records of a good log as frames did
 module _ (k : ℕ) (s : Bool) (counts : Body → Bool)
-    (each : (read : Reader) (b : Body) (e : Event) → event_of read b ≡ Ok e → (str : List RpcMessage) → length (cons_option (passing k s e) str) ≡ length str + cond (counts b) 1 0) where
+    (each : (read : Reader) (b : Body) (e : DecodedRecord) → event_of read b ≡ Ok e → (str : List RpcMessage) → length (cons_option (passing k s e) str) ≡ length str + cond (counts b) 1 0) where
   pub as_many : (f : Found) → AllRecordsGood f → (n : ℕ) → n ≤ length f.log.records → length (stream k s (past_before f n)) ≡ count_by counts (take n f.log.records)
   as_many f all zero le = refl
   as_many f all (suc n) le =
@@ -136,11 +136,11 @@ module _ (k : ℕ) (s : Bool) (counts : Body → Bool)
       ap (λ m. length (stream k s (past_before f m))) (sym one) ∙ ap (λ p. length (stream k s p)) (good_more f n r) ∙ each (reads_within f.limits) r.body r.event r.reads (stream k s (past_before f n))
       ∙ ap (λ m. m + cond (counts r.body) 1 0) so_far ∙ sym (count_more counts f.log.records n r.body r.there)
 
-pub as_many_sent : (k : ℕ) (f : Found) → AllRecordsGood f → (n : ℕ) → n ≤ length f.log.records → length (stream k true (past_before f n)) ≡ count_by (sends k) (take n f.log.records)
-as_many_sent k = as_many k true (sends k) (read_sends k)
+pub as_many_sent : (k : ℕ) (f : Found) → AllRecordsGood f → (n : ℕ) → n ≤ length f.log.records → length (stream k true (past_before f n)) ≡ count_by (sends_frame k) (take n f.log.records)
+as_many_sent k = as_many k true (sends_frame k) (read_sends k)
 
-pub as_many_received : (k : ℕ) (f : Found) → AllRecordsGood f → (n : ℕ) → n ≤ length f.log.records → length (stream k false (past_before f n)) ≡ count_by (receives k) (take n f.log.records)
-as_many_received k = as_many k false (receives k) (read_receives k)
+pub as_many_received : (k : ℕ) (f : Found) → AllRecordsGood f → (n : ℕ) → n ≤ length f.log.records → length (stream k false (past_before f n)) ≡ count_by (receives_frame k) (take n f.log.records)
+as_many_received k = as_many k false (receives_frame k) (read_receives k)
 
 -- ---- which messages passed
 
@@ -174,12 +174,12 @@ none_passed k on c rs s t (Ok m) apart = ap (λ b. if (k == on) && b then Some m
     at true = refl
     at false = refl
 
-pub message_sent : (k : ℕ) (f : Found) (b : Body) → option_and_then (passing k true) (event_in f b) ≡ option_and_then (message_in f) (sent_by k b)
+pub message_sent : (k : ℕ) (f : Found) (b : Body) → option_and_then (passing k true) (event_in f b) ≡ option_and_then (message_in f) (frame_sent k b)
 message_sent k f (body.Send on c rs fr) = frame_passed k on c rs fr true (message_in f) (reads_within f.limits fr) refl refl
 message_sent k f (body.Receive on c rs fr) = none_passed k on c rs true false (reads_within f.limits fr) refl
 message_sent k f b = refl
 
-pub message_received : (k : ℕ) (f : Found) (b : Body) → option_and_then (passing k false) (event_in f b) ≡ option_and_then (message_in f) (received_by k b)
+pub message_received : (k : ℕ) (f : Found) (b : Body) → option_and_then (passing k false) (event_in f b) ≡ option_and_then (message_in f) (frame_received k b)
 message_received k f (body.Receive on c rs fr) = frame_passed k on c rs fr false (message_in f) (reads_within f.limits fr) refl refl
 message_received k f (body.Send on c rs fr) = none_passed k on c rs false true (reads_within f.limits fr) refl
 message_received k f b = refl

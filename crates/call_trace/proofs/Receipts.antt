@@ -16,9 +16,9 @@ use Rattle.vat_view.specs.Lives.{begins, is_in_life}
 use Rattle.vat_view.specs.Questions.{is_late, is_unreturned, call_of}
 use Rattle.vat_view.specs.Views.{view_of_reference, view_of_number, view_of_target, view_given}
 use Rattle.rpc_view.specs.declared.message.Payload.{Payload}
-use Rattle.call_trace.specs.Types.{Target, Outcome, Results, Exception, Canceled, Resolution, RpcMessage, Bootstrap, Call, Return, Finish, Resolve, Release, Disembargo, Abort, Event, Wire, Name, Cap, Message, Step}
+use Rattle.call_trace.specs.Types.{Target, Outcome, Results, Exception, Canceled, Resolution, RpcMessage, Bootstrap, Call, Return, Finish, Resolve, Release, Disembargo, Abort, DecodedRecord, Wire, Name, Cap, Message, Step}
 use Rattle.call_trace.specs.Naming.{Naming, naming, cap_named, call_named, message_at}
-use Rattle.call_trace.specs.Said.{said, say_call, say_return, say_resolve, caps_named, promise_named, answered, given}
+use Rattle.call_trace.specs.Said.{message_of_record, say_call, say_return, say_resolve, caps_named, promise_named, call_answered, caps_at_paths}
 use Rattle.call_trace.specs.Part.{resolves_released, ReadsAsSent}
 use Rattle.call_trace.specs.Carried.{HasOneName}
 use Rattle.call_trace.specs.Running.{AreMet}
@@ -28,7 +28,7 @@ use Rattle.call_trace.proofs.Carried.{pairs_as_long, one_name}
 use Rattle.call_trace.proofs.Asking.{answerer_names, call_lasts, all_refer, answer_is_one}
 use Rattle.call_trace.proofs.Describing.{IsHeard, met_before, caps_are_one, targets_are_one}
 use Rattle.call_trace.proofs.Binding.{pair, passed_is_heard}
-use Rattle.run_model.specs.Has.{called}
+use Rattle.run_model.specs.Has.{call_in_message}
 use Rattle.run_model.specs.declared.cap.Cap.TheVariants as cap
 use Rattle.run_model.specs.declared.message.Message.TheVariants as message
 use Rattle.run_model.specs.declared.plain.Plain.TheVariants as plain
@@ -44,18 +44,18 @@ call_parts interface method (Some cs) None target m h = absurd (let no : ⊥ = c
 call_parts interface method (Some cs) (Some n) None m h = absurd (let no : ⊥ = cc in no)
 
 -- a Return is read as late where it comes late
-return_read : (es : Past) (e : Event) (went came : Bool) (fields : List (List ℕ × ℕ)) (name : Name) (caps got : Option (List Cap)) (m : Message) → (went ≡ true → came ≡ true) →
+return_read : (es : Past) (e : DecodedRecord) (went came : Bool) (fields : List (List ℕ × ℕ)) (name : Name) (caps got : Option (List Cap)) (m : Message) → (went ≡ true → came ≡ true) →
     (came ≡ false → (cs : List Cap) → caps ≡ Some cs → got ≡ Some cs) → is_late es e ≡ came → say_return went fields name caps ≡ Some m → say_return came fields name got ≡ Some (read es e m)
 return_read es e true true fields name caps got m on there late h = let same : message.Late name ≡ m = cc in ap (λ m. Some (read es e m)) same
 return_read es e true false fields name caps got m on there late h = let no = on refl in absurd (let n : ⊥ = cc in n)
 return_read es e false came fields name None got m on there late h = absurd (let no : ⊥ = cc in no)
 return_read es e false true fields name (Some cs) got m on there late h =
-    let same : message.Return name (given cs fields) cs ≡ m = cc in
-    ap (λ b. Some (if b then message.Late name else message.Return name (given cs fields) cs)) (sym late) ∙ ap (λ m. Some (read es e m)) same
+    let same : message.Return name (caps_at_paths cs fields) cs ≡ m = cc in
+    ap (λ b. Some (if b then message.Late name else message.Return name (caps_at_paths cs fields) cs)) (sym late) ∙ ap (λ m. Some (read es e m)) same
 return_read es e false false fields name (Some cs) got m on there late h =
-    let same : message.Return name (given cs fields) cs ≡ m = cc in
-    ap (λ o. option_map (λ caps. message.Return name (given caps fields) caps) o) (there refl cs refl)
-    ∙ ap (λ b. Some (if b then message.Late name else message.Return name (given cs fields) cs)) (sym late) ∙ ap (λ m. Some (read es e m)) same
+    let same : message.Return name (caps_at_paths cs fields) cs ≡ m = cc in
+    ap (λ o. option_map (λ caps. message.Return name (caps_at_paths caps fields) caps) o) (there refl cs refl)
+    ∙ ap (λ b. Some (if b then message.Late name else message.Return name (caps_at_paths cs fields) cs)) (sym late) ∙ ap (λ m. Some (read es e m)) same
 
 -- and a Resolve of a number out of life as one of Nothing
 broken_so : (b : Bool) (x : Cap) → message.Broken (if b then cap.Nothing else x) ≡ (if b then message.Broken cap.Nothing else message.Broken x)
@@ -66,7 +66,7 @@ resolved_so : (b : Bool) (x c : Cap) → message.Resolve (if b then cap.Nothing 
 resolved_so true x c = refl
 resolved_so false x c = refl
 
-resolve_read : (es : Past) (e : Event) (x : Cap) (cs : List Cap) → say_resolve (if resolves_released es e then cap.Nothing else x) cs ≡ read es e (say_resolve x cs)
+resolve_read : (es : Past) (e : DecodedRecord) (x : Cap) (cs : List Cap) → say_resolve (if resolves_released es e then cap.Nothing else x) cs ≡ read es e (say_resolve x cs)
 resolve_read es e x [] = broken_so (resolves_released es e) x
 resolve_read es e x (cap.Nothing ∷ rest) = broken_so (resolves_released es e) x
 resolve_read es e x (c ∷ rest) = resolved_so (resolves_released es e) x c
@@ -74,12 +74,12 @@ resolve_read es e x (c ∷ rest) = resolved_so (resolves_released es e) x c
 -- ---- one message, named at both ends
 
 -- what the ends of a message agree on
-pub record IsReadAlike (mine : Naming) (from : Past) (sent : Event) (theirs : Naming) (other : Past) (e : Event) (k c : ℕ) (m : RpcMessage) (said_message : Message) : Type 0 where
-  pub calls : (name : Name) → called said_message ≡ Some name → (q : ℕ) → asks q m ≡ true → theirs.call c ≡ Some name
+pub record IsReadAlike (mine : Naming) (from : Past) (sent : DecodedRecord) (theirs : Naming) (other : Past) (e : DecodedRecord) (k c : ℕ) (m : RpcMessage) (said_message : Message) : Type 0 where
+  pub calls : (name : Name) → call_in_message said_message ≡ Some name → (q : ℕ) → asks q m ≡ true → theirs.call c ≡ Some name
   pub caps : is_late other e ≡ false → (cs : List Cap) → caps_named mine from sent ≡ Some cs → caps_named theirs other e ≡ Some cs
   pub target : (t : Cap) → option_and_then mine.cap (view_of_target from sent) ≡ Some t → option_and_then theirs.cap (view_of_target other e) ≡ Some t
   pub late : is_late from sent ≡ true → is_late other e ≡ true
-  pub answers : (q : ℕ) (release : Bool) (outcome : Outcome) → m ≡ Return q release outcome → (name : Name) → answered mine from k true q ≡ Some name → answered theirs other k false q ≡ Some name
+  pub answers : (q : ℕ) (release : Bool) (outcome : Outcome) → m ≡ Return q release outcome → (name : Name) → call_answered mine from k true q ≡ Some name → call_answered theirs other k false q ≡ Some name
   pub promise : (n : ℕ) (x : Cap) → promise_named mine from k true n ≡ Some x → promise_named theirs other k false n ≡ Some (if not (is_in_life (id k false n) other) then cap.Nothing else x)
 
 module _ (mine : Naming) (from : Past) (theirs : Naming) (other : Past) (k d c : ℕ) (noted references : List ℕ) (M : Message) where
@@ -87,13 +87,13 @@ module _ (mine : Naming) (from : Past) (theirs : Naming) (other : Past) (k d c :
   Alike m = IsReadAlike mine from (Wire true k d noted m) theirs other (Wire false k c references m) k c m M
 
   abbrev IsRead : RpcMessage → Type 0
-  IsRead m = said mine from (Wire true k d noted m) ≡ Some M → said theirs other (Wire false k c references m) ≡ Some (read other (Wire false k c references m) M)
+  IsRead m = message_of_record mine from (Wire true k d noted m) ≡ Some M → message_of_record theirs other (Wire false k c references m) ≡ Some (read other (Wire false k c references m) M)
 
   boot_read : (q : ℕ) → Alike (Bootstrap q) → IsRead (Bootstrap q)
   boot_read q alike h =
       let e = Wire false k c references (Bootstrap q) in
       let name = mapped_is message.Boot (mine.call d) M h in
-      ap (λ o. option_map message.Boot o) (alike.calls name.0 (ap called (sym name.2)) q (eq-eqb q q refl)) ∙ ap (λ m. Some (read other e m)) name.2
+      ap (λ o. option_map message.Boot o) (alike.calls name.0 (ap call_in_message (sym name.2)) q (eq-eqb q q refl)) ∙ ap (λ m. Some (read other e m)) name.2
 
   call_read : (q : ℕ) (target : Target) (interface method : ℕ) (params : Payload) → Alike (Call q target interface method params) → IsRead (Call q target interface method params)
   call_read q target interface method params alike h =
@@ -101,7 +101,7 @@ module _ (mine : Naming) (from : Past) (theirs : Naming) (other : Past) (k d c :
       let sent = Wire true k d noted m in
       let e = Wire false k c references m in
       let p = call_parts interface method (caps_named mine from sent) (mine.call d) (option_and_then mine.cap (view_of_target from sent)) M h in
-      ap₂ (λ caps name. say_call interface method caps name (option_and_then theirs.cap (view_of_target other e))) (alike.caps refl p.0 p.3) (alike.calls p.1 (ap called (sym p.6)) q (eq-eqb q q refl))
+      ap₂ (λ caps name. say_call interface method caps name (option_and_then theirs.cap (view_of_target other e))) (alike.caps refl p.0 p.3) (alike.calls p.1 (ap call_in_message (sym p.6)) q (eq-eqb q q refl))
       ∙ ap (λ t. say_call interface method (Some p.0) (Some p.1) t) (alike.target p.2 p.5) ∙ ap (λ m. Some (read other e m)) p.6
 
   results_read : (q : ℕ) (release : Bool) (payload : Payload) → Alike (Return q release (Results payload)) → IsRead (Return q release (Results payload))
@@ -109,15 +109,15 @@ module _ (mine : Naming) (from : Past) (theirs : Naming) (other : Past) (k d c :
       let m = Return q release (Results payload) in
       let sent = Wire true k d noted m in
       let e = Wire false k c references m in
-      let name = then_is (λ name. say_return (is_late from sent) payload.fields name (caps_named mine from sent)) (answered mine from k true q) M h in
+      let name = then_is (λ name. say_return (is_late from sent) payload.fields name (caps_named mine from sent)) (call_answered mine from k true q) M h in
       ap (λ o. option_and_then (λ name. say_return (is_late other e) payload.fields name (caps_named theirs other e)) o) (alike.answers q release (Results payload) refl name.0 name.1)
       ∙ return_read other e (is_late from sent) (is_late other e) payload.fields name.0 (caps_named mine from sent) (caps_named theirs other e) M alike.late alike.caps refl name.2
 
-  failed_read : (q : ℕ) (release : Bool) (outcome : Outcome) → Alike (Return q release outcome) → option_map message.Failed (answered mine from k true q) ≡ Some M →
-      option_map message.Failed (answered theirs other k false q) ≡ Some (read other (Wire false k c references (Return q release outcome)) M)
+  failed_read : (q : ℕ) (release : Bool) (outcome : Outcome) → Alike (Return q release outcome) → option_map message.Failed (call_answered mine from k true q) ≡ Some M →
+      option_map message.Failed (call_answered theirs other k false q) ≡ Some (read other (Wire false k c references (Return q release outcome)) M)
   failed_read q release outcome alike h =
       let e = Wire false k c references (Return q release outcome) in
-      let name = mapped_is message.Failed (answered mine from k true q) M h in
+      let name = mapped_is message.Failed (call_answered mine from k true q) M h in
       ap (λ o. option_map message.Failed o) (alike.answers q release outcome refl name.0 name.1) ∙ ap (λ m. Some (read other e m)) name.2
 
   resolved_read : (n : ℕ) (resolution : Resolution) → Alike (Resolve n resolution) → IsRead (Resolve n resolution)
@@ -130,7 +130,7 @@ module _ (mine : Naming) (from : Past) (theirs : Naming) (other : Past) (k d c :
       ap₂ (λ p caps. option_and_then (λ promise. option_map (say_resolve promise) caps) p) (alike.promise n x.0 x.1) (alike.caps refl cs.0 cs.1)
       ∙ ap (λ m. Some m) (resolve_read other e x.0 cs.0) ∙ ap (λ m. Some (read other e m)) cs.2
 
-  plain_read : (e : Event) (p : Message) → read other e p ≡ p → ◌≡◌ {A = Option Message} (Some p) (Some M) → ◌≡◌ {A = Option Message} (Some p) (Some (read other e M))
+  plain_read : (e : DecodedRecord) (p : Message) → read other e p ≡ p → ◌≡◌ {A = Option Message} (Some p) (Some M) → ◌≡◌ {A = Option Message} (Some p) (Some (read other e M))
   plain_read e p same h = let is : p ≡ M = cc in ap (λ m. Some m) (sym same) ∙ ap (λ m. Some (read other e m)) is
 
   pub read_as_said : (m : RpcMessage) → Alike m → IsRead m
@@ -150,7 +150,7 @@ module _ (mine : Naming) (from : Past) (theirs : Naming) (other : Past) (k d c :
 promise_gone : (k n : ℕ) (es : Past) → is_in_life (id k false n) es ≡ false → view_of_number (id k false n) es ≡ None
 promise_gone k n es h = ap (λ b. option_and_then (view_given (view_of_reference es) false) (if b then last_answer (begins (id k false n)) es else None)) h
 
-module _ (k v : ℕ) (one : Past) (its_steps : List Step) (w : ℕ) (other : Past) (steps : List Step) (e : Event) (m : RpcMessage) (from : Past) (its_from : List Step) (sent : Event) (s : Step) (message : Message)
+module _ (k v : ℕ) (one : Past) (its_steps : List Step) (w : ℕ) (other : Past) (steps : List Step) (e : DecodedRecord) (m : RpcMessage) (from : Past) (its_from : List Step) (sent : DecodedRecord) (s : Step) (message : Message)
     (h : IsHeard k v one its_steps w other steps e m from its_from sent s message) where
   sent_good : Each IsGood (sent ∷ from)
   sent_good = each_before IsGood one (sent ∷ from) h.passed.sent_there h.met.one_good
@@ -185,7 +185,7 @@ module _ (k v : ℕ) (one : Past) (its_steps : List Step) (w : ℕ) (other : Pas
 
   -- the call that a Return answers is named alike
   answers_alike : (r : Step) (q : ℕ) (release : Bool) (outcome : Outcome) → m ≡ Return q release outcome → is_unreturned (id k true q) other ≡ true → (name : Name) →
-      answered (naming v (sent ∷ from) (s ∷ its_from)) from k true q ≡ Some name → answered (naming w (e ∷ other) (r ∷ steps)) other k false q ≡ Some name
+      call_answered (naming v (sent ∷ from) (s ∷ its_from)) from k true q ≡ Some name → call_answered (naming w (e ∷ other) (r ∷ steps)) other k false q ≡ Some name
   answers_alike r q release outcome is used name named =
       let c = then_is (call_named v (sent ∷ from) (s ∷ its_from)) (call_of (id k false q) from) name named in
       let lasts =
@@ -199,13 +199,13 @@ module _ (k v : ℕ) (one : Past) (its_steps : List Step) (w : ℕ) (other : Pas
 returns_waiting : (k c q : ℕ) (references : List ℕ) (release : Bool) (outcome : Outcome) (es : Past) → IsGood es (Wire false k c references (Return q release outcome)) → is_unreturned (id k true q) es ≡ true
 returns_waiting k c q references release outcome es good = (good rule.QUse).returned_once
 
-module _ (k v w c : ℕ) (one : Past) (its_steps : List Step) (other : Past) (steps : List Step) (references : List ℕ) (m : RpcMessage) (from : Past) (sent : Event) (message : Message) where
-  abbrev received : Event
+module _ (k v w c : ℕ) (one : Past) (its_steps : List Step) (other : Past) (steps : List Step) (references : List ℕ) (m : RpcMessage) (from : Past) (sent : DecodedRecord) (message : Message) where
+  abbrev received : DecodedRecord
   received = Wire false k c references m
 
   -- a message that is heard is read as it was sent
   heard_read : (its_from : List Step) (s : Step) (bound : List Cap) → IsHeard k v one its_steps w other steps received m from its_from sent s message →
-      said (naming w (received ∷ other) (step.Receive w k message bound ∷ steps)) other received ≡ Some (read other received message)
+      message_of_record (naming w (received ∷ other) (step.Receive w k message bound ∷ steps)) other received ≡ Some (read other received message)
   heard_read its_from s bound h =
       let r = step.Receive w k message bound in
       let mine = naming v (sent ∷ from) (s ∷ its_from) in
@@ -222,7 +222,7 @@ module _ (k v w c : ℕ) (one : Past) (its_steps : List Step) (other : Past) (st
         promise = promise_alike k v one its_steps w other steps received m from its_from sent s message h r;
       } in
       read_as_said mine from theirs other k went.0 c went.1 references message m (subst (λ x. IsReadAlike mine from x theirs other received k c m message) went.2 alike)
-      (ap (said mine from) (sym went.2) ∙ h.says)
+      (ap (message_of_record mine from) (sym went.2) ∙ h.says)
 
   pub message_read : (bound : List Cap) → AreMet k v one its_steps w other steps → AreLinked k one (received ∷ other) → IsGood other received → IsPassed k m one (received ∷ other) from other sent received →
       message_at (length from) its_steps ≡ Some message → ReadsAsSent (naming w (received ∷ other) (step.Receive w k message bound ∷ steps)) other received message

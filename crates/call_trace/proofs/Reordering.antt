@@ -4,14 +4,14 @@ use Rattle.std.specs.List.{cons_option, filter_map}
 use Rattle.std.proofs.lemmas.List.{append-nil}
 use Rattle.std.proofs.lemmas.Bool.{cases_Bool, cases_lt}
 use Rattle.agree.specs.Points.{GoesOn}
-use Rattle.agree.specs.Rows.{Row, of_vat, log_of}
+use Rattle.agree.specs.Rows.{Row, of_vat, log_of_vat}
 use Rattle.agree.specs.Streams.{passing, stream}
 use Rattle.agree.proofs.Cuts.{taken}
 use Rattle.agree.proofs.Points.{through, before_it, no_longer, shorter, same_length, kept}
 use Rattle.vat_view.specs.Past.{Past}
 use Rattle.call_trace.specs.Naming.{message_at}
 use Rattle.call_trace.specs.Running.{coming_next, step_received, step_of, steps_by, steps_of_row, IsNamedRow, IsUser, MayRun}
-use Rattle.call_trace.specs.Types.{RpcMessage, Event, Host, Wire, Message, Step}
+use Rattle.call_trace.specs.Types.{RpcMessage, DecodedRecord, Host, Wire, Message, Step}
 use Rattle.call_trace.proofs.Carried.{pairs_as_long, message_later}
 use Rattle.call_trace.proofs.Carrying.{named_next, log_here, steps_here, steps_there, steps_on}
 use Rattle.call_trace.proofs.Naming.{mapped_is, then_is}
@@ -44,12 +44,12 @@ pub record IsDone (row : Row) (whole : List Step) : Type 0 where
   pub takes : steps_of_row row ≡ Some whole
   pub named : IsNamedRow row whole
 
-record IsDoneNext (v : ℕ) (e : Event) (row : Row) (whole : List Step) : Type 0 where
+record IsDoneNext (v : ℕ) (e : DecodedRecord) (row : Row) (whole : List Step) : Type 0 where
   pub step : Step
   pub before : List Step
   pub all : whole ≡ step ∷ before
   pub vat : vat_of step ≡ v
-  pub takes : step_of v (log_of v row) (steps_by v before) before e ≡ Some step
+  pub takes : step_of v (log_of_vat v row) (steps_by v before) before e ≡ Some step
   pub rest : IsDone row before
 
 heads : {A : Type 0} {x y : A} {xs ys : List A} → (x ∷ xs) ≡ (y ∷ ys) → x ≡ y
@@ -58,10 +58,10 @@ heads e = cc
 tails : {A : Type 0} {x y : A} {xs ys : List A} → (x ∷ xs) ≡ (y ∷ ys) → xs ≡ ys
 tails e = cc
 
-done_next : (v : ℕ) (e : Event) (row : Row) (whole : List Step) → IsDone ((v, e) ∷ row) whole → IsDoneNext v e row whole
+done_next : (v : ℕ) (e : DecodedRecord) (row : Row) (whole : List Step) → IsDone ((v, e) ∷ row) whole → IsDoneNext v e row whole
 done_next v e row whole done =
-    let before = then_is (λ before. option_map (λ s. s ∷ before) (step_of v (log_of v row) (steps_by v before) before e)) (steps_of_row row) whole done.takes in
-    let step = mapped_is (λ s. s ∷ before.0) (step_of v (log_of v row) (steps_by v before.0) before.0 e) whole before.2 in
+    let before = then_is (λ before. option_map (λ s. s ∷ before) (step_of v (log_of_vat v row) (steps_by v before) before e)) (steps_of_row row) whole done.takes in
+    let step = mapped_is (λ s. s ∷ before.0) (step_of v (log_of_vat v row) (steps_by v before.0) before.0 e) whole before.2 in
     let n = named_next v e row whole done.named in
     record {
       step = step.0;
@@ -92,22 +92,22 @@ no_steps (s ∷ whole) done = absurd (let no = done.takes in let n : ⊥ = cc in
 -- ---- two rows of the same logs
 
 -- a record takes the same step after the same steps of its vat, where the same message comes next
-step_same : (v : ℕ) (es : Past) (steps one other : List Step) (e : Event) →
+step_same : (v : ℕ) (es : Past) (steps one other : List Step) (e : DecodedRecord) →
     ((k c : ℕ) (rs : List ℕ) (m : RpcMessage) → e ≡ Wire false k c rs m → coming_next v k one ≡ coming_next v k other) → step_of v es steps one e ≡ step_of v es steps other e
 step_same v es steps one other (Wire false k c rs m) comes = ap (option_and_then (step_received v es steps (Wire false k c rs m) k rs)) (comes k c rs m refl)
 step_same v es steps one other (Host r object) comes = refl
 step_same v es steps one other e comes = refl
 
-module _ (one other : Row) (run : MayRun one) (run_too : MayRun other) (same : (v : ℕ) → log_of v one ≡ log_of v other) (whole : List Step) (done_too : IsDone other whole) where
+module _ (one other : Row) (run : MayRun one) (run_too : MayRun other) (same : (v : ℕ) → log_of_vat v one ≡ log_of_vat v other) (whole : List Step) (done_too : IsDone other whole) where
   -- a vat's steps up to a point of the one are the first of its steps of the other
   abbrev StandsSo : List Step → Type 0
   StandsSo before = (v : ℕ) → GoesOn (steps_by v whole) (steps_by v before)
 
-  log_there_too : (w : ℕ) (row : Row) (past : Past) → GoesOn one row → GoesOn (log_of w row) past → GoesOn (log_of w other) past
+  log_there_too : (w : ℕ) (row : Row) (past : Past) → GoesOn one row → GoesOn (log_of_vat w row) past → GoesOn (log_of_vat w other) past
   log_there_too w row past p q =
-      through (log_of w other) (log_of w row) past (subst (λ es. GoesOn es (log_of w row)) (same w) (kept (of_vat w) one row p)) q
+      through (log_of_vat w other) (log_of_vat w row) past (subst (λ es. GoesOn es (log_of_vat w row)) (same w) (kept (of_vat w) one row p)) q
 
-  user_too : (k w : ℕ) (row : Row) (m : RpcMessage) (sent : Bool) (e : Event) (past : Past) → GoesOn one row → GoesOn (log_of w row) (e ∷ past) → passing k sent e ≡ Some m → IsUser k w other
+  user_too : (k w : ℕ) (row : Row) (m : RpcMessage) (sent : Bool) (e : DecodedRecord) (past : Past) → GoesOn one row → GoesOn (log_of_vat w row) (e ∷ past) → passing k sent e ≡ Some m → IsUser k w other
   user_too k w row m sent e past p q passes = let t = taken w other e past (log_there_too w row (e ∷ past) p q) in (t.0, e, t.1, (sent, m, passes))
 
   some_same : (M N : Message) → ◌≡◌ {A = Option Message} (Some M) (Some N) → M ≡ N
@@ -115,11 +115,11 @@ module _ (one other : Row) (run : MayRun one) (run_too : MayRun other) (same : (
 
   -- the same message comes next
   comes_same : (v k c : ℕ) (rs : List ℕ) (m : RpcMessage) (row row_too : Row) (x y : List Step) → GoesOn one ((v, Wire false k c rs m) ∷ row) → GoesOn other ((v, Wire false k c rs m) ∷ row_too) →
-      log_of v row ≡ log_of v row_too → GoesOn whole y → StandsSo x → IsComing k c v rs m row x → IsComing k c v rs m row_too y → coming_next v k x ≡ coming_next v k y
+      log_of_vat v row ≡ log_of_vat v row_too → GoesOn whole y → StandsSo x → IsComing k c v rs m row x → IsComing k c v rs m row_too y → coming_next v k x ≡ coming_next v k y
   comes_same v k c rs m row row_too x y p q logs after so a b =
       a.comes ∙ ap (λ M. Some M) (some_same a.message b.message (sym first ∙ ap₂ (λ i w. message_at i (steps_by w whole)) (ap length from) vat ∙ second)) ∙ sym b.comes
     where
-      e : Event
+      e : DecodedRecord
       e = Wire false k c rs m
 
       earlier : GoesOn one row
@@ -131,8 +131,8 @@ module _ (one other : Row) (run : MayRun one) (run_too : MayRun other) (same : (
       at_w : IsUser k a.other other
       at_w = user_too k a.other row m true a.sent a.from earlier a.passed.sent_there a.passed.sends
 
-      sent_there : GoesOn (log_of b.other other) (b.sent ∷ b.from)
-      sent_there = through (log_of b.other other) (log_of b.other row_too) (b.sent ∷ b.from) (kept (of_vat b.other) other row_too (before_it other (v, e) row_too q)) b.passed.sent_there
+      sent_there : GoesOn (log_of_vat b.other other) (b.sent ∷ b.from)
+      sent_there = through (log_of_vat b.other other) (log_of_vat b.other row_too) (b.sent ∷ b.from) (kept (of_vat b.other) other row_too (before_it other (v, e) row_too q)) b.passed.sent_there
 
       at_u : IsUser k b.other other
       at_u = let t = taken b.other other b.sent b.from sent_there in (t.0, b.sent, t.1, (true, m, b.passed.sends))
@@ -142,8 +142,8 @@ module _ (one other : Row) (run : MayRun one) (run_too : MayRun other) (same : (
 
       from : a.from ≡ b.from
       from =
-          nth_same (passing k true) (log_of b.other other) a.from b.from a.sent b.sent m m
-          (subst (λ w. GoesOn (log_of w other) (a.sent ∷ a.from)) vat (log_there_too a.other row (a.sent ∷ a.from) earlier a.passed.sent_there)) sent_there a.passed.sends b.passed.sends
+          nth_same (passing k true) (log_of_vat b.other other) a.from b.from a.sent b.sent m m
+          (subst (λ w. GoesOn (log_of_vat w other) (a.sent ∷ a.from)) vat (log_there_too a.other row (a.sent ∷ a.from) earlier a.passed.sent_there)) sent_there a.passed.sends b.passed.sends
           (a.passed.same_number ∙ ap (λ es. length (stream k false es)) logs ∙ sym b.passed.same_number)
 
       first : message_at (length a.from) (steps_by a.other whole) ≡ Some a.message
@@ -155,20 +155,20 @@ module _ (one other : Row) (run : MayRun one) (run_too : MayRun other) (same : (
           ∙ message_later (length b.from) (steps_by b.other after.0) (steps_by b.other y) b.message b.was
 
   -- one record more
-  module _ (v : ℕ) (e : Event) (row : Row) (x : List Step) (p : GoesOn one ((v, e) ∷ row)) (done : IsDone row x) (so : StandsSo x) where
-    it_there : GoesOn (log_of v other) (e ∷ log_of v row)
-    it_there = log_there_too v ((v, e) ∷ row) (e ∷ log_of v row) p ([], log_here v v e row refl)
+  module _ (v : ℕ) (e : DecodedRecord) (row : Row) (x : List Step) (p : GoesOn one ((v, e) ∷ row)) (done : IsDone row x) (so : StandsSo x) where
+    it_there : GoesOn (log_of_vat v other) (e ∷ log_of_vat v row)
+    it_there = log_there_too v ((v, e) ∷ row) (e ∷ log_of_vat v row) p ([], log_here v v e row refl)
 
     -- the same record in the other row, and its step
-    module _ (row_too : Row) (q : GoesOn other ((v, e) ∷ row_too)) (logs : log_of v row_too ≡ log_of v row) (added : List Step) (all : List Step) (split : whole ≡ added ++ all)
+    module _ (row_too : Row) (q : GoesOn other ((v, e) ∷ row_too)) (logs : log_of_vat v row_too ≡ log_of_vat v row) (added : List Step) (all : List Step) (split : whole ≡ added ++ all)
         (n : IsDoneNext v e row_too all) where
       own : steps_by v whole ≡ steps_by v added ++ n.step ∷ steps_by v n.before
       own = steps_on v added all whole split ∙ ap (λ l. steps_by v added ++ l) (ap (steps_by v) n.all ∙ steps_here v n.step n.before n.vat)
 
       as_long : length (steps_by v x) ≡ length (steps_by v n.before)
       as_long =
-          sym (pairs_as_long v (log_of v row) (steps_by v x) (done.named.paired v)) ∙ ap length (sym logs)
-          ∙ pairs_as_long v (log_of v row_too) (steps_by v n.before) (n.rest.named.paired v)
+          sym (pairs_as_long v (log_of_vat v row) (steps_by v x) (done.named.paired v)) ∙ ap length (sym logs)
+          ∙ pairs_as_long v (log_of_vat v row_too) (steps_by v n.before) (n.rest.named.paired v)
 
       steps_same : steps_by v x ≡ steps_by v n.before
       steps_same =
@@ -185,24 +185,24 @@ module _ (one other : Row) (run : MayRun one) (run_too : MayRun other) (same : (
           (is_coming k c v rs m row x (run_before one ((v, Wire false k c rs m) ∷ row) p_there run) done.named)
           (is_coming k c v rs m row_too n.before (run_before other ((v, Wire false k c rs m) ∷ row_too) q_there run_too) n.rest.named)
 
-      takes_same : step_of v (log_of v row) (steps_by v x) x e ≡ Some n.step
+      takes_same : step_of v (log_of_vat v row) (steps_by v x) x e ≡ Some n.step
       takes_same =
-          step_same v (log_of v row) (steps_by v x) x n.before e comes
+          step_same v (log_of_vat v row) (steps_by v x) x n.before e comes
           ∙ ap₂ (λ es steps. step_of v es steps n.before e) (sym logs) steps_same ∙ n.takes
 
-      goes_on : (s : Step) → step_of v (log_of v row) (steps_by v x) x e ≡ Some s → GoesOn (steps_by v whole) (s ∷ steps_by v x)
+      goes_on : (s : Step) → step_of v (log_of_vat v row) (steps_by v x) x e ≡ Some s → GoesOn (steps_by v whole) (s ∷ steps_by v x)
       goes_on s takes =
           let step : ◌≡◌ {A = Option Step} (Some n.step) (Some s) = sym takes_same ∙ takes in
           let is : n.step ≡ s = cc in
           (steps_by v added, own ∙ ap₂ (λ s l. steps_by v added ++ s ∷ l) is (sym steps_same))
 
-    step_so : (s : Step) → step_of v (log_of v row) (steps_by v x) x e ≡ Some s → GoesOn (steps_by v whole) (s ∷ steps_by v x)
+    step_so : (s : Step) → step_of v (log_of_vat v row) (steps_by v x) x e ≡ Some s → GoesOn (steps_by v whole) (s ∷ steps_by v x)
     step_so s takes =
-        let t = taken v other e (log_of v row) it_there in
+        let t = taken v other e (log_of_vat v row) it_there in
         let point = done_before t.1.0 ((v, e) ∷ t.0) whole (subst (λ r. IsDone r whole) t.1.1 done_too) in
         goes_on t.0 t.1 t.2 point.added point.before point.all (done_next v e t.0 point.before point.done) s takes
 
-    steps_more : (s : Step) → vat_of s ≡ v → step_of v (log_of v row) (steps_by v x) x e ≡ Some s → StandsSo (s ∷ x)
+    steps_more : (s : Step) → vat_of s ≡ v → step_of v (log_of_vat v row) (steps_by v x) x e ≡ Some s → StandsSo (s ∷ x)
     steps_more s vat takes u = elim (cases_Bool (v == u)) [
       | inl own ↦
           let here : v ≡ u = eqb-true v u own in
@@ -219,4 +219,4 @@ module _ (one other : Row) (run : MayRun one) (run_too : MayRun other) (same : (
   pub same_steps : (x : List Step) → IsDone one x → (v : ℕ) → steps_by v x ≡ steps_by v whole
   same_steps x done v =
       same_length (steps_by v whole) (steps_by v x) (steps_by v whole) (stands one x ([], refl) done v) ([], refl)
-      (sym (pairs_as_long v (log_of v one) (steps_by v x) (done.named.paired v)) ∙ ap length (same v) ∙ pairs_as_long v (log_of v other) (steps_by v whole) (done_too.named.paired v))
+      (sym (pairs_as_long v (log_of_vat v one) (steps_by v x) (done.named.paired v)) ∙ ap length (same v) ∙ pairs_as_long v (log_of_vat v other) (steps_by v whole) (done_too.named.paired v))

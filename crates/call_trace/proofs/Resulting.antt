@@ -7,7 +7,7 @@ use Rattle.agree.proofs.Good.{all_sound}
 use Rattle.vat_view.specs.Past.{Past, point, Each, id, is, last_where}
 use Rattle.vat_view.specs.Questions.{is_late, is_free, call_at, call_of, opening}
 use Rattle.vat_view.specs.Lives.{descriptors}
-use Rattle.vat_view.specs.Views.{view_of_reference, view_of_descriptor, described}
+use Rattle.vat_view.specs.Views.{view_of_reference, view_of_descriptor, descriptor_view}
 use Rattle.vat_view.specs.Calls.{knows, has_passed, is_known}
 use Rattle.vat_view.specs.Bindings.{Refers}
 use Rattle.vat_view.specs.Walks.{LeadsByTurns}
@@ -17,9 +17,9 @@ use Rattle.vat_rules.specs.OfResults.{ReturnsField, ReturnsFields}
 use Rattle.vat_rules.specs.Ways.{LeadsOnTo}
 use Rattle.vat_rules.specs.declared.rule.Rule.TheVariants as rule
 use Rattle.rpc_view.specs.declared.message.Payload.{Payload}
-use Rattle.call_trace.specs.Types.{Descriptor, NoCap, Outcome, Results, Resolution, RpcMessage, Return, Resolve, Event, Answer, Wire, View, FieldOf, Name, Cap, Message, Step}
+use Rattle.call_trace.specs.Types.{Descriptor, NoCap, Outcome, Results, Resolution, RpcMessage, Return, Resolve, DecodedRecord, Answer, Wire, View, FieldOf, Name, Cap, Message, Step}
 use Rattle.call_trace.specs.Naming.{Naming, naming, cap_at, call_named, cap_named}
-use Rattle.call_trace.specs.Said.{together, say_return, say_resolve, descriptor_named, caps_named, promise_named, answered, given, said}
+use Rattle.call_trace.specs.Said.{all_there, say_return, say_resolve, descriptor_named, caps_named, promise_named, call_answered, caps_at_paths, message_of_record}
 use Rattle.call_trace.specs.Part.{result_named, Says, PairsOff}
 use Rattle.call_trace.specs.Within.{IsWithin}
 use Rattle.call_trace.proofs.AsSent.{read, says_read}
@@ -30,10 +30,10 @@ use Rattle.call_trace.proofs.Within.{StandsIn, stands_in, each_earlier, by_turns
 use Rattle.call_trace.proofs.Using.{number_known, known_had}
 use Rattle.call_trace.proofs.Sayable.{cap_at_is, unresolved_lives}
 use Rattle.run_model.specs.Leads.{LeadsByTurns as RunLeadsByTurns}
-use Rattle.run_model.specs.Legal.{is_cap, answers, IsLegal, MayCome, MaySend}
+use Rattle.run_model.specs.Legal.{is_present, answers_call, IsLegal, MayCome, MaySend}
 use Rattle.run_model.specs.Links.{IsLinked}
-use Rattle.run_model.specs.Steps.{is_same, vat_of}
-use Rattle.run_model.specs.Steps.{Each as EachStep}
+use Rattle.run_model.specs.Steps.{is_same_call, vat_of}
+use Rattle.run_model.specs.Steps.{EachStep}
 use Rattle.run_model.proofs.Sending.{passes_later, received_answered}
 use Rattle.run_model.specs.declared.cap.Cap.TheVariants as cap
 use Rattle.run_model.specs.declared.message.Message.TheVariants as message
@@ -48,10 +48,10 @@ none_some e = cc
 -- ---- a call whose results are known was answered
 
 -- a record of the log passes the test
-abbrev Passed : (Past → Event → Bool) → Past → Type 0
-Passed test past = (later : List Event) × (e : Event) × (before : Past) × (past ≡ later ++ e ∷ before) × (test before e ≡ true)
+abbrev Passed : (Past → DecodedRecord → Bool) → Past → Type 0
+Passed test past = (later : List DecodedRecord) × (e : DecodedRecord) × (before : Past) × (past ≡ later ++ e ∷ before) × (test before e ≡ true)
 
-passed_at : (test : Past → Event → Bool) (past : Past) → has_passed test past ≡ true → Passed test past
+passed_at : (test : Past → DecodedRecord → Bool) (past : Past) → has_passed test past ≡ true → Passed test past
 passed_at test [] h = absurd (false≢true h)
 passed_at test (e ∷ before) h = elim (cases_Bool (test before e)) [
   | inl here ↦ ([], e, before, refl, here)
@@ -61,18 +61,18 @@ passed_at test (e ∷ before) h = elim (cases_Bool (test before e)) [
 
 -- a step answers a call of this name, or receives its results
 abbrev TellsResults : Name → Step → Type 0
-TellsResults name s = (answers name s ≡ true) ⊎ ((v : ℕ) × (k : ℕ) × (results : List (List ℕ × Cap)) × (caps bound : List Cap) × (s ≡ step.Receive v k (message.Return name results caps) bound))
+TellsResults name s = (answers_call name s ≡ true) ⊎ ((v : ℕ) × (k : ℕ) × (results : List (List ℕ × Cap)) × (caps bound : List Cap) × (s ≡ step.Receive v k (message.Return name results caps) bound))
 
-own_same : (name : Name) → is_same name name ≡ true
+own_same : (name : Name) → is_same_call name name ≡ true
 own_same name = ap₂ (λ a b. a && b) (eq-eqb name.maker name.maker refl) (eq-eqb name.number name.number refl)
 
 answer_told : (v : ℕ) (es : Past) (steps : List Step) (c : ℕ) (results : List (ℕ × List ℕ)) (s : Step) → Says v es steps (Answer c results) s →
     (name : Name) × (call_named v (Answer c results ∷ es) (s ∷ steps) c ≡ Some name) × TellsResults name s
 answer_told v es steps c results s says =
     let names = naming v (Answer c results ∷ es) (s ∷ steps) in
-    let name = then_is (λ name. option_map (λ caps. step.Answer v name caps) (together (map (result_named names es) results))) (names.call c) s says in
-    let caps = mapped_is (λ caps. step.Answer v name.0 caps) (together (map (result_named names es) results)) s name.2 in
-    (name.0, name.1, inl (ap (answers name.0) (sym caps.2) ∙ own_same name.0))
+    let name = then_is (λ name. option_map (λ caps. step.Answer v name caps) (all_there (map (result_named names es) results))) (names.call c) s says in
+    let caps = mapped_is (λ caps. step.Answer v name.0 caps) (all_there (map (result_named names es) results)) s name.2 in
+    (name.0, name.1, inl (ap (answers_call name.0) (sym caps.2) ∙ own_same name.0))
 
 results_told : (v call : ℕ) (es : Past) (steps : List Step) (k c : ℕ) (rs : List ℕ) (q : ℕ) (release : Bool) (payload : Payload) (s : Step) → Says v es steps (Wire false k c rs (Return q release (Results payload))) s →
     is call (call_at (opening (id k true q) es)) ≡ true → is_late es (Wire false k c rs (Return q release (Results payload))) ≡ false →
@@ -81,14 +81,14 @@ results_told v call es steps k c rs q release payload s says own late =
     let e = Wire false k c rs (Return q release (Results payload)) in
     let names = naming v (e ∷ es) (s ∷ steps) in
     let caps = caps_named names es e in
-    let name = then_is (λ name. say_return (is_late es e) payload.fields name caps) (answered names es k false q) (read es e says.message) (says_read says) in
+    let name = then_is (λ name. say_return (is_late es e) payload.fields name caps) (call_answered names es k false q) (read es e says.message) (says_read says) in
     let asked = then_is names.call (call_of (id k true q) es) name.0 name.1 in
     let same = call_is (is_free (id k true q) es) (call_at (opening (id k true q) es)) call asked.0 own asked.1 in
     let told = return_said (is_late es e) payload.fields name.0 caps (read es e says.message) late name.2 in
-    let came = read_return es e says.message name.0 (given told.0 payload.fields) told.0 told.2 in
-    (name.0, ap names.call (sym same) ∙ asked.2, inr (v, k, given told.0 payload.fields, told.0, says.bound, says.step ∙ ap (λ m. step.Receive v k m says.bound) came))
+    let came = read_return es e says.message name.0 (caps_at_paths told.0 payload.fields) told.0 told.2 in
+    (name.0, ap names.call (sym same) ∙ asked.2, inr (v, k, caps_at_paths told.0 payload.fields, told.0, says.bound, says.step ∙ ap (λ m. step.Receive v k m says.bound) came))
 
-known_told : (v call : ℕ) (es : Past) (steps : List Step) (e : Event) (s : Step) → Says v es steps e s → knows call es e ≡ true → (name : Name) × (call_named v (e ∷ es) (s ∷ steps) call ≡ Some name) × TellsResults name s
+known_told : (v call : ℕ) (es : Past) (steps : List Step) (e : DecodedRecord) (s : Step) → Says v es steps e s → knows call es e ≡ true → (name : Name) × (call_named v (e ∷ es) (s ∷ steps) call ≡ Some name) × TellsResults name s
 known_told v call es steps (Answer c results) s says h =
     subst (λ call. (name : Name) × (call_named v (Answer c results ∷ es) (s ∷ steps) call ≡ Some name) × TellsResults name s) (eqb-true c call h) (answer_told v es steps c results s says)
 known_told v call es steps (Wire false k c rs (Return q release (Results payload))) s says h =
@@ -97,17 +97,17 @@ known_told v call es steps (Wire false k c rs (Return q release (Results payload
     results_told v call es steps k c rs q release payload s says parts.0 (not-true (is_late es e) parts.1)
 known_told v call es steps e s says h = absurd (false≢true h)
 
-told_answered : (before : List Step) (name : Name) (s : Step) → EachStep IsLegal before → EachStep IsLinked before → StandsIn before s → TellsResults name s → list_any (answers name) before ≡ true
+told_answered : (before : List Step) (name : Name) (s : Step) → EachStep IsLegal before → EachStep IsLinked before → StandsIn before s → TellsResults name s → list_any (answers_call name) before ≡ true
 told_answered before name s legal linked at tells =
     let legal_then = each_earlier IsLegal at.0 (s ∷ at.1) (subst (EachStep IsLegal) at.2 legal) in
     let linked_then = each_earlier IsLinked at.0 (s ∷ at.1) (subst (EachStep IsLinked) at.2 linked) in
-    subst (λ l. list_any (answers name) l ≡ true) (sym at.2) (passes_later (answers name) at.0 (s ∷ at.1) (elim tells [
-      | inl own ↦ or_left (answers name s) (list_any (answers name) at.1) own
-      | inr r ↦ passes_later (answers name) (s ∷ []) at.1 (received_answered at.1 legal_then.1 r.0 r.1 name r.2 r.3 r.4 (subst (IsLinked at.1) r.5 linked_then.0))
+    subst (λ l. list_any (answers_call name) l ≡ true) (sym at.2) (passes_later (answers_call name) at.0 (s ∷ at.1) (elim tells [
+      | inl own ↦ or_left (answers_call name s) (list_any (answers_call name) at.1) own
+      | inr r ↦ passes_later (answers_call name) (s ∷ []) at.1 (received_answered at.1 legal_then.1 r.0 r.1 name r.2 r.3 r.4 (subst (IsLinked at.1) r.5 linked_then.0))
     ]))
 
 known_answered : (v : ℕ) (es : Past) (steps before : List Step) → IsWithin v es steps before → (call : ℕ) (name : Name) → is_known call es ≡ true → call_named v es steps call ≡ Some name →
-    list_any (answers name) before ≡ true
+    list_any (answers_call name) before ≡ true
 known_answered v es steps before w call name known named =
     let t = passed_at (knows call) es known in
     let pair = paired_at v t.0 t.1 t.2 steps (subst (λ es. PairsOff v es steps) t.3 w.paired) in
@@ -115,38 +115,38 @@ known_answered v es steps before w call name known named =
     let told = known_told v call t.2 pair.earlier t.1 pair.step pair.paired.0 t.4 in
     let later = call_keeps v t.0 (t.1 ∷ t.2) pair.added (pair.step ∷ pair.earlier) pair.as_long (each_after t.0 (t.1 ∷ t.2) (subst (Each Refers) t.3 w.refers)) call told.0 told.1 in
     let same : told.0 ≡ name = some_same (sym later ∙ sym (ap₂ (λ es steps. call_named v es steps call) t.3 pair.whole) ∙ named) in
-    subst (λ name. list_any (answers name) before ≡ true) same (told_answered before told.0 pair.step w.legal w.linked at told.2)
+    subst (λ name. list_any (answers_call name) before ≡ true) same (told_answered before told.0 pair.step w.legal w.linked at told.2)
 
 -- ---- what stands at a place of a record's caps is led to where the log says so
 
-together_back : {A : Type 0} (f : A → Option Cap) (xs : List A) (i : ℕ) (cs : List Cap) (c : Cap) → together (map f xs) ≡ Some cs → slice_get cs i ≡ Some c → (x : A) × (slice_get xs i ≡ Some x) × (f x ≡ Some c)
+together_back : {A : Type 0} (f : A → Option Cap) (xs : List A) (i : ℕ) (cs : List Cap) (c : Cap) → all_there (map f xs) ≡ Some cs → slice_get cs i ≡ Some c → (x : A) × (slice_get xs i ≡ Some x) × (f x ≡ Some c)
 together_back f [] i cs c h there = let none : [] ≡ cs = some_same h in absurd (none_some (ap (λ l. slice_get l i) none ∙ there))
 together_back f (x ∷ xs) i cs c h there = at (f x) refl h i there (λ i. together_back f xs i)
   where
-    at : (o : Option Cap) → f x ≡ o → together (o ∷ map f xs) ≡ Some cs → (i : ℕ) → slice_get cs i ≡ Some c →
-        ((i : ℕ) (cs : List Cap) (c : Cap) → together (map f xs) ≡ Some cs → slice_get cs i ≡ Some c → (x : _) × (slice_get xs i ≡ Some x) × (f x ≡ Some c)) → (y : _) × (slice_get (x ∷ xs) i ≡ Some y) × (f y ≡ Some c)
+    at : (o : Option Cap) → f x ≡ o → all_there (o ∷ map f xs) ≡ Some cs → (i : ℕ) → slice_get cs i ≡ Some c →
+        ((i : ℕ) (cs : List Cap) (c : Cap) → all_there (map f xs) ≡ Some cs → slice_get cs i ≡ Some c → (x : _) × (slice_get xs i ≡ Some x) × (f x ≡ Some c)) → (y : _) × (slice_get (x ∷ xs) i ≡ Some y) × (f y ≡ Some c)
     at None e h i there rest = absurd (none_some h)
     at (Some y) e h zero there rest =
-        let ys = mapped_is (λ ys. y ∷ ys) (together (map f xs)) cs h in
+        let ys = mapped_is (λ ys. y ∷ ys) (all_there (map f xs)) cs h in
         let same : y ≡ c = some_same (ap (λ l. slice_get l 0) ys.2 ∙ there) in (x, refl, e ∙ ap (λ y. Some y) same)
     at (Some y) e h (suc i) there rest =
-        let ys = mapped_is (λ ys. y ∷ ys) (together (map f xs)) cs h in rest i ys.0 c ys.1 (ap (λ l. slice_get l (suc i)) ys.2 ∙ there)
+        let ys = mapped_is (λ ys. y ∷ ys) (all_there (map f xs)) cs h in rest i ys.0 c ys.1 (ap (λ l. slice_get l (suc i)) ys.2 ∙ there)
 
 -- a cap that is there stands for the view of a descriptor that isn't none
-abbrev Describes : Naming → Past → Event → ℕ → Cap → Type 0
+abbrev Describes : Naming → Past → DecodedRecord → ℕ → Cap → Type 0
 Describes names es e place c = (b : View) × (view_of_descriptor es e place ≡ Some b) × (names.cap b ≡ Some c) × (is_cap_at (slice_get (descriptors e) place) ≡ true)
 
-cap_described : (names : Naming) (es : Past) (e : Event) (place : ℕ) (c : Cap) (d : Descriptor) → slice_get (descriptors e) place ≡ Some d → descriptor_named names es e d ≡ Some c → is_cap c ≡ true → Describes names es e place c
-cap_described names es e place c NoCap at named is = absurd (let same : cap.Nothing ≡ c = some_same named in false≢true (ap is_cap same ∙ is))
+cap_described : (names : Naming) (es : Past) (e : DecodedRecord) (place : ℕ) (c : Cap) (d : Descriptor) → slice_get (descriptors e) place ≡ Some d → descriptor_named names es e d ≡ Some c → is_present c ≡ true → Describes names es e place c
+cap_described names es e place c NoCap at named is = absurd (let same : cap.Nothing ≡ c = some_same named in false≢true (ap is_present same ∙ is))
 cap_described names es e place c d at named is =
-    let b = then_is names.cap (described (view_of_reference es) es e d) c named in
-    (b.0, ap (λ o. option_and_then (described (view_of_reference es) es e) o) at ∙ b.1, b.2, ap is_cap_at at)
+    let b = then_is names.cap (descriptor_view (view_of_reference es) es e d) c named in
+    (b.0, ap (λ o. option_and_then (descriptor_view (view_of_reference es) es e) o) at ∙ b.1, b.2, ap is_cap_at at)
 
-cap_there : (names : Naming) (es : Past) (e : Event) (place : ℕ) (cs : List Cap) (c : Cap) → caps_named names es e ≡ Some cs → slice_get cs place ≡ Some c → is_cap c ≡ true → Describes names es e place c
+cap_there : (names : Naming) (es : Past) (e : DecodedRecord) (place : ℕ) (cs : List Cap) (c : Cap) → caps_named names es e ≡ Some cs → slice_get cs place ≡ Some c → is_present c ≡ true → Describes names es e place c
 cap_there names es e place cs c all there is =
     let d = together_back (descriptor_named names es e) (descriptors e) place cs c all there in cap_described names es e place c d.0 d.1 d.2 is
 
-module _ (v : ℕ) (es : Past) (steps before : List Step) (w : IsWithin v es steps before) (e : Event) (s : Step) (refers : Refers es e) where
+module _ (v : ℕ) (es : Past) (steps before : List Step) (w : IsWithin v es steps before) (e : DecodedRecord) (s : Step) (refers : Refers es e) where
   -- where a view leads to that of a descriptor, its name leads to the cap at that place
   described_leads : (a : View) (x : Cap) (place : ℕ) (c : Cap) → cap_named v es steps a ≡ Some x → Describes (naming v (e ∷ es) (s ∷ steps)) es e place c →
       (is_cap_at (slice_get (descriptors e) place) ≡ true → LeadsOnTo es (Some a) (view_of_descriptor es e place)) → RunLeadsByTurns before x c
@@ -157,12 +157,12 @@ module _ (v : ℕ) (es : Past) (steps before : List Step) (w : IsWithin v es ste
       subst (λ y. RunLeadsByTurns before x y) same y.2
 
   results_lead : (call : ℕ) (name : Name) (cs : List Cap) (fields : List (List ℕ × ℕ)) → call_named v es steps call ≡ Some name → caps_named (naming v (e ∷ es) (s ∷ steps)) es e ≡ Some cs →
-      AllByRecursion (ReturnsField es e call) fields → AllByRecursion (λ result. RunLeadsByTurns before (cap.Field name result.0) result.1) (given cs fields)
+      AllByRecursion (ReturnsField es e call) fields → AllByRecursion (λ result. RunLeadsByTurns before (cap.Field name result.0) result.1) (caps_at_paths cs fields)
   results_lead call name cs [] named all rules = tt
   results_lead call name cs (field ∷ fields) named all rules = at (cap_at field.1 cs) refl (results_lead call name cs fields named all rules.1)
     where
-      at : (o : Option Cap) → cap_at field.1 cs ≡ o → AllByRecursion (λ result. RunLeadsByTurns before (cap.Field name result.0) result.1) (given cs fields) →
-          AllByRecursion (λ (result : List ℕ × Cap). RunLeadsByTurns before (cap.Field name result.0) result.1) (cons_option (option_map (λ c. (field.0, c)) o) (given cs fields))
+      at : (o : Option Cap) → cap_at field.1 cs ≡ o → AllByRecursion (λ result. RunLeadsByTurns before (cap.Field name result.0) result.1) (caps_at_paths cs fields) →
+          AllByRecursion (λ (result : List ℕ × Cap). RunLeadsByTurns before (cap.Field name result.0) result.1) (cons_option (option_map (λ c. (field.0, c)) o) (caps_at_paths cs fields))
       at None h rest = rest
       at (Some c) h rest =
           let there = cap_at_is field.1 cs c h in
@@ -176,11 +176,11 @@ call_here true o c h = absurd (none_some h)
 call_here false o c h = h
 
 module _ (v : ℕ) (es : Past) (steps before : List Step) (w : IsWithin v es steps before) (good : Each IsGood es) (k c : ℕ) (rs : List ℕ) where
-  sent_is : (m : RpcMessage) (s : Step) → Says v es steps (Wire true k c rs m) s → (M : Message) × (said (naming v (Wire true k c rs m ∷ es) (s ∷ steps)) es (Wire true k c rs m) ≡ Some M) × (step.Send v k M ≡ s)
-  sent_is m s says = mapped_is (λ M. step.Send v k M) (said (naming v (Wire true k c rs m ∷ es) (s ∷ steps)) es (Wire true k c rs m)) s says
+  sent_is : (m : RpcMessage) (s : Step) → Says v es steps (Wire true k c rs m) s → (M : Message) × (message_of_record (naming v (Wire true k c rs m ∷ es) (s ∷ steps)) es (Wire true k c rs m) ≡ Some M) × (step.Send v k M ≡ s)
+  sent_is m s says = mapped_is (λ M. step.Send v k M) (message_of_record (naming v (Wire true k c rs m ∷ es) (s ∷ steps)) es (Wire true k c rs m)) s says
 
   module _ (q : ℕ) (release : Bool) (payload : Payload) (s : Step) (g : IsGood es (Wire true k c rs (Return q release (Results payload)))) where
-    abbrev giving : Event
+    abbrev giving : DecodedRecord
     giving = Wire true k c rs (Return q release (Results payload))
 
     abbrev names : Naming
@@ -199,13 +199,13 @@ module _ (v : ℕ) (es : Past) (steps before : List Step) (w : IsWithin v es ste
     results_come : Says v es steps giving s → MayCome before s
     results_come says =
         let M = sent_is (Return q release (Results payload)) s says in
-        let name = then_is (λ name. say_return (is_late es giving) payload.fields name (caps_named names es giving)) (answered names es k true q) M.0 M.1 in
+        let name = then_is (λ name. say_return (is_late es giving) payload.fields name (caps_named names es giving)) (call_answered names es k true q) M.0 M.1 in
         let asked = then_is names.call (call_of (id k false q) es) name.0 name.1 in
         subst (MayCome before) M.2 (results_sent (is_late es giving) refl M.0 name.0 asked.0 (call_here (is_free (id k false q) es) (call_at (opening (id k false q) es)) asked.0 asked.1) asked.2 name.2)
 
-  failed_comes : (q : ℕ) (release : Bool) (outcome : Outcome) (s : Step) (M : Message) → option_map message.Failed (answered (naming v (Wire true k c rs (Return q release outcome) ∷ es) (s ∷ steps)) es k true q) ≡ Some M → MaySend before v M
+  failed_comes : (q : ℕ) (release : Bool) (outcome : Outcome) (s : Step) (M : Message) → option_map message.Failed (call_answered (naming v (Wire true k c rs (Return q release outcome) ∷ es) (s ∷ steps)) es k true q) ≡ Some M → MaySend before v M
   failed_comes q release outcome s M h =
-      let name = mapped_is message.Failed (answered (naming v (Wire true k c rs (Return q release outcome) ∷ es) (s ∷ steps)) es k true q) M h in subst (MaySend before v) name.2 tt
+      let name = mapped_is message.Failed (call_answered (naming v (Wire true k c rs (Return q release outcome) ∷ es) (s ∷ steps)) es k true q) M h in subst (MaySend before v) name.2 tt
 
   pub return_comes : (q : ℕ) (release : Bool) (outcome : Outcome) (s : Step) → IsGood es (Wire true k c rs (Return q release outcome)) → Says v es steps (Wire true k c rs (Return q release outcome)) s → MayCome before s
   return_comes q release (Results payload) s g says = results_come q release payload s g says
@@ -213,7 +213,7 @@ module _ (v : ℕ) (es : Past) (steps before : List Step) (w : IsWithin v es ste
 
   promise_leads : (n : ℕ) (resolution : Resolution) (s : Step) (promise : Cap) (cs : List Cap) → IsGood es (Wire true k c rs (Resolve n resolution)) →
       promise_named (naming v (Wire true k c rs (Resolve n resolution) ∷ es) (s ∷ steps)) es k true n ≡ Some promise → caps_named (naming v (Wire true k c rs (Resolve n resolution) ∷ es) (s ∷ steps)) es (Wire true k c rs (Resolve n resolution)) ≡ Some cs →
-      (x : Cap) → slice_get cs 0 ≡ Some x → is_cap x ≡ true → RunLeadsByTurns before promise x
+      (x : Cap) → slice_get cs 0 ≡ Some x → is_present x ≡ true → RunLeadsByTurns before promise x
   promise_leads n resolution s promise cs g named all x there is =
       let e = Wire true k c rs (Resolve n resolution) in
       let refers = g rule.Ref in
@@ -224,7 +224,7 @@ module _ (v : ℕ) (es : Past) (steps before : List Step) (w : IsWithin v es ste
       described_leads v es steps before w e s refers known.0 promise 0 x (had.1 ∙ ap (λ y. Some y) same) (cap_there (naming v (e ∷ es) (s ∷ steps)) es e 0 cs x all there is)
       (λ caps. subst (λ o. LeadsOnTo es o (view_of_descriptor es e 0)) known.1 (resolves.1 caps))
 
-  resolve_sent : (promise : Cap) (cs : List Cap) → ((x : Cap) → slice_get cs 0 ≡ Some x → is_cap x ≡ true → RunLeadsByTurns before promise x) → MaySend before v (say_resolve promise cs)
+  resolve_sent : (promise : Cap) (cs : List Cap) → ((x : Cap) → slice_get cs 0 ≡ Some x → is_present x ≡ true → RunLeadsByTurns before promise x) → MaySend before v (say_resolve promise cs)
   resolve_sent promise [] leads = tt
   resolve_sent promise (cap.Nothing ∷ cs) leads = tt
   resolve_sent promise (x ∷ cs) leads = leads x refl refl

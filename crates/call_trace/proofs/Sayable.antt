@@ -9,18 +9,18 @@ use Rattle.agree.proofs.Good.{all_sound}
 use Rattle.vat_view.specs.Past.{Past, Each, id, last_answer}
 use Rattle.vat_view.specs.Questions.{is_late}
 use Rattle.vat_view.specs.Lives.{birth, begins, began_promised, descriptors, is_in_life, is_resolved}
-use Rattle.vat_view.specs.Views.{view_of_reference, view_of_number, view_of_target, described}
+use Rattle.vat_view.specs.Views.{view_of_reference, view_of_number, view_of_target, descriptor_view}
 use Rattle.vat_view.specs.Bindings.{Refers, is_bound, is_bound_call}
 use Rattle.vat_view.specs.Sound.{IsSound}
 use Rattle.vat_rules.specs.Judged.{IsGood}
 use Rattle.vat_rules.specs.OfCaps.{is_received}
 use Rattle.vat_rules.specs.OfPromises.{IsUnkept, is_unresolved}
 use Rattle.vat_rules.specs.declared.rule.Rule.TheVariants as rule
-use Rattle.vat_view.specs.declared.id.Id.{Id}
+use Rattle.vat_view.specs.declared.record.table_key.TableKey.{TableKey}
 use Rattle.rpc_view.specs.declared.message.Payload.{Payload}
-use Rattle.call_trace.specs.Types.{Descriptor, NoCap, Target, Outcome, Results, Resolution, RpcMessage, Bootstrap, Call, Return, Finish, Resolve, Release, Disembargo, Abort, Event, Host, Vow, Fulfil, Break, Make, Field, Deliver, Answer, Fault, Wire, View, Promise, Name, Cap, Message, Step}
+use Rattle.call_trace.specs.Types.{Descriptor, NoCap, Target, Outcome, Results, Resolution, RpcMessage, Bootstrap, Call, Return, Finish, Resolve, Release, Disembargo, Abort, DecodedRecord, Host, Vow, Fulfil, Break, Make, Field, Deliver, Answer, Fault, Wire, View, Promise, Name, Cap, Message, Step}
 use Rattle.call_trace.specs.Naming.{naming, cap_at, call_named, cap_named}
-use Rattle.call_trace.specs.Said.{together, say_call, say_return, say_resolve, descriptor_named, caps_named, answered, given, said}
+use Rattle.call_trace.specs.Said.{all_there, say_call, say_return, say_resolve, descriptor_named, caps_named, call_answered, caps_at_paths, message_of_record}
 use Rattle.call_trace.specs.Part.{reference_named, promise_in, result_named, step_said, Says}
 use Rattle.call_trace.specs.Running.{step_of}
 use Rattle.call_trace.specs.Within.{IsWithin}
@@ -28,7 +28,7 @@ use Rattle.call_trace.proofs.Naming.{then_is, call_keeps, cap_step, calls_named}
 use Rattle.call_trace.proofs.Having.{call_had}
 use Rattle.call_trace.proofs.Using.{StandsKnown, unreturned_bound, reference_known, number_known, descriptor_known, target_known, known_had}
 use Rattle.run_model.specs.Has.{Has}
-use Rattle.run_model.specs.Legal.{is_cap, present, caps_of, HasUsed}
+use Rattle.run_model.specs.Legal.{is_present, present, caps_of, HasUsed}
 use Rattle.run_model.specs.Steps.{call}
 use Rattle.run_model.specs.declared.cap.Cap.TheVariants as cap
 use Rattle.run_model.specs.declared.message.Message.TheVariants as message
@@ -45,22 +45,22 @@ none_some e = cc
 
 -- what each element gives, whatever step stands beside the record, they give together
 all_together : {A B : Type 0} (f : Step → A → Option B) (P : B → Type 0) (xs : List A) →
-    ((j : ℕ) (x : A) → slice_get xs j ≡ Some x → (y : B) × ((s : Step) → f s x ≡ Some y) × P y) → (ys : List B) × ((s : Step) → together (map (f s) xs) ≡ Some ys) × AllByRecursion P ys
+    ((j : ℕ) (x : A) → slice_get xs j ≡ Some x → (y : B) × ((s : Step) → f s x ≡ Some y) × P y) → (ys : List B) × ((s : Step) → all_there (map (f s) xs) ≡ Some ys) × AllByRecursion P ys
 all_together f P [] each = ([], λ s. refl, tt)
 all_together f P (x ∷ xs) each =
     let y = each 0 x refl in
     let ys = all_together f P xs (λ j x at. each (suc j) x at) in
-    (y.0 ∷ ys.0, λ s. ap (λ o. together (o ∷ map (f s) xs)) (y.1 s) ∙ ap (λ o. option_map (λ ys. y.0 ∷ ys) o) (ys.1 s), (y.2, ys.2))
+    (y.0 ∷ ys.0, λ s. ap (λ o. all_there (o ∷ map (f s) xs)) (y.1 s) ∙ ap (λ o. option_map (λ ys. y.0 ∷ ys) o) (ys.1 s), (y.2, ys.2))
 
 -- a cap other than Nothing is had
 abbrev IsHadCap : List Step → ℕ → Cap → Type 0
-IsHadCap before v c = is_cap c ≡ true → Has before v c
+IsHadCap before v c = is_present c ≡ true → Has before v c
 
 present_had : (before : List Step) (v : ℕ) (cs : List Cap) → AllByRecursion (IsHadCap before v) cs → AllByRecursion (Has before v) (present cs)
 present_had before v [] all = tt
-present_had before v (c ∷ cs) all = at (is_cap c) refl (present_had before v cs all.1)
+present_had before v (c ∷ cs) all = at (is_present c) refl (present_had before v cs all.1)
   where
-    at : (b : Bool) → is_cap c ≡ b → AllByRecursion (Has before v) (present cs) → AllByRecursion (Has before v) (if b then c ∷ present cs else present cs)
+    at : (b : Bool) → is_present c ≡ b → AllByRecursion (Has before v) (present cs) → AllByRecursion (Has before v) (if b then c ∷ present cs else present cs)
     at true is rest = (all.0 is, rest)
     at false is rest = rest
 
@@ -69,25 +69,25 @@ both_had before v [] ds all more = more
 both_had before v (c ∷ cs) ds all more = (all.0, both_had before v cs ds all.1 more)
 
 -- the cap at a place is the one that stands there, and it is there
-pub cap_at_is : (place : ℕ) (cs : List Cap) (c : Cap) → cap_at place cs ≡ Some c → (slice_get cs place ≡ Some c) × (is_cap c ≡ true)
+pub cap_at_is : (place : ℕ) (cs : List Cap) (c : Cap) → cap_at place cs ≡ Some c → (slice_get cs place ≡ Some c) × (is_present c ≡ true)
 cap_at_is place cs c h =
-    let x = then_is (λ c. if is_cap c then Some c else None) (slice_get cs place) c h in at x.0 x.1 (is_cap x.0) refl x.2
+    let x = then_is (λ c. if is_present c then Some c else None) (slice_get cs place) c h in at x.0 x.1 (is_present x.0) refl x.2
   where
-    at : (x : Cap) → slice_get cs place ≡ Some x → (b : Bool) → is_cap x ≡ b → (if b then Some x else None) ≡ Some c → (slice_get cs place ≡ Some c) × (is_cap c ≡ true)
-    at x there true is h = let same : x ≡ c = some_same h in (there ∙ ap (λ x. Some x) same, ap is_cap (sym same) ∙ is)
+    at : (x : Cap) → slice_get cs place ≡ Some x → (b : Bool) → is_present x ≡ b → (if b then Some x else None) ≡ Some c → (slice_get cs place ≡ Some c) × (is_present c ≡ true)
+    at x there true is h = let same : x ≡ c = some_same h in (there ∙ ap (λ x. Some x) same, ap is_present (sym same) ∙ is)
     at x there false is h = absurd (none_some h)
 
 had_at : (before : List Step) (v place : ℕ) (cs : List Cap) (c : Cap) → AllByRecursion (IsHadCap before v) cs → slice_get cs place ≡ Some c → IsHadCap before v c
 had_at before v place [] c all at is = absurd (none_some at)
-had_at before v zero (x ∷ cs) c all at is = let same : x ≡ c = some_same at in subst (Has before v) same (all.0 (ap is_cap same ∙ is))
+had_at before v zero (x ∷ cs) c all at is = let same : x ≡ c = some_same at in subst (Has before v) same (all.0 (ap is_present same ∙ is))
 had_at before v (suc place) (x ∷ cs) c all at is = had_at before v place cs c all.1 at is
 
-given_had : (before : List Step) (v : ℕ) (cs : List Cap) (fields : List (List ℕ × ℕ)) → AllByRecursion (IsHadCap before v) cs → AllByRecursion (IsHadCap before v) (map (λ result. result.1) (given cs fields))
+given_had : (before : List Step) (v : ℕ) (cs : List Cap) (fields : List (List ℕ × ℕ)) → AllByRecursion (IsHadCap before v) cs → AllByRecursion (IsHadCap before v) (map (λ result. result.1) (caps_at_paths cs fields))
 given_had before v cs [] all = tt
 given_had before v cs (field ∷ fields) all = at (cap_at field.1 cs) refl (given_had before v cs fields all)
   where
-    at : (o : Option Cap) → cap_at field.1 cs ≡ o → AllByRecursion (IsHadCap before v) (map (λ result. result.1) (given cs fields)) →
-        AllByRecursion (IsHadCap before v) (map (λ (result : List ℕ × Cap). result.1) (cons_option (option_map (λ c. (field.0, c)) o) (given cs fields)))
+    at : (o : Option Cap) → cap_at field.1 cs ≡ o → AllByRecursion (IsHadCap before v) (map (λ result. result.1) (caps_at_paths cs fields)) →
+        AllByRecursion (IsHadCap before v) (map (λ (result : List ℕ × Cap). result.1) (cons_option (option_map (λ c. (field.0, c)) o) (caps_at_paths cs fields)))
     at None h rest = rest
     at (Some c) h rest = (had_at before v field.1 cs c all (cap_at_is field.1 cs c h).0, rest)
 
@@ -99,12 +99,12 @@ resolve_had before v promise (c ∷ cs) had all = (had, (all.0, tt))
 -- ---- what a record names, whatever step stands beside it
 
 -- a step that a record says, whatever step stands beside it, uses what is had
-pub record SaysHad (v : ℕ) (es : Past) (steps before : List Step) (e : Event) : Type 0 where
+pub record SaysHad (v : ℕ) (es : Past) (steps before : List Step) (e : DecodedRecord) : Type 0 where
   pub step : Step
   pub said : (s : Step) → step_said (naming v (e ∷ es) (s ∷ steps)) es e ≡ Some step
   pub used : HasUsed before step
 
-module _ (v : ℕ) (es : Past) (steps before : List Step) (w : IsWithin v es steps before) (good : Each IsGood es) (e : Event) (refers : Refers es e) where
+module _ (v : ℕ) (es : Past) (steps before : List Step) (w : IsWithin v es steps before) (good : Each IsGood es) (e : DecodedRecord) (refers : Refers es e) where
   -- this cap is there, and had
   abbrev IsUsable : (Step → Option Cap) → Type 0
   IsUsable o = (c : Cap) × ((s : Step) → o s ≡ Some c) × Has before v c
@@ -196,7 +196,7 @@ module _ (v : ℕ) (es : Past) (steps before : List Step) (w : IsWithin v es ste
       record {
         step = step.Answer v name.0 caps.0;
         said = λ s.
-            ap (λ o. option_and_then (λ name. option_map (λ caps. step.Answer v name caps) (together (map (result_named (naming v (e ∷ es) (s ∷ steps)) es) results))) o) (name.1 s)
+            ap (λ o. option_and_then (λ name. option_map (λ caps. step.Answer v name caps) (all_there (map (result_named (naming v (e ∷ es) (s ∷ steps)) es) results))) o) (name.1 s)
             ∙ ap (λ o. option_map (λ caps. step.Answer v name.0 caps) o) (caps.1 s);
         used = present_had before v (map (λ result. result.1) caps.0) (answers_had before v caps.0 caps.2);
       }
@@ -220,13 +220,13 @@ module _ (v : ℕ) (es : Past) (steps before : List Step) (w : IsWithin v es ste
 -- ---- messages that are sent
 
 -- a message that a record says, whatever step stands beside it, has caps that are had
-record SaysMessage (v : ℕ) (es : Past) (steps before : List Step) (e : Event) : Type 0 where
+record SaysMessage (v : ℕ) (es : Past) (steps before : List Step) (e : DecodedRecord) : Type 0 where
   pub sent : Message
-  pub says : (s : Step) → said (naming v (e ∷ es) (s ∷ steps)) es e ≡ Some sent
+  pub says : (s : Step) → message_of_record (naming v (e ∷ es) (s ∷ steps)) es e ≡ Some sent
   pub used : AllByRecursion (IsHadCap before v) (caps_of sent)
 
 -- a promise without a Resolve is in life
-pub unresolved_lives : (i : Id) (past : Past) → is_unresolved i past ≡ true → is_in_life i past ≡ true
+pub unresolved_lives : (i : TableKey) (past : Past) → is_unresolved i past ≡ true → is_in_life i past ≡ true
 unresolved_lives i past h = at (is_in_life i past) (and_parts (unwrap_or (option_map began_promised (birth i past)) false) (not (is_resolved i past)) h).0
   where
     at : (b : Bool) → unwrap_or (option_map began_promised (if b then last_answer (begins i) past else None)) false ≡ true → b ≡ true
@@ -242,12 +242,12 @@ module _ (v : ℕ) (es : Past) (steps before : List Step) (w : IsWithin v es ste
     abbrev IsNamed : Descriptor → Type 0
     IsNamed d = (x : Cap) × ((s : Step) → descriptor_named (naming v (Wire true k c rs m ∷ es) (s ∷ steps)) es (Wire true k c rs m) d ≡ Some x) × IsHadCap before v x
 
-    descriptor_usable : (d : Descriptor) → (d ≡ NoCap) ⊎ StandsKnown es (described (view_of_reference es) es (Wire true k c rs m) d) → IsNamed d
+    descriptor_usable : (d : Descriptor) → (d ≡ NoCap) ⊎ StandsKnown es (descriptor_view (view_of_reference es) es (Wire true k c rs m) d) → IsNamed d
     descriptor_usable d (inl none) = subst IsNamed (sym none) (cap.Nothing, λ s. refl, λ is. absurd (false≢true is))
     descriptor_usable NoCap (inr known) = (cap.Nothing, λ s. refl, λ is. absurd (false≢true is))
     descriptor_usable d (inr known) =
         let e = Wire true k c rs m in
-        let t = view_usable v es steps before w good e (g rule.Ref) (described (view_of_reference es) es e d) known in
+        let t = view_usable v es steps before w good e (g rule.Ref) (descriptor_view (view_of_reference es) es e d) known in
         (t.0, t.1, λ is. t.2)
 
     -- the caps of a message that isn't a late Return
@@ -286,7 +286,7 @@ module _ (v : ℕ) (es : Past) (steps before : List Step) (w : IsWithin v es ste
 
   -- the call that a Return answers
   answered_named : (q : ℕ) (release : Bool) (outcome : Outcome) → IsGood es (Wire true k c rs (Return q release outcome)) →
-      (name : Name) × ((s : Step) → answered (naming v (Wire true k c rs (Return q release outcome) ∷ es) (s ∷ steps)) es k true q ≡ Some name)
+      (name : Name) × ((s : Step) → call_answered (naming v (Wire true k c rs (Return q release outcome) ∷ es) (s ∷ steps)) es k true q ≡ Some name)
   answered_named q release outcome g =
       let e = Wire true k c rs (Return q release outcome) in
       let uses = g rule.QUse in
@@ -295,7 +295,7 @@ module _ (v : ℕ) (es : Past) (steps before : List Step) (w : IsWithin v es ste
       (name.0, λ s. ap (λ o. option_and_then (call_named v (e ∷ es) (s ∷ steps)) o) asked.1 ∙ name.1 s)
 
   module _ (q : ℕ) (release : Bool) (payload : Payload) (g : IsGood es (Wire true k c rs (Return q release (Results payload)))) where
-    abbrev giving : Event
+    abbrev giving : DecodedRecord
     giving = Wire true k c rs (Return q release (Results payload))
 
     results_say : (late : Bool) → is_late es giving ≡ late → SaysMessage v es steps before giving
@@ -313,13 +313,13 @@ module _ (v : ℕ) (es : Past) (steps before : List Step) (w : IsWithin v es ste
         let name = answered_named q release (Results payload) g in
         let caps = caps_usable (Return q release (Results payload)) g late in
         record {
-          sent = message.Return name.0 (given caps.0 payload.fields) caps.0;
+          sent = message.Return name.0 (caps_at_paths caps.0 payload.fields) caps.0;
           says = λ s.
               let names = naming v (giving ∷ es) (s ∷ steps) in
               ap (λ o. option_and_then (λ name. say_return (is_late es giving) payload.fields name (caps_named names es giving)) o) (name.1 s)
               ∙ ap (λ b. say_return b payload.fields name.0 (caps_named names es giving)) late
               ∙ ap (λ o. say_return false payload.fields name.0 o) (caps.1 s);
-          used = both_had before v (map (λ result. result.1) (given caps.0 payload.fields)) caps.0 (given_had before v caps.0 payload.fields caps.2) caps.2;
+          used = both_had before v (map (λ result. result.1) (caps_at_paths caps.0 payload.fields)) caps.0 (given_had before v caps.0 payload.fields caps.2) caps.2;
         }
 
   resolve_says : (n : ℕ) (resolution : Resolution) → IsGood es (Wire true k c rs (Resolve n resolution)) → SaysMessage v es steps before (Wire true k c rs (Resolve n resolution))
@@ -361,7 +361,7 @@ module _ (v : ℕ) (es : Past) (steps before : List Step) (w : IsWithin v es ste
 
 -- ---- together
 
-says_had : (v : ℕ) (es : Past) (steps before : List Step) → IsWithin v es steps before → Each IsGood es → (e : Event) → IsGood es e → is_received e ≡ false → SaysHad v es steps before e
+says_had : (v : ℕ) (es : Past) (steps before : List Step) → IsWithin v es steps before → Each IsGood es → (e : DecodedRecord) → IsGood es e → is_received e ≡ false → SaysHad v es steps before e
 says_had v es steps before w good (Host r object) g out = record { step = step.Host v object; said = λ s. refl; used = tt }
 says_had v es steps before w good (Vow r) g out = record { step = step.Vow v r; said = λ s. refl; used = tt }
 says_had v es steps before w good (Fulfil r to) g out = fulfil_says v es steps before w good r to g
@@ -374,30 +374,30 @@ says_had v es steps before w good (Fault c) g out = fault_says v es steps before
 says_had v es steps before w good (Wire true k c rs m) g out = send_says v es steps before w good k c rs m g
 says_had v es steps before w good (Wire false k c rs m) g out = absurd (false≢true (sym out))
 
-stepped : (v : ℕ) (es : Past) (steps before : List Step) (e : Event) (s : Step) → is_received e ≡ false → step_said (naming v (e ∷ es) (step.Host v 0 ∷ steps)) es e ≡ Some s → step_of v es steps before e ≡ Some s
+stepped : (v : ℕ) (es : Past) (steps before : List Step) (e : DecodedRecord) (s : Step) → is_received e ≡ false → step_said (naming v (e ∷ es) (step.Host v 0 ∷ steps)) es e ≡ Some s → step_of v es steps before e ≡ Some s
 stepped v es steps before (Wire false k c rs m) s out h = absurd (false≢true (sym out))
 stepped v es steps before e s out h = h
 
-saying : (v : ℕ) (es : Past) (steps : List Step) (e : Event) (s : Step) → is_received e ≡ false → step_said (naming v (e ∷ es) (s ∷ steps)) es e ≡ Some s → Says v es steps e s
+saying : (v : ℕ) (es : Past) (steps : List Step) (e : DecodedRecord) (s : Step) → is_received e ≡ false → step_said (naming v (e ∷ es) (s ∷ steps)) es e ≡ Some s → Says v es steps e s
 saying v es steps (Wire false k c rs m) s out h = absurd (false≢true (sym out))
 saying v es steps e s out h = h
 
-pub step_there : (v : ℕ) (es : Past) (steps before : List Step) (e : Event) → IsWithin v es steps before → Each IsGood es → IsGood es e → is_received e ≡ false →
+pub step_there : (v : ℕ) (es : Past) (steps before : List Step) (e : DecodedRecord) → IsWithin v es steps before → Each IsGood es → IsGood es e → is_received e ≡ false →
     (s : Step) × (step_of v es steps before e ≡ Some s) × Says v es steps e s
 step_there v es steps before e w good g out =
     let t = says_had v es steps before w good e g out in
     (t.step, stepped v es steps before e t.step out (t.said (step.Host v 0)), saying v es steps e t.step out (t.said t.step))
 
 -- what a record says is that step alone
-said_had : (v : ℕ) (es : Past) (steps before : List Step) (e : Event) (s : Step) → SaysHad v es steps before e → step_said (naming v (e ∷ es) (s ∷ steps)) es e ≡ Some s → HasUsed before s
+said_had : (v : ℕ) (es : Past) (steps before : List Step) (e : DecodedRecord) (s : Step) → SaysHad v es steps before e → step_said (naming v (e ∷ es) (s ∷ steps)) es e ≡ Some s → HasUsed before s
 said_had v es steps before e s t h = subst (HasUsed before) (some_same (sym (t.said s) ∙ h)) t.used
 
-pub used_had : (v : ℕ) (es : Past) (steps before : List Step) (e : Event) (s : Step) → IsWithin v es steps before → Each IsGood es → IsGood es e → Says v es steps e s → HasUsed before s
+pub used_had : (v : ℕ) (es : Past) (steps before : List Step) (e : DecodedRecord) (s : Step) → IsWithin v es steps before → Each IsGood es → IsGood es e → Says v es steps e s → HasUsed before s
 used_had v es steps before (Wire false k c rs m) s w good g says = subst (HasUsed before) (sym says.step) tt
 used_had v es steps before e s w good g says = said_had v es steps before e s (says_had v es steps before w good e g refl) says
 
 -- a record takes the step that it says
-pub says_taken : (v : ℕ) (es : Past) (steps before : List Step) (e : Event) (s : Step) → IsWithin v es steps before → Each IsGood es → IsGood es e → is_received e ≡ false → Says v es steps e s →
+pub says_taken : (v : ℕ) (es : Past) (steps before : List Step) (e : DecodedRecord) (s : Step) → IsWithin v es steps before → Each IsGood es → IsGood es e → is_received e ≡ false → Says v es steps e s →
     step_of v es steps before e ≡ Some s
 says_taken v es steps before (Wire false k c rs m) s w good g out says = absurd (false≢true (sym out))
 says_taken v es steps before e s w good g out says =

@@ -3,14 +3,14 @@ use Rattle.std.proofs.Common.{◌≡◌, refl, sym, ◌∙◌, ap, ap₂, ℕ, �
 use Rattle.vat_view.specs.Past.{Past, id}
 use Rattle.vat_view.specs.Lives.{descriptors}
 use Rattle.vat_view.specs.Questions.{is_late, call_of}
-use Rattle.vat_view.specs.Views.{view_of_reference, described}
+use Rattle.vat_view.specs.Views.{view_of_reference, descriptor_view}
 use Rattle.vat_rules.specs.OfCaps.{is_received}
 use Rattle.vat_rules.specs.Telling.{seen_of, seen_question}
-use Rattle.call_trace.specs.Types.{Descriptor, NoCap, SenderHosted, SenderPromise, ReceiverHosted, ReceiverAnswer, Outcome, Results, Exception, Canceled, RpcMessage, Bootstrap, Call, Return, Finish, Resolve, Release, Disembargo, Abort, Event, Host, Vow, Fulfil, Break, Make, Field, Deliver, Answer, Fault, Wire, View, FieldOf}
+use Rattle.call_trace.specs.Types.{Descriptor, NoCap, SenderHosted, SenderPromise, ReceiverHosted, ReceiverAnswer, Outcome, Results, Exception, Canceled, RpcMessage, Bootstrap, Call, Return, Finish, Resolve, Release, Disembargo, Abort, DecodedRecord, Host, Vow, Fulfil, Break, Make, Field, Deliver, Answer, Fault, Wire, View, FieldOf}
 use Rattle.call_trace.specs.Naming.{Naming}
-use Rattle.call_trace.specs.Said.{together, descriptor_named, caps_named, answered, say_call, say_return, say_resolve, said}
+use Rattle.call_trace.specs.Said.{all_there, descriptor_named, caps_named, call_answered, say_call, say_return, say_resolve, message_of_record}
 use Rattle.call_trace.specs.Part.{result_named, step_said}
-use Rattle.call_trace.specs.Glue.{seen_at, cap_said, caps_from, caps_said, called_in, answered_in, sent_said, results_from, step_by}
+use Rattle.call_trace.specs.Glue.Ledgers.{seen_at, cap_said, caps_from, caps_said, call_of_question, answered_in, sent_said, results_from, step_by}
 use Rattle.run_model.specs.declared.message.Message.TheVariants as message
 use Rattle.run_model.specs.declared.step.Step.TheVariants as step
 
@@ -21,26 +21,26 @@ seen_behind (x ∷ before) view rest = seen_behind before view rest
 
 -- ---- descriptors
 
-cap_as : (names : Naming) (es : Past) (e : Event) (d : Descriptor) → cap_said names d (described (view_of_reference es) es e d) ≡ descriptor_named names es e d
+cap_as : (names : Naming) (es : Past) (e : DecodedRecord) (d : Descriptor) → cap_said names d (descriptor_view (view_of_reference es) es e d) ≡ descriptor_named names es e d
 cap_as names es e NoCap = refl
 cap_as names es e (SenderHosted n) = refl
 cap_as names es e (SenderPromise n) = refl
 cap_as names es e (ReceiverHosted n) = refl
 cap_as names es e (ReceiverAnswer q path) = refl
 
-caps_as : (names : Naming) (es : Past) (e : Event) (before : List (Option View)) (ds : List Descriptor) →
-    caps_from names (before ++ map (described (view_of_reference es) es e) ds) (length before) ds ≡ map (descriptor_named names es e) ds
+caps_as : (names : Naming) (es : Past) (e : DecodedRecord) (before : List (Option View)) (ds : List Descriptor) →
+    caps_from names (before ++ map (descriptor_view (view_of_reference es) es e) ds) (length before) ds ≡ map (descriptor_named names es e) ds
 caps_as names es e before [] = refl
 caps_as names es e before (d ∷ ds) =
-    let view = described (view_of_reference es) es e d in
-    let views = map (described (view_of_reference es) es e) ds in
+    let view = descriptor_view (view_of_reference es) es e d in
+    let views = map (descriptor_view (view_of_reference es) es e) ds in
     let one : (before ++ view ∷ []) ++ views ≡ before ++ view ∷ views = append_assoc before (view ∷ []) views in
     let long : length (before ++ view ∷ []) ≡ length before + 1 = length-append before (view ∷ []) in
     ap₂ (λ c cs. c ∷ cs) (ap (cap_said names d) (seen_behind before view views) ∙ cap_as names es e d)
     (ap₂ (λ all place. caps_from names all place ds) (sym one) (sym long) ∙ caps_as names es e (before ++ view ∷ []) ds)
 
-caps_are : (names : Naming) (es : Past) (e : Event) → caps_said names (map (described (view_of_reference es) es e) (descriptors e)) (descriptors e) ≡ caps_named names es e
-caps_are names es e = ap together (caps_as names es e [] (descriptors e))
+caps_are : (names : Naming) (es : Past) (e : DecodedRecord) → caps_said names (map (descriptor_view (view_of_reference es) es e) (descriptors e)) (descriptors e) ≡ caps_named names es e
+caps_are names es e = ap all_there (caps_as names es e [] (descriptors e))
 
 -- ---- results
 
@@ -57,18 +57,18 @@ results_as names es before (r ∷ rs) =
 
 -- ---- questions
 
-called_field : (o : Option ℕ) → called_in (option_map (λ c. FieldOf c []) o) ≡ o
+called_field : (o : Option ℕ) → call_of_question (option_map (λ c. FieldOf c []) o) ≡ o
 called_field None = refl
 called_field (Some c) = refl
 
 question_as : (names : Naming) (es : Past) (k c : ℕ) (references : List ℕ) (q : ℕ) (release : Bool) (outcome : Outcome) →
-    answered_in names.call (seen_question es (Wire true k c references (Return q release outcome))) ≡ answered names es k true q
+    answered_in names.call (seen_question es (Wire true k c references (Return q release outcome))) ≡ call_answered names es k true q
 question_as names es k c references q release outcome = ap (option_and_then names.call) (called_field (call_of (id k false q) es))
 
 -- ---- messages
 
 sent_as : (names : Naming) (es : Past) (k c : ℕ) (references : List ℕ) (m : RpcMessage) → let e = Wire true k c references m in
-    sent_said names (is_late es e) (seen_of es e) c m ≡ said names es e
+    sent_said names (is_late es e) (seen_of es e) c m ≡ message_of_record names es e
 sent_as names es k c references (Bootstrap q) = refl
 sent_as names es k c references (Call q target interface method params) =
     let e = Wire true k c references (Call q target interface method params) in
@@ -88,7 +88,7 @@ sent_as names es k c references Abort = refl
 
 -- ---- steps
 
-pub step_as : (names : Naming) (es : Past) (e : Event) → is_received e ≡ false → step_by names (is_late es e) (seen_of es e) e ≡ step_said names es e
+pub step_as : (names : Naming) (es : Past) (e : DecodedRecord) → is_received e ≡ false → step_by names (is_late es e) (seen_of es e) e ≡ step_said names es e
 step_as names es (Host r object) own = refl
 step_as names es (Vow r) own = refl
 step_as names es (Fulfil r to) own = refl
@@ -97,7 +97,7 @@ step_as names es (Make c r interface method) own = refl
 step_as names es (Field r c path) own = refl
 step_as names es (Deliver c object) own = refl
 step_as names es (Answer c results) own =
-    ap (λ caps. option_and_then (λ name. option_map (λ caps. step.Answer names.vat name caps) caps) (names.call c)) (ap together (results_as names es [] results))
+    ap (λ caps. option_and_then (λ name. option_map (λ caps. step.Answer names.vat name caps) caps) (names.call c)) (ap all_there (results_as names es [] results))
 step_as names es (Fault c) own = refl
 step_as names es (Wire true k c references m) own = ap (option_map (λ sent. step.Send names.vat k sent)) (sent_as names es k c references m)
 step_as names es (Wire false k c references m) own = absurd (let no : ⊥ = cc in no)

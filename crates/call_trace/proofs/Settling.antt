@@ -12,20 +12,20 @@ use Rattle.vat_view.specs.Past.{Past, Point, Each, point, last_where}
 use Rattle.vat_view.specs.Bindings.{Refers}
 use Rattle.vat_view.specs.Calls.{boots, has_passed, is_at_vat, is_served, is_settled}
 use Rattle.vat_view.specs.Calls.{delivers as delivers_call, settles as settles_call}
-use Rattle.call_trace.specs.Types.{Bootstrap, Event, Host, Vow, Fulfil, Break, Make, Field, Deliver, Answer, Fault, Wire, Name, Cap, Message, Step}
+use Rattle.call_trace.specs.Types.{Bootstrap, DecodedRecord, Host, Vow, Fulfil, Break, Make, Field, Deliver, Answer, Fault, Wire, Name, Cap, Message, Step}
 use Rattle.call_trace.specs.Naming.{Naming, naming, call_named}
-use Rattle.call_trace.specs.Said.{together}
+use Rattle.call_trace.specs.Said.{all_there}
 use Rattle.call_trace.specs.Part.{reference_named, result_named, Says, PairsOff}
 use Rattle.call_trace.specs.Within.{IsWithin}
 use Rattle.call_trace.proofs.AsSent.{read, says_read}
 use Rattle.call_trace.proofs.Naming.{mapped_is, call_keeps}
 use Rattle.call_trace.proofs.Placing.{is_here, step_back}
 use Rattle.call_trace.proofs.Making.{form, only, some_in_run}
-use Rattle.run_model.specs.Legal.{IsLegal, MayCome, arrives, distinct_paths, settles}
+use Rattle.run_model.specs.Legal.{IsLegal, MayCome, arrives, has_distinct_paths, answers_or_faults}
 use Rattle.run_model.specs.Links.{IsLinked}
 use Rattle.run_model.specs.Places.{at_vat}
-use Rattle.run_model.specs.Steps.{count, is_same, vat_of}
-use Rattle.run_model.specs.Steps.{Each as EachStep}
+use Rattle.run_model.specs.Steps.{count_steps, is_same_call, vat_of}
+use Rattle.run_model.specs.Steps.{EachStep}
 use Rattle.run_model.proofs.Alone.{unsettled_here}
 use Rattle.run_model.proofs.Arriving.{arrives_at_one, arrives_once, booted_unsettled}
 use Rattle.run_model.proofs.Once.{names_same, none_of, or_either}
@@ -44,21 +44,21 @@ gone before legal linked c v w there here =
     clash (arrived_spent before linked c v there) (fresh_there (λ a. ⊤) before c w (place before c legal linked) (some_here (at_vat before c w) here))
 
 -- one that arrives now wasn't settled
-new_unsettled : (s : Step) (past : List Step) → EachStep IsLegal (s ∷ past) → EachStep IsLinked (s ∷ past) → (c : Name) (v : ℕ) → arrives c v s ≡ true → list_any (settles c) past ≡ false
+new_unsettled : (s : Step) (past : List Step) → EachStep IsLegal (s ∷ past) → EachStep IsLinked (s ∷ past) → (c : Name) (v : ℕ) → arrives c v s ≡ true → list_any (answers_or_faults c) past ≡ false
 new_unsettled (step.Deliver u d o) past legal linked c v e =
-    subst (λ x. list_any (settles x) past ≡ false) (names_same d c (and_parts (u == v) (is_same d c) e).1)
-    (none_of (settles d) (spends d) (settles_spends d) past (fresh_there _ past d u (place past d legal.1 linked.1) legal.0.1))
+    subst (λ x. list_any (answers_or_faults x) past ≡ false) (names_same d c (and_parts (u == v) (is_same_call d c) e).1)
+    (none_of (answers_or_faults d) (spends d) (settles_spends d) past (fresh_there _ past d u (place past d legal.1 linked.1) legal.0.1))
 new_unsettled (step.Receive u k (message.Boot d) bound) past legal linked c v e =
-    subst (λ x. list_any (settles x) past ≡ false) (names_same d c (and_parts (u == v) (is_same d c) e).1) (booted_unsettled past legal.1 linked.1 d u k bound linked.0)
+    subst (λ x. list_any (answers_or_faults x) past ≡ false) (names_same d c (and_parts (u == v) (is_same_call d c) e).1) (booted_unsettled past legal.1 linked.1 d u k bound linked.0)
 new_unsettled (step.Receive u k m bound) past legal linked c v e = absurd (false≢true e)
 new_unsettled s past legal linked c v e = absurd (false≢true e)
 
-arriving_settles : (s : Step) (c : Name) (v : ℕ) → arrives c v s ≡ true → settles c s ≡ false
+arriving_settles : (s : Step) (c : Name) (v : ℕ) → arrives c v s ≡ true → answers_or_faults c s ≡ false
 arriving_settles (step.Deliver u d o) c v e = refl
 arriving_settles (step.Receive u k m bound) c v e = refl
 arriving_settles s c v e = absurd (false≢true e)
 
-settled_there : (s : Step) (past : List Step) → EachStep IsLegal (s ∷ past) → EachStep IsLinked (s ∷ past) → (c : Name) (v : ℕ) → list_any (arrives c v) past ≡ true → settles c s ≡ true → (vat_of s == v) ≡ true
+settled_there : (s : Step) (past : List Step) → EachStep IsLegal (s ∷ past) → EachStep IsLinked (s ∷ past) → (c : Name) (v : ℕ) → list_any (arrives c v) past ≡ true → answers_or_faults c s ≡ true → (vat_of s == v) ≡ true
 settled_there (step.Answer w d results) past legal linked c v there e =
     let same = names_same d c e in
     eq-eqb w v (arrives_at_one past legal.1 linked.1 c w v (subst (λ x. list_any (arrives x w) past ≡ true) same legal.0.1.0) there)
@@ -71,35 +71,35 @@ settled_there (step.Fault w d) past legal linked c v there e =
 settled_there s past legal linked c v there e = absurd (false≢true e)
 
 -- where none of its vat's steps settles a call that arrived there, no step does
-settled_own : (before : List Step) → EachStep IsLegal before → EachStep IsLinked before → (c : Name) (v : ℕ) → list_any (arrives c v) before ≡ true → list_any (settles c) (filter (λ s. vat_of s == v) before) ≡ false →
-    list_any (settles c) before ≡ false
+settled_own : (before : List Step) → EachStep IsLegal before → EachStep IsLinked before → (c : Name) (v : ℕ) → list_any (arrives c v) before ≡ true → list_any (answers_or_faults c) (filter (λ s. vat_of s == v) before) ≡ false →
+    list_any (answers_or_faults c) before ≡ false
 settled_own [] legal linked c v there none = refl
 settled_own (s ∷ past) legal linked c v there none = elim (or_either (arrives c v s) (list_any (arrives c v) past) there) [
-  | inl now ↦ or_from (settles c s) (list_any (settles c) past) (arriving_settles s c v now) (new_unsettled s past legal linked c v now)
+  | inl now ↦ or_from (answers_or_faults c s) (list_any (answers_or_faults c) past) (arriving_settles s c v now) (new_unsettled s past legal linked c v now)
   | inr before ↦ elim (cases_Bool (vat_of s == v)) [
     | inl own ↦
-        let parts = or_parts (settles c s) _ (sym (ap (λ b. list_any (settles c) (if b then s ∷ filter (λ s. vat_of s == v) past else filter (λ s. vat_of s == v) past)) own) ∙ none) in
-        or_from (settles c s) (list_any (settles c) past) parts.0 (settled_own past legal.1 linked.1 c v before parts.1)
+        let parts = or_parts (answers_or_faults c s) _ (sym (ap (λ b. list_any (answers_or_faults c) (if b then s ∷ filter (λ s. vat_of s == v) past else filter (λ s. vat_of s == v) past)) own) ∙ none) in
+        or_from (answers_or_faults c s) (list_any (answers_or_faults c) past) parts.0 (settled_own past legal.1 linked.1 c v before parts.1)
     | inr other ↦
-        or_from (settles c s) (list_any (settles c) past) (false_from_ne_true (settles c s) (λ e. false≢true (sym other ∙ settled_there s past legal linked c v before e)))
+        or_from (answers_or_faults c s) (list_any (answers_or_faults c) past) (false_from_ne_true (answers_or_faults c s) (λ e. false≢true (sym other ∙ settled_there s past legal linked c v before e)))
         (settled_own past legal.1 linked.1 c v before
-        (sym (ap (λ b. list_any (settles c) (if b then s ∷ filter (λ s. vat_of s == v) past else filter (λ s. vat_of s == v) past)) other) ∙ none))
+        (sym (ap (λ b. list_any (answers_or_faults c) (if b then s ∷ filter (λ s. vat_of s == v) past else filter (λ s. vat_of s == v) past)) other) ∙ none))
   ]
 ]
 
 -- nor was it at a vat where it was settled
 settled_gone : (c : Name) (v w : ℕ) (s : Step) (earlier later : List Step) → EachStep IsLegal (later ++ s ∷ earlier) → EachStep IsLinked (later ++ s ∷ earlier) → list_any (arrives c v) (later ++ s ∷ earlier) ≡ true →
-    settles c s ≡ true → IsSome (at_vat earlier c w) → ⊥
+    answers_or_faults c s ≡ true → IsSome (at_vat earlier c w) → ⊥
 settled_gone c v w s earlier [] legal linked there e here = elim (or_either (arrives c v s) (list_any (arrives c v) earlier) there) [
   | inl now ↦ clash e (arriving_settles s c v now)
   | inr before ↦ gone earlier legal.1 linked.1 c v w before here
 ]
 settled_gone c v w s earlier (x ∷ later) legal linked there e here = elim (or_either (arrives c v x) (list_any (arrives c v) (later ++ s ∷ earlier)) there) [
-  | inl now ↦ clash (passes_later (settles c) later (s ∷ earlier) (or_left (settles c s) (list_any (settles c) earlier) e)) (new_unsettled x (later ++ s ∷ earlier) legal linked c v now)
+  | inl now ↦ clash (passes_later (answers_or_faults c) later (s ∷ earlier) (or_left (answers_or_faults c s) (list_any (answers_or_faults c) earlier) e)) (new_unsettled x (later ++ s ∷ earlier) legal linked c v now)
   | inr before ↦ settled_gone c v w s earlier later legal.1 linked.1 before e here
 ]
 
-count_kept : (p test : Step → Bool) (before : List Step) → count test (filter p before) ≤ count test before
+count_kept : (p test : Step → Bool) (before : List Step) → count_steps test (filter p before) ≤ count_steps test before
 count_kept p test [] = omega arith
 count_kept p test (s ∷ before) = at (p s) (count_kept p test before)
   where
@@ -111,22 +111,22 @@ count_kept p test (s ∷ before) = at (p s) (count_kept p test before)
     both true m n h = omega (arith, h)
     both false m n h = h
 
-    at : (x : Bool) → count test (filter p before) ≤ count test before → count test (if x then s ∷ filter p before else filter p before) ≤ (if test s then suc (count test before) else count test before)
+    at : (x : Bool) → count_steps test (filter p before) ≤ count_steps test before → count_steps test (if x then s ∷ filter p before else filter p before) ≤ (if test s then suc (count_steps test before) else count_steps test before)
     at true h = both (test s) _ _ h
     at false h = more (test s) _ _ h
 
-none_counted : (test : Step → Bool) (before : List Step) → count test before ≤ 0 → list_any test before ≡ false
+none_counted : (test : Step → Bool) (before : List Step) → count_steps test before ≤ 0 → list_any test before ≡ false
 none_counted test [] h = refl
 none_counted test (s ∷ before) h = at (test s) h (none_counted test before)
   where
-    at : (b : Bool) → (if b then suc (count test before) else count test before) ≤ 0 → (count test before ≤ 0 → list_any test before ≡ false) → (b || list_any test before) ≡ false
+    at : (b : Bool) → (if b then suc (count_steps test before) else count_steps test before) ≤ 0 → (count_steps test before ≤ 0 → list_any test before ≡ false) → (b || list_any test before) ≡ false
     at true h rest = absurd (omega (arith, h))
     at false h rest = rest h
 
 -- ---- in a log, calls that are served
 
 -- a record serves a call: it delivers it, or receives its Bootstrap
-abbrev serves : ℕ → Event → Bool
+abbrev serves : ℕ → DecodedRecord → Bool
 serves c (Deliver d object) = d == c
 serves c (Wire false k d rs (Bootstrap q)) = d == c
 serves c _ = false
@@ -143,15 +143,15 @@ not_passed : (b : Bool) (x : Point) (o : Option Point) → is_some (if b then So
 not_passed true x o h = absurd (let no : ⊥ = cc in no)
 not_passed false x o h = (refl, h)
 
-delivers_serves : (c : ℕ) (es : Past) (e : Event) → delivers_call c es e ≡ true → serves c e ≡ true
+delivers_serves : (c : ℕ) (es : Past) (e : DecodedRecord) → delivers_call c es e ≡ true → serves c e ≡ true
 delivers_serves c es (Deliver d object) h = h
 delivers_serves c es e h = absurd (let no : ⊥ = cc in no)
 
-boots_serves : (c : ℕ) (es : Past) (e : Event) → boots c es e ≡ true → serves c e ≡ true
+boots_serves : (c : ℕ) (es : Past) (e : DecodedRecord) → boots c es e ≡ true → serves c e ≡ true
 boots_serves c es (Wire false k d rs (Bootstrap q)) h = h
 boots_serves c es e h = absurd (let no : ⊥ = cc in no)
 
-served_now : (c : ℕ) (es : Past) (e : Event) → is_served c (e ∷ es) ≡ true → (serves c e ≡ true) ⊎ (is_served c es ≡ true)
+served_now : (c : ℕ) (es : Past) (e : DecodedRecord) → is_served c (e ∷ es) ≡ true → (serves c e ≡ true) ⊎ (is_served c es ≡ true)
 served_now c es e h = elim (or_either (has_passed (delivers_call c) (e ∷ es)) (has_passed (boots c) (e ∷ es)) h) [
   | inl delivered ↦ elim (passed_now (delivers_call c es e) (point es e) (last_where (delivers_call c) es) delivered) [
     | inl now ↦ inl (delivers_serves c es e now)
@@ -163,13 +163,13 @@ served_now c es e h = elim (or_either (has_passed (delivers_call c) (e ∷ es)) 
   ]
 ]
 
-served_later : (c : ℕ) (es : Past) (e : Event) → is_served c es ≡ true → is_served c (e ∷ es) ≡ true
+served_later : (c : ℕ) (es : Past) (e : DecodedRecord) → is_served c es ≡ true → is_served c (e ∷ es) ≡ true
 served_later c es e h = elim (or_either (has_passed (delivers_call c) es) (has_passed (boots c) es) h) [
   | inl delivered ↦ or_left (has_passed (delivers_call c) (e ∷ es)) (has_passed (boots c) (e ∷ es)) (passed_before (delivers_call c es e) (point es e) (last_where (delivers_call c) es) delivered)
   | inr booted ↦ or_right (has_passed (delivers_call c) (e ∷ es)) (has_passed (boots c) (e ∷ es)) (passed_before (boots c es e) (point es e) (last_where (boots c) es) booted)
 ]
 
-one_served : (c d : ℕ) (e : Event) → serves c e ≡ true → serves d e ≡ true → c ≡ d
+one_served : (c d : ℕ) (e : DecodedRecord) → serves c e ≡ true → serves d e ≡ true → c ≡ d
 one_served c d (Deliver n object) h g = sym (eqb-true n c h) ∙ eqb-true n d g
 one_served c d (Wire false k n rs (Bootstrap q)) h g = sym (eqb-true n c h) ∙ eqb-true n d g
 one_served c d e h g = absurd (let no : ⊥ = cc in no)
@@ -185,24 +185,24 @@ module _ (v : ℕ) (final : ℕ → Option Name) where
   abbrev Grows : Past → List Step → Type 0
   Grows es steps = (c : ℕ) (name : Name) → call_named v es steps c ≡ Some name → final c ≡ Some name
 
-  grows_back : (es : Past) (steps : List Step) (e : Event) (s : Step) → Refers es e → Grows (e ∷ es) (s ∷ steps) → Grows es steps
+  grows_back : (es : Past) (steps : List Step) (e : DecodedRecord) (s : Step) → Refers es e → Grows (e ∷ es) (s ∷ steps) → Grows es steps
   grows_back es steps e s refers grows c name h = grows c name (call_keeps v (e ∷ []) es (s ∷ []) steps refl (refers, tt) c name h)
 
   named_so : (c d : ℕ) (name other : Name) → final c ≡ Some name → final d ≡ Some other → (d == c) ≡ true → other ≡ name
   named_so c d name other is there same = only other name (sym there ∙ ap final (eqb-true d c same) ∙ is)
 
   -- what serves a call is a step by which it arrives
-  served_said : (es : Past) (steps : List Step) (e : Event) (s : Step) → Says v es steps e s → Grows (e ∷ es) (s ∷ steps) → (c : ℕ) (name : Name) → final c ≡ Some name → serves c e ≡ true → arrives name v s ≡ true
+  served_said : (es : Past) (steps : List Step) (e : DecodedRecord) (s : Step) → Says v es steps e s → Grows (e ∷ es) (s ∷ steps) → (c : ℕ) (name : Name) → final c ≡ Some name → serves c e ≡ true → arrives name v s ≡ true
   served_said es steps (Deliver d object) s says grows c name is h =
       let f = form v es steps (Deliver d object) s says in
       let same = named_so c d name f.0 is (grows d f.0 f.1) h in
-      subst (λ s. arrives name v s ≡ true) f.2 (and_from (v == v) (is_same f.0 name) (eq-eqb v v refl) (subst (λ n. is_same f.0 n ≡ true) same (same_to_itself f.0)))
+      subst (λ s. arrives name v s ≡ true) f.2 (and_from (v == v) (is_same_call f.0 name) (eq-eqb v v refl) (subst (λ n. is_same_call f.0 n ≡ true) same (same_to_itself f.0)))
   served_said es steps (Wire false k d rs (Bootstrap q)) s says grows c name is h =
       let boot = mapped_is message.Boot (call_named v (Wire false k d rs (Bootstrap q) ∷ es) (s ∷ steps) d) (read es (Wire false k d rs (Bootstrap q)) says.message) (says_read says) in
       let same = named_so c d name boot.0 is (grows d boot.0 boot.1) h in
       let came : message.Boot boot.0 ≡ says.message = boot.2 ∙ read_boot es k d rs q says.message in
       subst (λ s. arrives name v s ≡ true) (ap (λ m. step.Receive v k m says.bound) came ∙ sym says.step)
-      (and_from (v == v) (is_same boot.0 name) (eq-eqb v v refl) (subst (λ n. is_same boot.0 n ≡ true) same (same_to_itself boot.0)))
+      (and_from (v == v) (is_same_call boot.0 name) (eq-eqb v v refl) (subst (λ n. is_same_call boot.0 n ≡ true) same (same_to_itself boot.0)))
   served_said es steps e s says grows c name is h = absurd (let no : ⊥ = cc in no)
 
   served_arrives : (es : Past) (steps : List Step) → PairsOff v es steps → Each Refers es → Grows es steps → (c : ℕ) (name : Name) → final c ≡ Some name → is_served c es ≡ true → list_any (arrives name v) steps ≡ true
@@ -214,19 +214,19 @@ module _ (v : ℕ) (final : ℕ → Option Name) where
   ]
 
   -- two calls of one name that are served are one
-  served_here : (es : Past) (steps : List Step) (e : Event) → PairsOff v es steps → Each Refers es → Grows es steps → (c : ℕ) (name : Name) → final c ≡ Some name → list_any (arrives name v) steps ≡ false → is_served c (e ∷ es) ≡ true → serves c e ≡ true
+  served_here : (es : Past) (steps : List Step) (e : DecodedRecord) → PairsOff v es steps → Each Refers es → Grows es steps → (c : ℕ) (name : Name) → final c ≡ Some name → list_any (arrives name v) steps ≡ false → is_served c (e ∷ es) ≡ true → serves c e ≡ true
   served_here es steps e part refers grows c name is none h = elim (served_now c es e h) [
     | inl now ↦ now
     | inr before ↦ absurd (clash (served_arrives es steps part refers grows c name is before) none)
   ]
 
-  served_there : (es : Past) (steps : List Step) (e : Event) (s : Step) → Says v es steps e s → Grows (e ∷ es) (s ∷ steps) → (c : ℕ) (name : Name) → final c ≡ Some name → arrives name v s ≡ false → is_served c (e ∷ es) ≡ true → is_served c es ≡ true
+  served_there : (es : Past) (steps : List Step) (e : DecodedRecord) (s : Step) → Says v es steps e s → Grows (e ∷ es) (s ∷ steps) → (c : ℕ) (name : Name) → final c ≡ Some name → arrives name v s ≡ false → is_served c (e ∷ es) ≡ true → is_served c es ≡ true
   served_there es steps e s says grows c name is none h = elim (served_now c es e h) [
     | inl now ↦ absurd (clash (served_said es steps e s says grows c name is now) none)
     | inr before ↦ before
   ]
 
-  same_served : (es : Past) (steps : List Step) → PairsOff v es steps → Each Refers es → Grows es steps → (c d : ℕ) (name : Name) → final c ≡ Some name → final d ≡ Some name → count (arrives name v) steps ≤ 1 →
+  same_served : (es : Past) (steps : List Step) → PairsOff v es steps → Each Refers es → Grows es steps → (c d : ℕ) (name : Name) → final c ≡ Some name → final d ≡ Some name → count_steps (arrives name v) steps ≤ 1 →
       is_served c es ≡ true → is_served d es ≡ true → c ≡ d
   same_served [] steps part refers grows c d name is so few h g = absurd (let no : ⊥ = cc in no)
   same_served (e ∷ es) [] part refers grows c d name is so few h g = absurd part
@@ -234,11 +234,11 @@ module _ (v : ℕ) (final : ℕ → Option Name) where
       let back = grows_back es steps e s refers.0 grows in
       elim (cases_Bool (arrives name v s)) [
         | inl now ↦
-            let counted : suc (count (arrives name v) steps) ≤ 1 = subst (λ b. (if b then suc (count (arrives name v) steps) else count (arrives name v) steps) ≤ 1) now few in
+            let counted : suc (count_steps (arrives name v) steps) ≤ 1 = subst (λ b. (if b then suc (count_steps (arrives name v) steps) else count_steps (arrives name v) steps) ≤ 1) now few in
             let none = none_counted (arrives name v) steps (omega (arith, counted)) in
             one_served c d e (served_here es steps e part.1 refers.1 back c name is none h) (served_here es steps e part.1 refers.1 back d name so none g)
         | inr other ↦
-            same_served es steps part.1 refers.1 back c d name is so (subst (λ b. (if b then suc (count (arrives name v) steps) else count (arrives name v) steps) ≤ 1) other few)
+            same_served es steps part.1 refers.1 back c d name is so (subst (λ b. (if b then suc (count_steps (arrives name v) steps) else count_steps (arrives name v) steps) ≤ 1) other few)
             (served_there es steps e s part.0 grows c name is other h) (served_there es steps e s part.0 grows d name so other g)
       ]
 
@@ -246,7 +246,7 @@ module _ (v : ℕ) (final : ℕ → Option Name) where
 
 -- no step of these settles a call of this name that is at this vat
 abbrev SettlesGone : Name → ℕ → List Step → Type 0
-SettlesGone name v before = (later : List Step) (s : Step) (earlier : List Step) → before ≡ later ++ s ∷ earlier → settles name s ≡ true → IsSome (at_vat earlier name v) → ⊥
+SettlesGone name v before = (later : List Step) (s : Step) (earlier : List Step) → before ≡ later ++ s ∷ earlier → answers_or_faults name s ≡ true → IsSome (at_vat earlier name v) → ⊥
 
 earlier_gone : (name : Name) (v : ℕ) (before later : List Step) (s : Step) (earlier : List Step) → before ≡ later ++ s ∷ earlier → SettlesGone name v before → SettlesGone name v earlier
 earlier_gone name v before later s earlier whole all more x rest is = all (later ++ s ∷ more) x rest (whole ∙ ap (λ l. later ++ s ∷ l) is ∙ sym (append_assoc later (s ∷ more) (x ∷ rest)))
@@ -256,33 +256,33 @@ module _ (v : ℕ) (final : ℕ → Option Name) (c : ℕ) (name : Name) where
   abbrev IsSole : Past → Type 0
   IsSole es = (d : ℕ) → final d ≡ Some name → is_served d es ≡ true → d ≡ c
 
-  settles_said : (es : Past) (steps before : List Step) (e : Event) (s : Step) → IsWithin v es steps before → Each IsGood es → IsGood es e → Says v es steps e s → Grows v final es steps → IsSole es →
-      (IsSome (at_vat before name v) → ⊥) → settles_call c es e ≡ false → settles name s ≡ true → ⊥
+  settles_said : (es : Past) (steps before : List Step) (e : DecodedRecord) (s : Step) → IsWithin v es steps before → Each IsGood es → IsGood es e → Says v es steps e s → Grows v final es steps → IsSole es →
+      (IsSome (at_vat before name v) → ⊥) → settles_call c es e ≡ false → answers_or_faults name s ≡ true → ⊥
   settles_said es steps before (Answer d results) s w all good says grows sole left none h =
       let may : MayAnswer es (Answer d results) = good rule.Answer in
       let f = form v es steps (Answer d results) s says in
-      let same = names_same f.0 name (subst (λ s. settles name s ≡ true) (sym f.4) h) in
+      let same = names_same f.0 name (subst (λ s. answers_or_faults name s ≡ true) (sym f.4) h) in
       let here_now = and_parts (is_served d es && not (is_settled d es)) (are_distinct results) may in
       clash (eq-eqb d c (sole d (grows d f.0 f.2 ∙ ap (λ n. Some n) same) (and_parts (is_served d es) (not (is_settled d es)) here_now.0).0)) none
   settles_said es steps before (Fault d) s w all good says grows sole left none h =
       let may : MayAnswer es (Fault d) = good rule.Answer in
       let f = form v es steps (Fault d) s says in
-      let same = names_same f.0 name (subst (λ s. settles name s ≡ true) (sym f.2) h) in
+      let same = names_same f.0 name (subst (λ s. answers_or_faults name s ≡ true) (sym f.2) h) in
       elim (or_either (is_at_vat d es) (is_served d es) (and_parts (is_at_vat d es || is_served d es) _ may).0) [
         | inl there ↦ left (subst (λ n. IsSome (at_vat before n v)) same (is_here v es steps before w all d there f.0 f.1))
         | inr served ↦ clash (eq-eqb d c (sole d (grows d f.0 f.1 ∙ ap (λ n. Some n) same) served)) none
       ]
-  settles_said es steps before (Host r object) s w all good says grows sole left none h = false≢true (subst (λ s. settles name s ≡ true) (sym (form v es steps (Host r object) s says)) h)
-  settles_said es steps before (Vow r) s w all good says grows sole left none h = false≢true (subst (λ s. settles name s ≡ true) (sym (form v es steps (Vow r) s says)) h)
-  settles_said es steps before (Fulfil r to) s w all good says grows sole left none h = false≢true (subst (λ s. settles name s ≡ true) (sym (form v es steps (Fulfil r to) s says).3) h)
-  settles_said es steps before (Break r) s w all good says grows sole left none h = false≢true (subst (λ s. settles name s ≡ true) (sym (form v es steps (Break r) s says).2) h)
-  settles_said es steps before (Make d r interface method) s w all good says grows sole left none h = false≢true (subst (λ s. settles name s ≡ true) (sym (form v es steps (Make d r interface method) s says).1) h)
-  settles_said es steps before (Field r d path) s w all good says grows sole left none h = false≢true (subst (λ s. settles name s ≡ true) (sym (form v es steps (Field r d path) s says).1) h)
-  settles_said es steps before (Deliver d object) s w all good says grows sole left none h = false≢true (subst (λ s. settles name s ≡ true) (sym (form v es steps (Deliver d object) s says).2) h)
-  settles_said es steps before (Wire true k d rs m) s w all good says grows sole left none h = false≢true (subst (λ s. settles name s ≡ true) (sym (form v es steps (Wire true k d rs m) s says).2) h)
-  settles_said es steps before (Wire false k d rs m) s w all good says grows sole left none h = false≢true (subst (λ s. settles name s ≡ true) says.step h)
+  settles_said es steps before (Host r object) s w all good says grows sole left none h = false≢true (subst (λ s. answers_or_faults name s ≡ true) (sym (form v es steps (Host r object) s says)) h)
+  settles_said es steps before (Vow r) s w all good says grows sole left none h = false≢true (subst (λ s. answers_or_faults name s ≡ true) (sym (form v es steps (Vow r) s says)) h)
+  settles_said es steps before (Fulfil r to) s w all good says grows sole left none h = false≢true (subst (λ s. answers_or_faults name s ≡ true) (sym (form v es steps (Fulfil r to) s says).3) h)
+  settles_said es steps before (Break r) s w all good says grows sole left none h = false≢true (subst (λ s. answers_or_faults name s ≡ true) (sym (form v es steps (Break r) s says).2) h)
+  settles_said es steps before (Make d r interface method) s w all good says grows sole left none h = false≢true (subst (λ s. answers_or_faults name s ≡ true) (sym (form v es steps (Make d r interface method) s says).1) h)
+  settles_said es steps before (Field r d path) s w all good says grows sole left none h = false≢true (subst (λ s. answers_or_faults name s ≡ true) (sym (form v es steps (Field r d path) s says).1) h)
+  settles_said es steps before (Deliver d object) s w all good says grows sole left none h = false≢true (subst (λ s. answers_or_faults name s ≡ true) (sym (form v es steps (Deliver d object) s says).2) h)
+  settles_said es steps before (Wire true k d rs m) s w all good says grows sole left none h = false≢true (subst (λ s. answers_or_faults name s ≡ true) (sym (form v es steps (Wire true k d rs m) s says).2) h)
+  settles_said es steps before (Wire false k d rs m) s w all good says grows sole left none h = false≢true (subst (λ s. answers_or_faults name s ≡ true) says.step h)
 
-  unsettled : (es : Past) (steps before : List Step) → IsWithin v es steps before → Each IsGood es → Grows v final es steps → IsSole es → SettlesGone name v before → is_settled c es ≡ false → list_any (settles name) steps ≡ false
+  unsettled : (es : Past) (steps before : List Step) → IsWithin v es steps before → Each IsGood es → Grows v final es steps → IsSole es → SettlesGone name v before → is_settled c es ≡ false → list_any (answers_or_faults name) steps ≡ false
   unsettled [] [] before w all grows sole left none = refl
   unsettled [] (s ∷ steps) before w all grows sole left none = absurd w.paired
   unsettled (e ∷ es) [] before w all grows sole left none = absurd w.paired
@@ -291,8 +291,8 @@ module _ (v : ℕ) (final : ℕ → Option Name) (c : ℕ) (name : Name) where
       let parts = not_passed (settles_call c es e) (point es e) (last_where (settles_call c) es) none in
       let back = grows_back v final es steps e s w.refers.0 grows in
       let alone : IsSole es = λ d is served. sole d is (served_later d es e served) in
-      or_from (settles name s) (list_any (settles name) steps)
-      (false_from_ne_true (settles name s) (λ h. settles_said es steps at.earlier e s at.within all.1 all.0 w.paired.0 back alone (left at.later s at.earlier at.whole h) parts.0 h))
+      or_from (answers_or_faults name s) (list_any (answers_or_faults name) steps)
+      (false_from_ne_true (answers_or_faults name s) (λ h. settles_said es steps at.earlier e s at.within all.1 all.0 w.paired.0 back alone (left at.later s at.earlier at.whole h) parts.0 h))
       (unsettled es steps at.earlier at.within all.1 back alone (earlier_gone name v before at.later s at.earlier at.whole left) parts.1)
 
 -- ---- together
@@ -303,18 +303,18 @@ module _ (v : ℕ) (es : Past) (steps before : List Step) (w : IsWithin v es ste
       some_in_run (λ s. vat_of s == v) (arrives name v) before
       (ap (list_any (arrives name v)) w.own ∙ served_arrives v (call_named v es steps) es steps w.paired w.refers (λ d n h. h) c name is served)
 
-  few_arrive : count (arrives name v) steps ≤ 1
+  few_arrive : count_steps (arrives name v) steps ≤ 1
   few_arrive =
       let kept = count_kept (λ s. vat_of s == v) (arrives name v) before in
       let once = arrives_once before w.legal w.linked name v in
-      subst (λ l. count (arrives name v) l ≤ 1) w.own (omega (arith, kept, once))
+      subst (λ l. count_steps (arrives name v) l ≤ 1) w.own (omega (arith, kept, once))
 
-  served_unsettled : is_served c es ≡ true → is_settled c es ≡ false → list_any (settles name) before ≡ false
+  served_unsettled : is_served c es ≡ true → is_settled c es ≡ false → list_any (answers_or_faults name) before ≡ false
   served_unsettled served none =
       let final = call_named v es steps in
       let arrived = call_arrived served in
       settled_own before w.legal w.linked name v arrived
-      (ap (list_any (settles name)) w.own
+      (ap (list_any (answers_or_faults name)) w.own
       ∙ unsettled v final c name es steps before w all (λ d n h. h) (λ d so served_too. same_served v final es steps w.paired w.refers (λ d n h. h) d c name so is few_arrive served_too served)
       (λ later s earlier whole e at.
       settled_gone name v v s earlier later (subst (EachStep IsLegal) whole w.legal) (subst (EachStep IsLinked) whole w.linked) (subst (λ l. list_any (arrives name v) l ≡ true) whole arrived) e at)
@@ -326,33 +326,33 @@ is_not false h = refl
 is_not true h = absurd (let no : ⊥ = cc in no)
 
 none_alike : (f : ℕ × List ℕ → Option (List ℕ × Cap)) → ((a : ℕ × List ℕ) (b : List ℕ × Cap) → f a ≡ Some b → a.1 ≡ b.0) → (path : List ℕ) (results : List (ℕ × List ℕ)) (caps : List (List ℕ × Cap)) →
-    together (map f results) ≡ Some caps → list_any (λ a. same_path path a.1) results ≡ false → list_any (λ b. same_path path b.0) caps ≡ false
+    all_there (map f results) ≡ Some caps → list_any (λ a. same_path path a.1) results ≡ false → list_any (λ b. same_path path b.0) caps ≡ false
 none_alike f kept path [] caps h none = ap (list_any (λ b. same_path path b.0)) (sym (only [] caps h))
 none_alike f kept path (a ∷ results) caps h none = at (f a) refl h (none_alike f kept path results)
   where
-    at : (o : Option (List ℕ × Cap)) → f a ≡ o → together (o ∷ map f results) ≡ Some caps →
-        ((caps : List (List ℕ × Cap)) → together (map f results) ≡ Some caps → list_any (λ a. same_path path a.1) results ≡ false → list_any (λ b. same_path path b.0) caps ≡ false) →
+    at : (o : Option (List ℕ × Cap)) → f a ≡ o → all_there (o ∷ map f results) ≡ Some caps →
+        ((caps : List (List ℕ × Cap)) → all_there (map f results) ≡ Some caps → list_any (λ a. same_path path a.1) results ≡ false → list_any (λ b. same_path path b.0) caps ≡ false) →
         list_any (λ b. same_path path b.0) caps ≡ false
     at None e h rest = absurd (let no : ⊥ = cc in no)
     at (Some b) e h rest =
-        let more = mapped_is (λ bs. b ∷ bs) (together (map f results)) caps h in
+        let more = mapped_is (λ bs. b ∷ bs) (all_there (map f results)) caps h in
         let parts = or_parts (same_path path a.1) (list_any (λ a. same_path path a.1) results) none in
         subst (λ l. list_any (λ b. same_path path b.0) l ≡ false) more.2
         (or_from (same_path path b.0) (list_any (λ b. same_path path b.0) more.0) (ap (same_path path) (sym (kept a b e)) ∙ parts.0) (rest more.0 more.1 parts.1))
 
 paths_kept : (f : ℕ × List ℕ → Option (List ℕ × Cap)) → ((a : ℕ × List ℕ) (b : List ℕ × Cap) → f a ≡ Some b → a.1 ≡ b.0) → (results : List (ℕ × List ℕ)) (caps : List (List ℕ × Cap)) →
-    together (map f results) ≡ Some caps → are_distinct results ≡ true → distinct_paths caps ≡ true
-paths_kept f kept [] caps h all = ap distinct_paths (sym (only [] caps h))
+    all_there (map f results) ≡ Some caps → are_distinct results ≡ true → has_distinct_paths caps ≡ true
+paths_kept f kept [] caps h all = ap has_distinct_paths (sym (only [] caps h))
 paths_kept f kept (a ∷ results) caps h all = at (f a) refl h (paths_kept f kept results)
   where
-    at : (o : Option (List ℕ × Cap)) → f a ≡ o → together (o ∷ map f results) ≡ Some caps →
-        ((caps : List (List ℕ × Cap)) → together (map f results) ≡ Some caps → are_distinct results ≡ true → distinct_paths caps ≡ true) → distinct_paths caps ≡ true
+    at : (o : Option (List ℕ × Cap)) → f a ≡ o → all_there (o ∷ map f results) ≡ Some caps →
+        ((caps : List (List ℕ × Cap)) → all_there (map f results) ≡ Some caps → are_distinct results ≡ true → has_distinct_paths caps ≡ true) → has_distinct_paths caps ≡ true
     at None e h rest = absurd (let no : ⊥ = cc in no)
     at (Some b) e h rest =
-        let more = mapped_is (λ bs. b ∷ bs) (together (map f results)) caps h in
+        let more = mapped_is (λ bs. b ∷ bs) (all_there (map f results)) caps h in
         let parts = and_parts (not (list_any (λ b. same_path a.1 b.1) results)) (are_distinct results) all in
         let none = none_alike f kept b.0 results more.0 more.1 (subst (λ p. list_any (λ x. same_path p x.1) results ≡ false) (kept a b e) (is_not (list_any (λ b. same_path a.1 b.1) results) parts.0)) in
-        subst (λ l. distinct_paths l ≡ true) more.2 (and_from (not (list_any (λ x. same_path b.0 x.0) more.0)) (distinct_paths more.0) (ap not none) (rest more.0 more.1 parts.1))
+        subst (λ l. has_distinct_paths l ≡ true) more.2 (and_from (not (list_any (λ x. same_path b.0 x.0) more.0)) (has_distinct_paths more.0) (ap not none) (rest more.0 more.1 parts.1))
 
 result_path : (names : Naming) (es : Past) (a : ℕ × List ℕ) (b : List ℕ × Cap) → result_named names es a ≡ Some b → a.1 ≡ b.0
 result_path names es a b h = let c = mapped_is (λ c. (a.1, c)) (reference_named names es a.0) b h in ap (λ w. w.0) c.2

@@ -10,22 +10,22 @@ use Rattle.std.proofs.lemmas.List.Folds.{list_any_at}
 use Rattle.std.proofs.lemmas.Option.{slice_get_within, get_or_from_slice_get}
 use Rattle.std.proofs.lemmas.Bool.{eq-eqb, cases_Bool, cases_lt, ltb-true, leb-true}
 use Rattle.agree.specs.Points.{GoesOn, AtEach}
-use Rattle.agree.specs.Rows.{Row, log_of, FitsAt, IsTheirs, IsShared}
-use Rattle.agree.specs.Rows.{received_by as row_received, sent_by as row_sent, sent_by_others as row_others}
+use Rattle.agree.specs.Rows.{Row, log_of_vat, FitsAt, IsTheirs, IsShared}
+use Rattle.agree.specs.Rows.{received_stream as row_received, sent_stream as row_sent, stream_of_others as row_others}
 use Rattle.agree.specs.Streams.{passing, stream}
 use Rattle.agree.proofs.Points.{heads, tails}
 use Rattle.vat_log.specs.Log.{Log}
 use Rattle.vat_log.specs.declared.body.Body.{Body}
 use Rattle.vat_log.specs.declared.body.Body.TheVariants as body
 use Rattle.merge_order.proofs.Greedy.{eqb_apart}
-use Rattle.merge_order.specs.Fits.{Part, sends, receives, sent, received, sent_by_others, may_come, may_come_from, may_follow, part_of, used_up}
+use Rattle.merge_order.specs.Fits.{Part, sends_frame, receives_frame, sent_so_far, received_so_far, sent_by_the_others, may_come, may_come_from, may_follow, part_of, used_up}
 use Rattle.vat_rules.specs.declared.outcome.Why.{Why}
 use Rattle.vat_rules.specs.Audit.{Found, IsTrueOf, reads_within}
 use Rattle.vat_rules.specs.Events.{Reader, event_of, event_or_none}
-use Rattle.call_trace.specs.Types.{RpcMessage, Event}
+use Rattle.call_trace.specs.Types.{RpcMessage, DecodedRecord}
 use Rattle.call_trace.specs.Findings.{is_good, uses, AreEnds, logs_of, AreTrue, MayBeNamed}
 use Rattle.call_trace.specs.Named.{past_before, past_of}
-use Rattle.call_trace.specs.Taking.{finding_of, event_in, record_in, steps_by, next_record, taken_by, row_of}
+use Rattle.call_trace.specs.Taking.{finding_of, event_in, record_in, steps_counted_by, next_record, taken_by, row_of}
 use Rattle.call_trace.proofs.Taking.{log_taken}
 use Rattle.call_trace.proofs.Reading.{AllRecordsGood, records_good, as_many_sent, as_many_received, read_sends, read_receives}
 use Rattle.call_trace.proofs.Linking.{received_first}
@@ -86,7 +86,7 @@ part_found v steps (g ∷ gs) = at (g.log.vat == v) (part_found v steps gs)
 
 -- ---- a record of the row, and the step that takes it
 
-pub record IsTaken (findings : List Found) (steps : List ℕ) (r : ℕ × Event) (rest : Row) : Type 0 where
+pub record IsTaken (findings : List Found) (steps : List ℕ) (r : ℕ × DecodedRecord) (rest : Row) : Type 0 where
   pub vat : ℕ
   pub before : List ℕ
   pub there : GoesOn steps (vat ∷ before)
@@ -94,16 +94,16 @@ pub record IsTaken (findings : List Found) (steps : List ℕ) (r : ℕ × Event)
   pub next : next_record findings before vat ≡ Some r.1
   pub earlier : taken_by findings before ≡ rest
 
-taken_later : (findings : List Found) (u : ℕ) (steps : List ℕ) (r : ℕ × Event) (rest : Row) → IsTaken findings steps r rest → IsTaken findings (u ∷ steps) r rest
+taken_later : (findings : List Found) (u : ℕ) (steps : List ℕ) (r : ℕ × DecodedRecord) (rest : Row) → IsTaken findings steps r rest → IsTaken findings (u ∷ steps) r rest
 taken_later findings u steps r rest t =
     record { vat = t.vat; before = t.before; there = (u ∷ t.there.0, ap (λ l. u ∷ l) t.there.1); own = t.own; next = t.next; earlier = t.earlier }
 
-pub taken_at : (findings : List Found) (steps : List ℕ) (r : ℕ × Event) (rest : Row) → GoesOn (taken_by findings steps) (r ∷ rest) → IsTaken findings steps r rest
+pub taken_at : (findings : List Found) (steps : List ℕ) (r : ℕ × DecodedRecord) (rest : Row) → GoesOn (taken_by findings steps) (r ∷ rest) → IsTaken findings steps r rest
 taken_at findings [] r rest ([], e) = absurd (let no : ⊥ = cc in no)
 taken_at findings [] r rest (x ∷ l, e) = absurd (let no : ⊥ = cc in no)
 taken_at findings (u ∷ steps) r rest p = at (next_record findings steps u) refl p (taken_at findings steps r rest)
   where
-    at : (o : Option Event) → next_record findings steps u ≡ o → GoesOn (cons_option (option_map (λ e. (u, e)) o) (taken_by findings steps)) (r ∷ rest) →
+    at : (o : Option DecodedRecord) → next_record findings steps u ≡ o → GoesOn (cons_option (option_map (λ e. (u, e)) o) (taken_by findings steps)) (r ∷ rest) →
         (GoesOn (taken_by findings steps) (r ∷ rest) → IsTaken findings steps r rest) → IsTaken findings (u ∷ steps) r rest
     at None n p earlier = taken_later findings u steps r rest (earlier p)
     at (Some e) n (x ∷ l, h) earlier = taken_later findings u steps r rest (earlier (l, tails h))
@@ -115,22 +115,22 @@ and_then_is : {A B : Type 0} (g : A → Option B) (o : Option A) (y : B) → opt
 and_then_is g (Some x) y h = (x, refl, h)
 and_then_is g None y h = absurd (let no : ⊥ = cc in no)
 
-event_is : (r : Result Event Why) (e : Event) → event_or_none r ≡ Some e → r ≡ Ok e
+event_is : (r : Result DecodedRecord Why) (e : DecodedRecord) → event_or_none r ≡ Some e → r ≡ Ok e
 event_is (Ok x) e h = let same : x ≡ e = cc in ap (λ e. Ok e) same
 event_is (Err why) e h = absurd (let no : ⊥ = cc in no)
 
 -- the finding of the step's vat, and the stored record
-pub record IsStored (findings : List Found) (v : ℕ) (before : List ℕ) (e : Event) : Type 0 where
+pub record IsStored (findings : List Found) (v : ℕ) (before : List ℕ) (e : DecodedRecord) : Type 0 where
   pub finding : Found
   pub stored : Body
   pub found : finding_of v findings ≡ Some finding
-  pub there : slice_get finding.log.records (steps_by v before) ≡ Some stored
+  pub there : slice_get finding.log.records (steps_counted_by v before) ≡ Some stored
   pub reads : event_of (reads_within finding.limits) stored ≡ Ok e
 
-pub stored_at : (findings : List Found) (v : ℕ) (before : List ℕ) (e : Event) → next_record findings before v ≡ Some e → IsStored findings v before e
+pub stored_at : (findings : List Found) (v : ℕ) (before : List ℕ) (e : DecodedRecord) → next_record findings before v ≡ Some e → IsStored findings v before e
 stored_at findings v before e h =
-    let f = and_then_is (λ f. record_in f (steps_by v before)) (finding_of v findings) e h in
-    let b = and_then_is (event_in f.0) (slice_get f.0.log.records (steps_by v before)) e f.2 in
+    let f = and_then_is (λ f. record_in f (steps_counted_by v before)) (finding_of v findings) e h in
+    let b = and_then_is (event_in f.0) (slice_get f.0.log.records (steps_counted_by v before)) e f.2 in
     record { finding = f.0; stored = b.0; found = f.1; there = b.1; reads = event_is (event_of (reads_within f.0.limits) b.0) e b.2 }
 
 counts_one : (b : Bool) (o : Option RpcMessage) (m : RpcMessage) → length (cons_option o []) ≡ 0 + cond b 1 0 → o ≡ Some m → b ≡ true
@@ -138,34 +138,34 @@ counts_one true o m e h = refl
 counts_one false None m e h = absurd (let no : ⊥ = cc in no)
 counts_one false (Some n) m e h = absurd (omega (arith, e))
 
-pub sends_it : (k : ℕ) (read : Reader) (b : Body) (e : Event) (m : RpcMessage) → event_of read b ≡ Ok e → passing k true e ≡ Some m → sends k b ≡ true
-sends_it k read b e m h p = counts_one (sends k b) (passing k true e) m (read_sends k read b e h []) p
+pub sends_it : (k : ℕ) (read : Reader) (b : Body) (e : DecodedRecord) (m : RpcMessage) → event_of read b ≡ Ok e → passing k true e ≡ Some m → sends_frame k b ≡ true
+sends_it k read b e m h p = counts_one (sends_frame k b) (passing k true e) m (read_sends k read b e h []) p
 
-pub receives_it : (k : ℕ) (read : Reader) (b : Body) (e : Event) (m : RpcMessage) → event_of read b ≡ Ok e → passing k false e ≡ Some m → receives k b ≡ true
-receives_it k read b e m h p = counts_one (receives k b) (passing k false e) m (read_receives k read b e h []) p
+pub receives_it : (k : ℕ) (read : Reader) (b : Body) (e : DecodedRecord) (m : RpcMessage) → event_of read b ≡ Ok e → passing k false e ≡ Some m → receives_frame k b ≡ true
+receives_it k read b e m h p = counts_one (receives_frame k b) (passing k false e) m (read_receives k read b e h []) p
 
 -- ---- a RECV comes after its frame was sent
 
-follows : (v k : ℕ) (parts : List Part) (own : Part) (b : Body) → receives k b ≡ true → may_follow v parts own (Some b) ≡ true → nat_lt (received k own) (sent_by_others v k parts) ≡ true
+follows : (v k : ℕ) (parts : List Part) (own : Part) (b : Body) → receives_frame k b ≡ true → may_follow v parts own (Some b) ≡ true → nat_lt (received_so_far k own) (sent_by_the_others v k parts) ≡ true
 follows v k parts own (body.Receive on c rs fr) is may =
-    let same : on ≡ k = eqb-true on k is in subst (λ j. nat_lt (received j own) (sent_by_others v j parts) ≡ true) same may
+    let same : on ≡ k = eqb-true on k is in subst (λ j. nat_lt (received_so_far j own) (sent_by_the_others v j parts) ≡ true) same may
 follows v k parts own b is may = absurd (let no : ⊥ = cc in no)
 
-comes_received : (v k : ℕ) (parts : List Part) (own : Part) (b : Body) → part_of v parts ≡ Some own → slice_get own.log.records own.came ≡ Some b → receives k b ≡ true →
-    may_come parts v ≡ true → received k own < sent_by_others v k parts
+comes_received : (v k : ℕ) (parts : List Part) (own : Part) (b : Body) → part_of v parts ≡ Some own → slice_get own.log.records own.came ≡ Some b → receives_frame k b ≡ true →
+    may_come parts v ≡ true → received_so_far k own < sent_by_the_others v k parts
 unfolding may_come
-comes_received v k parts own b is next receives may =
-    ltb-true (received k own) (sent_by_others v k parts)
-    (follows v k parts own b receives (sym (ap (λ o. may_follow v parts own o) next) ∙ sym (ap (λ o. may_come_from v parts o) is) ∙ may))
+comes_received v k parts own b is next receives_frame may =
+    ltb-true (received_so_far k own) (sent_by_the_others v k parts)
+    (follows v k parts own b receives_frame (sym (ap (λ o. may_follow v parts own o) next) ∙ sym (ap (λ o. may_come_from v parts o) is) ∙ may))
 
 -- ---- all records are taken
 
-used_logs : (steps : List ℕ) (logs : List Log) → used_up (parts_after logs steps) ≡ true → AllByRecursion (λ log. length log.records ≤ steps_by log.vat steps) logs
+used_logs : (steps : List ℕ) (logs : List Log) → used_up (parts_after logs steps) ≡ true → AllByRecursion (λ log. length log.records ≤ steps_counted_by log.vat steps) logs
 unfolding used_up
 used_logs steps [] h = tt
 used_logs steps (log ∷ logs) h =
     let both = test_more (λ part. nat_le (length part.log.records) part.came) (part_after steps log) (parts_after logs steps) _ refl h in
-    (leb-true (length log.records) (steps_by log.vat steps) both.0, used_logs steps logs both.1)
+    (leb-true (length log.records) (steps_counted_by log.vat steps) both.0, used_logs steps logs both.1)
 
 log_there : (findings : List Found) (f : Found) → Contains findings f → Contains (logs_of findings) f.log
 log_there [] f there = absurd (let lt = there.1 in omega (arith, lt))
@@ -184,20 +184,20 @@ past_whole f n le =
 
 -- so many messages passed by any number of records
 module _ (k : ℕ) (f : Found) (all : AllRecordsGood f) (n : ℕ) where
-  sent_any : length (stream k true (past_before f n)) ≡ count_by (sends k) (take n f.log.records)
+  sent_any : length (stream k true (past_before f n)) ≡ count_by (sends_frame k) (take n f.log.records)
   sent_any = elim (cases_lt n (length f.log.records)) [
     | inl less ↦ as_many_sent k f all n (omega (arith, less))
     | inr more ↦
         ap (λ p. length (stream k true p)) (past_whole f n more) ∙ as_many_sent k f all (length f.log.records) (omega arith)
-        ∙ ap (count_by (sends k)) (take_all (length f.log.records) f.log.records (omega arith) ∙ sym (take_all n f.log.records more))
+        ∙ ap (count_by (sends_frame k)) (take_all (length f.log.records) f.log.records (omega arith) ∙ sym (take_all n f.log.records more))
   ]
 
-  received_any : length (stream k false (past_before f n)) ≡ count_by (receives k) (take n f.log.records)
+  received_any : length (stream k false (past_before f n)) ≡ count_by (receives_frame k) (take n f.log.records)
   received_any = elim (cases_lt n (length f.log.records)) [
     | inl less ↦ as_many_received k f all n (omega (arith, less))
     | inr more ↦
         ap (λ p. length (stream k false p)) (past_whole f n more) ∙ as_many_received k f all (length f.log.records) (omega arith)
-        ∙ ap (count_by (receives k)) (take_all (length f.log.records) f.log.records (omega arith) ∙ sym (take_all n f.log.records more))
+        ∙ ap (count_by (receives_frame k)) (take_all (length f.log.records) f.log.records (omega arith) ∙ sym (take_all n f.log.records more))
   ]
 
 -- ---- who doesn't use a connection
@@ -236,14 +236,14 @@ module _ (findings : List Found) (order : List ℕ) (true_all : AreTrue findings
   found_own f there = own_found findings f up there
 
   -- of each log as many records are taken as steps are its vat's
-  pub log_by : (f : Found) → Contains findings f → (steps : List ℕ) → log_of f.log.vat (taken_by findings steps) ≡ past_before f (steps_by f.log.vat steps)
+  pub log_by : (f : Found) → Contains findings f → (steps : List ℕ) → log_of_vat f.log.vat (taken_by findings steps) ≡ past_before f (steps_counted_by f.log.vat steps)
   log_by f there steps = log_taken findings f.log.vat f (found_own f there) steps
 
-  sent_same : (k : ℕ) (steps : List ℕ) (f : Found) → Contains findings f → sent k (part_after steps f.log) ≡ length (row_sent k f.log.vat (taken_by findings steps))
-  sent_same k steps f there = sym (sent_any k f (all_good f there) (steps_by f.log.vat steps)) ∙ ap (λ p. length (stream k true p)) (sym (log_by f there steps))
+  sent_same : (k : ℕ) (steps : List ℕ) (f : Found) → Contains findings f → sent_so_far k (part_after steps f.log) ≡ length (row_sent k f.log.vat (taken_by findings steps))
+  sent_same k steps f there = sym (sent_any k f (all_good f there) (steps_counted_by f.log.vat steps)) ∙ ap (λ p. length (stream k true p)) (sym (log_by f there steps))
 
-  received_same : (k : ℕ) (steps : List ℕ) (f : Found) → Contains findings f → received k (part_after steps f.log) ≡ length (row_received k f.log.vat (taken_by findings steps))
-  received_same k steps f there = sym (received_any k f (all_good f there) (steps_by f.log.vat steps)) ∙ ap (λ p. length (stream k false p)) (sym (log_by f there steps))
+  received_same : (k : ℕ) (steps : List ℕ) (f : Found) → Contains findings f → received_so_far k (part_after steps f.log) ≡ length (row_received k f.log.vat (taken_by findings steps))
+  received_same k steps f there = sym (received_any k f (all_good f there) (steps_counted_by f.log.vat steps)) ∙ ap (λ p. length (stream k false p)) (sym (log_by f there steps))
 
   -- a record that is received comes where the others sent more
   pub fits : (k : ℕ) → AtEach (FitsAt k) (row_of findings order)
@@ -253,30 +253,30 @@ module _ (findings : List Found) (order : List ℕ) (true_all : AreTrue findings
       let f = s.finding in
       let at = found_in t.vat findings f s.found in
       let part = part_found t.vat t.before findings ∙ ap (λ o. option_map (λ f. part_after t.before f.log) o) s.found in
-      let there : slice_get f.log.records (steps_by f.log.vat t.before) ≡ Some s.stored = ap (λ v. slice_get f.log.records (steps_by v t.before)) at.0 ∙ s.there in
+      let there : slice_get f.log.records (steps_counted_by f.log.vat t.before) ≡ Some s.stored = ap (λ v. slice_get f.log.records (steps_counted_by v t.before)) at.0 ∙ s.there in
       let lt = comes_received t.vat k (parts_after (logs_of findings) t.before) (part_after t.before f.log) s.stored part there
       (receives_it k (reads_within f.limits) s.stored r.1 m s.reads h) ((fits_all (logs_of findings) order asked.fits).come t.before t.vat t.there) in
       let le = others_sent k t.vat t.before (taken_by findings t.before) (logs_of findings) asked.rising (each_log _ findings (sent_same k t.before)) in
-      let same : received k (part_after t.before f.log) ≡ length (row_received k t.vat (taken_by findings t.before)) =
+      let same : received_so_far k (part_after t.before f.log) ≡ length (row_received k t.vat (taken_by findings t.before)) =
       received_same k t.before f at.1 ∙ ap (λ v. length (row_received k v (taken_by findings t.before))) at.0 in
       let less : length (row_received k t.vat (taken_by findings t.before)) < length (row_others k t.vat (taken_by findings t.before)) = omega (arith, lt, le, same) in
       subst (λ v. length (row_received k v before) < length (row_others k v before)) (sym t.own)
       (subst (λ b. length (row_received k t.vat b) < length (row_others k t.vat b)) t.earlier less)
 
   -- whoever else sends on the connection uses it
-  uses_it : (k : ℕ) (f : Found) (i : ℕ) (b : Body) → slice_get f.log.records i ≡ Some b → sends k b ≡ true → uses k f.log ≡ true
+  uses_it : (k : ℕ) (f : Found) (i : ℕ) (b : Body) → slice_get f.log.records i ≡ Some b → sends_frame k b ≡ true → uses k f.log ≡ true
   uses_it k f i b there is =
-      list_any_at (λ b. sends k b || receives k b) f.log.records i b (slice_get_within f.log.records i b there)
-      (ap (λ b. sends k b || receives k b) (get_or_from_slice_get f.log.records i b b there) ∙ ap (λ c. c || receives k b) is)
+      list_any_at (λ b. sends_frame k b || receives_frame k b) f.log.records i b (slice_get_within f.log.records i b there)
+      (ap (λ b. sends_frame k b || receives_frame k b) (get_or_from_slice_get f.log.records i b b there) ∙ ap (λ c. c || receives_frame k b) is)
 
   -- a record of the row that sends on the connection is of a log that uses it
-  record IsSender (k : ℕ) (r : ℕ × Event) : Type 0 where
+  record IsSender (k : ℕ) (r : ℕ × DecodedRecord) : Type 0 where
     pub finding : Found
     pub there : Contains (logs_of findings) finding.log
     pub own : finding.log.vat ≡ r.0
     pub used : uses k finding.log ≡ true
 
-  sender_of : (k : ℕ) (before : Row) (r : ℕ × Event) (m : RpcMessage) → GoesOn (row_of findings order) (r ∷ before) → passing k true r.1 ≡ Some m → IsSender k r
+  sender_of : (k : ℕ) (before : Row) (r : ℕ × DecodedRecord) (m : RpcMessage) → GoesOn (row_of findings order) (r ∷ before) → passing k true r.1 ≡ Some m → IsSender k r
   sender_of k before r m p h =
       let t = taken_at findings (reverse order) r before p in
       let s = stored_at findings t.vat t.before r.1 t.next in
@@ -285,7 +285,7 @@ module _ (findings : List Found) (order : List ℕ) (true_all : AreTrue findings
         finding = s.finding;
         there = at.2;
         own = at.0 ∙ sym t.own;
-        used = uses_it k s.finding (steps_by t.vat t.before) s.stored s.there (sends_it k (reads_within s.finding.limits) s.stored r.1 m s.reads h);
+        used = uses_it k s.finding (steps_counted_by t.vat t.before) s.stored s.there (sends_it k (reads_within s.finding.limits) s.stored r.1 m s.reads h);
       }
 
   theirs : (k : ℕ) (one other : Found) → AreEnds (logs_of findings) k one.log other.log → AtEach (IsTheirs k one.log.vat other.log.vat) (row_of findings order)
@@ -301,21 +301,21 @@ module _ (findings : List Found) (order : List ℕ) (true_all : AreTrue findings
           ]
 
   -- all records of each log are taken
-  pub whole_log : (f : Found) → Contains findings f → log_of f.log.vat (row_of findings order) ≡ past_of f
+  pub whole_log : (f : Found) → Contains findings f → log_of_vat f.log.vat (row_of findings order) ≡ past_of f
   whole_log f there =
       let used = used_logs (reverse order) (logs_of findings) (fits_all (logs_of findings) order asked.fits).all in
-      log_by f there (reverse order) ∙ past_whole f (steps_by f.log.vat (reverse order)) (member (logs_of findings) f.log (λ log. length log.records ≤ steps_by log.vat (reverse order)) used (log_there findings f there))
+      log_by f there (reverse order) ∙ past_whole f (steps_counted_by f.log.vat (reverse order)) (member (logs_of findings) f.log (λ log. length log.records ≤ steps_counted_by log.vat (reverse order)) used (log_there findings f there))
 
   -- who doesn't use a connection passes nothing on it
   none_sent : (k : ℕ) (f : Found) → Contains findings f → uses k f.log ≡ false → length (stream k true (past_of f)) ≡ 0
   none_sent k f there out =
-      sent_any k f (all_good f there) (length f.log.records) ∙ ap (count_by (sends k)) (take_all (length f.log.records) f.log.records (omega arith))
-      ∙ none_counted (sends k) (λ b. sends k b || receives k b) (λ b. first_false (sends k b) (receives k b)) f.log.records out
+      sent_any k f (all_good f there) (length f.log.records) ∙ ap (count_by (sends_frame k)) (take_all (length f.log.records) f.log.records (omega arith))
+      ∙ none_counted (sends_frame k) (λ b. sends_frame k b || receives_frame k b) (λ b. first_false (sends_frame k b) (receives_frame k b)) f.log.records out
 
   none_received : (k : ℕ) (f : Found) → Contains findings f → uses k f.log ≡ false → length (stream k false (past_of f)) ≡ 0
   none_received k f there out =
-      received_any k f (all_good f there) (length f.log.records) ∙ ap (count_by (receives k)) (take_all (length f.log.records) f.log.records (omega arith))
-      ∙ none_counted (receives k) (λ b. sends k b || receives k b) (λ b. second_false (sends k b) (receives k b)) f.log.records out
+      received_any k f (all_good f there) (length f.log.records) ∙ ap (count_by (receives_frame k)) (take_all (length f.log.records) f.log.records (omega arith))
+      ∙ none_counted (receives_frame k) (λ b. sends_frame k b || receives_frame k b) (λ b. second_false (sends_frame k b) (receives_frame k b)) f.log.records out
 
   -- what one end received is the beginning of what the other sent: by the link, where both use the connection; else
   -- nothing was received

@@ -3,13 +3,13 @@ use Rattle.std.proofs.Common.{◌≡◌, refl, sym, ◌∙◌, ap, ap₂, ℕ, z
 use Rattle.std.proofs.lemmas.List.{reverse-append}
 use Rattle.std.proofs.lemmas.Option.{slice_get_past, slice_get-map}
 use Rattle.vat_rules.specs.Audit.{Found, IsTrueOf, reads_within}
-use Rattle.vat_rules.specs.Told.{Entry, Told}
+use Rattle.vat_rules.specs.LogFacts.{Entry, Told}
 use Rattle.vat_rules.specs.Telling.{seen_of, entry_of, entries_back, told_of}
-use Rattle.call_trace.specs.Types.{Event}
+use Rattle.call_trace.specs.Types.{DecodedRecord}
 use Rattle.call_trace.specs.Findings.{is_good}
 use Rattle.call_trace.specs.Named.{past_before}
 use Rattle.call_trace.specs.Taking.{event_in, record_in}
-use Rattle.call_trace.specs.Glue.{story_in}
+use Rattle.call_trace.specs.Glue.Ledgers.{story_in}
 use Rattle.vat_log.specs.declared.body.Body.{Body}
 use Rattle.vat_rules.specs.Events.{Reader}
 use Rattle.vat_rules.specs.First.{IsFirst}
@@ -114,7 +114,7 @@ pub event_told : (f : Found) (story : Told) → IsTrueOf f.log f.limits f.outcom
 event_told f story first is i =
     slice_get-map (λ (entry : Entry). entry.event) story.entries i ∙ ap (option_map (λ (entry : Entry). entry.event)) (entry_told f story first is i) ∙ at (record_in f i)
   where
-    at : (o : Option Event) → option_map (λ (entry : Entry). entry.event) (option_map (λ e. entry_of (past_before f i) e) o) ≡ o
+    at : (o : Option DecodedRecord) → option_map (λ (entry : Entry). entry.event) (option_map (λ e. entry_of (past_before f i) e) o) ≡ o
     at None = refl
     at (Some e) = refl
 
@@ -124,6 +124,6 @@ pub seen_told : (f : Found) (story : Told) → IsTrueOf f.log f.limits f.outcome
 seen_told f story first is i =
     slice_get-map (λ (entry : Entry). entry.seen) story.entries i ∙ ap (option_map (λ (entry : Entry). entry.seen)) (entry_told f story first is i) ∙ at (record_in f i)
   where
-    at : (o : Option Event) → option_map (λ (entry : Entry). entry.seen) (option_map (λ e. entry_of (past_before f i) e) o) ≡ option_map (λ e. seen_of (past_before f i) e) o
+    at : (o : Option DecodedRecord) → option_map (λ (entry : Entry). entry.seen) (option_map (λ e. entry_of (past_before f i) e) o) ≡ option_map (λ e. seen_of (past_before f i) e) o
     at None = refl
     at (Some e) = refl

@@ -4,10 +4,10 @@ use Rattle.std.specs.List.{cons_option, filter_map}
 use Rattle.std.proofs.lemmas.List.{reverse-append}
 use Rattle.std.proofs.lemmas.List.Sums.{sum_by-cons}
 use Rattle.std.proofs.lemmas.Bool.{eq-eqb, cases_Bool}
-use Rattle.agree.specs.Rows.{Row, log_of}
-use Rattle.call_trace.specs.Types.{Event}
+use Rattle.agree.specs.Rows.{Row, log_of_vat}
+use Rattle.call_trace.specs.Types.{DecodedRecord}
 use Rattle.call_trace.specs.Named.{past_before}
-use Rattle.call_trace.specs.Taking.{finding_of, event_in, record_in, steps_by, next_record, taken_by}
+use Rattle.call_trace.specs.Taking.{finding_of, event_in, record_in, steps_counted_by, next_record, taken_by}
 use Rattle.vat_rules.specs.Audit.{Found}
 
 -- ---- one record more of a log
@@ -39,48 +39,48 @@ log_more f n = kept_more (event_in f) f.log.records n
 -- ---- what an order takes of one log
 
 -- one step more
-pub steps_own : (v u : ℕ) (before : List ℕ) → u ≡ v → steps_by v (u ∷ before) ≡ steps_by v before + 1
+pub steps_own : (v u : ℕ) (before : List ℕ) → u ≡ v → steps_counted_by v (u ∷ before) ≡ steps_counted_by v before + 1
 steps_own v u before same =
     let one : ◌≡◌ {A = ℕ} (cond (u == v) 1 0) 1 = ap (λ b. cond b 1 0) (eq-eqb u v same) in
     omega (arith, sum_by-cons (λ u. cond (u == v) 1 0) u before, one)
 
-pub steps_other : (v u : ℕ) (before : List ℕ) → (u == v) ≡ false → steps_by v (u ∷ before) ≡ steps_by v before
+pub steps_other : (v u : ℕ) (before : List ℕ) → (u == v) ≡ false → steps_counted_by v (u ∷ before) ≡ steps_counted_by v before
 steps_other v u before apart =
     let none : ◌≡◌ {A = ℕ} (cond (u == v) 1 0) 0 = ap (λ b. cond b 1 0) apart in
     omega (arith, sum_by-cons (λ u. cond (u == v) 1 0) u before, none)
 
-log_at : (v u : ℕ) (o : Option Event) (row : Row) (b : Bool) → (u == v) ≡ b → log_of v (cons_option (option_map (λ e. (u, e)) o) row) ≡ (if b then cons_option o (log_of v row) else log_of v row)
+log_at : (v u : ℕ) (o : Option DecodedRecord) (row : Row) (b : Bool) → (u == v) ≡ b → log_of_vat v (cons_option (option_map (λ e. (u, e)) o) row) ≡ (if b then cons_option o (log_of_vat v row) else log_of_vat v row)
 log_at v u None row true e = refl
 log_at v u None row false e = refl
-log_at v u (Some x) row true e = ap (λ b. cons_option (if b then Some x else None) (log_of v row)) e
-log_at v u (Some x) row false e = ap (λ b. cons_option (if b then Some x else None) (log_of v row)) e
+log_at v u (Some x) row true e = ap (λ b. cons_option (if b then Some x else None) (log_of_vat v row)) e
+log_at v u (Some x) row false e = ap (λ b. cons_option (if b then Some x else None) (log_of_vat v row)) e
 
 -- the next record, where the vat's finding is known
-next_in : (findings : List Found) (before : List ℕ) (v : ℕ) (f : Found) → finding_of v findings ≡ Some f → next_record findings before v ≡ record_in f (steps_by v before)
-next_in findings before v f found = ap (λ o. option_and_then (λ g. record_in g (steps_by v before)) o) found
+next_in : (findings : List Found) (before : List ℕ) (v : ℕ) (f : Found) → finding_of v findings ≡ Some f → next_record findings before v ≡ record_in f (steps_counted_by v before)
+next_in findings before v f found = ap (λ o. option_and_then (λ g. record_in g (steps_counted_by v before)) o) found
 
-taken_at : (findings : List Found) (v : ℕ) (f : Found) (u : ℕ) (before : List ℕ) (b : Bool) → finding_of v findings ≡ Some f → (u == v) ≡ b → log_of v (taken_by findings before) ≡ past_before f (steps_by v before)
-    → log_of v (taken_by findings (u ∷ before)) ≡ past_before f (steps_by v (u ∷ before))
+taken_at : (findings : List Found) (v : ℕ) (f : Found) (u : ℕ) (before : List ℕ) (b : Bool) → finding_of v findings ≡ Some f → (u == v) ≡ b → log_of_vat v (taken_by findings before) ≡ past_before f (steps_counted_by v before)
+    → log_of_vat v (taken_by findings (u ∷ before)) ≡ past_before f (steps_counted_by v (u ∷ before))
 taken_at findings v f u before true found e so_far =
     let same : u ≡ v = eqb-true u v e in
-    let next : next_record findings before u ≡ record_in f (steps_by v before) = ap (λ w. next_record findings before w) same ∙ next_in findings before v f found in
-    log_at v u (next_record findings before u) (taken_by findings before) true e ∙ ap₂ (λ o l. cons_option o l) next so_far ∙ sym (log_more f (steps_by v before))
+    let next : next_record findings before u ≡ record_in f (steps_counted_by v before) = ap (λ w. next_record findings before w) same ∙ next_in findings before v f found in
+    log_at v u (next_record findings before u) (taken_by findings before) true e ∙ ap₂ (λ o l. cons_option o l) next so_far ∙ sym (log_more f (steps_counted_by v before))
     ∙ ap (λ n. past_before f n) (sym (steps_own v u before same))
 taken_at findings v f u before false found e so_far =
     log_at v u (next_record findings before u) (taken_by findings before) false e ∙ so_far ∙ ap (λ n. past_before f n) (sym (steps_other v u before e))
 
 -- of a vat's log as many records are taken as steps are the vat's
-pub log_taken : (findings : List Found) (v : ℕ) (f : Found) → finding_of v findings ≡ Some f → (steps : List ℕ) → log_of v (taken_by findings steps) ≡ past_before f (steps_by v steps)
+pub log_taken : (findings : List Found) (v : ℕ) (f : Found) → finding_of v findings ≡ Some f → (steps : List ℕ) → log_of_vat v (taken_by findings steps) ≡ past_before f (steps_counted_by v steps)
 log_taken findings v f found [] = refl
 log_taken findings v f found (u ∷ before) = taken_at findings v f u before (u == v) found refl (log_taken findings v f found before)
 
 -- of a vat without a finding nothing is taken
-pub no_log : (findings : List Found) (v : ℕ) → finding_of v findings ≡ None → (turns : List ℕ) → log_of v (taken_by findings turns) ≡ []
+pub no_log : (findings : List Found) (v : ℕ) → finding_of v findings ≡ None → (turns : List ℕ) → log_of_vat v (taken_by findings turns) ≡ []
 no_log findings v none [] = refl
 no_log findings v none (u ∷ turns) = elim (cases_Bool (u == v)) [
   | inl own ↦
       let next : next_record findings turns u ≡ None =
-      ap (λ w. next_record findings turns w) (eqb-true u v own) ∙ ap (λ o. option_and_then (λ f. record_in f (steps_by v turns)) o) none in
-      log_at v u (next_record findings turns u) (taken_by findings turns) true own ∙ ap (λ o. cons_option o (log_of v (taken_by findings turns))) next ∙ no_log findings v none turns
+      ap (λ w. next_record findings turns w) (eqb-true u v own) ∙ ap (λ o. option_and_then (λ f. record_in f (steps_counted_by v turns)) o) none in
+      log_at v u (next_record findings turns u) (taken_by findings turns) true own ∙ ap (λ o. cons_option o (log_of_vat v (taken_by findings turns))) next ∙ no_log findings v none turns
   | inr apart ↦ log_at v u (next_record findings turns u) (taken_by findings turns) false apart ∙ no_log findings v none turns
 ]

@@ -5,21 +5,21 @@ use Rattle.std.specs.List.{cons_option, filter_map}
 use Rattle.std.specs.Str.{bytes_eq as same_path}
 use Rattle.std.proofs.lemmas.Bool.{cases_Bool}
 use Rattle.std.proofs.lemmas.Slice.Eq.{bytes_eq-Decides}
-use Rattle.vat_view.specs.Past.{Past, id, is, number_of}
+use Rattle.vat_view.specs.Past.{Past, id, is, record_index}
 use Rattle.vat_view.specs.Questions.{call_at, call_of, opening, is_late, is_free}
 use Rattle.vat_view.specs.Lives.{Birth, birth, descriptors}
-use Rattle.vat_view.specs.Views.{view_of_reference, view_of_number, view_of_descriptor, view_given, described}
-use Rattle.vat_view.specs.Walks.{Next, turns, stops, on_to, is_promise, keeps, began_at, resolves, answer_at, result_at, answers, turn}
-use Rattle.call_trace.specs.Types.{Outcome, Results, Resolution, Capped, Unkept, Return, Resolve, Event, Fulfil, Break, Answer, Fault, Wire, View, Object, Promise, FieldOf, Import, Name, Cap, Message, Step}
+use Rattle.vat_view.specs.Views.{view_of_reference, view_of_number, view_of_descriptor, view_given, descriptor_view}
+use Rattle.vat_view.specs.Walks.{Next, turns, stops, on_to, is_promise, keeps, began_at, resolves, answer_view_at, result_at, answers, turn}
+use Rattle.call_trace.specs.Types.{Outcome, Results, Resolution, Capped, Unkept, Return, Resolve, DecodedRecord, Fulfil, Break, Answer, Fault, Wire, View, Object, Promise, FieldOf, Import, Name, Cap, Message, Step}
 use Rattle.call_trace.specs.Naming.{Naming, naming, cap_at, cap_named}
-use Rattle.call_trace.specs.Said.{together, say_return, say_resolve, descriptor_named, caps_named, promise_named, answered, given}
+use Rattle.call_trace.specs.Said.{all_there, say_return, say_resolve, descriptor_named, caps_named, promise_named, call_answered, caps_at_paths}
 use Rattle.call_trace.specs.Part.{reference_named, promise_in, result_named, Says, resolves_released}
 use Rattle.call_trace.specs.Tells.{Tells, TurnsNames}
 use Rattle.call_trace.proofs.AsSent.{read, says_read}
 use Rattle.call_trace.proofs.Naming.{then_is, mapped_is, names_are_caps}
 use Rattle.call_trace.proofs.Carried.{together_at, descriptor_is, resolve_is}
 use Rattle.run_model.specs.Leads.{MakesTurn}
-use Rattle.run_model.specs.Legal.{is_cap}
+use Rattle.run_model.specs.Legal.{is_present}
 use Rattle.run_model.specs.Steps.{OneOf}
 use Rattle.run_model.specs.declared.cap.Cap.TheVariants as cap
 use Rattle.run_model.specs.declared.message.Message.TheVariants as message
@@ -49,14 +49,14 @@ found_is test (x ∷ xs) y h = elim (cases_Bool (test x)) [
 abbrev Made : {A B : Type 0} → (A → Option B) → A → List B → Type 0
 Made {A} {B} f y ys = (z : B) × (f y ≡ Some z) × OneOf (λ w. w ≡ z) ys
 
-found_together : {A B : Type 0} (test : A → Bool) (f : A → Option B) (xs : List A) (y : A) (ys : List B) → find test xs ≡ Some y → together (map f xs) ≡ Some ys → Made f y ys
+found_together : {A B : Type 0} (test : A → Bool) (f : A → Option B) (xs : List A) (y : A) (ys : List B) → find test xs ≡ Some y → all_there (map f xs) ≡ Some ys → Made f y ys
 found_together test f [] y ys h all = absurd (let no : ⊥ = cc in no)
 found_together test f (x ∷ xs) y ys h all = at (f x) refl all (found_together test f xs y)
   where
-    at : (o : Option _) → f x ≡ o → together (o ∷ map f xs) ≡ Some ys → ((ys : List _) → find test xs ≡ Some y → together (map f xs) ≡ Some ys → Made f y ys) → Made f y ys
+    at : (o : Option _) → f x ≡ o → all_there (o ∷ map f xs) ≡ Some ys → ((ys : List _) → find test xs ≡ Some y → all_there (map f xs) ≡ Some ys → Made f y ys) → Made f y ys
     at None e all rest = absurd (let no : ⊥ = cc in no)
     at (Some w) e all rest =
-        let more = mapped_is (λ ws. w ∷ ws) (together (map f xs)) ys all in
+        let more = mapped_is (λ ws. w ∷ ws) (all_there (map f xs)) ys all in
         subst (Made f y) more.2 (elim (cases_Bool (test x)) [
           | inl here ↦ (w, ap f (sym (found_first test x xs y here h)) ∙ e, inl refl)
           | inr other ↦ let r = rest more.0 (found_rest test x xs y other h) more.1 in (r.0, r.1, inr r.2)
@@ -111,7 +111,7 @@ kept_tells v p es steps r to s b says own there =
 results_so : (name : Name) (p q : List ℕ) (y : Cap) (ys : List (List ℕ × Cap)) → p ≡ q → OneOf (λ w. w ≡ (p, y)) ys → OneOf (λ result. (cap.Field name q ≡ cap.Field name result.0) × (y ≡ result.1)) ys
 results_so name p q y ys same h = one_so (λ w. w ≡ (p, y)) _ (λ w is. (ap (λ r. cap.Field name r) (sym same) ∙ ap (λ w. cap.Field name w.0) (sym is), ap (λ w. w.1) (sym is))) ys h
 
-answer_made : (names : Naming) (es : Past) (path : List ℕ) (results : List (ℕ × List ℕ)) (caps : List (List ℕ × Cap)) (b : View) (name : Name) → together (map (result_named names es) results) ≡ Some caps → answer_at path es results ≡ Some b →
+answer_made : (names : Naming) (es : Past) (path : List ℕ) (results : List (ℕ × List ℕ)) (caps : List (List ℕ × Cap)) (b : View) (name : Name) → all_there (map (result_named names es) results) ≡ Some caps → answer_view_at path es results ≡ Some b →
     (y : Cap) × (names.cap b ≡ Some y) × OneOf (λ result. (cap.Field name path ≡ cap.Field name result.0) × (y ≡ result.1)) caps
 answer_made names es path results caps b name all there =
     let test : ℕ × List ℕ → Bool = λ answer. same_path answer.1 path in
@@ -122,11 +122,11 @@ answer_made names es path results caps b name all there =
     (y.0, sym (ap (λ o. option_and_then names.cap o) answer.2) ∙ y.1, results_so name answer.0.1 path y.0 caps at (subst (λ z. OneOf (λ w. w ≡ z) caps) (sym y.2) z.2))
 
 answer_tells : (v call : ℕ) (path : List ℕ) (es : Past) (steps : List Step) (c : ℕ) (results : List (ℕ × List ℕ)) (s : Step) (b : View) → Says v es steps (Answer c results) s → c ≡ call →
-    answer_at path es results ≡ Some b → TurnsNames (naming v (Answer c results ∷ es) (s ∷ steps)) (FieldOf call path) b s
+    answer_view_at path es results ≡ Some b → TurnsNames (naming v (Answer c results ∷ es) (s ∷ steps)) (FieldOf call path) b s
 answer_tells v call path es steps c results s b says same there =
     let names = naming v (Answer c results ∷ es) (s ∷ steps) in
-    let name = then_is (λ name. option_map (λ caps. step.Answer v name caps) (together (map (result_named names es) results))) (names.call c) s says in
-    let caps = mapped_is (λ caps. step.Answer v name.0 caps) (together (map (result_named names es) results)) s name.2 in
+    let name = then_is (λ name. option_map (λ caps. step.Answer v name caps) (all_there (map (result_named names es) results))) (names.call c) s says in
+    let caps = mapped_is (λ caps. step.Answer v name.0 caps) (all_there (map (result_named names es) results)) s name.2 in
     let y = answer_made names es path results caps.0 b name.0 caps.1 there in
     record {
       from = cap.Field name.0 path;
@@ -139,7 +139,7 @@ answer_tells v call path es steps c results s b says same there =
 -- ---- received messages
 
 -- what is read as such a Return or Resolve is one
-pub read_return : (es : Past) (e : Event) (m : Message) (name : Name) (results : List (List ℕ × Cap)) (caps : List Cap) → read es e m ≡ message.Return name results caps → m ≡ message.Return name results caps
+pub read_return : (es : Past) (e : DecodedRecord) (m : Message) (name : Name) (results : List (List ℕ × Cap)) (caps : List Cap) → read es e m ≡ message.Return name results caps → m ≡ message.Return name results caps
 read_return es e (message.Return c r cs) name results caps h = at (is_late es e) h
   where
     at : (b : Bool) → (if b then message.Late c else message.Return c r cs) ≡ message.Return name results caps → message.Return c r cs ≡ message.Return name results caps
@@ -157,7 +157,7 @@ read_return es e (message.Broken promise) name results caps h = absurd (at (reso
     at false h = cc
 read_return es e m name results caps h = h
 
-read_resolve : (es : Past) (e : Event) (m : Message) (x y : Cap) → is_cap x ≡ true → read es e m ≡ message.Resolve x y → m ≡ message.Resolve x y
+read_resolve : (es : Past) (e : DecodedRecord) (m : Message) (x y : Cap) → is_present x ≡ true → read es e m ≡ message.Resolve x y → m ≡ message.Resolve x y
 read_resolve es e (message.Return c r cs) x y is h = absurd (at (is_late es e) h)
   where
     at : (b : Bool) → (if b then message.Late c else message.Return c r cs) ≡ message.Resolve x y → ⊥
@@ -166,7 +166,7 @@ read_resolve es e (message.Return c r cs) x y is h = absurd (at (is_late es e) h
 read_resolve es e (message.Resolve promise c) x y is h = at (resolves_released es e) h
   where
     at : (b : Bool) → (if b then message.Resolve cap.Nothing c else message.Resolve promise c) ≡ message.Resolve x y → message.Resolve promise c ≡ message.Resolve x y
-    at true h = let same : cap.Nothing ≡ x = cc in let no : false ≡ true = ap is_cap same ∙ is in absurd (let n : ⊥ = cc in n)
+    at true h = let same : cap.Nothing ≡ x = cc in let no : false ≡ true = ap is_present same ∙ is in absurd (let n : ⊥ = cc in n)
     at false h = h
 read_resolve es e (message.Broken promise) x y is h = absurd (at (resolves_released es e) h)
   where
@@ -176,31 +176,31 @@ read_resolve es e (message.Broken promise) x y is h = absurd (at (resolves_relea
 read_resolve es e m x y is h = h
 
 pub return_said : (late : Bool) (fields : List (List ℕ × ℕ)) (name : Name) (caps : Option (List Cap)) (m : Message) → late ≡ false → say_return late fields name caps ≡ Some m →
-    (cs : List Cap) × (caps ≡ Some cs) × (m ≡ message.Return name (given cs fields) cs)
+    (cs : List Cap) × (caps ≡ Some cs) × (m ≡ message.Return name (caps_at_paths cs fields) cs)
 return_said true fields name caps m late h = absurd (let no : ⊥ = cc in no)
 return_said false fields name None m late h = absurd (let no : ⊥ = cc in no)
-return_said false fields name (Some cs) m late h = (cs, refl, let same : message.Return name (given cs fields) cs ≡ m = cc in sym same)
+return_said false fields name (Some cs) m late h = (cs, refl, let same : message.Return name (caps_at_paths cs fields) cs ≡ m = cc in sym same)
 
-cap_there : (place : ℕ) (cs : List Cap) (x : Cap) → slice_get cs place ≡ Some x → is_cap x ≡ true → cap_at place cs ≡ Some x
-cap_there place cs x there is = ap (λ o. option_and_then (λ c. if is_cap c then Some c else None) o) there ∙ ap (λ b. if b then Some x else None) is
+cap_there : (place : ℕ) (cs : List Cap) (x : Cap) → slice_get cs place ≡ Some x → is_present x ≡ true → cap_at place cs ≡ Some x
+cap_there place cs x there is = ap (λ o. option_and_then (λ c. if is_present c then Some c else None) o) there ∙ ap (λ b. if b then Some x else None) is
 
 -- what stands at a place of a record's caps is the name of what its descriptor stands for
-named_there : (names : Naming) (es : Past) (e : Event) (place : ℕ) (b : View) (cs : List Cap) → caps_named names es e ≡ Some cs → view_of_descriptor es e place ≡ Some b → (x : Cap) × (names.cap b ≡ Some x) × (slice_get cs place ≡ Some x)
+named_there : (names : Naming) (es : Past) (e : DecodedRecord) (place : ℕ) (b : View) (cs : List Cap) → caps_named names es e ≡ Some cs → view_of_descriptor es e place ≡ Some b → (x : Cap) × (names.cap b ≡ Some x) × (slice_get cs place ≡ Some x)
 named_there names es e place b cs all was =
-    let d = then_is (described (view_of_reference es) es e) (slice_get (descriptors e) place) b was in
+    let d = then_is (descriptor_view (view_of_reference es) es e) (slice_get (descriptors e) place) b was in
     let r = together_at (descriptor_named names es e) (descriptors e) place d.0 cs all d.1 in
     (r.0, sym (descriptor_is names es e d.0 b d.2) ∙ r.1, r.2)
 
-given_made : (names : Naming) (es : Past) (e : Event) (path : List ℕ) (fields : List (List ℕ × ℕ)) (cs : List Cap) (b : View) (name : Name) → ((view : View) (x : Cap) → names.cap view ≡ Some x → is_cap x ≡ true) →
+given_made : (names : Naming) (es : Past) (e : DecodedRecord) (path : List ℕ) (fields : List (List ℕ × ℕ)) (cs : List Cap) (b : View) (name : Name) → ((view : View) (x : Cap) → names.cap view ≡ Some x → is_present x ≡ true) →
     caps_named names es e ≡ Some cs → option_and_then (λ field. view_of_descriptor es e field.1) (find (λ field. same_path field.0 path) fields) ≡ Some b →
-    (y : Cap) × (names.cap b ≡ Some y) × OneOf (λ result. (cap.Field name path ≡ cap.Field name result.0) × (y ≡ result.1)) (given cs fields)
+    (y : Cap) × (names.cap b ≡ Some y) × OneOf (λ result. (cap.Field name path ≡ cap.Field name result.0) × (y ≡ result.1)) (caps_at_paths cs fields)
 given_made names es e path fields cs b name caps all there =
     let test : List ℕ × ℕ → Bool = λ field. same_path field.0 path in
     let field = then_is (λ field. view_of_descriptor es e field.1) (find test fields) b there in
     let at = path_is field.0.0 path (found_is test fields field.0 field.1) in
     let y = named_there names es e field.0.1 b cs all field.2 in
     let made = ap (λ o. option_map (λ c. (field.0.0, c)) o) (cap_there field.0.1 cs y.0 y.2 (caps b y.0 y.1)) in
-    (y.0, y.1, results_so name field.0.0 path y.0 (given cs fields) at (found_kept test (λ field. option_map (λ c. (field.0, c)) (cap_at field.1 cs)) fields field.0 (field.0.0, y.0) field.1 made))
+    (y.0, y.1, results_so name field.0.0 path y.0 (caps_at_paths cs fields) at (found_kept test (λ field. option_map (λ c. (field.0, c)) (cap_at field.1 cs)) fields field.0 (field.0.0, y.0) field.1 made))
 
 pub call_is : (free : Bool) (o : Option ℕ) (call c : ℕ) → is call o ≡ true → (if free then None else o) ≡ Some c → c ≡ call
 call_is true o call c own h = absurd (let no : ⊥ = cc in no)
@@ -214,11 +214,11 @@ return_tells v call path es steps k c rs q release (Results payload) s b says ow
     let e = Wire false k c rs (Return q release (Results payload)) in
     let names = naming v (e ∷ es) (s ∷ steps) in
     let caps = caps_named names es e in
-    let name = then_is (λ name. say_return (is_late es e) payload.fields name caps) (answered names es k false q) (read es e says.message) (says_read says) in
+    let name = then_is (λ name. say_return (is_late es e) payload.fields name caps) (call_answered names es k false q) (read es e says.message) (says_read says) in
     let asked = then_is names.call (call_of (id k true q) es) name.0 name.1 in
     let same = call_is (is_free (id k true q) es) (call_at (opening (id k true q) es)) call asked.0 own asked.1 in
     let told = return_said (is_late es e) payload.fields name.0 caps (read es e says.message) late name.2 in
-    let came : says.message ≡ message.Return name.0 (given told.0 payload.fields) told.0 = read_return es e says.message name.0 (given told.0 payload.fields) told.0 told.2 in
+    let came : says.message ≡ message.Return name.0 (caps_at_paths told.0 payload.fields) told.0 = read_return es e says.message name.0 (caps_at_paths told.0 payload.fields) told.0 told.2 in
     let y = given_made names es e path payload.fields told.0 b name.0 (names_are_caps v (e ∷ es) (s ∷ steps)) told.1 there in
     record {
       from = cap.Field name.0 path;
@@ -229,7 +229,7 @@ return_tells v call path es steps k c rs q release (Results payload) s b says ow
     }
 return_tells v call path es steps k c rs q release outcome s b says own late there = absurd (let no : ⊥ = cc in no)
 
-resolved_one : (names : Naming) (es : Past) (k c : ℕ) (rs : List ℕ) (n : ℕ) (resolution : Resolution) (x : Cap) (m : Message) (b : View) → ((view : View) (x : Cap) → names.cap view ≡ Some x → is_cap x ≡ true) →
+resolved_one : (names : Naming) (es : Past) (k c : ℕ) (rs : List ℕ) (n : ℕ) (resolution : Resolution) (x : Cap) (m : Message) (b : View) → ((view : View) (x : Cap) → names.cap view ≡ Some x → is_present x ≡ true) →
     option_map (say_resolve x) (caps_named names es (Wire false k c rs (Resolve n resolution))) ≡ Some m → view_of_descriptor es (Wire false k c rs (Resolve n resolution)) 0 ≡ Some b → (y : Cap) × (names.cap b ≡ Some y) × (m ≡ message.Resolve x y)
 resolved_one names es k c rs n (Capped d) x m b caps h there =
     let e = Wire false k c rs (Resolve n (Capped d)) in
@@ -237,14 +237,14 @@ resolved_one names es k c rs n (Capped d) x m b caps h there =
     let cs = mapped_is (say_resolve x) (caps_named names es e) m h in
     let one = named_there names es e 0 b cs.0 cs.1 there in
     let named = y ∙ one.1 in
-    let list : ◌≡◌ {A = Option (List Cap)} (Some (one.0 ∷ [])) (Some cs.0) = sym (ap (λ o. together (o ∷ [])) named) ∙ cs.1 in
+    let list : ◌≡◌ {A = Option (List Cap)} (Some (one.0 ∷ [])) (Some cs.0) = sym (ap (λ o. all_there (o ∷ [])) named) ∙ cs.1 in
     let same : one.0 ∷ [] ≡ cs.0 = cc in
     (one.0, one.1, sym cs.2 ∙ ap (say_resolve x) (sym same) ∙ resolve_is x one.0 [] (caps b one.0 one.1))
 resolved_one names es k c rs n Unkept x m b caps h there = absurd (let no : ⊥ = cc in no)
 
 began_is : (named : ℕ → Option View) (i place : ℕ) (o : Option Birth) → began_at i place o ≡ true → option_and_then (view_given named false) o ≡ Some (Import i place)
 began_is named i place (Some b) h =
-    let both = both_true (number_of b.from == i) (b.place == place) h in ap₂ (λ n p. Some (Import n p)) (eqb-true (number_of b.from) i both.0) (eqb-true b.place place both.1)
+    let both = both_true (record_index b.from == i) (b.place == place) h in ap₂ (λ n p. Some (Import n p)) (eqb-true (record_index b.from) i both.0) (eqb-true b.place place both.1)
   where
     both_true : (a b : Bool) → (a && b) ≡ true → (a ≡ true) × (b ≡ true)
     both_true true b h = (refl, h)
@@ -273,7 +273,7 @@ resolve_tells v i place es steps k c rs n resolution s b x says began there name
 
 -- ---- together
 
-pub own_promise : (v p : ℕ) (es : Past) (steps : List Step) (e : Event) (s : Step) (b : View) → Says v es steps e s → keeps p es e ≡ Some (turns b) → TurnsNames (naming v (e ∷ es) (s ∷ steps)) (Promise p) b s
+pub own_promise : (v p : ℕ) (es : Past) (steps : List Step) (e : DecodedRecord) (s : Step) (b : View) → Says v es steps e s → keeps p es e ≡ Some (turns b) → TurnsNames (naming v (e ∷ es) (s ∷ steps)) (Promise p) b s
 own_promise v p es steps (Fulfil r to) s b says h =
     let t = turned_is (is_promise p (view_of_reference es r)) (on_to (view_of_reference es to)) b h in
     kept_tells v p es steps r to s b says t.0 (on_is (view_of_reference es to) b t.1)
@@ -284,10 +284,10 @@ not_late_on : (late : Bool) (o : Option View) (b : View) → (if late then stops
 not_late_on true o b h = absurd (no_stop b h)
 not_late_on false o b h = (refl, on_is o b h)
 
-pub of_call : (v call : ℕ) (path : List ℕ) (es : Past) (steps : List Step) (e : Event) (s : Step) (b : View) → Says v es steps e s → answers call path es e ≡ Some (turns b) → TurnsNames (naming v (e ∷ es) (s ∷ steps)) (FieldOf call path) b s
+pub of_call : (v call : ℕ) (path : List ℕ) (es : Past) (steps : List Step) (e : DecodedRecord) (s : Step) (b : View) → Says v es steps e s → answers call path es e ≡ Some (turns b) → TurnsNames (naming v (e ∷ es) (s ∷ steps)) (FieldOf call path) b s
 of_call v call path es steps (Answer c results) s b says h =
-    let t = turned_is (c == call) (on_to (answer_at path es results)) b h in
-    answer_tells v call path es steps c results s b says (eqb-true c call t.0) (on_is (answer_at path es results) b t.1)
+    let t = turned_is (c == call) (on_to (answer_view_at path es results)) b h in
+    answer_tells v call path es steps c results s b says (eqb-true c call t.0) (on_is (answer_view_at path es results) b t.1)
 of_call v call path es steps (Fault c) s b says h = absurd (no_stop b (turned_is (c == call) stops b h).1)
 of_call v call path es steps (Wire false k c rs (Return q release outcome)) s b says h =
     let e = Wire false k c rs (Return q release outcome) in
@@ -296,7 +296,7 @@ of_call v call path es steps (Wire false k c rs (Return q release outcome)) s b 
     return_tells v call path es steps k c rs q release outcome s b says t.0 on.0 on.1
 of_call v call path es steps e s b says h = absurd (let no : ⊥ = cc in no)
 
-pub of_import : (v i place : ℕ) (es : Past) (steps : List Step) (e : Event) (s : Step) (b : View) (x : Cap) → Says v es steps e s → resolves i place es e ≡ Some (turns b) →
+pub of_import : (v i place : ℕ) (es : Past) (steps : List Step) (e : DecodedRecord) (s : Step) (b : View) (x : Cap) → Says v es steps e s → resolves i place es e ≡ Some (turns b) →
     cap_named v (e ∷ es) (s ∷ steps) (Import i place) ≡ Some x → TurnsNames (naming v (e ∷ es) (s ∷ steps)) (Import i place) b s
 of_import v i place es steps (Wire false k c rs (Resolve n resolution)) s b x says h named =
     let e = Wire false k c rs (Resolve n resolution) in
@@ -304,7 +304,7 @@ of_import v i place es steps (Wire false k c rs (Resolve n resolution)) s b x sa
     resolve_tells v i place es steps k c rs n resolution s b x says t.0 (on_is (view_of_descriptor es e 0) b t.1) named
 of_import v i place es steps e s b x says h named = absurd (let no : ⊥ = cc in no)
 
-pub turn_told : (v : ℕ) (es : Past) (steps : List Step) (e : Event) (s : Step) (a b : View) (x : Cap) → Says v es steps e s → turn a es e ≡ Some (turns b) → cap_named v (e ∷ es) (s ∷ steps) a ≡ Some x →
+pub turn_told : (v : ℕ) (es : Past) (steps : List Step) (e : DecodedRecord) (s : Step) (a b : View) (x : Cap) → Says v es steps e s → turn a es e ≡ Some (turns b) → cap_named v (e ∷ es) (s ∷ steps) a ≡ Some x →
     TurnsNames (naming v (e ∷ es) (s ∷ steps)) a b s
 turn_told v es steps e s (Object object) b x says h named = absurd (let no : ⊥ = cc in no)
 turn_told v es steps e s (Promise p) b x says h named = own_promise v p es steps e s b says h

@@ -1,20 +1,20 @@
 -- The steps so far and what they sent, one record further.
 use Rattle.std.proofs.Common.{◌≡◌, refl, sym, ◌∙◌, ap, subst, ℕ, List, ◌∷◌, map, reverse, Bool, true, false, Option, Some, None, option_and_then, option_map}
-use Rattle.agree.specs.Rows.{Row, log_of}
+use Rattle.agree.specs.Rows.{Row, log_of_vat}
 use Rattle.vat_rules.specs.OfCaps.{is_received}
 use Rattle.vat_view.specs.Past.{Past}
 use Rattle.vat_view.specs.Views.{view_of_reference}
-use Rattle.call_trace.specs.declared.ledger.Ledger.{Ledger}
-use Rattle.call_trace.specs.declared.lines.Lines.{Lines}
-use Rattle.call_trace.specs.declared.trail.Trail.{Trail}
-use Rattle.call_trace.specs.Types.{RpcMessage, Event, Host, Vow, Fulfil, Break, Make, Field, Deliver, Answer, Fault, Wire, Cap, Message, Step}
-use Rattle.call_trace.specs.Glue.{IsKept, IsTaken, received_step}
-use Rattle.call_trace.specs.Lines.{AreLines}
-use Rattle.call_trace.specs.Naming.{naming, message_of}
+use Rattle.call_trace.specs.declared.records.vat_ledger.VatLedger.{VatLedger}
+use Rattle.call_trace.specs.declared.steps.channels.Channels.{Channels}
+use Rattle.call_trace.specs.declared.steps.run_builder.RunBuilder.{RunBuilder}
+use Rattle.call_trace.specs.Types.{RpcMessage, DecodedRecord, Host, Vow, Fulfil, Break, Make, Field, Deliver, Answer, Fault, Wire, Cap, Message, Step}
+use Rattle.call_trace.specs.Glue.Ledgers.{IsKept, IsTaken, received_step}
+use Rattle.call_trace.specs.Glue.Channels.{AreLines}
+use Rattle.call_trace.specs.Naming.{naming, message_of_step}
 use Rattle.call_trace.specs.Part.{result_named, promise_in}
 use Rattle.call_trace.specs.Running.{coming_next, step_received, step_of, steps_by, steps_of_row}
-use Rattle.call_trace.specs.Said.{together}
-use Rattle.call_trace.specs.Trail.{IsKeptAt, Comes}
+use Rattle.call_trace.specs.Said.{all_there}
+use Rattle.call_trace.specs.Glue.RunBuilder.{IsKeptAt, Comes}
 use Rattle.call_trace.proofs.Passing.{other_more}
 use Rattle.call_trace.proofs.Rowing.{kept_here, row_none}
 use Rattle.run_model.specs.declared.cap.Cap.TheVariants as cap
@@ -34,15 +34,15 @@ then_so P g s p None e = absurd (let none : ⊥ = cc in none)
 then_so P g s p (Some x) e = p x e
 
 -- a record is no message
-abbrev pub IsOwn : Event → Type 0
+abbrev pub IsOwn : DecodedRecord → Type 0
 IsOwn (Wire sent k c references m) = ⊥
 IsOwn e = Unit {0}
 
 -- a step passes no message
 abbrev IsSilent : Step → Type 0
-IsSilent s = ◌≡◌ {A = Option Message} (message_of s) None
+IsSilent s = ◌≡◌ {A = Option Message} (message_of_step s) None
 
-silent : (v : ℕ) (es : Past) (own before : List Step) (e : Event) (s : Step) → IsOwn e → step_of v es own before e ≡ Some s → message_of s ≡ None
+silent : (v : ℕ) (es : Past) (own before : List Step) (e : DecodedRecord) (s : Step) → IsOwn e → step_of v es own before e ≡ Some s → message_of_step s ≡ None
 silent v es own before (Host r object) s o is = some_so IsSilent (step.Host v object) s refl is
 silent v es own before (Vow r) s o is = some_so IsSilent (step.Vow v r) s refl is
 silent v es own before (Fulfil r to) s o is =
@@ -53,7 +53,7 @@ silent v es own before (Field r c path) s o is = map_so IsSilent (λ name. step.
 silent v es own before (Deliver c object) s o is = map_so IsSilent (λ name. step.Deliver v name object) s (λ name. refl) _ is
 silent v es own before (Answer c results) s o is =
     let names = naming v (Answer c results ∷ es) (step.Host v 0 ∷ own) in
-    then_so IsSilent _ s (λ name. map_so IsSilent (λ caps. step.Answer v name caps) s (λ caps. refl) (together (map (result_named names es) results))) (names.call c) is
+    then_so IsSilent _ s (λ name. map_so IsSilent (λ caps. step.Answer v name caps) s (λ caps. refl) (all_there (map (result_named names es) results))) (names.call c) is
 silent v es own before (Fault c) s o is = map_so IsSilent (λ name. step.Fault v name) s (λ name. refl) _ is
 silent v es own before (Wire sent k c references m) s o is = absurd o
 
@@ -72,19 +72,19 @@ pub none_comes : (v k c : ℕ) (references : List ℕ) (m : RpcMessage) (row : R
     steps_of_row ((v, Wire false k c references m) ∷ row) ≡ None
 none_comes v k c references m row before so_far none =
     row_none v (Wire false k c references m) row before so_far
-    (ap (option_and_then (step_received v (log_of v row) (steps_by v before) (Wire false k c references m) k references)) none)
+    (ap (option_and_then (step_received v (log_of_vat v row) (steps_by v before) (Wire false k c references m) k references)) none)
 
 -- a record took its step, where the table is that of the steps with it
-comes : (v : ℕ) (e : Event) (row : Row) (before : List Step) (new : Trail) (ledger : Ledger) (taken : Bool) → steps_of_row row ≡ Some before →
-    ((s : Step) → step_of v (log_of v row) (steps_by v before) before e ≡ Some s → ledger.vat ≡ v → AreLines (s ∷ before) new.lines) →
-    IsTaken v (log_of v row) e (steps_by v before) (step_of v (log_of v row) (steps_by v before) before e) (reverse before) new.steps.items ledger taken →
+comes : (v : ℕ) (e : DecodedRecord) (row : Row) (before : List Step) (new : RunBuilder) (ledger : VatLedger) (taken : Bool) → steps_of_row row ≡ Some before →
+    ((s : Step) → step_of v (log_of_vat v row) (steps_by v before) before e ≡ Some s → ledger.vat ≡ v → AreLines (s ∷ before) new.lines) →
+    IsTaken v (log_of_vat v row) e (steps_by v before) (step_of v (log_of_vat v row) (steps_by v before) before e) (reverse before) new.steps.items ledger taken →
     Comes v e row before new ledger taken
 comes v e row before new ledger false so_far lines t = row_none v e row before so_far t
 comes v e row before new ledger true so_far lines t =
     let k = kept_here v e row before new.steps.items ledger so_far t in
     (k.0, k.1, k.4, record { steps = k.3; lines = lines k.0 k.2 k.5.vat }, k.5)
 
-own_of : (e : Event) → ((sent : Bool) (k c : ℕ) (references : List ℕ) (m : RpcMessage) → e ≡ Wire sent k c references m → ⊥) → IsOwn e
+own_of : (e : DecodedRecord) → ((sent : Bool) (k c : ℕ) (references : List ℕ) (m : RpcMessage) → e ≡ Wire sent k c references m → ⊥) → IsOwn e
 own_of (Wire sent k c references m) not = not sent k c references m refl
 own_of (Host r object) not = tt
 own_of (Vow r) not = tt
@@ -96,53 +96,53 @@ own_of (Deliver c object) not = tt
 own_of (Answer c results) not = tt
 own_of (Fault c) not = tt
 
-abbrev Turned : ℕ → Event → Row → List Step → Trail → Ledger → Bool → Type 0
+abbrev Turned : ℕ → DecodedRecord → Row → List Step → RunBuilder → VatLedger → Bool → Type 0
 Turned v e row before new ledger taken =
-    IsTaken v (log_of v row) e (steps_by v before) (step_of v (log_of v row) (steps_by v before) before e) (reverse before) new.steps.items ledger taken
+    IsTaken v (log_of_vat v row) e (steps_by v before) (step_of v (log_of_vat v row) (steps_by v before) before e) (reverse before) new.steps.items ledger taken
 
-pub own_comes : (v : ℕ) (e : Event) (row : Row) (before : List Step) (old : Lines) (new : Trail) (ledger : Ledger) (taken : Bool) →
+pub own_comes : (v : ℕ) (e : DecodedRecord) (row : Row) (before : List Step) (old : Channels) (new : RunBuilder) (ledger : VatLedger) (taken : Bool) →
     ((sent : Bool) (k c : ℕ) (references : List ℕ) (m : RpcMessage) → e ≡ Wire sent k c references m → ⊥) → steps_of_row row ≡ Some before → AreLines before old → new.lines ≡ old →
     Turned v e row before new ledger taken → Comes v e row before new ledger taken
 own_comes v e row before old new ledger taken own so_far lines same t =
     comes v e row before new ledger taken so_far
-    (λ s is whose. subst (λ table. AreLines (s ∷ before) table) (sym same) (other_more s before old (silent v (log_of v row) (steps_by v before) before e s (own_of e own) is) lines)) t
+    (λ s is whose. subst (λ table. AreLines (s ∷ before) table) (sym same) (other_more s before old (silent v (log_of_vat v row) (steps_by v before) before e s (own_of e own) is) lines)) t
 
-pub sent_comes : (v k c : ℕ) (references : List ℕ) (m : RpcMessage) (e : Event) (row : Row) (before : List Step) (new : Trail) (ledger : Ledger) (taken : Bool) → e ≡ Wire true k c references m →
+pub sent_comes : (v k c : ℕ) (references : List ℕ) (m : RpcMessage) (e : DecodedRecord) (row : Row) (before : List Step) (new : RunBuilder) (ledger : VatLedger) (taken : Bool) → e ≡ Wire true k c references m →
     steps_of_row row ≡ Some before → ((message : Message) → AreLines (step.Send ledger.vat k message ∷ before) new.lines) →
     Turned v e row before new ledger taken → Comes v e row before new ledger taken
 sent_comes v k c references m e row before new ledger taken same so_far lines t =
     comes v e row before new ledger taken so_far
     (λ s is whose.
-    let sent = sends v k c references m (log_of v row) (steps_by v before) before s (ap (step_of v (log_of v row) (steps_by v before) before) (sym same) ∙ is) in
+    let sent = sends v k c references m (log_of_vat v row) (steps_by v before) before s (ap (step_of v (log_of_vat v row) (steps_by v before) before) (sym same) ∙ is) in
     subst (λ s. AreLines (s ∷ before) new.lines) (ap (λ w. step.Send w k sent.0) whose ∙ sym sent.1) (lines sent.0)) t
 
-abbrev GotBy : Event → ℕ → Type 0
-GotBy e k = (v : ℕ) (message : Message) (row : Row) (before : List Step) (new : Trail) (ledger : Ledger) (taken : Bool) → steps_of_row row ≡ Some before →
+abbrev GotBy : DecodedRecord → ℕ → Type 0
+GotBy e k = (v : ℕ) (message : Message) (row : Row) (before : List Step) (new : RunBuilder) (ledger : VatLedger) (taken : Bool) → steps_of_row row ≡ Some before →
     coming_next v k before ≡ Some message → ((bound : List Cap) → AreLines (step.Receive v k message bound ∷ before) new.lines) →
-    IsTaken v (log_of v row) e (steps_by v before) (received_step v (log_of v row) (steps_by v before) e message) (reverse before) new.steps.items ledger taken →
+    IsTaken v (log_of_vat v row) e (steps_by v before) (received_step v (log_of_vat v row) (steps_by v before) e message) (reverse before) new.steps.items ledger taken →
     Comes v e row before new ledger taken
 
 got_by : (k c : ℕ) (references : List ℕ) (m : RpcMessage) → GotBy (Wire false k c references m) k
 got_by k c references m v message row before new ledger taken so_far coming lines t =
-    let e : Event = Wire false k c references m in
-    let es = log_of v row in
+    let e : DecodedRecord = Wire false k c references m in
+    let es = log_of_vat v row in
     let own = steps_by v before in
     let same : step_of v es own before e ≡ received_step v es own e message = ap (option_and_then (step_received v es own e k references)) coming in
     comes v e row before new ledger taken so_far
     (λ s is whose. let got = receives v k c references m message es own s (sym same ∙ is) in subst (λ s. AreLines (s ∷ before) new.lines) (sym got.1) (lines got.0))
     (subst (λ o. IsTaken v es e own o (reverse before) new.steps.items ledger taken) (sym same) t)
 
-pub received_comes : (e : Event) → is_received e ≡ true → (sent : Bool) (k c : ℕ) (references : List ℕ) (m : RpcMessage) → Wire sent k c references m ≡ e → GotBy e k
+pub received_comes : (e : DecodedRecord) → is_received e ≡ true → (sent : Bool) (k c : ℕ) (references : List ℕ) (m : RpcMessage) → Wire sent k c references m ≡ e → GotBy e k
 received_comes e h sent k c references m is = subst (λ e. is_received e ≡ true → GotBy e k) is (at sent) h
   where
     at : (sent : Bool) → is_received (Wire sent k c references m) ≡ true → GotBy (Wire sent k c references m) k
     at true h = absurd (let none : ⊥ = cc in none)
     at false h = got_by k c references m
 
-abbrev NoneBy : Event → ℕ → Type 0
+abbrev NoneBy : DecodedRecord → ℕ → Type 0
 NoneBy e k = (v : ℕ) (row : Row) (before : List Step) → steps_of_row row ≡ Some before → coming_next v k before ≡ None → steps_of_row ((v, e) ∷ row) ≡ None
 
-pub nothing_taken : (e : Event) → is_received e ≡ true → (sent : Bool) (k c : ℕ) (references : List ℕ) (m : RpcMessage) → Wire sent k c references m ≡ e → NoneBy e k
+pub nothing_taken : (e : DecodedRecord) → is_received e ≡ true → (sent : Bool) (k c : ℕ) (references : List ℕ) (m : RpcMessage) → Wire sent k c references m ≡ e → NoneBy e k
 nothing_taken e h sent k c references m is = subst (λ e. is_received e ≡ true → NoneBy e k) is (at sent) h
   where
     at : (sent : Bool) → is_received (Wire sent k c references m) ≡ true → NoneBy (Wire sent k c references m) k
@@ -150,9 +150,9 @@ nothing_taken e h sent k c references m is = subst (λ e. is_received e ≡ true
     at false h = λ v row before. none_comes v k c references m row before
 
 -- the steps before, as they stand in the trail
-pub with_steps : (v : ℕ) (es : Past) (e : Event) (own run before : List Step) (o : Option Step) (taken_run : List Step) (ledger : Ledger) (taken : Bool) → run ≡ reverse before →
+pub with_steps : (v : ℕ) (es : Past) (e : DecodedRecord) (own run before : List Step) (o : Option Step) (taken_run : List Step) (ledger : VatLedger) (taken : Bool) → run ≡ reverse before →
     IsTaken v es e own o run taken_run ledger taken → IsTaken v es e own o (reverse before) taken_run ledger taken
 with_steps v es e own run before o taken_run ledger taken same t = subst (λ r. IsTaken v es e own o r taken_run ledger taken) same t
 
-pub kept_in : (v : ℕ) (row : Row) (before run : List Step) (ledger : Ledger) → run ≡ reverse before → IsKeptAt v row before ledger → IsKept v (log_of v row) (steps_by v before) run ledger
-kept_in v row before run ledger same kept = subst (λ r. IsKept v (log_of v row) (steps_by v before) r ledger) (sym same) kept
+pub kept_in : (v : ℕ) (row : Row) (before run : List Step) (ledger : VatLedger) → run ≡ reverse before → IsKeptAt v row before ledger → IsKept v (log_of_vat v row) (steps_by v before) run ledger
+kept_in v row before run ledger same kept = subst (λ r. IsKept v (log_of_vat v row) (steps_by v before) r ledger) (sym same) kept

@@ -3,20 +3,20 @@ use Rattle.std.proofs.Common.{◌≡◌, refl, sym, ◌∙◌, ap, subst, ℕ, z
 use Rattle.std.specs.List.{cons_option, filter_map}
 use Rattle.std.proofs.lemmas.List.{take_all, length-map, length-reverse}
 use Rattle.std.proofs.lemmas.Option.{slice_get_past}
-use Rattle.agree.specs.Rows.{Row, log_of}
+use Rattle.agree.specs.Rows.{Row, log_of_vat}
 use Rattle.vat_log.specs.declared.body.Body.{Body}
 use Rattle.vat_rules.specs.Audit.{Found, IsTrueOf}
-use Rattle.vat_rules.specs.Told.{Sight}
+use Rattle.vat_rules.specs.LogFacts.{Sight}
 use Rattle.vat_view.specs.Past.{Past}
-use Rattle.call_trace.specs.declared.ledger.Ledger.{Ledger}
-use Rattle.call_trace.specs.declared.trail.Trail.{Trail}
+use Rattle.call_trace.specs.declared.records.vat_ledger.VatLedger.{VatLedger}
+use Rattle.call_trace.specs.declared.steps.run_builder.RunBuilder.{RunBuilder}
 use Rattle.call_trace.specs.Findings.{is_good}
 use Rattle.call_trace.specs.Named.{past_before}
 use Rattle.call_trace.specs.Running.{steps_by as steps_of_vat, steps_of_row}
-use Rattle.call_trace.specs.Taking.{finding_of, event_in, record_in, steps_by, next_record, taken_by}
-use Rattle.call_trace.specs.Trail.{IsTrail, Comes}
-use Rattle.call_trace.specs.Turns.{IsKeptOf, Goes}
-use Rattle.call_trace.specs.Types.{Event, Step}
+use Rattle.call_trace.specs.Taking.{finding_of, event_in, record_in, steps_counted_by, next_record, taken_by}
+use Rattle.call_trace.specs.Glue.RunBuilder.{IsTrail, Comes}
+use Rattle.call_trace.specs.Glue.Turns.{IsKeptOf, TakesTurn}
+use Rattle.call_trace.specs.Types.{DecodedRecord, Step}
 use Rattle.call_trace.proofs.Carrying.{log_here, log_there, steps_here, steps_there}
 use Rattle.call_trace.proofs.Reading.{AllRecordsGood, records_good, good_more}
 use Rattle.call_trace.proofs.Rowing.{kept_there}
@@ -67,37 +67,37 @@ counted f all n = at (within_or n (length f.log.records))
 -- what is kept of a vat knows its next record, and what is seen of it
 pub record IsNextOf (findings : List Found) (turns : List ℕ) (v : ℕ) (f : Found) (number : ℕ) : Type 0 where
   pub next : next_record findings turns v ≡ record_in f number
-  pub past : past_before f number ≡ log_of v (taken_by findings turns)
+  pub past : past_before f number ≡ log_of_vat v (taken_by findings turns)
 
 pub next_of : (findings : List Found) (turns : List ℕ) (v : ℕ) (f : Found) (number : ℕ) → IsTrueOf f.log f.limits f.outcome → is_good f.outcome ≡ true → finding_of v findings ≡ Some f →
-    number ≡ length (log_of v (taken_by findings turns)) → IsNextOf findings turns v f number
+    number ≡ length (log_of_vat v (taken_by findings turns)) → IsNextOf findings turns v f number
 next_of findings turns v f number true_of good found many =
     let log = log_taken findings v f found turns in
-    let long : number ≡ length (past_before f (steps_by v turns)) = many ∙ ap length log in
-    let c = counted f (records_good f true_of good) (steps_by v turns) in
+    let long : number ≡ length (past_before f (steps_counted_by v turns)) = many ∙ ap length log in
+    let c = counted f (records_good f true_of good) (steps_counted_by v turns) in
     record {
-      next = ap (λ o. option_and_then (λ (g : Found). record_in g (steps_by v turns)) o) found ∙ sym c.record_at ∙ ap (record_in f) (sym long);
+      next = ap (λ o. option_and_then (λ (g : Found). record_in g (steps_counted_by v turns)) o) found ∙ sym c.record_at ∙ ap (record_in f) (sym long);
       past = ap (past_before f) long ∙ c.past ∙ sym log;
     }
 
 -- ---- a turn
 
-pub skips : (findings : List Found) (turns : List ℕ) (v : ℕ) (before : List Step) (trail : Trail) (ledger : Ledger) → next_record findings turns v ≡ None →
+pub skips : (findings : List Found) (turns : List ℕ) (v : ℕ) (before : List Step) (trail : RunBuilder) (ledger : VatLedger) → next_record findings turns v ≡ None →
     steps_of_row (taken_by findings turns) ≡ Some before → IsTrail before trail → IsKeptOf v (taken_by findings turns) before ledger →
-    Goes v (taken_by findings turns) (taken_by findings (v ∷ turns)) before trail ledger true
+    TakesTurn v (taken_by findings turns) (taken_by findings (v ∷ turns)) before trail ledger true
 skips findings turns v before trail ledger none so_far steps kept =
     let same : taken_by findings (v ∷ turns) ≡ taken_by findings turns = ap (λ o. cons_option (option_map (λ e. (v, e)) o) (taken_by findings turns)) none in
-    subst (λ row. Goes v (taken_by findings turns) row before trail ledger true) (sym same) (before, so_far, steps, kept, λ w other apart k. k)
+    subst (λ row. TakesTurn v (taken_by findings turns) row before trail ledger true) (sym same) (before, so_far, steps, kept, λ w other apart k. k)
 
-pub takes : (findings : List Found) (turns : List ℕ) (v : ℕ) (e : Event) (before : List Step) (trail : Trail) (ledger : Ledger) (taken : Bool) → next_record findings turns v ≡ Some e →
-    length (steps_of_vat v before) ≡ length (log_of v (taken_by findings turns)) → Comes v e (taken_by findings turns) before trail ledger taken →
-    Goes v (taken_by findings turns) (taken_by findings (v ∷ turns)) before trail ledger taken
+pub takes : (findings : List Found) (turns : List ℕ) (v : ℕ) (e : DecodedRecord) (before : List Step) (trail : RunBuilder) (ledger : VatLedger) (taken : Bool) → next_record findings turns v ≡ Some e →
+    length (steps_of_vat v before) ≡ length (log_of_vat v (taken_by findings turns)) → Comes v e (taken_by findings turns) before trail ledger taken →
+    TakesTurn v (taken_by findings turns) (taken_by findings (v ∷ turns)) before trail ledger taken
 takes findings turns v e before trail ledger taken next many c =
     let row = taken_by findings turns in
     let longer : taken_by findings (v ∷ turns) ≡ (v, e) ∷ row = ap (λ o. cons_option (option_map (λ e. (v, e)) o) row) next in
-    subst (λ r. Goes v row r before trail ledger taken) (sym longer) (at row many taken c)
+    subst (λ r. TakesTurn v row r before trail ledger taken) (sym longer) (at row many taken c)
   where
-    at : (row : Row) → length (steps_of_vat v before) ≡ length (log_of v row) → (taken : Bool) → Comes v e row before trail ledger taken → Goes v row ((v, e) ∷ row) before trail ledger taken
+    at : (row : Row) → length (steps_of_vat v before) ≡ length (log_of_vat v row) → (taken : Bool) → Comes v e row before trail ledger taken → TakesTurn v row ((v, e) ∷ row) before trail ledger taken
     at row many false c = c
     at row many true c = (
       c.0 ∷ before,
@@ -111,7 +111,7 @@ takes findings turns v e before trail ledger taken next many c =
     )
 
 -- so many steps are kept of a vat
-pub so_many : (v : ℕ) (row : Row) (before : List Step) (ledger : Ledger) → IsKeptOf v row before ledger → length ledger.numbers.items ≡ length (log_of v row)
+pub so_many : (v : ℕ) (row : Row) (before : List Step) (ledger : VatLedger) → IsKeptOf v row before ledger → length ledger.numbers.items ≡ length (log_of_vat v row)
 so_many v row before ledger kept =
     sym (length-map ledger.numbers.items (slice_get (reverse before))) ∙ ap length kept.0.numbers ∙ length-map (reverse (steps_of_vat v before)) Some ∙ length-reverse (steps_of_vat v before) ∙ kept.1
 

@@ -7,22 +7,22 @@ use Rattle.std.specs.Option.{option_or}
 use Rattle.std.proofs.lemmas.Bool.{and_parts, or_left, or_right, cases_Bool, false≢true, not-true, eq-eqb, lt-ltb}
 use Rattle.std.proofs.lemmas.List.Folds.{list_all-append}
 use Rattle.agree.proofs.Points.{each_so}
-use Rattle.vat_view.specs.Past.{Past, Point, point, Each, id, names, last_answer, number_of}
-use Rattle.vat_view.specs.Questions.{opens, opening, noted_call, call_at, call_of, is_opened, is_returned, is_finished, is_unfinished, is_unreturned, is_late, finished}
-use Rattle.vat_view.specs.Lives.{Birth, birth, begins, introduced, introduces, descriptors, held, is_in_life, GivesBackHeld}
-use Rattle.vat_view.specs.Views.{view_of_reference, view_of_number, view_of_target, view_of_descriptor, view_given, number_view, field_view, described, noted}
+use Rattle.vat_view.specs.Past.{Past, Point, point, Each, id, names, last_answer, record_index}
+use Rattle.vat_view.specs.Questions.{opens, opening, noted_call, call_at, call_of, is_opened, is_returned, is_finished, is_unfinished, is_unreturned, is_late, question_finished}
+use Rattle.vat_view.specs.Lives.{Birth, birth, begins, number_introduced, introduces, descriptors, held, is_in_life, GivesBackHeld}
+use Rattle.vat_view.specs.Views.{view_of_reference, view_of_number, view_of_target, view_of_descriptor, view_given, number_view, field_view, descriptor_view, placed_references}
 use Rattle.vat_view.specs.Uses.{question_targeted, question_described, number_targeted, number_described, number_released}
 use Rattle.vat_view.specs.Bindings.{Refers, contains, is_bound, is_bound_call, new_calls}
 use Rattle.vat_view.specs.Sound.{IsSound}
-use Rattle.vat_view.specs.TurnTables.{reference_at}
-use Rattle.vat_view.specs.declared.id.Id.{Id}
+use Rattle.vat_view.specs.Glue.TurnTables.{reference_at}
+use Rattle.vat_view.specs.declared.record.table_key.TableKey.{TableKey}
 use Rattle.rpc_view.specs.declared.message.Payload.{Payload}
 use Rattle.vat_view.proofs.Counting.{no_more_went}
 use Rattle.vat_view.proofs.Landed.{noted_view}
 use Rattle.vat_view.proofs.Lasting.{number_keeps, view_bound, view_step}
 use Rattle.vat_view.proofs.Naming.{names_is}
 use Rattle.vat_view.proofs.Viewed.{all_viewed, begins_parts, begins_some, export_viewed, introduced_there}
-use Rattle.call_trace.specs.Types.{Descriptor, NoCap, SenderHosted, SenderPromise, ReceiverHosted, ReceiverAnswer, Target, Imported, Promised, RpcMessage, Bootstrap, Call, Event, Wire, View, FieldOf, Import, Cap, Step}
+use Rattle.call_trace.specs.Types.{Descriptor, NoCap, SenderHosted, SenderPromise, ReceiverHosted, ReceiverAnswer, Target, Imported, Promised, RpcMessage, Bootstrap, Call, DecodedRecord, Wire, View, FieldOf, Import, Cap, Step}
 use Rattle.call_trace.specs.Naming.{cap_named}
 use Rattle.call_trace.specs.Within.{IsWithin}
 use Rattle.call_trace.proofs.Naming.{then_is, calls_named}
@@ -39,13 +39,13 @@ none_some e = cc
 -- ---- questions stand for bound calls
 
 -- the call noted beside a record that opens a question is bound
-noted_bound : (before : Past) (e : Event) (q : Id) → Refers before e → opens q before e ≡ true → is_bound_call (e ∷ before) (noted_call e) ≡ true
+noted_bound : (before : Past) (e : DecodedRecord) (q : TableKey) → Refers before e → opens q before e ≡ true → is_bound_call (e ∷ before) (noted_call e) ≡ true
 noted_bound before (Wire s k d rs (Bootstrap n)) q refers new = or_left ((d == d) || false) (is_bound_call before d) (or_left (d == d) false (eq-eqb d d refl))
 noted_bound before (Wire false k d rs (Call n t f m p)) q refers new = or_left ((d == d) || false) (is_bound_call before d) (or_left (d == d) false (eq-eqb d d refl))
 noted_bound before (Wire true k d rs (Call n t f m p)) q refers new = (and_parts (is_bound_call before d) true refers.bound_call).0
 noted_bound before _ q refers new = absurd (false≢true new)
 
-opening_bound : (past : Past) → Each Refers past → (q : Id) (p : Point) → opening q past ≡ Some p → is_bound_call past (noted_call p.event) ≡ true
+opening_bound : (past : Past) → Each Refers past → (q : TableKey) (p : Point) → opening q past ≡ Some p → is_bound_call past (noted_call p.event) ≡ true
 opening_bound [] refers q p h = absurd (none_some h)
 opening_bound (e ∷ before) refers q p h = elim (cases_Bool (opens q before e)) [
   | inl new ↦
@@ -56,14 +56,14 @@ opening_bound (e ∷ before) refers q p h = elim (cases_Bool (opens q before e))
 ]
 
 -- a question stands for a bound call
-abbrev pub StandsForCall : Past → Id → Type 0
+abbrev pub StandsForCall : Past → TableKey → Type 0
 StandsForCall past q = (c : ℕ) × (call_of q past ≡ Some c) × (is_bound_call past c ≡ true)
 
 there : {A : Type 0} (o : Option A) → is_some o ≡ true → (x : A) × (o ≡ Some x)
 there (Some x) h = (x, refl)
 there None h = absurd (false≢true h)
 
-opened_bound : (past : Past) → Each Refers past → (q : Id) → is_opened q past ≡ true → (is_returned q past && is_finished q past) ≡ false → StandsForCall past q
+opened_bound : (past : Past) → Each Refers past → (q : TableKey) → is_opened q past ≡ true → (is_returned q past && is_finished q past) ≡ false → StandsForCall past q
 opened_bound past refers q opened going =
     let p = there (opening q past) opened in (
       noted_call p.0.event,
@@ -79,12 +79,12 @@ second_not : (a b : Bool) → b ≡ false → (a && b) ≡ false
 second_not true b h = h
 second_not false b h = refl
 
-pub unfinished_bound : (past : Past) → Each Refers past → (q : Id) → is_unfinished q past ≡ true → StandsForCall past q
+pub unfinished_bound : (past : Past) → Each Refers past → (q : TableKey) → is_unfinished q past ≡ true → StandsForCall past q
 unfinished_bound past refers q h =
     let parts = and_parts (is_opened q past) (not (is_finished q past)) h in
     opened_bound past refers q parts.0 (second_not (is_returned q past) (is_finished q past) (not-true (is_finished q past) parts.1))
 
-pub unreturned_bound : (past : Past) → Each Refers past → (q : Id) → is_unreturned q past ≡ true → StandsForCall past q
+pub unreturned_bound : (past : Past) → Each Refers past → (q : TableKey) → is_unreturned q past ≡ true → StandsForCall past q
 unreturned_bound past refers q h =
     let parts = and_parts (is_opened q past) (not (is_returned q past)) h in
     opened_bound past refers q parts.0 (first_not (is_returned q past) (is_finished q past) (not-true (is_returned q past) parts.1))
@@ -103,7 +103,7 @@ export_referred : (past : Past) (k n : ℕ) → Each IsSound past → is_in_life
 export_referred past k n sound now =
     let a = export_viewed past k n sound (all_viewed past sound) now in
     let b = then_is (view_given (view_of_reference past) true) (birth (id k true n) past) a.0 a.1 in
-    let r = then_is (λ m. view_of_reference past m.0) (find (λ m. m.1 == b.0.place) (noted b.0.from.event)) a.0 b.2 in
+    let r = then_is (λ m. view_of_reference past m.0) (find (λ m. m.1 == b.0.place) (placed_references b.0.from.event)) a.0 b.2 in
     (a.0, a.1, (r.0.0, view_bound past r.0.0 a.0 r.2, r.2))
 
 found_at : {A : Type 0} (test : A → Bool) (xs : List A) (p q : ℕ) → position_from test p xs ≡ Some q → (j : ℕ) × (x : A) × (q ≡ p + j) × (slice_get xs j ≡ Some x) × (test x ≡ true)
@@ -117,8 +117,8 @@ found_at test (x ∷ xs) p q h = elim (cases_Bool (test x)) [
 ]
 
 -- the number that a descriptor introduces is what it stands for, with its record counted
-introduced_is : (before : Past) (s : Bool) (k c : ℕ) (rs : List ℕ) (m : RpcMessage) (d : Descriptor) (i : Id) → introduced (Wire s k c rs m) d ≡ Some i →
-    described (view_of_reference before) before (Wire s k c rs m) d ≡ number_view (view_of_reference before) i (Wire s k c rs m ∷ before)
+introduced_is : (before : Past) (s : Bool) (k c : ℕ) (rs : List ℕ) (m : RpcMessage) (d : Descriptor) (i : TableKey) → number_introduced (Wire s k c rs m) d ≡ Some i →
+    descriptor_view (view_of_reference before) before (Wire s k c rs m) d ≡ number_view (view_of_reference before) i (Wire s k c rs m ∷ before)
 introduced_is before s k c rs m (SenderHosted n) i h = ap (λ i. number_view (view_of_reference before) i (Wire s k c rs m ∷ before)) (some_same h)
 introduced_is before s k c rs m (SenderPromise n) i h = ap (λ i. number_view (view_of_reference before) i (Wire s k c rs m ∷ before)) (some_same h)
 introduced_is before s k c rs m NoCap i h = absurd (none_some h)
@@ -133,38 +133,38 @@ module _ (before : Past) (j c : ℕ) (rs : List ℕ) (m : RpcMessage) (k n : ℕ
       let e = Wire false j c rs m in
       ap (λ a. if a then last_answer (begins i) (e ∷ before) else None) now ∙ ap (λ o. option_or o (last_answer (begins i) before)) begun
 
-  stands_for : (named : ℕ → Option View) → number_view named (id k false n) (Wire false j c rs m ∷ before) ≡ Some (Import (number_of b.from) b.place)
+  stands_for : (named : ℕ → Option View) → number_view named (id k false n) (Wire false j c rs m ∷ before) ≡ Some (Import (record_index b.from) b.place)
   stands_for named = ap (λ o. option_and_then (view_given named false) o) born
 
   begun_referred : StandsReferred (Wire false j c rs m ∷ before) (view_of_number (id k false n) (Wire false j c rs m ∷ before))
   begun_referred =
       let i = id k false n in
       let e = Wire false j c rs m in
-      let a = Import (number_of b.from) b.place in
+      let a = Import (record_index b.from) b.place in
       let parts = begins_parts i before e b begun in
-      let d = found_at (λ d. names i (introduced e d)) (descriptors e) 0 parts.0 parts.1 in
+      let d = found_at (λ d. names i (number_introduced e d)) (descriptors e) 0 parts.0 parts.1 in
       let at : slice_get (descriptors e) parts.0 ≡ Some d.1 = ap (λ p. slice_get (descriptors e) p) (let same = d.2 in let zeroed : parts.0 ≡ d.0 = omega (arith, same) in zeroed) ∙ d.3 in
       let was : view_of_descriptor before e parts.0 ≡ Some a =
-      ap (λ o. option_and_then (described (view_of_reference before) before e) o) at ∙ introduced_is before false j c rs m d.1 i (names_is i (introduced e d.1) d.4) ∙ stands_for (view_of_reference before) in
+      ap (λ o. option_and_then (descriptor_view (view_of_reference before) before e) o) at ∙ introduced_is before false j c rs m d.1 i (names_is i (number_introduced e d.1) d.4) ∙ stands_for (view_of_reference before) in
       let r = then_is (view_of_reference (e ∷ before)) (reference_at e parts.0) a (noted_view before j c rs m sound.0.refers sound.0.notes_each parts.3 parts.0 ∙ was) in
       (a, stands_for (view_of_reference (e ∷ before)), (r.0, view_bound (e ∷ before) r.0 a r.2, r.2))
 
 -- only what is received brings an import into life
-not_sent : (before : Past) (j c : ℕ) (rs : List ℕ) (m : RpcMessage) (k n : ℕ) (d : Descriptor) → introduced (Wire true j c rs m) d ≡ Some (id k false n) → ⊥
+not_sent : (before : Past) (j c : ℕ) (rs : List ℕ) (m : RpcMessage) (k n : ℕ) (d : Descriptor) → number_introduced (Wire true j c rs m) d ≡ Some (id k false n) → ⊥
 not_sent before j c rs m k n (SenderHosted x) h = let same : id j true x ≡ id k false n = some_same h in false≢true (sym (ap (λ i. i.ours) same))
 not_sent before j c rs m k n (SenderPromise x) h = let same : id j true x ≡ id k false n = some_same h in false≢true (sym (ap (λ i. i.ours) same))
 not_sent before j c rs m k n NoCap h = none_some h
 not_sent before j c rs m k n d h = none_some h
 
-comes_in : (before : Past) (e : Event) (k n : ℕ) → Each IsSound (e ∷ before) → (b : Birth) → begins (id k false n) before e ≡ Some b → is_in_life (id k false n) (e ∷ before) ≡ true →
+comes_in : (before : Past) (e : DecodedRecord) (k n : ℕ) → Each IsSound (e ∷ before) → (b : Birth) → begins (id k false n) before e ≡ Some b → is_in_life (id k false n) (e ∷ before) ≡ true →
     StandsReferred (e ∷ before) (view_of_number (id k false n) (e ∷ before))
 comes_in before (Wire false j c rs m) k n sound b begun now = begun_referred before j c rs m k n sound b begun now
 comes_in before (Wire true j c rs m) k n sound b begun now =
     let i = id k false n in
     let e = Wire true j c rs m in
     let parts = begins_parts i before e b begun in
-    let d = found_at (λ d. names i (introduced e d)) (descriptors e) 0 parts.0 parts.1 in
-    absurd (not_sent before j c rs m k n d.1 (names_is i (introduced e d.1) d.4))
+    let d = found_at (λ d. names i (number_introduced e d)) (descriptors e) 0 parts.0 parts.1 in
+    absurd (not_sent before j c rs m k n d.1 (names_is i (number_introduced e d.1) d.4))
 comes_in before e k n sound b begun now = absurd (none_some (begins_parts (id k false n) before e b begun).1)
 
 import_referred : (past : Past) (k n : ℕ) → Each IsSound past → is_in_life (id k false n) past ≡ true → StandsReferred past (view_of_number (id k false n) past)
@@ -200,26 +200,26 @@ reference_known past sound r bound = let a = all_viewed past sound r bound in (a
 pub number_known : (past : Past) (k : ℕ) (ours : Bool) (n : ℕ) → Each IsSound past → is_in_life (id k ours n) past ≡ true → StandsKnown past (view_of_number (id k ours n) past)
 number_known past k ours n sound now = let t = number_referred past k ours n sound now in (t.0, t.1, inl t.2)
 
-pub field_known : (past : Past) → Each Refers past → (q : Id) (path : List ℕ) → is_unfinished q past ≡ true → StandsKnown past (field_view q path past)
+pub field_known : (past : Past) → Each Refers past → (q : TableKey) (path : List ℕ) → is_unfinished q past ≡ true → StandsKnown past (field_view q path past)
 field_known past refers q path h =
     let t = unfinished_bound past refers q h in
     (FieldOf t.0 path, ap (λ o. option_map (λ call. FieldOf call path) o) t.1, inr (t.0, path, t.2, refl))
 
-all_split : (test : Id → Bool) (xs ys : List Id) → list_all test (xs ++ ys) ≡ true → (list_all test xs ≡ true) × (list_all test ys ≡ true)
+all_split : (test : TableKey → Bool) (xs ys : List TableKey) → list_all test (xs ++ ys) ≡ true → (list_all test xs ≡ true) × (list_all test ys ≡ true)
 all_split test xs ys h = and_parts (list_all test xs) (list_all test ys) (sym (list_all-append test xs ys) ∙ h)
 
-kept_rest : (test : Id → Bool) (o : Option Id) (rest : List Id) → list_all test (cons_option o rest) ≡ true → list_all test rest ≡ true
+kept_rest : (test : TableKey → Bool) (o : Option TableKey) (rest : List TableKey) → list_all test (cons_option o rest) ≡ true → list_all test rest ≡ true
 kept_rest test (Some i) rest h = (and_parts (test i) (list_all test rest) h).1
 kept_rest test None rest h = h
 
 -- of what a list gives, one that its element at a place gives
-kept_at : (f : Descriptor → Option Id) (test : Id → Bool) (ds : List Descriptor) (j : ℕ) (d : Descriptor) (i : Id) → list_all test (filter_map f ds) ≡ true → slice_get ds j ≡ Some d → f d ≡ Some i → test i ≡ true
+kept_at : (f : Descriptor → Option TableKey) (test : TableKey → Bool) (ds : List Descriptor) (j : ℕ) (d : Descriptor) (i : TableKey) → list_all test (filter_map f ds) ≡ true → slice_get ds j ≡ Some d → f d ≡ Some i → test i ≡ true
 kept_at f test [] j d i h at is = absurd (none_some at)
 kept_at f test (x ∷ ds) zero d i h at is =
     let this : f x ≡ Some i = ap f (some_same at) ∙ is in (and_parts (test i) (list_all test (filter_map f ds)) (subst (λ o. list_all test (cons_option o (filter_map f ds)) ≡ true) this h)).0
 kept_at f test (x ∷ ds) (suc j) d i h at is = kept_at f test ds j d i (kept_rest test (f x) (filter_map f ds) h) at is
 
-alive_after : (i : Id) (before : Past) (e : Event) → Each IsSound (e ∷ before) → 0 < introduces i before e → is_in_life i (e ∷ before) ≡ true
+alive_after : (i : TableKey) (before : Past) (e : DecodedRecord) → Each IsSound (e ∷ before) → 0 < introduces i before e → is_in_life i (e ∷ before) ≡ true
 alive_after i before e sound more =
     let below = no_more_went before (each_so IsSound GivesBackHeld (λ b e s. s.gives_back_held) before sound.1) i in
     let gives = sound.0.gives_back_held i in lt-ltb 0 (held i (e ∷ before)) (omega (arith, below, gives, more))
@@ -236,20 +236,20 @@ module _ (es : Past) (k c : ℕ) (rs : List ℕ) (m : RpcMessage) (sound : Each 
 
   -- what each of its descriptors that isn't none stands for
   pub descriptor_known : is_late es (Wire true k c rs m) ≡ false → (j : ℕ) (d : Descriptor) → slice_get (descriptors (Wire true k c rs m)) j ≡ Some d →
-      (d ≡ NoCap) ⊎ StandsKnown es (described (view_of_reference es) es (Wire true k c rs m) d)
+      (d ≡ NoCap) ⊎ StandsKnown es (descriptor_view (view_of_reference es) es (Wire true k c rs m) d)
   descriptor_known late j NoCap at = inl refl
   descriptor_known late j (SenderHosted n) at = inr (introduced_known n (introduced_there (id k true n) es (Wire true k c rs m) j (SenderHosted n) late at refl))
   descriptor_known late j (SenderPromise n) at = inr (introduced_known n (introduced_there (id k true n) es (Wire true k c rs m) j (SenderPromise n) late at refl))
   descriptor_known late j (ReceiverHosted n) at =
       let e = Wire true k c rs m in
-      let test : Id → Bool = λ i. is_in_life i es in
+      let test : TableKey → Bool = λ i. is_in_life i es in
       let parts = all_split test (option_to_list (number_targeted e) ++ filter_map (number_described e) (descriptors e)) (option_to_list (number_released e)) sound.0.uses_numbers in
       let kept = all_split test (option_to_list (number_targeted e)) (filter_map (number_described e) (descriptors e)) parts.0 in
       inr (number_known es k false n sound.1 (kept_at (number_described e) test (descriptors e) j (ReceiverHosted n) (id k false n) kept.1 at refl))
   descriptor_known late j (ReceiverAnswer q path) at =
       let e = Wire true k c rs m in
-      let test : Id → Bool = λ i. is_unfinished i es in
-      let parts = all_split test (option_to_list (question_targeted e) ++ filter_map (question_described e) (descriptors e)) (option_to_list (finished e)) sound.0.uses_questions.used in
+      let test : TableKey → Bool = λ i. is_unfinished i es in
+      let parts = all_split test (option_to_list (question_targeted e) ++ filter_map (question_described e) (descriptors e)) (option_to_list (question_finished e)) sound.0.uses_questions.used in
       let kept = all_split test (option_to_list (question_targeted e)) (filter_map (question_described e) (descriptors e)) parts.0 in
       inr (field_known es refers_all (id k true q) path (kept_at (question_described e) test (descriptors e) j (ReceiverAnswer q path) (id k true q) kept.1 at refl))
 

@@ -17,13 +17,13 @@ use Rattle.vat_view.specs.Loopbacks.{loopback_of}
 use Rattle.vat_view.specs.Past.{Past, Point, Each, id}
 use Rattle.vat_view.specs.Views.{view_of_target}
 use Rattle.call_trace.specs.Findings.{logs_of, AreTrue, MayBeNamed}
-use Rattle.call_trace.specs.Lives.{ResolvesLiving, EchoesWaiting, UsesLives}
+use Rattle.call_trace.specs.InLife.{ResolvesLiving, EchoesWaiting, UsesLives}
 use Rattle.call_trace.specs.Named.{past_of, AreParts, IsRunOf}
 use Rattle.call_trace.specs.Part.{PairsOff, IsPart}
 use Rattle.call_trace.specs.Running.{IsNamedRow}
 use Rattle.call_trace.specs.Taking.{finding_of, record_in, next_record, taken_by, row_of}
-use Rattle.call_trace.specs.Taking.{steps_by as turns_of}
-use Rattle.call_trace.specs.Types.{Receiver, Resolve, Disembargo, Event, Wire, View, Step}
+use Rattle.call_trace.specs.Taking.{steps_counted_by as turns_of}
+use Rattle.call_trace.specs.Types.{Receiver, Resolve, Disembargo, DecodedRecord, Wire, View, Step}
 use Rattle.call_trace.proofs.Fitting.{parts_after, part_after, fits_all}
 use Rattle.call_trace.proofs.Points.{taken_balanced}
 use Rattle.call_trace.proofs.Reading.{each_good, reads_record}
@@ -32,7 +32,7 @@ use Rattle.run_model.specs.Legal.{IsLegal, HasUsed}
 use Rattle.run_model.specs.Links.{IsLinked}
 use Rattle.run_model.specs.Right.{ReachesObject}
 use Rattle.run_model.specs.Steps.{vat_of, steps_of}
-use Rattle.run_model.specs.Steps.{Each as EachStep}
+use Rattle.run_model.specs.Steps.{EachStep}
 use Rattle.run_model.proofs.Reaching.{each_reaches_object}
 
 -- ---- lists
@@ -72,7 +72,7 @@ promised : (o : Option Birth) (c : Bool) → (unwrap_or (option_map began_promis
 promised (Some b) c h = first_true (began_promised b) c h
 promised None c h = absurd (let no : ⊥ = cc in no)
 
-resolves_living : (before : Past) (e : Event) → IsGood before e → ResolvesLiving before e
+resolves_living : (before : Past) (e : DecodedRecord) → IsGood before e → ResolvesLiving before e
 resolves_living before (Wire true k c rs (Resolve n resolution)) good = promised (birth (id k true n) before) _ (good rule.Resolve).0
 resolves_living before e good = tt
 
@@ -80,12 +80,12 @@ waits : (past : Past) (o : Option Point) (to : Option View) → LeadsTo past (op
 waits past (Some p) to h = refl
 waits past None to h = absurd h
 
-echoes_waiting : (before : Past) (e : Event) → IsGood before e → EchoesWaiting before e
+echoes_waiting : (before : Past) (e : DecodedRecord) → IsGood before e → EchoesWaiting before e
 echoes_waiting before (Wire true k c rs (Disembargo n Receiver target)) good = waits before (loopback_of (id k false n) before) _ (good rule.Emb).0
 echoes_waiting before (Wire false k c rs (Disembargo n Receiver target)) good = good rule.Emb
 echoes_waiting before e good = tt
 
-uses_lives : (before : Past) (e : Event) → IsGood before e → UsesLives before e
+uses_lives : (before : Past) (e : DecodedRecord) → IsGood before e → UsesLives before e
 uses_lives before e good = record {
   numbers = good rule.XUse;
   questions = good rule.QUse;
@@ -122,7 +122,7 @@ comes_from v parts h = h
 
 module _ (findings : List Found) (order : List ℕ) (true_all : AreTrue findings) (asked : MayBeNamed findings order) where
   abbrev Takes : ℕ → List ℕ → Type 0
-  Takes v before = (f : Found) × (e : Event) × (finding_of v findings ≡ Some f) × (next_record findings before v ≡ Some e)
+  Takes v before = (f : Found) × (e : DecodedRecord) × (finding_of v findings ≡ Some f) × (next_record findings before v ≡ Some e)
 
   takes : (v : ℕ) (before : List ℕ) → GoesOn (reverse order) (v ∷ before) → Takes v before
   takes v before there =

@@ -9,22 +9,22 @@ use Rattle.vat_view.specs.Bindings.{Refers}
 use Rattle.vat_view.specs.Lives.{Birth, birth, begins, is_in_life}
 use Rattle.vat_view.specs.Walks.{Next, turns, stays, next, turn, resolves, began_at, Leads, here, onward, LeadsByTurns, turned}
 use Rattle.vat_view.proofs.Viewed.{begins_parts}
-use Rattle.vat_view.specs.declared.id.Id.{Id}
-use Rattle.call_trace.specs.Types.{Resolve, Event, Wire, View, Object, Promise, FieldOf, Import, Name, Cap, Step}
-use Rattle.call_trace.specs.Naming.{naming, cap_at, cap_named, message_at, message_of}
+use Rattle.vat_view.specs.declared.record.table_key.TableKey.{TableKey}
+use Rattle.call_trace.specs.Types.{Resolve, DecodedRecord, Wire, View, Object, Promise, FieldOf, Import, Name, Cap, Step}
+use Rattle.call_trace.specs.Naming.{naming, cap_at, cap_named, message_at, message_of_step}
 use Rattle.call_trace.specs.Part.{Says, PairsOff}
 use Rattle.call_trace.specs.Tells.{Tells, TurnsNames}
 use Rattle.call_trace.specs.Within.{IsWithin, HasNameAfter}
 use Rattle.call_trace.proofs.Naming.{cap_keeps}
 use Rattle.call_trace.proofs.Carried.{paired_at, pairs_as_long, each_after}
 use Rattle.call_trace.proofs.Tells.{own_promise, of_call, of_import}
-use Rattle.run_model.specs.Legal.{IsLegal, brought}
+use Rattle.run_model.specs.Legal.{IsLegal, caps_brought}
 use Rattle.run_model.specs.Links.{IsLinked}
 use Rattle.run_model.specs.Leads.{MakesTurn}
 use Rattle.run_model.specs.Leads.{Leads as RunLeads, LeadsByTurns as RunLeadsByTurns}
 use Rattle.run_model.specs.Leads.{here as stay, turn as run_turn}
 use Rattle.run_model.specs.Steps.{OneOf, vat_of}
-use Rattle.run_model.specs.Steps.{Each as EachStep}
+use Rattle.run_model.specs.Steps.{EachStep}
 use Rattle.run_model.proofs.Growing.{leads_by_turns_grow, leads_through, by_turns_first}
 use Rattle.run_model.proofs.Sending.{received_leads, resolved_leads}
 use Rattle.run_model.specs.declared.cap.Cap.TheVariants as cap
@@ -34,7 +34,7 @@ use Rattle.run_model.specs.declared.step.Step.TheVariants as step
 -- ---- the record that turned a view
 
 abbrev IsTurnedAt : View → View → Past → Type 0
-IsTurnedAt a b es = (later : List Event) × (e : Event) × (before : Past) × (es ≡ later ++ e ∷ before) × (turn a before e ≡ Some (turns b))
+IsTurnedAt a b es = (later : List DecodedRecord) × (e : DecodedRecord) × (before : Past) × (es ≡ later ++ e ∷ before) × (turn a before e ≡ Some (turns b))
 
 turned_at : (a b : View) (es : Past) → last_answer (turn a) es ≡ Some (turns b) → IsTurnedAt a b es
 turned_at a b [] h = absurd (let no : ⊥ = cc in no)
@@ -57,10 +57,10 @@ pub message_back : (i : ℕ) (added steps : List Step) → i < length steps → 
 message_back i [] steps lt = refl
 message_back i (s ∷ added) steps lt = elim (cases_Bool (length (added ++ steps) == i)) [
   | inl same ↦ absurd (let e = eqb-true (length (added ++ steps)) i same in omega (arith, e, length-append added steps, lt))
-  | inr other ↦ ap (λ b. if b then message_of s else message_at i (added ++ steps)) other ∙ message_back i added steps lt
+  | inr other ↦ ap (λ b. if b then message_of_step s else message_at i (added ++ steps)) other ∙ message_back i added steps lt
 ]
 
-born_before : (i : Id) (past : Past) (b : Birth) → last_answer (begins i) past ≡ Some b → length b.from.before < length past
+born_before : (i : TableKey) (past : Past) (b : Birth) → last_answer (begins i) past ≡ Some b → length b.from.before < length past
 born_before i [] b h = absurd (let no : ⊥ = cc in no)
 born_before i (e ∷ before) b h = at (begins i before e) refl h (born_before i before b)
   where
@@ -72,7 +72,7 @@ born_before i (e ∷ before) b h = at (begins i before e) refl h (born_before i 
         let len = ap (λ b. length b.from.before) parts.2 in
         omega (arith, len)
 
-began_before : (i place : ℕ) (j : Id) (past : Past) → began_at i place (birth j past) ≡ true → i < length past
+began_before : (i place : ℕ) (j : TableKey) (past : Past) → began_at i place (birth j past) ≡ true → i < length past
 began_before i place j past h = at (birth j past) refl h
   where
     alive : (c : Bool) (o : Option Birth) (b : Birth) → (if c then o else None) ≡ Some b → o ≡ Some b
@@ -90,7 +90,7 @@ began_before i place j past h = at (birth j past) refl h
         let lt = born_before j past b (alive (is_in_life j past) (last_answer (begins j) past) b born) in
         omega (arith, number, lt)
 
-import_before : (i place : ℕ) (before : Past) (e : Event) (n : Next) → resolves i place before e ≡ Some n → i < length before
+import_before : (i place : ℕ) (before : Past) (e : DecodedRecord) (n : Next) → resolves i place before e ≡ Some n → i < length before
 import_before i place before (Wire false k c rs (Resolve m resolution)) n h = began_before i place (id k false m) before (chosen (began_at i place (birth (id k false m) before)) _ h)
   where
     chosen : (b : Bool) (o : Option Next) → (if b then o else None) ≡ Some n → b ≡ true
@@ -151,7 +151,7 @@ step_leads before x y s legal linked at says =
 
 -- ---- together
 
-told_at : (v : ℕ) (es past : Past) (e : Event) (added earlier : List Step) (s : Step) (a b : View) (x : Cap) → Says v past earlier e s → length past ≡ length earlier → turn a past e ≡ Some (turns b) →
+told_at : (v : ℕ) (es past : Past) (e : DecodedRecord) (added earlier : List Step) (s : Step) (a b : View) (x : Cap) → Says v past earlier e s → length past ≡ length earlier → turn a past e ≡ Some (turns b) →
     cap_named v es (added ++ s ∷ earlier) a ≡ Some x → TurnsNames (naming v (e ∷ past) (s ∷ earlier)) a b s
 told_at v es past e added earlier s (Object object) b x says len h named = absurd (let no : ⊥ = cc in no)
 told_at v es past e added earlier s (Promise p) b x says len h named = own_promise v p past earlier e s b says h
@@ -159,12 +159,12 @@ told_at v es past e added earlier s (FieldOf call path) b x says len h named = o
 told_at v es past e added earlier s (Import i place) b x says len h named =
     let lt = import_before i place past e (turns b) h in
     let same = message_back i added (s ∷ earlier) (omega (arith, lt, len)) in
-    of_import v i place past earlier e s b x says h (ap (λ o. option_and_then (λ m. cap_at place (brought m)) o) (sym same) ∙ named)
+    of_import v i place past earlier e s b x says h (ap (λ o. option_and_then (λ m. cap_at place (caps_brought m)) o) (sym same) ∙ named)
 
 same_cap : (o : Option Cap) (x y : Cap) → o ≡ Some x → o ≡ Some y → x ≡ y
 same_cap o x y p q = let same : ◌≡◌ {A = Option Cap} (Some x) (Some y) = sym p ∙ q in cc
 
-module _ (v : ℕ) (later past : Past) (e : Event) (added earlier : List Step) (s : Step) (as_long : length later ≡ length added) (paired : PairsOff v (e ∷ past) (s ∷ earlier)) (refers : Each Refers (later ++ e ∷ past)) where
+module _ (v : ℕ) (later past : Past) (e : DecodedRecord) (added earlier : List Step) (s : Step) (as_long : length later ≡ length added) (paired : PairsOff v (e ∷ past) (s ∷ earlier)) (refers : Each Refers (later ++ e ∷ past)) where
   name_grows : (view : View) (c : Cap) → cap_named v (e ∷ past) (s ∷ earlier) view ≡ Some c → cap_named v (later ++ e ∷ past) (added ++ s ∷ earlier) view ≡ Some c
   name_grows view c h = cap_keeps v later (e ∷ past) added (s ∷ earlier) as_long (each_after later (e ∷ past) refers) view c h
 

@@ -2,7 +2,7 @@
 -- comments of CapDescriptor, Release, Return.releaseParamCaps and Finish.releaseResultCaps).
 use Rattle.std.specs.Prelude.{ℕ, List}
 use Rattle.agree.specs.Balance.{AreUnderWay}
-use Rattle.agree.specs.Balance.{IsBalanced as IsBalancedBy}
+use Rattle.agree.specs.Balance.{IsNumberBalanced as IsBalancedBy}
 use Rattle.call_trace.specs.Types.{RpcMessage}
 use Rattle.vat_view.specs.Past.{Past}
 

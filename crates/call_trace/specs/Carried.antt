@@ -1,19 +1,19 @@
 -- What two logs with their steps say of one message, and of one number.
 use Rattle.std.specs.Prelude.{◌≡◌, ℕ, List, length, true, false, Option, Some, option_and_then}
 use Rattle.agree.specs.Streams.{IsPassed}
-use Rattle.call_trace.specs.Types.{RpcMessage, Event, Cap, Step}
+use Rattle.call_trace.specs.Types.{RpcMessage, DecodedRecord, Cap, Step}
 use Rattle.call_trace.specs.Naming.{cap_named, message_at}
 use Rattle.vat_view.specs.Past.{Past, id}
 use Rattle.vat_view.specs.Views.{view_of_number}
-use Rattle.vat_view.specs.declared.id.Id.{Id}
+use Rattle.vat_view.specs.declared.record.table_key.TableKey.{TableKey}
 
 -- each message that one vat sent the other is received in the run as it was sent
 abbrev pub IsCarried : ℕ → Past → List Step → Past → List Step → Type 0
-IsCarried k one its_steps other other_steps = (m : RpcMessage) (from to : Past) (sent received : Event) → IsPassed k m one other from to sent received →
+IsCarried k one its_steps other other_steps = (m : RpcMessage) (from to : Past) (sent received : DecodedRecord) → IsPassed k m one other from to sent received →
     message_at (length to) other_steps ≡ message_at (length from) its_steps
 
 -- the name of what a number stands for
-abbrev pub number_named : ℕ → Id → Past → List Step → Option Cap
+abbrev pub number_named : ℕ → TableKey → Past → List Step → Option Cap
 number_named v i es steps = option_and_then (cap_named v es steps) (view_of_number i es)
 
 -- a number stands for one cap at its exporter and at its importer

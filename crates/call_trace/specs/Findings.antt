@@ -2,8 +2,8 @@
 use Rattle.std.specs.Prelude.{ℕ, List, Bool, true, false, map, All, IsTrue, Contains, ◌≡◌, ◌≢◌, ◌⊎◌, ◌||◌}
 use Rattle.std.specs.List.{list_any, list_all}
 use Rattle.vat_rules.specs.declared.outcome.Outcome.{Outcome}
-use Rattle.link_check.specs.Prefix.{IsPrefix, received, sent}
-use Rattle.merge_order.specs.Fits.{IsRising, IsFitting, sends, receives}
+use Rattle.link_check.specs.Prefix.{IsPrefix, frames_received, frames_sent}
+use Rattle.merge_order.specs.Fits.{IsRising, IsFitting, sends_frame, receives_frame}
 use Rattle.vat_log.specs.Log.{Log}
 use Rattle.vat_rules.specs.Audit.{Found, IsTrueOf}
 use Rattle.vat_rules.specs.declared.outcome.Outcome.TheVariants.{Good}
@@ -19,7 +19,7 @@ is_good _ = false
 
 -- a log uses a connection
 abbrev pub uses : ℕ → Log → Bool
-uses k log = list_any (λ body. sends k body || receives k body) log.records
+uses k log = list_any (λ body. sends_frame k body || receives_frame k body) log.records
 
 -- two of these logs, of two vats, use a connection
 pub record Share (logs : List Log) (k : ℕ) (one other : Log) : Type 0 where
@@ -47,4 +47,4 @@ pub record MayBeNamed (findings : List Found) (order : List ℕ) : Type 0 where
   pub rising : IsRising (logs_of findings)
   pub fits : IsFitting (logs_of findings) order
   pub two_ends : (k : ℕ) (one other third : Log) → Share (logs_of findings) k one other → Share (logs_of findings) k one third → other.vat ≡ third.vat
-  pub linked : (k : ℕ) (one other : Log) → Share (logs_of findings) k one other → IsPrefix (received k one) (sent k other)
+  pub linked : (k : ℕ) (one other : Log) → Share (logs_of findings) k one other → IsPrefix (frames_received k one) (frames_sent k other)

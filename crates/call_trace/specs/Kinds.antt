@@ -1,10 +1,10 @@
 -- Kinds of records.
 use Rattle.std.specs.Prelude.{Bool, true, false}
-use Rattle.call_trace.specs.Types.{Bootstrap, Call, Return, Finish, Resolve, Release, Disembargo, Abort, Event, Host, Vow, Fulfil, Break, Make, Field, Deliver, Answer, Fault, Wire}
+use Rattle.call_trace.specs.Types.{Bootstrap, Call, Return, Finish, Resolve, Release, Disembargo, Abort, DecodedRecord, Host, Vow, Fulfil, Break, Make, Field, Deliver, Answer, Fault, Wire}
 
 -- a record of what a vat makes by itself: it hosts an object, vows, keeps or breaks a promise, makes or boots a call, names a
 -- field, or sends a message in which neither a call nor a cap goes on
-abbrev pub is_own_making : Event → Bool
+abbrev pub is_own_making : DecodedRecord → Bool
 is_own_making (Host r object) = true
 is_own_making (Vow r) = true
 is_own_making (Fulfil r to) = true

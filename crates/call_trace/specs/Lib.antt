@@ -5,7 +5,7 @@ pub mod Part
 pub mod Carried
 pub mod Tells
 pub mod Within
-pub mod Lives
+pub mod InLife
 pub mod Balance
 pub mod Findings
 pub mod Taking
@@ -13,8 +13,4 @@ pub mod Named
 pub mod Running
 pub mod Kinds
 pub mod Placed
-pub mod Overtaking
-pub mod Lines
 pub mod Glue
-pub mod Trail
-pub mod Turns

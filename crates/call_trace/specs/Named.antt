@@ -3,7 +3,7 @@ use Rattle.std.specs.Prelude.{ℕ, List, map, length, take, IsTrue, Contains, co
 use Rattle.std.specs.List.{list_any, AllByRecursion}
 use Rattle.call_trace.specs.Balance.{IsBalanced}
 use Rattle.call_trace.specs.Findings.{AreEnds, logs_of}
-use Rattle.call_trace.specs.Lives.{UsesLives}
+use Rattle.call_trace.specs.InLife.{UsesLives}
 use Rattle.call_trace.specs.Part.{IsPart}
 use Rattle.call_trace.specs.Types.{Step}
 use Rattle.run_model.specs.Legal.{IsLegalRun}
@@ -23,8 +23,8 @@ abbrev pub past_of : Found → Past
 past_of finding = past_before finding (length finding.log.records)
 
 -- those that the first i steps of an order take
-abbrev pub taken : List ℕ → ℕ → Found → Past
-taken order i finding = past_before finding (count_by (λ v. v == finding.log.vat) (take i order))
+abbrev pub taken_before : List ℕ → ℕ → Found → Past
+taken_before order i finding = past_before finding (count_by (λ v. v == finding.log.vat) (take i order))
 
 -- the logs are their vats' parts of a run, in which no other vat has a step
 pub record AreParts (run : List Step) (findings : List Found) : Type 0 where
@@ -34,7 +34,7 @@ pub record AreParts (run : List Step) (findings : List Found) : Type 0 where
 -- so of the two ends of each connection, at each point of an order
 abbrev pub AtEachPoint : List Found → List ℕ → (ℕ → Past → Past → Type 0) → Type 0
 AtEachPoint findings order P = (i k : ℕ) (one other : Found) → Contains findings one → Contains findings other → AreEnds (logs_of findings) k one.log other.log →
-    P k (taken order i one) (taken order i other)
+    P k (taken_before order i one) (taken_before order i other)
 
 -- Balance at each point of an order, of each number of each connection, either end as its exporter
 abbrev pub AreBalanced : List Found → List ℕ → Type 0

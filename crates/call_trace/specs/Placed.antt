@@ -3,7 +3,7 @@ use Rattle.std.specs.Prelude.{◌≡◌, ℕ, List, Option, Some, IsSomeAnd, opt
 use Rattle.call_trace.specs.Types.{View, Name, Cap, Step}
 use Rattle.call_trace.specs.Naming.{call_named, cap_named}
 use Rattle.run_model.specs.Places.{Asked, at_vat}
-use Rattle.vat_view.specs.Calls.{asked}
+use Rattle.vat_view.specs.Calls.{request_of}
 use Rattle.vat_view.specs.Past.{Past}
 use Rattle.vat_view.specs.declared.asked.Asked.{Asked as AskedOf}
 
@@ -17,4 +17,4 @@ pub record IsThere (v : ℕ) (es : Past) (steps before : List Step) (c : ℕ) : 
   pub here : Asked
   pub named : call_named v es steps c ≡ Some name
   pub there : at_vat before name v ≡ Some here
-  pub asks : IsSomeAnd (asked c es) (AsksFor (cap_named v es steps) here)
+  pub asks : IsSomeAnd (request_of c es) (AsksFor (cap_named v es steps) here)

@@ -8,7 +8,7 @@ use Rattle.vat_view.specs.Past.{Past, Each}
 use Rattle.run_model.specs.Legal.{IsLegal}
 use Rattle.run_model.specs.Links.{IsLinked}
 use Rattle.run_model.specs.Steps.{vat_of}
-use Rattle.run_model.specs.Steps.{Each as EachStep}
+use Rattle.run_model.specs.Steps.{EachStep}
 
 -- a log is paired with its vat's steps of a run so far, in which each step is legal and keeps to its link; its records keep
 -- REF

@@ -1,7 +1,7 @@
 //! Places in a run, noted by vat and number.
 
 ghost use Rattle.std.specs.Prelude.{◌≡◌, ℕ, OnOk};
-ghost use Rattle.call_trace.specs.Overtaking.{latest_of, IsRaised};
+ghost use Rattle.call_trace.specs.Glue.Overtaking.{latest_of, IsRaised};
 
 use std::alloc::{AllocError, Global};
 use std::collections::BTreeMap;

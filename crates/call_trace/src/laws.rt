@@ -12,23 +12,23 @@ ghost use Rattle.vat_view.specs.Laws.{EachAfter};
 ghost use Rattle.vat_view.specs.Lives.{is_in_life};
 ghost use Rattle.vat_view.specs.Questions.{is_unfinished, is_unreturned, call_of};
 ghost use Rattle.vat_view.specs.Walks.{turns, turn, Leads, LeadsByTurns};
-ghost use Rattle.agree.specs.Rows.{log_of, IsShared};
+ghost use Rattle.agree.specs.Rows.{log_of_vat, IsShared};
 ghost use Rattle.agree.specs.Agreeing.{AreLinked};
 ghost use Rattle.agree.specs.Streams.{IsCut, IsPassed};
 ghost use Rattle.agree.specs.Standing.{AgreeOneWay, Agree};
-ghost use Rattle.run_model.specs.Legal.{is_cap, MayCome, HasUsed, MayBind};
+ghost use Rattle.run_model.specs.Legal.{is_present, MayCome, HasUsed, MayBind};
 ghost use Rattle.run_model.specs.Early.{IsOrderFault};
 ghost use Rattle.run_model.specs.Edges.{Edge, AreEdges};
 ghost use Rattle.run_model.specs.Has.{Has};
 ghost use Rattle.run_model.specs.Reordered.{HaveSameSteps, KeepsReferences};
 ghost use Rattle.run_model.specs.declared.cap.Cap.TheVariants.{Field as FieldCap};
 ghost use Rattle.run_model.specs.Leads.{Leads as RunLeads, LeadsByTurns as RunLeadsByTurns};
-ghost use Rattle.call_trace.specs.Types.{Outcome, Return, Resolution, Resolve, Event, Wire, View, Name, Cap, Step, Target, Call, Deliver, Answer, Fault, RpcMessage, Message};
+ghost use Rattle.call_trace.specs.Types.{Outcome, Return, Resolution, Resolve, DecodedRecord, Wire, View, Name, Cap, Step, Target, Call, Deliver, Answer, Fault, RpcMessage, Message};
 ghost use Rattle.call_trace.specs.Naming.{call_named, cap_named, naming, message_at};
 ghost use Rattle.call_trace.specs.Part.{reference_named, ReadsAsSent, Says, PairsOff};
 ghost use Rattle.call_trace.specs.Running.{step_of, AreMet, steps_of_row};
 ghost use Rattle.run_model.specs.declared.step.Step.TheVariants.{Receive};
-ghost use Rattle.call_trace.specs.Said.{together};
+ghost use Rattle.call_trace.specs.Said.{all_there};
 ghost use Rattle.call_trace.specs.Tells.{TurnsNames};
 ghost use Rattle.call_trace.specs.Within.{IsWithin, HasNameAfter};
 ghost use Rattle.call_trace.specs.Placed.{IsThere};
@@ -36,7 +36,7 @@ ghost use Rattle.call_trace.specs.Carried.{IsCarried, HasOneName};
 ghost use Rattle.call_trace.specs.Findings.{AreEnds, logs_of, AreTrue, MayBeNamed};
 ghost use Rattle.call_trace.specs.Taking.{row_of};
 ghost use Rattle.call_trace.specs.Kinds.{is_own_making};
-ghost use Rattle.call_trace.specs.Named.{taken, AtEachPoint, AreBalanced, IsRunOf};
+ghost use Rattle.call_trace.specs.Named.{taken_before, AtEachPoint, AreBalanced, IsRunOf};
 
 /// No findings and the empty order name a run, and it is empty.
 pub fn no_findings_have_the_empty_run()
@@ -50,10 +50,10 @@ pub fn no_findings_have_the_empty_run()
 pub fn orders_take_the_logs()
     ensures logs { (findings : List Found) (order : List ℕ) → AreTrue findings
         → MayBeNamed findings order → (i : ℕ) (one : Found) → Contains findings one
-        → log_of one.log.vat (row_of findings (take i order)) ≡ taken order i one }
+        → log_of_vat one.log.vat (row_of findings (take i order)) ≡ taken_before order i one }
     ensures good { (findings : List Found) (order : List ℕ) → AreTrue findings
         → MayBeNamed findings order → (i : ℕ) (one : Found) → Contains findings one
-        → Each IsGood (taken order i one) }
+        → Each IsGood (taken_before order i one) }
     ensures shared { (findings : List Found) (order : List ℕ) → AreTrue findings
         → MayBeNamed findings order → (k : ℕ) (one other : Found) → Contains findings one
         → Contains findings other → AreEnds (logs_of findings) k one.log other.log
@@ -74,11 +74,11 @@ pub fn ends_of_findings_agree()
 /// Names only grow: a call (`calls`) or a view (`caps`) that has a name after some records with their steps has that name
 /// after more of them, where those keep REF.
 pub fn names_only_grow()
-    ensures calls { (v : ℕ) (later : List Event) (es : Past) (added steps : List Step)
+    ensures calls { (v : ℕ) (later : List DecodedRecord) (es : Past) (added steps : List Step)
         → length later ≡ length added → EachAfter Refers later es → (c : ℕ) (name : Name)
         → call_named v es steps c ≡ Some name
         → call_named v (later ++ es) (added ++ steps) c ≡ Some name }
-    ensures caps { (v : ℕ) (later : List Event) (es : Past) (added steps : List Step)
+    ensures caps { (v : ℕ) (later : List DecodedRecord) (es : Past) (added steps : List Step)
         → length later ≡ length added → EachAfter Refers later es → (view : View) (c : Cap)
         → cap_named v es steps view ≡ Some c
         → cap_named v (later ++ es) (added ++ steps) view ≡ Some c }
@@ -93,7 +93,7 @@ pub fn what_is_bound_has_a_name()
         → Each Refers es → (r : ℕ) → is_bound es r ≡ true
         → IsSome (reference_named (naming v es steps) es r) }
     ensures caps { (v : ℕ) (es : Past) (steps : List Step) (view : View) (c : Cap)
-        → cap_named v es steps view ≡ Some c → is_cap c ≡ true }
+        → cap_named v es steps view ≡ Some c → is_present c ≡ true }
 {}
 
 /// A number in life at its importer stands for one cap at both ends: at a consistent cut of two logs that agree, where the
@@ -109,8 +109,8 @@ pub fn numbers_have_one_name()
 /// Where a record turns a view that has a name to another view, its step turns the one's name to the other's, or receives a
 /// message that says that it leads there.
 pub fn turns_are_told()
-    ensures { (v : ℕ) (es : Past) (steps : List Step) (e : Event) (s : Step) (a b : View) (x : Cap)
-        → Says v es steps e s → turn a es e ≡ Some (turns b)
+    ensures { (v : ℕ) (es : Past) (steps : List Step) (e : DecodedRecord) (s : Step) (a b : View)
+        (x : Cap) → Says v es steps e s → turn a es e ≡ Some (turns b)
         → cap_named v (e ∷ es) (s ∷ steps) a ≡ Some x
         → TurnsNames (naming v (e ∷ es) (s ∷ steps)) a b s }
 {}
@@ -141,7 +141,7 @@ pub fn what_is_bound_is_had()
 /// What a vat makes by itself may come in the run, where its record is good: a vat ends only promises that it vowed, each
 /// once, and a call that it makes or boots is its own, and new. Nothing is asked of the rest.
 pub fn own_steps_may_come()
-    ensures { (v : ℕ) (es : Past) (steps before : List Step) (e : Event) (s : Step)
+    ensures { (v : ℕ) (es : Past) (steps before : List Step) (e : DecodedRecord) (s : Step)
         → IsWithin v es steps before → IsGood es e → IsTrue (is_own_making e) → Says v es steps e s
         → MayCome before s }
 {}
@@ -149,7 +149,7 @@ pub fn own_steps_may_come()
 /// Where a log is paired with its vat's steps of a run so far, and its records are good, a further good record that isn't
 /// received takes a step and says it: all that it names has a name.
 pub fn what_is_named_has_a_name()
-    ensures { (v : ℕ) (es : Past) (steps before : List Step) (e : Event)
+    ensures { (v : ℕ) (es : Past) (steps before : List Step) (e : DecodedRecord)
         → IsWithin v es steps before → Each IsGood es → IsGood es e → is_received e ≡ false
         → (s : Step) × (step_of v es steps before e ≡ Some s) × Says v es steps e s }
 {}
@@ -157,7 +157,7 @@ pub fn what_is_named_has_a_name()
 /// Where a log is paired with its vat's steps of a run so far, and its records are good, the vat has each cap that the step of
 /// a further good record uses.
 pub fn what_is_used_is_had()
-    ensures { (v : ℕ) (es : Past) (steps before : List Step) (e : Event) (s : Step)
+    ensures { (v : ℕ) (es : Past) (steps before : List Step) (e : DecodedRecord) (s : Step)
         → IsWithin v es steps before → Each IsGood es → IsGood es e → Says v es steps e s
         → HasUsed before s }
 {}
@@ -214,7 +214,7 @@ pub fn calls_are_settled_once()
 /// message comes (`asked`), and the question that a Return answers (`answered`).
 pub fn questions_have_one_call()
     ensures asked { (k v w : ℕ) (one : Past) (its_steps : List Step) (other : Past)
-        (steps : List Step) (m : RpcMessage) (from : Past) (sent e : Event)
+        (steps : List Step) (m : RpcMessage) (from : Past) (sent e : DecodedRecord)
         → AreMet k v one its_steps w other steps → AreLinked k one (e ∷ other) → IsGood other e
         → IsPassed k m one (e ∷ other) from other sent e → (q c : ℕ) (name : Name)
         → is_unfinished (id k false q) other ≡ true → call_of (id k true q) from ≡ Some c
@@ -222,7 +222,7 @@ pub fn questions_have_one_call()
         → (d : ℕ) × (call_of (id k false q) other ≡ Some d)
         × (call_named w other steps d ≡ Some name) }
     ensures answered { (k v w : ℕ) (one : Past) (its_steps : List Step) (other : Past)
-        (steps : List Step) (m : RpcMessage) (from : Past) (sent e : Event)
+        (steps : List Step) (m : RpcMessage) (from : Past) (sent e : DecodedRecord)
         → AreMet k v one its_steps w other steps → AreLinked k one (e ∷ other) → IsGood other e
         → IsPassed k m one (e ∷ other) from other sent e
         → (q : ℕ) (release : Bool) (outcome : Outcome) (c : ℕ) (name : Name)
@@ -236,24 +236,25 @@ pub fn questions_have_one_call()
 /// names, those of the caps that the message brings, and the receipt may bind these.
 pub fn receipts_bind_what_is_brought()
     ensures { (k v w c : ℕ) (one : Past) (its_steps : List Step) (other : Past) (steps : List Step)
-        (references : List ℕ) (m : RpcMessage) (from : Past) (sent : Event) (message : Message)
-        → AreMet k v one its_steps w other steps
+        (references : List ℕ) (m : RpcMessage) (from : Past) (sent : DecodedRecord)
+        (message : Message) → AreMet k v one its_steps w other steps
         → AreLinked k one (Wire false k c references m ∷ other)
         → IsGood other (Wire false k c references m)
         → IsPassed k m one (Wire false k c references m ∷ other) from other sent
         (Wire false k c references m) → message_at (length from) its_steps ≡ Some message
         → (bound : List Cap)
-        × (together (map (reference_named (naming w (Wire false k c references m ∷ other)
-        (Receive w k message [] ∷ steps)) (Wire false k c references m ∷ other)) references)
-        ≡ Some bound) × MayBind message bound }
+        × (all_there (map
+        (reference_named
+        (naming w (Wire false k c references m ∷ other) (Receive w k message [] ∷ steps))
+        (Wire false k c references m ∷ other)) references) ≡ Some bound) × MayBind message bound }
 {}
 
 /// A receiver reads a message as it was sent, by its own log. It may leave two things unread: the results and caps of a
 /// Return that is late there, and the promise of a Resolve whose number is out of life there.
 pub fn messages_are_read_as_sent()
     ensures { (k v w c : ℕ) (one : Past) (its_steps : List Step) (other : Past) (steps : List Step)
-        (references : List ℕ) (m : RpcMessage) (from : Past) (sent : Event) (message : Message)
-        (bound : List Cap) → AreMet k v one its_steps w other steps
+        (references : List ℕ) (m : RpcMessage) (from : Past) (sent : DecodedRecord)
+        (message : Message) (bound : List Cap) → AreMet k v one its_steps w other steps
         → AreLinked k one (Wire false k c references m ∷ other)
         → IsGood other (Wire false k c references m)
         → IsPassed k m one (Wire false k c references m ∷ other) from other sent

@@ -4,34 +4,26 @@
 //! It stands on `vat_rules`, which says when a log is good, on `vat_view` for what the numbers of a log stand for, on
 //! `agree` for what passed on a connection, on `merge_order` and `link_check`, and on `run_model` for runs. How a log
 //! names calls and capabilities is said in `specs/Naming.antt` and `specs/Said.antt`, when it is its vat's part of a run
-//! in `specs/Part.antt`, when numbers are used in their lives in `specs/Lives.antt`, and how the counts of both ends
+//! in `specs/Part.antt`, when numbers are used in their lives in `specs/InLife.antt`, and how the counts of both ends
 //! balance in `specs/Balance.antt`; what is asked of findings in `specs/Findings.antt`, which records an order takes of
 //! their logs in `specs/Taking.antt`, and what their run has in `specs/Named.antt`.
 //! How the records of several logs take their steps, one after another, is said in `specs/Running.antt`. What the laws say
 //! of names beside that stands in `specs/Carried.antt`, `specs/Tells.antt` and `specs/Within.antt`, of where calls are in
-//! `specs/Placed.antt`, and which records are of what a vat makes by itself in `specs/Kinds.antt`. `specs/Overtaking.antt`,
-//! `specs/Lines.antt`, `specs/Glue.antt`, `specs/Trail.antt` and `specs/Turns.antt` describe the tables of what a run's deliveries overtake, of
+//! `specs/Placed.antt`, and which records are local (no message) in `specs/Kinds.antt`. `specs/Glue/Overtaking.antt`,
+//! `specs/Glue/Channels.antt`, `specs/Glue/Ledgers.antt`, `specs/Glue/RunBuilder.antt` and `specs/Glue/Turns.antt` describe the tables of what a run's deliveries overtake, of
 //! what its steps sent, and of what is kept of a vat while its records take their steps; they serve the code's contracts alone.
 //! `proofs/PipelinedCall.antt` and `proofs/UnderWay.antt` are examples. What holds of runs and their logs is promised by
 //! the functions of `src/laws.rt`, which do nothing.
 #![tactic(auto)]
 
-mod calls;
-mod fault;
+mod first_overtaking;
 mod latest;
 mod laws;
-mod ledger;
-mod lines;
 mod overtaking;
-mod released;
-mod runs;
-mod saying;
-mod stepping;
-mod stories;
-mod trail;
-mod turns;
+mod records;
+mod steps;
 
-pub use fault::order_fault;
+pub use first_overtaking::order_fault;
 pub use laws::{
     calls_are_settled_once, calls_are_where_logs_have_them, calls_go_where_they_lead,
     ends_of_findings_agree, findings_have_one_run, good_findings_have_a_run,
@@ -41,4 +33,4 @@ pub use laws::{
     returns_follow_answers, turns_are_told, views_lead_in_the_run, what_is_bound_has_a_name,
     what_is_bound_is_had, what_is_named_has_a_name, what_is_used_is_had,
 };
-pub use runs::name_run;
+pub use steps::run_naming::name_run;

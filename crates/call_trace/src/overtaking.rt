@@ -1,7 +1,7 @@
 //! Until where calls are overtaken.
 
 ghost use Rattle.std.specs.Prelude.{IfOk};
-ghost use Rattle.call_trace.specs.Overtaking.{AreDeliveries, AreOvertaken};
+ghost use Rattle.call_trace.specs.Glue.Overtaking.{AreDeliveries, AreOvertaken};
 
 use crate::latest::Latest;
 use run_model::Step;
@@ -22,7 +22,7 @@ fn deliveries(alloc: Global, steps: &[Step]) -> Result<Latest, AllocError>
 
 /// Where, for each call, the last is delivered of those that were made before it through its reference: until then it is
 /// overtaken.
-pub(crate) fn overtaken(alloc: Global, steps: &[Step]) -> Result<Latest, AllocError>
+pub(crate) fn last_overtakings(alloc: Global, steps: &[Step]) -> Result<Latest, AllocError>
     ensures { IfOk result (AreOvertaken steps.now) }
 {
     let delivered = deliveries(alloc, steps)?;

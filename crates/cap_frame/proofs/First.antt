@@ -8,7 +8,7 @@ use Rattle.byteorder.specs.Numbers.{little_from-take}
 use Rattle.bytes.proofs.Ranges.{drop-take_less}
 use Rattle.cap_frame.specs.declared.frame_error.FrameError.{FrameError}
 use Rattle.cap_frame.specs.declared.frame_error.FrameError.TheVariants.{Short, TooManySegments, Trailing, NoRoot}
-use Rattle.cap_frame.specs.Segments.{numbers, count_of, sizes_of, table_len, content, frame_len, first_len_of, segments_in, segments_of, IsOneFrame}
+use Rattle.cap_frame.specs.Segments.{numbers, segment_count, sizes_of, table_len, content, frame_len, first_len_of, segments_in, segments_of, IsOneFrame}
 use Rattle.cap_frame.proofs.Frames.{StartsFrame, StartsFrame-from_len, len_from-StartsFrame}
 
 -- ---- a prefix with the table in it has the same table
@@ -21,18 +21,18 @@ numbers-take width (suc n) k bytes le =
     let next : drop width (take k bytes) ≡ take (k - width) (drop width bytes) = drop-take_less bytes width k (omega arith) in
     rw (first, next, numbers-take width n (k - width) (drop width bytes) (omega arith)) refl
 
-count-take : (len : ℕ) (bytes : List ℕ) → 4 ≤ len → count_of (take len bytes) ≡ count_of bytes
+count-take : (len : ℕ) (bytes : List ℕ) → 4 ≤ len → segment_count (take len bytes) ≡ segment_count bytes
 count-take len bytes le = ap (λ (n : ℕ). n + 1) (little_from-take 0 4 len bytes (omega arith))
 
-sizes-take : (len : ℕ) (bytes : List ℕ) → 4 + 4 * count_of bytes ≤ len → sizes_of (take len bytes) ≡ sizes_of bytes
+sizes-take : (len : ℕ) (bytes : List ℕ) → 4 + 4 * segment_count bytes ≤ len → sizes_of (take len bytes) ≡ sizes_of bytes
 sizes-take len bytes le =
-    let count = count_of bytes in
+    let count = segment_count bytes in
     let next : drop 4 (take len bytes) ≡ take (len - 4) (drop 4 bytes) = drop-take_less bytes 4 len (omega arith) in
     ap (λ (n : ℕ). numbers 4 n (drop 4 (take len bytes))) (count-take len bytes (omega arith))
     ∙ ap (numbers 4 count) next
     ∙ numbers-take 4 count (len - 4) (drop 4 bytes) (omega arith)
 
-frame_len-take : (len : ℕ) (bytes : List ℕ) → table_len (count_of bytes) ≤ len → frame_len (take len bytes) ≡ frame_len bytes
+frame_len-take : (len : ℕ) (bytes : List ℕ) → table_len (segment_count bytes) ≤ len → frame_len (take len bytes) ≡ frame_len bytes
 frame_len-take len bytes le =
     let count = count-take len bytes (omega arith) in
     let sizes = sizes-take len bytes (omega arith) in
@@ -57,7 +57,7 @@ cut_off bytes len e =
     let front = take len bytes in
     let within : len ≤ length bytes = omega (arith, starts.0.fits, starts.1) in
     let long : length front ≡ len = length-take-le len bytes within in
-    let count : count_of front ≡ count_of bytes = count-take len bytes (omega (arith, starts.1)) in
+    let count : segment_count front ≡ segment_count bytes = count-take len bytes (omega (arith, starts.1)) in
     let same : frame_len front ≡ frame_len bytes = frame_len-take len bytes (omega (arith, starts.1)) in
     let again : StartsFrame front = record {
       long = omega (arith, starts.1, long);
@@ -79,7 +79,7 @@ no_root false false false x h = cc
 never_no_root : (bytes : List ℕ) → first_len_of bytes ≡ Err NoRoot → ⊥
 unfolding first_len_of
 never_no_root bytes h =
-    no_root (ltb (length bytes) 4) (ltb 512 (count_of bytes)) (ltb (length bytes) (frame_len bytes)) (frame_len bytes) h
+    no_root (ltb (length bytes) 4) (ltb 512 (segment_count bytes)) (ltb (length bytes) (frame_len bytes)) (frame_len bytes) h
 
 not_trailing : (longer : Bool) (other : Result (List (List ℕ)) FrameError) → IsOneFrame (cond longer (Err Trailing) other) → longer ≡ false
 not_trailing true other (inl ok) = absurd cc
@@ -100,8 +100,8 @@ only_cut bytes len within one =
     let front = take len bytes in
     let ends = one_ends front (first_len_of front) refl one in
     let long : length front ≡ len = length-take-le len bytes within in
-    let count : count_of front ≡ count_of bytes = count-take len bytes (omega (arith, ends.0.long, long)) in
-    let table : table_len (count_of bytes) ≤ len = omega (arith, ap table_len count, ends.0.fits, long) in
+    let count : segment_count front ≡ segment_count bytes = count-take len bytes (omega (arith, ends.0.long, long)) in
+    let table : table_len (segment_count bytes) ≤ len = omega (arith, ap table_len count, ends.0.fits, long) in
     let same : frame_len front ≡ frame_len bytes = frame_len-take len bytes table in
     let starts : StartsFrame bytes = record {
       long = omega (arith, ends.0.long, long);

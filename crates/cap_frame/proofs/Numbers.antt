@@ -4,7 +4,7 @@ use Rattle.std.specs.Prelude.{sum}
 use Rattle.std.proofs.lemmas.List.{drop-drop}
 use Rattle.std.proofs.lemmas.List.Sums.{sum_by-cons}
 use Rattle.byteorder.specs.Endian.{little_number}
-use Rattle.cap_frame.specs.Segments.{numbers, cut}
+use Rattle.cap_frame.specs.Segments.{numbers, cut_segments}
 
 pub length-numbers : (width n : ℕ) (bytes : List ℕ) → length (numbers width n bytes) ≡ n
 unfolding numbers
@@ -21,13 +21,13 @@ get_or-numbers width (suc n) bytes (suc i) lt =
     let ih = get_or-numbers width n (drop width bytes) i (omega arith) in
     ih ∙ ap (little_number width) (drop-drop (width * i) width bytes) ∙ ap (λ (k : ℕ). little_number width (drop k bytes)) e
 
-pub length-cut : (sizes bytes : List ℕ) → length (cut sizes bytes) ≡ length sizes
-unfolding cut
+pub length-cut : (sizes bytes : List ℕ) → length (cut_segments sizes bytes) ≡ length sizes
+unfolding cut_segments
 length-cut [] bytes = refl
 length-cut (size ∷ sizes) bytes = ap suc (length-cut sizes (drop (8 * size) bytes))
 
-pub get_or-cut : (sizes bytes : List ℕ) (s : ℕ) → s < length sizes → get_or (cut sizes bytes) s [] ≡ numbers 8 (get_or sizes s 0) (drop (8 * sum (take s sizes)) bytes)
-unfolding cut
+pub get_or-cut : (sizes bytes : List ℕ) (s : ℕ) → s < length sizes → get_or (cut_segments sizes bytes) s [] ≡ numbers 8 (get_or sizes s 0) (drop (8 * sum (take s sizes)) bytes)
+unfolding cut_segments
 get_or-cut [] bytes s lt = absurd (omega arith)
 get_or-cut (size ∷ sizes) bytes zero lt = refl
 get_or-cut (size ∷ sizes) bytes (suc s) lt =

@@ -12,7 +12,7 @@ use Rattle.std.proofs.lemmas.Nat.{le_bytes_4, le_bytes_8}
 use Rattle.byteorder.specs.Endian.{little_number, little_bytes}
 use Rattle.byteorder.specs.Numbers.{little_from-take, little_from-lt, little_number-reads_back, length-bytes_low_first}
 use Rattle.cap_frame.specs.declared.frame_error.FrameError.{FrameError}
-use Rattle.cap_frame.specs.Segments.{numbers, count_of, sizes_of, table_len, cut, content, segments_of, segment_bytes, table_bytes, IsSegment, Spells}
+use Rattle.cap_frame.specs.Segments.{numbers, segment_count, sizes_of, table_len, cut_segments, content, segments_of, segment_bytes, table_bytes, IsSegment, Spells}
 use Rattle.cap_frame.proofs.Numbers.{length-numbers}
 use Rattle.cap_frame.proofs.Frames.{IsFrame, IsFrame-from_read, read_from-IsFrame, length-content, segment_size}
 
@@ -93,37 +93,37 @@ numbers_fit width (suc n) bytes fits =
 -- ---- segments
 
 -- segments that were cut stand in the bytes, one after another
-segments_bytes : (sizes bytes : List ℕ) → IsBytes bytes → 8 * sum sizes ≤ length bytes → flat_map segment_bytes (cut sizes bytes) ≡ take (8 * sum sizes) bytes
-unfolding cut
+segments_bytes : (sizes bytes : List ℕ) → IsBytes bytes → 8 * sum sizes ≤ length bytes → flat_map segment_bytes (cut_segments sizes bytes) ≡ take (8 * sum sizes) bytes
+unfolding cut_segments
 segments_bytes [] bytes fits le = refl
 segments_bytes (size ∷ sizes) bytes fits le =
     let total : sum (size ∷ sizes) ≡ size + sum sizes = sum_by-cons (λ x. x) size sizes in
     let e : 8 * size + 8 * sum sizes ≡ 8 * sum (size ∷ sizes) = omega (arith, total) in
     let ih = segments_bytes sizes (drop (8 * size) bytes) (IsBytes-drop (8 * size) bytes fits) (omega (arith, length-drop (8 * size) bytes)) in
     let first = numbers_bytes 8 eight size bytes fits (omega arith) in
-    flat_map-cons segment_bytes (numbers 8 size bytes) (cut sizes (drop (8 * size) bytes))
-    ∙ ap (λ (front : List ℕ). front ++ flat_map segment_bytes (cut sizes (drop (8 * size) bytes))) first
+    flat_map-cons segment_bytes (numbers 8 size bytes) (cut_segments sizes (drop (8 * size) bytes))
+    ∙ ap (λ (front : List ℕ). front ++ flat_map segment_bytes (cut_segments sizes (drop (8 * size) bytes))) first
     ∙ ap (λ (rest : List ℕ). take (8 * size) bytes ++ rest) ih
     ∙ sym (take-add (8 * size) (8 * sum sizes) bytes)
     ∙ ap (λ (k : ℕ). take k bytes) e
 
 -- their sizes are those that were asked for
-sizes_cut : (sizes bytes : List ℕ) → map (λ words. length words) (cut sizes bytes) ≡ sizes
-unfolding cut
+sizes_cut : (sizes bytes : List ℕ) → map (λ words. length words) (cut_segments sizes bytes) ≡ sizes
+unfolding cut_segments
 sizes_cut [] bytes = refl
 sizes_cut (size ∷ sizes) bytes =
     rw (length-numbers 8 size bytes, sizes_cut sizes (drop (8 * size) bytes)) refl
 
 -- segments that were written are cut again
-cut_again : (segments : List (List ℕ)) (rest : List ℕ) → All IsSegment segments → cut (map (λ words. length words) segments) (flat_map segment_bytes segments ++ rest) ≡ segments
-unfolding cut
+cut_again : (segments : List (List ℕ)) (rest : List ℕ) → All IsSegment segments → cut_segments (map (λ words. length words) segments) (flat_map segment_bytes segments ++ rest) ≡ segments
+unfolding cut_segments
 cut_again [] rest fits = refl
 cut_again (words ∷ segments) rest fits =
     let after = flat_map segment_bytes segments ++ rest in
     let regrouped : flat_map segment_bytes (words ∷ segments) ++ rest ≡ segment_bytes words ++ after = ap (λ (l : List ℕ). l ++ rest) (flat_map-cons segment_bytes words segments) ∙ append_assoc (segment_bytes words) (flat_map segment_bytes segments) rest in
     let first : numbers 8 (length words) (segment_bytes words ++ after) ≡ words = numbers_again 8 words after (All-head IsSegment words segments fits).words_fit in
     let next : drop (8 * length words) (segment_bytes words ++ after) ≡ after = drop_at (segment_bytes words) after (8 * length words) (length-spelled 8 words) in
-    ap (cut (length words ∷ map (λ ws. length ws) segments)) regrouped
+    ap (cut_segments (length words ∷ map (λ ws. length ws) segments)) regrouped
     ∙ rw (first, next, cut_again segments rest (All-tail IsSegment words segments fits)) refl
 
 -- ---- frames
@@ -161,17 +161,17 @@ IsSegment-cut size bytes fits lt = record {
   words_fit = numbers_fit 8 size bytes fits;
 }
 
-all_cut : (sizes bytes : List ℕ) → IsBytes bytes → All (λ size. size < 2 ^ 32) sizes → All IsSegment (cut sizes bytes)
-unfolding cut
+all_cut : (sizes bytes : List ℕ) → IsBytes bytes → All (λ size. size < 2 ^ 32) sizes → All IsSegment (cut_segments sizes bytes)
+unfolding cut_segments
 all_cut [] bytes fits small = All-nil IsSegment
 all_cut (size ∷ sizes) bytes fits small =
-    All-cons IsSegment (numbers 8 size bytes) (cut sizes (drop (8 * size) bytes)) (IsSegment-cut size bytes fits (All-head (λ n. n < 2 ^ 32) size sizes small)) (all_cut sizes (drop (8 * size) bytes) (IsBytes-drop (8 * size) bytes fits) (All-tail (λ n. n < 2 ^ 32) size sizes small))
+    All-cons IsSegment (numbers 8 size bytes) (cut_segments sizes (drop (8 * size) bytes)) (IsSegment-cut size bytes fits (All-head (λ n. n < 2 ^ 32) size sizes small)) (all_cut sizes (drop (8 * size) bytes) (IsBytes-drop (8 * size) bytes fits) (All-tail (λ n. n < 2 ^ 32) size sizes small))
 
 pub spelled : (bytes : List ℕ) (segments : List (List ℕ)) → IsBytes bytes → segments_of bytes ≡ Ok segments → Spells bytes segments
 spelled bytes segments fits e =
     let read = IsFrame-from_read bytes segments e in
     let frame = read.0 in
-    let count = count_of bytes in
+    let count = segment_count bytes in
     let sizes = sizes_of bytes in
     let table = table_len count in
     let padding = take (table - (4 + 4 * count)) (drop (4 + 4 * count) bytes) in
@@ -204,15 +204,15 @@ read_again bytes segments h =
     let after = h.padding ++ flat_map segment_bytes segments in
     let regrouped : bytes ≡ little_bytes 4 (c - 1) ++ (flat_map (λ size. little_bytes 4 size) sizes ++ after) = from_the_right (little_bytes 4 (c - 1)) (flat_map (λ size. little_bytes 4 size) sizes) h.padding (flat_map segment_bytes segments) bytes h.parts in
     let first : little_number 4 bytes ≡ c - 1 = ap (little_number 4) regrouped ∙ little_number-reads_back 4 (c - 1) (flat_map (λ size. little_bytes 4 size) sizes ++ after) (omega (arith, h.not_too_many)) in
-    let count-is : count_of bytes ≡ c = omega (arith, first, h.some) in
+    let count-is : segment_count bytes ≡ c = omega (arith, first, h.some) in
     let dropped : drop 4 bytes ≡ flat_map (λ size. little_bytes 4 size) sizes ++ after = ap (drop 4) regrouped ∙ drop_at (little_bytes 4 (c - 1)) (flat_map (λ size. little_bytes 4 size) sizes ++ after) 4 (length-bytes_low_first 0 4 (c - 1)) in
     let sizes-is : sizes_of bytes ≡ sizes = ap (λ (k : ℕ). numbers 4 k (drop 4 bytes)) (count-is ∙ sym (length-map segments (λ words. length words))) ∙ ap (numbers 4 (length sizes)) dropped ∙ numbers_again 4 sizes after sizes_fit in
     let table-is : length (table_bytes segments ++ h.padding) ≡ table_len c = omega (arith, length-table segments, length-append (table_bytes segments) h.padding, h.on_boundary, h.padding_short) in
-    let rest-is : drop (table_len (count_of bytes)) bytes ≡ flat_map segment_bytes segments = ap (λ (k : ℕ). drop (table_len k) bytes) count-is ∙ ap (drop (table_len c)) h.parts ∙ drop_at (table_bytes segments ++ h.padding) (flat_map segment_bytes segments) (table_len c) table-is in
-    let content-is : content bytes ≡ segments = ap (λ (ns : List ℕ). cut ns (drop (table_len (count_of bytes)) bytes)) sizes-is ∙ ap (cut sizes) (rest-is ∙ sym (append-nil (flat_map segment_bytes segments))) ∙ cut_again segments [] h.all_fit in
+    let rest-is : drop (table_len (segment_count bytes)) bytes ≡ flat_map segment_bytes segments = ap (λ (k : ℕ). drop (table_len k) bytes) count-is ∙ ap (drop (table_len c)) h.parts ∙ drop_at (table_bytes segments ++ h.padding) (flat_map segment_bytes segments) (table_len c) table-is in
+    let content-is : content bytes ≡ segments = ap (λ (ns : List ℕ). cut_segments ns (drop (table_len (segment_count bytes)) bytes)) sizes-is ∙ ap (cut_segments sizes) (rest-is ∙ sym (append-nil (flat_map segment_bytes segments))) ∙ cut_again segments [] h.all_fit in
     let len : length bytes ≡ table_len c + 8 * sum sizes = ap length h.parts ∙ omega (arith, length-append (table_bytes segments ++ h.padding) (flat_map segment_bytes segments), table-is, length-segments segments) in
     let sum-is : sum (sizes_of bytes) ≡ sum sizes = ap sum sizes-is in
-    let table-same : table_len (count_of bytes) ≡ table_len c = ap table_len count-is in
+    let table-same : table_len (segment_count bytes) ≡ table_len c = ap table_len count-is in
     let root-is : length (get_or (content bytes) 0 []) ≡ length (get_or segments 0 []) = ap (λ (s : List (List ℕ)). length (get_or s 0 [])) content-is in
     let frame : IsFrame bytes = record {
       long = omega (arith, len);
@@ -236,9 +236,9 @@ IsBytes-from_each bytes h i =
 pub sized : (bytes seen : List ℕ) → seen ≡ bytes → EachIndex seen (λ i. slice_index seen i < 256) → (s : ℕ) → length (get_or (content bytes) s []) < 2 ^ 32
 sized bytes seen same fits s =
     let P : List ℕ → Type 0 = λ b. EachIndex b (λ i. slice_index b i < 256) in
-    let sizes_fit = numbers_fit 4 (count_of bytes) (drop 4 bytes) (IsBytes-drop 4 bytes (IsBytes-from_each bytes (subst P same fits))) in
-    elim (cases_lt s (count_of bytes)) [
-      | inl lt ↦ omega (arith, segment_size bytes s lt, sizes_fit s 0 (omega (arith, length-numbers 4 (count_of bytes) (drop 4 bytes), lt)))
+    let sizes_fit = numbers_fit 4 (segment_count bytes) (drop 4 bytes) (IsBytes-drop 4 bytes (IsBytes-from_each bytes (subst P same fits))) in
+    elim (cases_lt s (segment_count bytes)) [
+      | inl lt ↦ omega (arith, segment_size bytes s lt, sizes_fit s 0 (omega (arith, length-numbers 4 (segment_count bytes) (drop 4 bytes), lt)))
       | inr le ↦ rw (get_or_past (content bytes) s [] (omega (arith, length-content bytes, le))) (omega arith)
     ]
 

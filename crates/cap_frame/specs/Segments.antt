@@ -12,36 +12,36 @@ numbers width zero bytes = []
 numbers width (suc n) bytes = little_number width bytes ∷ numbers width n (drop width bytes)
 
 -- "(4 bytes) The number of segments, minus one"
-abbrev pub count_of : List ℕ → ℕ
-count_of bytes = little_number 4 bytes + 1
+abbrev pub segment_count : List ℕ → ℕ
+segment_count bytes = little_number 4 bytes + 1
 
 -- "(N * 4 bytes) The size of each segment, in words"
 abbrev pub sizes_of : List ℕ → List ℕ
-sizes_of bytes = numbers 4 (count_of bytes) (drop 4 bytes)
+sizes_of bytes = numbers 4 (segment_count bytes) (drop 4 bytes)
 
 -- the bytes of the number, of the sizes and of "(0 or 4 bytes) Padding up to the next word boundary"
 abbrev pub table_len : ℕ → ℕ
 table_len count = 8 * (count / 2 + 1)
 
 -- the segments of these sizes, one after another
-unfoldable pub cut : List ℕ → List ℕ → List (List ℕ)
-cut [] bytes = []
-cut (size ∷ sizes) bytes = numbers 8 size bytes ∷ cut sizes (drop (8 * size) bytes)
+unfoldable pub cut_segments : List ℕ → List ℕ → List (List ℕ)
+cut_segments [] bytes = []
+cut_segments (size ∷ sizes) bytes = numbers 8 size bytes ∷ cut_segments sizes (drop (8 * size) bytes)
 
 -- "The content of each segment, in order"
 abbrev pub content : List ℕ → List (List ℕ)
-content bytes = cut (sizes_of bytes) (drop (table_len (count_of bytes)) bytes)
+content bytes = cut_segments (sizes_of bytes) (drop (table_len (segment_count bytes)) bytes)
 
 -- the bytes that the table asks for, its own among them
 abbrev pub frame_len : List ℕ → ℕ
-frame_len bytes = table_len (count_of bytes) + 8 * sum (sizes_of bytes)
+frame_len bytes = table_len (segment_count bytes) + 8 * sum (sizes_of bytes)
 
 -- The length in bytes of the frame that stands first in the bytes, or the first fault; whatever stands after it doesn't
 -- matter. At most 512 segments are read.
 unfoldable pub first_len_of : List ℕ → Result ℕ FrameError
 first_len_of bytes =
     if nat_lt (length bytes) 4 then Err Short
-    else (if nat_lt 512 (count_of bytes) then Err TooManySegments
+    else (if nat_lt 512 (segment_count bytes) then Err TooManySegments
     else (if nat_lt (length bytes) (frame_len bytes) then Err Short
     else Ok (frame_len bytes)))
 

@@ -53,9 +53,11 @@ impl Frame {
         // Which length, or which fault.
         ensures exact { result ≡ first_len_of bytes.now }
         // So many bytes are there, and they are one frame and nothing after it.
-        ensures cut { IfOk result (λ len. (len ≤ length bytes.now) × IsOneFrame (segments_of (take len bytes.now))) }
+        ensures cut { IfOk result
+            (λ len. (len ≤ length bytes.now) × IsOneFrame (segments_of (take len bytes.now))) }
         // No other number of bytes from the start is one frame; where any is, none is refused.
-        ensures only { (len : ℕ) → len ≤ length bytes.now → IsOneFrame (segments_of (take len bytes.now)) → result ≡ Ok len }
+        ensures only { (len : ℕ) → len ≤ length bytes.now
+            → IsOneFrame (segments_of (take len bytes.now)) → result ≡ Ok len }
         // What is refused is what all of the bytes would be refused by.
         ensures refused { IfErr result (λ fault. segments_of bytes.now ≡ Err fault) }
         // A frame has a word or more, so what is left is shorter.

@@ -43,7 +43,7 @@ impl Debug for Path {
 }
 
 impl Path {
-    /// The path of these numbers. The only error is want of memory; a path of at most four numbers takes none.
+    /// The path of these numbers. The only error is that memory ran out; a path of at most four numbers takes none.
     pub fn new(fields: Vec<u16>) -> Result<Path, AllocError>
         ensures { IfOk result (λ path. path ≡ fields.items) }
     {
@@ -64,7 +64,7 @@ impl Path {
         }
     }
 
-    /// A second path with the same numbers, which takes no memory. The only error is want of memory, where a path has more
+    /// A second path with the same numbers, which takes no memory. The only error is that memory ran out, where a path has more
     /// copies than can be counted.
     pub fn copy(&self) -> Result<Path, AllocError>
         ensures { IfOk result (λ path. path ≡ self.now) }

@@ -1,7 +1,7 @@
 //! The table at the front of a frame: how many segments there are, and the size of each.
 
 ghost use Rattle.std.specs.Prelude.{◌≡◌, ◌<◌, ◌≤◌, ◌+◌, ◌*◌, ◌^◌, length, take, sum, slice_index, EachIndex, MatchResult, IfOk, OnOk, Ok, Err};
-ghost use Rattle.cap_frame.specs.Segments.{count_of, sizes_of, table_len, content, first_len_of, segments_of};
+ghost use Rattle.cap_frame.specs.Segments.{segment_count, sizes_of, table_len, content, first_len_of, segments_of};
 
 use crate::frame_error::FrameError;
 use byteorder::{ByteOrder, LittleEndian};
@@ -12,7 +12,7 @@ const MAX_SEGMENTS: u64 = 512;
 /// How many segments the bytes speak of.
 pub fn count_in(bytes: &[u8]) -> u64
     requires { 4 ≤ length bytes.now }
-    ensures count { result ≡ count_of bytes.now }
+    ensures count { result ≡ segment_count bytes.now }
     ensures bound { result ≤ 2 ^ 32 }
     ensures bytes { EachIndex bytes.now (λ i. slice_index bytes.now i < 256) }
 {
@@ -29,8 +29,8 @@ pub fn table_len_for(count: u64) -> u64
 
 /// The size in words of the segment of this number, counted from 0.
 pub fn size_in(bytes: &[u8], segment: u64) -> u64
-    requires known { segment < count_of bytes.now }
-    requires table { table_len (count_of bytes.now) ≤ length bytes.now }
+    requires known { segment < segment_count bytes.now }
+    requires table { table_len (segment_count bytes.now) ≤ length bytes.now }
     ensures size { result ≡ slice_index (sizes_of bytes.now) segment }
     ensures bound { result < 2 ^ 32 }
 {
@@ -41,9 +41,9 @@ pub fn size_in(bytes: &[u8], segment: u64) -> u64
 
 /// The words of the segments before the one of this number.
 pub fn words_before(bytes: &[u8], segment: u64) -> u64
-    requires known { segment ≤ count_of bytes.now }
-    requires table { table_len (count_of bytes.now) ≤ length bytes.now }
-    requires few { count_of bytes.now ≤ 512 }
+    requires known { segment ≤ segment_count bytes.now }
+    requires table { table_len (segment_count bytes.now) ≤ length bytes.now }
+    requires few { segment_count bytes.now ≤ 512 }
     ensures sum { result ≡ sum (take segment (sizes_of bytes.now)) }
     ensures bound { result ≤ 512 * 2 ^ 32 }
 {
@@ -58,7 +58,7 @@ pub fn words_before(bytes: &[u8], segment: u64) -> u64
 #[tactic(auto, using(crate::proofs::Frames::sum_all), unfolding(crate::specs::Segments::first_len_of))]
 pub fn first_len_in(bytes: &[u8]) -> Result<u64, FrameError>
     ensures exact { result ≡ first_len_of bytes.now }
-    ensures table { OnOk result (table_len (count_of bytes.now) ≤ length bytes.now) }
+    ensures table { OnOk result (table_len (segment_count bytes.now) ≤ length bytes.now) }
     ensures within { IfOk result (λ len. len ≤ length bytes.now) }
     ensures bytes { OnOk result (EachIndex bytes.now (λ i. slice_index bytes.now i < 256)) }
 {

@@ -8,8 +8,8 @@ use Rattle.cap_reader.specs.declared.pointee.Pointee.TheVariants as leads
 use Rattle.cap_reader.specs.declared.place.StructAt.{StructAt}
 use Rattle.cap_reader.specs.declared.read_error.ReadError.{ReadError}
 use Rattle.cap_reader.specs.declared.read_error.ReadError.TheVariants as errors
-use Rattle.cap_reader.specs.Pointers.{extent, followed}
-use Rattle.cap_reader.specs.Tree.{Tree, composite, bad_composite, pointed, structure_at, structure_there, tree_at, list_there, composite_there, plain_there, plain_words, elements_behind}
+use Rattle.cap_reader.specs.Pointers.{extent, pointee_at}
+use Rattle.cap_reader.specs.Tree.{Tree, composite, bad_composite, tree_behind, structure_at, structure_there, tree_at, list_there, composite_there, plain_there, plain_words, elements_behind}
 use Rattle.cap_reader.specs.Reading.{Reading, Sections, Elements, done, fault, and_then, pay_for, run, each, structure_in, elements_in, Refuses, RunsInMemory}
 use Rattle.cap_reader.specs.Glue.{with_front, Gives}
 use Rattle.cap_reader.specs.Fields.{fields_in}
@@ -121,28 +121,28 @@ module _ (front : List (List ℕ × ℕ)) (path : List ℕ) (depth : ℕ) (segme
   adds = with_front front (run (fields_in path (tree_at depth segments segment at)) words)
 
   -- that of a tree that is known
-  known : (pointee : Result Pointee ReadError) → followed segments segment at ≡ pointee → adds ≡ with_front front (run (fields_in path (pointed (structure_at depth segments) segments pointee)) words)
-  known pointee e = ap (λ (p : Result Pointee ReadError). with_front front (run (fields_in path (pointed (structure_at depth segments) segments p)) words)) e
+  known : (pointee : Result Pointee ReadError) → pointee_at segments segment at ≡ pointee → adds ≡ with_front front (run (fields_in path (tree_behind (structure_at depth segments) segments pointee)) words)
+  known pointee e = ap (λ (p : Result Pointee ReadError). with_front front (run (fields_in path (tree_behind (structure_at depth segments) segments p)) words)) e
 
-  pub unfollowed_refuses : (e : ReadError) → followed segments segment at ≡ Err e → Refuses e words adds
-  unfolding pointed fields_in pay_for
+  pub unfollowed_refuses : (e : ReadError) → pointee_at segments segment at ≡ Err e → Refuses e words adds
+  unfolding tree_behind fields_in pay_for
   unfollowed_refuses e h = refuses_so e words adds (known (Err e) h)
 
-  pub null_adds : followed segments segment at ≡ Ok leads.Null → adds ≡ (Ok front, words)
-  unfolding pointed fields_in pay_for
+  pub null_adds : pointee_at segments segment at ≡ Ok leads.Null → adds ≡ (Ok front, words)
+  unfolding tree_behind fields_in pay_for
   null_adds h = known (Ok leads.Null) h ∙ ap (λ (all : List (List ℕ × ℕ)). answered all words) (append-nil front)
 
-  pub capability_adds : (index : ℕ) → followed segments segment at ≡ Ok (leads.Capability index) → adds ≡ (Ok (front ++ (path, index) ∷ []), words)
-  unfolding pointed fields_in pay_for
+  pub capability_adds : (index : ℕ) → pointee_at segments segment at ≡ Ok (leads.Capability index) → adds ≡ (Ok (front ++ (path, index) ∷ []), words)
+  unfolding tree_behind fields_in pay_for
   capability_adds index h = known (Ok (leads.Capability index)) h
 
-  pub reserved_adds : followed segments segment at ≡ Ok leads.Reserved → adds ≡ (Err errors.Reserved, words)
-  unfolding pointed fields_in pay_for
+  pub reserved_adds : pointee_at segments segment at ≡ Ok leads.Reserved → adds ≡ (Err errors.Reserved, words)
+  unfolding tree_behind fields_in pay_for
   reserved_adds h = known (Ok leads.Reserved) h
 
-  module _ (far_segment : ℕ) (start : Option ℕ) (element_size count : ℕ) (h : followed segments segment at ≡ Ok (leads.List far_segment start element_size count)) where
+  module _ (far_segment : ℕ) (start : Option ℕ) (element_size count : ℕ) (h : pointee_at segments segment at ≡ Ok (leads.List far_segment start element_size count)) where
     list_known : (reading : Reading ReadError (List (List ℕ × ℕ))) → fields_in path (list_there (structure_at depth segments far_segment) segments far_segment start element_size count) ≡ reading → adds ≡ with_front front (run reading words)
-    unfolding pointed
+    unfolding tree_behind
     list_known reading e = known (Ok (leads.List far_segment start element_size count)) h ∙ ap (λ (r : Reading ReadError (List (List ℕ × ℕ))). with_front front (run r words)) e
 
     pub list_adds : (result : Result (Unit {0}) ReadError) → Gives (λ _. []) result (fields_in path (list_there (structure_at depth segments far_segment) segments far_segment start element_size count)) → RunsInMemory (λ _. front) result words adds
@@ -150,11 +150,11 @@ module _ (front : List (List ℕ × ℕ)) (path : List ℕ) (depth : ℕ) (segme
     list_adds (Ok x) e = list_known (done []) e ∙ ap (λ (all : List (List ℕ × ℕ)). answered all words) (append-nil front)
     list_adds (Err d) e = refuses_so d words adds (list_known (fault d) e)
 
-  module _ (far_segment : ℕ) (start : Option ℕ) (data_words pointer_count : ℕ) (h : followed segments segment at ≡ Ok (leads.Struct far_segment start data_words pointer_count)) where
+  module _ (far_segment : ℕ) (start : Option ℕ) (data_words pointer_count : ℕ) (h : pointee_at segments segment at ≡ Ok (leads.Struct far_segment start data_words pointer_count)) where
     struct_adds : run (fields_in path (tree_at depth segments segment at)) words ≡ going_on errors.TooMuch (run (structure_in (structure_found depth segments far_segment start data_words pointer_count)) words).0 (run (structure_in (structure_found depth segments far_segment start data_words pointer_count)) words).1 (fields_below path)
-    unfolding pointed
+    unfolding tree_behind
     struct_adds =
-        ap (λ (p : Result Pointee ReadError). run (fields_in path (pointed (structure_at depth segments) segments p)) words) h
+        ap (λ (p : Result Pointee ReadError). run (fields_in path (tree_behind (structure_at depth segments) segments p)) words) h
         ∙ ap (λ (r : Reading ReadError (List (List ℕ × ℕ))). run r words) (below_there path depth segments far_segment data_words pointer_count (extent segments far_segment start (data_words + pointer_count)))
         ∙ run_then errors.TooMuch (structure_in (structure_found depth segments far_segment start data_words pointer_count)) (fields_below path) words
 

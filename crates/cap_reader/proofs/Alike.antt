@@ -8,8 +8,8 @@ use Rattle.cap_reader.specs.declared.pointee.Pointee.{Pointee}
 use Rattle.cap_reader.specs.declared.pointee.Pointee.TheVariants as leads
 use Rattle.cap_reader.specs.declared.read_error.ReadError.{ReadError}
 use Rattle.cap_reader.specs.declared.read_error.ReadError.TheVariants.{OutOfSegment, WrongKind}
-use Rattle.cap_reader.specs.Pointers.{offset_bits, data_bits, pointer_bits, words_of, has_words, extent, followed}
-use Rattle.cap_reader.specs.Tree.{Tree, nothing, structure, composite, bad_composite, capability, unfollowed, structure_there, elements_behind, composite_there, plain_words, plain_there, list_there, pointed, structure_at, tree_at}
+use Rattle.cap_reader.specs.Pointers.{offset_bits, data_bits, pointer_bits, words_of, has_words, extent, pointee_at}
+use Rattle.cap_reader.specs.Tree.{Tree, nothing, structure, composite, bad_composite, capability, unfollowed, structure_there, elements_behind, composite_there, plain_words, plain_there, list_there, tree_behind, structure_at, tree_at}
 use Rattle.cap_reader.specs.Cuts.{Pairs, SameContent, SameElements, SameExtents, SameLists, SamePointees, Correspond}
 
 -- below a bound as there, and the same beyond it
@@ -74,8 +74,8 @@ module _ (pairs : Pairs) (one other : List (List ℕ)) (first second : ℕ → �
       by true g = composites s t count (extent one s x 1) (extent other t y 1) g
       by false g = plains (extent one s x (plain_words size count)) (extent other t y (plain_words size count)) g
 
-  leads_alike : (p q : Result Pointee ReadError) → SamePointees pairs one other p q → pointed first one p ≡ pointed second other q
-  unfolding pointed
+  leads_alike : (p q : Result Pointee ReadError) → SamePointees pairs one other p q → tree_behind first one p ≡ tree_behind second other q
+  unfolding tree_behind
   leads_alike (Err e) (Err d) h = ap unfollowed h
   leads_alike (Ok leads.Null) (Ok leads.Null) h = refl
   leads_alike (Ok (leads.Struct s x d p)) (Ok (leads.Struct t y d' p')) h =
@@ -97,10 +97,10 @@ module _ (pairs : Pairs) (one other : List (List ℕ)) (alike : Correspond pairs
   at_depth zero s t x y d p h = refl
   at_depth (suc depth) s t x y d p h =
       let words : ◌≡◌ {A = ℕ → ℕ} (λ i. if nat_lt i d then slice_index (words_of one s) (x + i) else 0) (λ i. if nat_lt i d then slice_index (words_of other t) (y + i) else 0) = fun_ext (λ i. guarded i d _ _ 0 (h.0 i)) in
-      let children : ◌≡◌ {A = ℕ → Tree} (λ n. if nat_lt n p then pointed (structure_at depth one) one (followed one s (x + d + n)) else nothing) (λ n. if nat_lt n p then pointed (structure_at depth other) other (followed other t (y + d + n)) else nothing) =
+      let children : ◌≡◌ {A = ℕ → Tree} (λ n. if nat_lt n p then tree_behind (structure_at depth one) one (pointee_at one s (x + d + n)) else nothing) (λ n. if nat_lt n p then tree_behind (structure_at depth other) other (pointee_at other t (y + d + n)) else nothing) =
       fun_ext (λ n. guarded n p _ _ nothing (λ lt. leads_alike pairs one other (structure_at depth one) (structure_at depth other) (at_depth depth) _ _ (alike s (x + d + n) t (y + d + n) (h.1 n lt)))) in
       structure_is d p _ _ _ _ words children
 
   pub trees_alike : (depth s x t y : ℕ) → pairs s x t y ≡ true → tree_at depth one s x ≡ tree_at depth other t y
   trees_alike depth s x t y h =
-      leads_alike pairs one other (structure_at depth one) (structure_at depth other) (at_depth depth) (followed one s x) (followed other t y) (alike s x t y h)
+      leads_alike pairs one other (structure_at depth one) (structure_at depth other) (at_depth depth) (pointee_at one s x) (pointee_at other t y) (alike s x t y h)

@@ -2,7 +2,7 @@
 use Rattle.std.proofs.Common.{◌≡◌, ℕ, ◌<◌, Bool, true, false, ◌&&◌, ◌||◌, refl, sym, subst, arith, inl, inr}
 use Rattle.std.specs.Prelude.{◌==◌, ◌⊎◌}
 use Rattle.std.proofs.lemmas.Bool.{eqb-true}
-use Rattle.cap_reader.specs.Pointers.{followed, landed, pointer_of, pointee_of, pad_word, start_from, extent}
+use Rattle.cap_reader.specs.Pointers.{pointee_at, pointee_behind, pointer_of, pointee_of, pad_word, start_from, extent}
 use Rattle.cap_reader.specs.Tree.{root_tree}
 use Rattle.cap_reader.specs.Cuts.{Pairs, SamePointees, Correspond, release_whole, release_cut}
 use Rattle.cap_reader.proofs.Alike.{trees_alike}
@@ -24,7 +24,7 @@ either true b e = inl refl
 either false b e = inr e
 
 Alike : ℕ → ℕ → ℕ → ℕ → Type 0
-Alike segment at other_segment other_at = SamePointees pairs release_whole release_cut (followed release_whole segment at) (followed release_cut other_segment other_at)
+Alike segment at other_segment other_at = SamePointees pairs release_whole release_cut (pointee_at release_whole segment at) (pointee_at release_cut other_segment other_at)
 
 moved : (s x t y segment at other_segment other_at : ℕ) → is_at s x t y segment at other_segment other_at ≡ true → Alike s x t y → Alike segment at other_segment other_at
 moved s x t y segment at other_segment other_at h alike =
@@ -41,11 +41,11 @@ only_first : (P : ℕ → Type 0) → P 0 → (n : ℕ) → n < 1 → P n
 only_first P p n lt = let e : 0 ≡ n = omega arith in subst P e p
 
 roots : Alike 0 0 0 0
-unfolding Alike landed pointer_of pointee_of pad_word start_from extent
+unfolding Alike pointee_behind pointer_of pointee_of pad_word start_from extent
 roots = (refl, refl, (only_first _ refl, only_first _ refl))
 
 bodies : Alike 0 2 1 1
-unfolding Alike landed pointer_of pointee_of pad_word start_from extent
+unfolding Alike pointee_behind pointer_of pointee_of pad_word start_from extent
 bodies = (refl, refl, (only_first _ refl, λ n lt. absurd (omega arith)))
 
 correspond : Correspond pairs release_whole release_cut

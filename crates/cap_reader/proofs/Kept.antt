@@ -6,8 +6,8 @@ use Rattle.cap_reader.specs.declared.pointee.Pointee.TheVariants as leads
 use Rattle.cap_reader.specs.declared.place.StructAt.{StructAt}
 use Rattle.cap_reader.specs.declared.read_error.ReadError.{ReadError}
 use Rattle.cap_reader.specs.declared.read_error.ReadError.TheVariants as errors
-use Rattle.cap_reader.specs.Pointers.{extent, followed}
-use Rattle.cap_reader.specs.Tree.{pointed, structure_at, tree_at}
+use Rattle.cap_reader.specs.Pointers.{extent, pointee_at}
+use Rattle.cap_reader.specs.Tree.{tree_behind, structure_at, tree_at}
 use Rattle.cap_reader.specs.Reading.{Reading, Sections, done, fault, visit, and_then, pay_for, run, price, each, structure_in}
 use Rattle.cap_reader.specs.Glue.{with_front}
 use Rattle.cap_reader.specs.Fields.{fields_in}
@@ -103,11 +103,11 @@ module _ (path : List ℕ) (segments : List (List ℕ)) (content : StructAt) whe
 
 -- ---- the struct itself
 
-module _ (path : List ℕ) (depth : ℕ) (segments : List (List ℕ)) (segment at words far_segment : ℕ) (start : Option ℕ) (data_words pointer_count : ℕ) (h : followed segments segment at ≡ Ok (leads.Struct far_segment start data_words pointer_count)) where
+module _ (path : List ℕ) (depth : ℕ) (segments : List (List ℕ)) (segment at words far_segment : ℕ) (start : Option ℕ) (data_words pointer_count : ℕ) (h : pointee_at segments segment at ≡ Ok (leads.Struct far_segment start data_words pointer_count)) where
   fields_are : fields_in path (tree_at depth segments segment at) ≡ and_then (structure_in (structure_found depth segments far_segment start data_words pointer_count)) (fields_below path)
-  unfolding pointed
+  unfolding tree_behind
   fields_are =
-      ap (λ (p : Result Pointee ReadError). fields_in path (pointed (structure_at depth segments) segments p)) h
+      ap (λ (p : Result Pointee ReadError). fields_in path (tree_behind (structure_at depth segments) segments p)) h
       ∙ below_there path depth segments far_segment data_words pointer_count (extent segments far_segment start (data_words + pointer_count))
 
   pub struct_paid : (sections : Sections) (left : ℕ) → run (structure_in (structure_found depth segments far_segment start data_words pointer_count)) words ≡ (Ok (Some sections), left)

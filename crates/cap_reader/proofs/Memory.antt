@@ -1,4 +1,4 @@
--- No fault of pointers is want of memory.
+-- No fault of pointers is out of memory.
 use Rattle.std.proofs.Common.{◌≡◌, ℕ, zero, suc, ◌+◌, ◌-◌, inl, inr, Bool, true, false, cond, List, [], ◌∷◌, ◌++◌, Option, Some, None, Result, Ok, Err, subst}
 use Rattle.std.specs.Prelude.{nat_lt}
 use Rattle.std.proofs.lemmas.Bool.{cases_lt, lt-ltb, le-ltb}
@@ -9,12 +9,12 @@ use Rattle.cap_reader.specs.declared.pointer.Pointer.TheVariants as pointers
 use Rattle.cap_reader.specs.declared.read_error.ReadError.{ReadError}
 use Rattle.cap_reader.specs.declared.read_error.ReadError.TheVariants as errors
 use Rattle.cap_frame.specs.Segments.{word_at}
-use Rattle.cap_reader.specs.Pointers.{extent, pointer_of, word_there, pad_word, pointee_of, content_in, tagged, landed, followed, ◌>>=◌}
-use Rattle.cap_reader.specs.Tree.{Tree, nothing, composite, bad_composite, structure_there, list_there, composite_there, plain_there, plain_words, elements_behind, pointed, structure_at, tree_at}
+use Rattle.cap_reader.specs.Pointers.{extent, pointer_of, word_there, pad_word, pointee_of, content_in, pointee_by_tag, pointee_behind, pointee_at, ◌>>=◌}
+use Rattle.cap_reader.specs.Tree.{Tree, nothing, composite, bad_composite, structure_there, list_there, composite_there, plain_there, plain_words, elements_behind, tree_behind, structure_at, tree_at}
 use Rattle.cap_reader.specs.Reading.{Reading, done, fault, visit, and_then, pay_for, run, each, structure_in, elements_in}
 use Rattle.cap_reader.specs.Fields.{fields_in}
 
--- any error but want of memory
+-- any error but out of memory
 abbrev IsFault : ReadError → Type 0
 IsFault errors.OutOfMemory = ⊥
 IsFault errors.OutOfSegment = Unit {0}
@@ -59,8 +59,8 @@ fine_pointee segment at pointers.Reserved = tt
 fine_content : (segments : List (List ℕ)) (segment : ℕ) (pointee : Pointee) → Fine (content_in segments segment pointee)
 fine_content segments segment pointee = fine_choice _ (Ok pointee) (Err errors.NoSegment) tt tt
 
-fine_tagged : (segments : List (List ℕ)) (first tag : Pointer) → Fine (tagged segments first tag)
-unfolding tagged
+fine_tagged : (segments : List (List ℕ)) (first tag : Pointer) → Fine (pointee_by_tag segments first tag)
+unfolding pointee_by_tag
 fine_tagged segments (pointers.Far false offset segment) pointers.Null = fine_content segments segment _
 fine_tagged segments (pointers.Far false offset segment) (pointers.Struct unread data_words pointer_count) = fine_content segments segment _
 fine_tagged segments (pointers.Far false offset segment) (pointers.List unread element_size count) = fine_content segments segment _
@@ -74,8 +74,8 @@ fine_tagged segments (pointers.List offset element_size count) tag = tt
 fine_tagged segments (pointers.Capability index) tag = tt
 fine_tagged segments pointers.Reserved tag = tt
 
-fine_landed : (segments : List (List ℕ)) (segment at : ℕ) (pointer : Pointer) → Fine (landed segments segment at pointer)
-unfolding landed
+fine_landed : (segments : List (List ℕ)) (segment at : ℕ) (pointer : Pointer) → Fine (pointee_behind segments segment at pointer)
+unfolding pointee_behind
 fine_landed segments segment at (pointers.Far false offset far_segment) =
     fine_then (pad_word segments far_segment offset) _ (fine_pad segments far_segment offset) (λ pad. fine_pointee far_segment offset (pointer_of pad))
 fine_landed segments segment at (pointers.Far true offset far_segment) =
@@ -164,8 +164,8 @@ module _ (made : ℕ → ℕ → ℕ → ℕ → Tree) (free : (segment start da
   free_structure_there segment data_words pointer_count None = (tt, tt, λ path. tt)
   free_structure_there segment data_words pointer_count (Some start) = free segment start data_words pointer_count
 
-  free_pointed : (segments : List (List ℕ)) (lead : Result Pointee ReadError) → Fine lead → IsFree (pointed made segments lead)
-  unfolding Free fields_in pointed
+  free_pointed : (segments : List (List ℕ)) (lead : Result Pointee ReadError) → Fine lead → IsFree (tree_behind made segments lead)
+  unfolding Free fields_in tree_behind
   free_pointed segments (Err e) p = (p, p, λ path. p)
   free_pointed segments (Ok leads.Null) p = free_nothing
   free_pointed segments (Ok (leads.Struct segment start data_words pointer_count)) p =
@@ -174,7 +174,7 @@ module _ (made : ℕ → ℕ → ℕ → ℕ → Tree) (free : (segment start da
   free_pointed segments (Ok (leads.Capability index)) p = (tt, tt, λ path. tt)
   free_pointed segments (Ok leads.Reserved) p = (tt, tt, λ path. tt)
 
-fine_followed : (segments : List (List ℕ)) (segment at : ℕ) → Fine (followed segments segment at)
+fine_followed : (segments : List (List ℕ)) (segment at : ℕ) → Fine (pointee_at segments segment at)
 fine_followed segments segment at = fine_landed segments segment at _
 
 free_structure : (depth : ℕ) (segments : List (List ℕ)) (segment start data_words pointer_count : ℕ) → IsFree (structure_at depth segments segment start data_words pointer_count)
@@ -183,14 +183,14 @@ free_structure zero segments segment start data_words pointer_count = (tt, tt, �
 free_structure (suc depth) segments segment start data_words pointer_count = (
   tt,
   tt,
-  λ path. free_each _ (λ n. (free_choice (nat_lt n pointer_count) (pointed (structure_at depth segments) segments (followed segments segment (start + data_words + n))) nothing
-      (free_pointed (structure_at depth segments) (free_structure depth segments) segments (followed segments segment (start + data_words + n)) (fine_followed segments segment (start + data_words + n)))
+  λ path. free_each _ (λ n. (free_choice (nat_lt n pointer_count) (tree_behind (structure_at depth segments) segments (pointee_at segments segment (start + data_words + n))) nothing
+      (free_pointed (structure_at depth segments) (free_structure depth segments) segments (pointee_at segments segment (start + data_words + n)) (fine_followed segments segment (start + data_words + n)))
       free_nothing).2 (path ++ n ∷ [])) pointer_count 0,
 )
 
 free_tree : (depth : ℕ) (segments : List (List ℕ)) (segment at : ℕ) → IsFree (tree_at depth segments segment at)
 free_tree depth segments segment at =
-    free_pointed (structure_at depth segments) (free_structure depth segments) segments (followed segments segment at) (fine_followed segments segment at)
+    free_pointed (structure_at depth segments) (free_structure depth segments) segments (pointee_at segments segment at) (fine_followed segments segment at)
 
 pub structures_want_none : (depth : ℕ) (segments : List (List ℕ)) (segment at words : ℕ) → (run (structure_in (tree_at depth segments segment at)) words).0 ≡ Err errors.OutOfMemory → ⊥
 structures_want_none depth segments segment at words = wants_none _ words (free_tree depth segments segment at).0

@@ -4,7 +4,7 @@ use Rattle.cap_reader.specs.declared.pointee.Pointee.TheVariants as leads
 use Rattle.cap_reader.specs.declared.read_error.ReadError.{ReadError}
 use Rattle.cap_reader.specs.declared.read_error.ReadError.TheVariants.{WrongKind, OutOfSegment}
 use Rattle.cap_reader.specs.Pointers.{extent}
-use Rattle.cap_reader.specs.Tree.{Tree, composite, bad_composite, plain, bad_plain, pointed, structure_at, structure_there, list_there, composite_there, plain_there, plain_words, elements_behind}
+use Rattle.cap_reader.specs.Tree.{Tree, composite, bad_composite, plain, bad_plain, tree_behind, structure_at, structure_there, list_there, composite_there, plain_there, plain_words, elements_behind}
 use Rattle.cap_reader.specs.Reading.{fault, structure_in, elements_in}
 
 -- of two trees, either way
@@ -41,8 +41,8 @@ at_depth depth segments segment data_words pointer_count None = refl
 at_depth zero segments segment data_words pointer_count (Some start) = refl
 at_depth (suc depth) segments segment data_words pointer_count (Some start) = refl
 
-pub structure_is_no_list : (depth : ℕ) (segments : List (List ℕ)) (segment : ℕ) (start : Option ℕ) (data_words pointer_count : ℕ) → elements_in (pointed (structure_at depth segments) segments (Ok (leads.Struct segment start data_words pointer_count))) ≡ fault WrongKind
-unfolding pointed
+pub structure_is_no_list : (depth : ℕ) (segments : List (List ℕ)) (segment : ℕ) (start : Option ℕ) (data_words pointer_count : ℕ) → elements_in (tree_behind (structure_at depth segments) segments (Ok (leads.Struct segment start data_words pointer_count))) ≡ fault WrongKind
+unfolding tree_behind
 structure_is_no_list depth segments segment start data_words pointer_count =
     at_depth depth segments segment data_words pointer_count (extent segments segment start (data_words + pointer_count))
 

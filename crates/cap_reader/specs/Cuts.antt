@@ -5,7 +5,7 @@ use Rattle.std.specs.Bool.{MatchBool}
 use Rattle.cap_reader.specs.declared.pointee.Pointee.{Pointee}
 use Rattle.cap_reader.specs.declared.pointee.Pointee.TheVariants as leads
 use Rattle.cap_reader.specs.declared.read_error.ReadError.{ReadError}
-use Rattle.cap_reader.specs.Pointers.{offset_bits, data_bits, pointer_bits, words_of, has_words, extent, followed}
+use Rattle.cap_reader.specs.Pointers.{offset_bits, data_bits, pointer_bits, words_of, has_words, extent, pointee_at}
 use Rattle.cap_reader.specs.Tree.{plain_words}
 
 -- a pointer's place in the one frame and one in the other, each a segment and a place in it
@@ -57,7 +57,7 @@ SamePointees pairs one other here there = ⊥
 -- pointers that correspond lead to the same, in which pointers correspond again
 abbrev pub Correspond : Pairs → List (List ℕ) → List (List ℕ) → Type 0
 Correspond pairs one other =
-    (segment at other_segment other_at : ℕ) → pairs segment at other_segment other_at ≡ true → SamePointees pairs one other (followed one segment at) (followed other other_segment other_at)
+    (segment at other_segment other_at : ℕ) → pairs segment at other_segment other_at ≡ true → SamePointees pairs one other (pointee_at one segment at) (pointee_at other other_segment other_at)
 
 -- ---- one frame cut in two ways: a Release of the export 3, two times
 

@@ -95,23 +95,23 @@ content_in segments segment pointee = if nat_lt segment (length segments) then O
 -- immediately followed by a tag word. The tag word looks exactly like an intra-segment pointer to the target object
 -- would look, except that the offset is always zero." The offset isn't read here, and a tag of all zeros is an empty
 -- struct.
-unfoldable pub tagged : List (List ℕ) → Pointer → Pointer → Result Pointee ReadError
-tagged segments (pointers.Far false offset segment) pointers.Null = content_in segments segment (leads.Struct segment (Some offset) 0 0)
-tagged segments (pointers.Far false offset segment) (pointers.Struct unread data_words pointer_count) = content_in segments segment (leads.Struct segment (Some offset) data_words pointer_count)
-tagged segments (pointers.Far false offset segment) (pointers.List unread element_size count) = content_in segments segment (leads.List segment (Some offset) element_size count)
-tagged segments first tag = Err BadPad
+unfoldable pub pointee_by_tag : List (List ℕ) → Pointer → Pointer → Result Pointee ReadError
+pointee_by_tag segments (pointers.Far false offset segment) pointers.Null = content_in segments segment (leads.Struct segment (Some offset) 0 0)
+pointee_by_tag segments (pointers.Far false offset segment) (pointers.Struct unread data_words pointer_count) = content_in segments segment (leads.Struct segment (Some offset) data_words pointer_count)
+pointee_by_tag segments (pointers.Far false offset segment) (pointers.List unread element_size count) = content_in segments segment (leads.List segment (Some offset) element_size count)
+pointee_by_tag segments first tag = Err BadPad
 
 -- "If B == 0, then the landing pad of a far pointer is normally just another pointer"; else it has two words.
-unfoldable pub landed : List (List ℕ) → ℕ → ℕ → Pointer → Result Pointee ReadError
-landed segments segment at (pointers.Far false offset far_segment) = do
+unfoldable pub pointee_behind : List (List ℕ) → ℕ → ℕ → Pointer → Result Pointee ReadError
+pointee_behind segments segment at (pointers.Far false offset far_segment) = do
   pad ← pad_word segments far_segment offset
   pointee_of far_segment offset (pointer_of pad)
-landed segments segment at (pointers.Far true offset far_segment) = do
+pointee_behind segments segment at (pointers.Far true offset far_segment) = do
   first ← pad_word segments far_segment offset
   tag ← pad_word segments far_segment (offset + 1)
-  tagged segments (pointer_of first) (pointer_of tag)
-landed segments segment at pointer = pointee_of segment at pointer
+  pointee_by_tag segments (pointer_of first) (pointer_of tag)
+pointee_behind segments segment at pointer = pointee_of segment at pointer
 
 -- what the pointer at a place leads to, or why its pads can't be followed
-abbrev pub followed : List (List ℕ) → ℕ → ℕ → Result Pointee ReadError
-followed segments segment at = landed segments segment at (pointer_of (slice_index (words_of segments segment) at))
+abbrev pub pointee_at : List (List ℕ) → ℕ → ℕ → Result Pointee ReadError
+pointee_at segments segment at = pointee_behind segments segment at (pointer_of (slice_index (words_of segments segment) at))

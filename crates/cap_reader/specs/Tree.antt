@@ -4,12 +4,11 @@ use Rattle.cap_reader.specs.declared.pointee.Pointee.{Pointee}
 use Rattle.cap_reader.specs.declared.pointee.Pointee.TheVariants as leads
 use Rattle.cap_reader.specs.declared.read_error.ReadError.{ReadError}
 use Rattle.cap_reader.specs.declared.read_error.ReadError.TheVariants.{OutOfSegment, WrongKind, TooDeep}
-use Rattle.cap_reader.specs.Pointers.{offset_bits, data_bits, pointer_bits, words_of, has_words, extent, followed}
+use Rattle.cap_reader.specs.Pointers.{offset_bits, data_bits, pointer_bits, words_of, has_words, extent, pointee_at}
 
--- What stands at a pointer. A struct has a data section, of which there is how many words it has and each word, and a
--- pointer section, of which there is how many pointers it has and the tree at each. A list of structs has how many
--- elements there are and the tree of each. Of any other list only its extent is judged. What is bad is so in one way;
--- an unfollowed pointer is one whose pads can't be followed.
+-- What stands at a pointer. A struct: the size and words of its data section, then the size and subtrees of its pointer
+-- section. A list of structs: how many elements it has, and the tree of each. Of any other list only its extent is judged.
+-- What is bad is bad in one way; an unfollowed pointer is one whose pads can't be followed.
 pub data Tree : Type 0 where
   nothing : Tree
   structure : ℕ → (ℕ → ℕ) → ℕ → (ℕ → Tree) → Tree
@@ -72,14 +71,14 @@ list_there structure_of segments segment start element_size count =
     else plain_there (extent segments segment start (plain_words element_size count))
 
 -- what a pointer leads to, given the struct at a place of a segment with its two sizes
-unfoldable pub pointed : (ℕ → ℕ → ℕ → ℕ → Tree) → List (List ℕ) → Result Pointee ReadError → Tree
-pointed structure_of segments (Err e) = unfollowed e
-pointed structure_of segments (Ok leads.Null) = nothing
-pointed structure_of segments (Ok (leads.Struct segment start data_words pointer_count)) =
+unfoldable pub tree_behind : (ℕ → ℕ → ℕ → ℕ → Tree) → List (List ℕ) → Result Pointee ReadError → Tree
+tree_behind structure_of segments (Err e) = unfollowed e
+tree_behind structure_of segments (Ok leads.Null) = nothing
+tree_behind structure_of segments (Ok (leads.Struct segment start data_words pointer_count)) =
     structure_there (λ at. structure_of segment at data_words pointer_count) (extent segments segment start (data_words + pointer_count))
-pointed structure_of segments (Ok (leads.List segment start element_size count)) = list_there (structure_of segment) segments segment start element_size count
-pointed structure_of segments (Ok (leads.Capability index)) = capability index
-pointed structure_of segments (Ok leads.Reserved) = reserved
+tree_behind structure_of segments (Ok (leads.List segment start element_size count)) = list_there (structure_of segment) segments segment start element_size count
+tree_behind structure_of segments (Ok (leads.Capability index)) = capability index
+tree_behind structure_of segments (Ok leads.Reserved) = reserved
 
 -- The struct at a place with so many data words and pointers, where so many more structs may stand within one another:
 -- the data section first, then the pointer section.
@@ -88,12 +87,12 @@ structure_at zero segments segment start data_words pointer_count = bad_structur
 structure_at (suc depth) segments segment start data_words pointer_count =
     structure data_words (λ i. if nat_lt i data_words then slice_index (words_of segments segment) (start + i) else 0) pointer_count
     (λ n. if nat_lt n pointer_count
-    then pointed (structure_at depth segments) segments (followed segments segment (start + data_words + n))
+    then tree_behind (structure_at depth segments) segments (pointee_at segments segment (start + data_words + n))
     else nothing)
 
 -- the value at the pointer at a place, where so many structs may stand within one another
 abbrev pub tree_at : ℕ → List (List ℕ) → ℕ → ℕ → Tree
-tree_at depth segments segment at = pointed (structure_at depth segments) segments (followed segments segment at)
+tree_at depth segments segment at = tree_behind (structure_at depth segments) segments (pointee_at segments segment at)
 
 -- "The first word of the first segment of the message is always a pointer pointing to the message's root struct"
 abbrev pub root_tree : ℕ → List (List ℕ) → Tree

@@ -54,7 +54,9 @@ fn judge_list(
     count: u32,
     depth: u8,
 ) -> Result<(), ReadError>
-    ensures { (path : List ℕ) → Gives (λ _. []) result (fields_in path (list_there (structure_at depth frame.now segment) frame.now segment start element_size count)) }
+    ensures { (path : List ℕ) → Gives (λ _. []) result
+        (fields_in path (list_there
+        (structure_at depth frame.now segment) frame.now segment start element_size count)) }
 {
     if element_size == COMPOSITE {
         composite(frame, segment, start, count, depth)?;
@@ -97,9 +99,12 @@ fn add_fields(
     limits: &mut Limits,
 ) -> Result<(), ReadError>
     requires { at < 2 ^ 40 }
-    ensures value { RunsInMemory (λ _. found.new.items) result limits.new.words (with_front found.old.items (run (fields_in path.old.items (tree_at depth frame.now segment at)) limits.old.words)) }
+    ensures value { RunsInMemory (λ _. found.new.items) result limits.new.words
+        (with_front found.old.items
+        (run (fields_in path.old.items (tree_at depth frame.now segment at)) limits.old.words)) }
     ensures path { OnOk result (path.new.items ≡ path.old.items) }
-    ensures kept { limits.old.words ≤ limits.new.words + price (fields_in path.old.items (tree_at depth frame.now segment at)) }
+    ensures kept { limits.old.words
+        ≤ limits.new.words + price (fields_in path.old.items (tree_at depth frame.now segment at)) }
     ensures words { limits.new.words ≤ limits.old.words }
     ensures depth { limits.new.depth ≡ limits.old.depth }
 {
@@ -145,15 +150,17 @@ fn add_fields(
 
 /// The capabilities at and below a pointer of a struct, in the order in which they are met.
 #[tactic(auto, using(crate::proofs::Loops::no_front), unfolding(crate::specs::Fields::fields_in, crate::specs::Reading::pay_for))]
-fn listed(
+fn list_capabilities(
     alloc: Global,
     frame: &Frame,
     place: &StructAt,
     n: u16,
     limits: &mut Limits,
 ) -> Result<Fields, ReadError>
-    ensures value { RunsInMemory (λ fields. fields) result limits.new.words (run (fields_in [] ((sections_at frame.now place.now).child n)) limits.old.words) }
-    ensures kept { limits.old.words ≤ limits.new.words + price (fields_in [] ((sections_at frame.now place.now).child n)) }
+    ensures value { RunsInMemory (λ fields. fields) result limits.new.words
+        (run (fields_in [] ((sections_at frame.now place.now).child n)) limits.old.words) }
+    ensures kept { limits.old.words
+        ≤ limits.new.words + price (fields_in [] ((sections_at frame.now place.now).child n)) }
     ensures words { limits.new.words ≤ limits.old.words }
     ensures depth { limits.new.depth ≡ limits.old.depth }
 {
@@ -191,21 +198,28 @@ pub fn fields(
     limits: &mut Limits,
 ) -> Result<Fields, ReadError>
     // What is listed, or which fault, and the words that are left.
-    ensures value { RunsInMemory (λ fields. fields) result limits.new.words (run (fields_in [] ((sections_at frame.now place.now).child n)) limits.old.words) }
+    ensures value { RunsInMemory (λ fields. fields) result limits.new.words
+        (run (fields_in [] ((sections_at frame.now place.now).child n)) limits.old.words) }
     // What is listed is what stands at the end of the paths.
-    ensures listed { IfOk result (λ fields. (path : List ℕ) (index : ℕ) → Contains fields (path, index)
+    ensures listed { IfOk result
+        (λ fields. (path : List ℕ) (index : ℕ) → Contains fields (path, index)
         ↔ (capability_at ((sections_at frame.now place.now).child n) path ≡ Some index)) }
     // Each path is listed once, in rising lexicographic order.
-    ensures rising { IfOk result (λ fields. IsStrictlySortedBy (slice_cmp nat_cmp) (paths_of fields)) }
+    ensures rising { IfOk result
+        (λ fields. IsStrictlySortedBy (slice_cmp nat_cmp) (paths_of fields)) }
     // Where the words are enough for the visits together, it ends as the tree says, and their price is gone.
-    ensures affordable { let reading = fields_in [] ((sections_at frame.now place.now).child n) in price reading ≤ limits.old.words
-        → RunsInMemory (λ fields. fields) result limits.new.words (ending reading, limits.old.words - price reading) }
+    ensures affordable { let reading = fields_in []
+        ((sections_at frame.now place.now).child n) in price reading ≤ limits.old.words
+        → RunsInMemory (λ fields. fields) result limits.new.words
+        (ending reading, limits.old.words - price reading) }
     // Else it is too much.
-    ensures too_dear { limits.old.words < price (fields_in [] ((sections_at frame.now place.now).child n)) → IsTooMuch result }
-    // Whatever it answers, want of memory too, no more words are gone than the visits cost together, and none are won.
-    ensures kept { limits.old.words ≤ limits.new.words + price (fields_in [] ((sections_at frame.now place.now).child n)) }
+    ensures too_dear { limits.old.words
+        < price (fields_in [] ((sections_at frame.now place.now).child n)) → IsTooMuch result }
+    // Whatever it answers, out of memory too, no more words are gone than the visits cost together, and none are won.
+    ensures kept { limits.old.words
+        ≤ limits.new.words + price (fields_in [] ((sections_at frame.now place.now).child n)) }
     ensures words { limits.new.words ≤ limits.old.words }
     ensures depth { limits.new.depth ≡ limits.old.depth }
 {
-    listed(alloc, frame, place, n, limits)
+    list_capabilities(alloc, frame, place, n, limits)
 }

@@ -1,7 +1,7 @@
 //! Following the pads of far pointers.
 
 ghost use Rattle.std.specs.Prelude.{◌≡◌, ◌<◌, ◌^◌};
-ghost use Rattle.cap_reader.specs.Pointers.{pointee_of, pad_word as pad_word_in, tagged, landed, content_in, followed};
+ghost use Rattle.cap_reader.specs.Pointers.{pointee_of, pad_word as pad_word_in, pointee_by_tag, pointee_behind, content_in, pointee_at};
 
 use crate::extent::word_or_zero;
 use crate::pointee::Pointee;
@@ -69,9 +69,9 @@ fn content(frame: &Frame, segment: u32, pointee: Pointee) -> Result<Pointee, Rea
 }
 
 /// What a pad of two words leads to.
-#[tactic(auto, unfolding(crate::specs::Pointers::tagged))]
+#[tactic(auto, unfolding(crate::specs::Pointers::pointee_by_tag))]
 fn by_tag(frame: &Frame, first: Pointer, tag: Pointer) -> Result<Pointee, ReadError>
-    ensures { result ≡ tagged frame.now first tag }
+    ensures { result ≡ pointee_by_tag frame.now first tag }
 {
     let Pointer::Far {
         two_words: false,
@@ -115,10 +115,10 @@ fn by_tag(frame: &Frame, first: Pointer, tag: Pointer) -> Result<Pointee, ReadEr
 }
 
 /// What the pointer at a place leads to.
-#[tactic(auto, unfolding(crate::specs::Pointers::landed))]
+#[tactic(auto, unfolding(crate::specs::Pointers::pointee_behind))]
 pub fn follow(frame: &Frame, segment: u32, at: u64) -> Result<Pointee, ReadError>
     requires { at < 2 ^ 40 }
-    ensures { result ≡ followed frame.now segment at }
+    ensures { result ≡ pointee_at frame.now segment at }
 {
     match Pointer::of(word_or_zero(frame, segment, at)) {
         Pointer::Far {

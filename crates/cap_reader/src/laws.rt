@@ -16,29 +16,37 @@ ghost use Rattle.cap_reader.specs.Cuts.{Pairs, Correspond, release_whole, releas
 
 /// What [`fields`](crate::fields) lists has each path once, in rising lexicographic order.
 pub fn paths_rise()
-    ensures { (tree : Tree) (words left : ℕ) (found : List (List ℕ × ℕ)) → run (fields_in [] tree) words ≡ (Ok found, left)
+    ensures { (tree : Tree) (words left : ℕ) (found : List (List ℕ × ℕ))
+        → run (fields_in [] tree) words ≡ (Ok found, left)
         → IsStrictlySortedBy (slice_cmp nat_cmp) (paths_of found) }
 {}
 
 /// What [`fields`](crate::fields) pays is the words of the structs at and below the pointer, at least 1 for each; so at
 /// least their words together.
 pub fn structs_are_paid()
-    ensures exact { (tree : Tree) (words left : ℕ) (found : List (List ℕ × ℕ)) → run (fields_in [] tree) words ≡ (Ok found, left)
+    ensures exact { (tree : Tree) (words left : ℕ) (found : List (List ℕ × ℕ))
+        → run (fields_in [] tree) words ≡ (Ok found, left)
         → left + over_structs cost_of tree ≡ words }
-    ensures words { (tree : Tree) (words left : ℕ) (found : List (List ℕ × ℕ)) → run (fields_in [] tree) words ≡ (Ok found, left)
-        → left + struct_words tree ≤ words }
+    ensures words { (tree : Tree) (words left : ℕ) (found : List (List ℕ × ℕ))
+        → run (fields_in [] tree) words ≡ (Ok found, left) → left + struct_words tree ≤ words }
 {}
 
 /// A far pointer has the value of the pointer on its pad. Behind a pad of two words it has the value of what the tag
 /// says at the start of the content, and so that of each pointer in the content's segment which looks like the tag and
 /// leads there.
 pub fn pads_lead_on()
-    ensures one_word { (segments : List (List ℕ)) (segment at pad_segment pad_at : ℕ) → PadOfOne segments segment at pad_segment pad_at
-        → (depth : ℕ) → tree_at depth segments segment at ≡ tree_at depth segments pad_segment pad_at }
-    ensures two_words { (segments : List (List ℕ)) (segment at content start : ℕ) (tag : Pointer) → PadOfTwo segments segment at content start tag
-        → (depth : ℕ) → tree_at depth segments segment at ≡ tagged_tree depth segments content start tag }
-    ensures near { (segments : List (List ℕ)) (segment at content start : ℕ) (tag : Pointer) → PadOfTwo segments segment at content start tag
-        → (near offset : ℕ) → LooksLike tag offset (pointer_at segments content near) → start_from near offset ≡ Some start
+    ensures one_word { (segments : List (List ℕ)) (segment at pad_segment pad_at : ℕ)
+        → PadOfOne segments segment at pad_segment pad_at
+        → (depth : ℕ) → tree_at depth segments segment at
+        ≡ tree_at depth segments pad_segment pad_at }
+    ensures two_words { (segments : List (List ℕ)) (segment at content start : ℕ) (tag : Pointer)
+        → PadOfTwo segments segment at content start tag
+        → (depth : ℕ) → tree_at depth segments segment at
+        ≡ tagged_tree depth segments content start tag }
+    ensures near { (segments : List (List ℕ)) (segment at content start : ℕ) (tag : Pointer)
+        → PadOfTwo segments segment at content start tag → (near offset : ℕ)
+        → LooksLike tag offset (pointer_at segments content near)
+        → start_from near offset ≡ Some start
         → (depth : ℕ) → tree_at depth segments segment at ≡ tree_at depth segments content near }
 {}
 
@@ -46,7 +54,8 @@ pub fn pads_lead_on()
 /// segments. So has one message, whole and cut in two.
 pub fn cuts_keep_values()
     ensures values { (pairs : Pairs) (one other : List (List ℕ)) → Correspond pairs one other
-        → (depth segment at other_segment other_at : ℕ) → pairs segment at other_segment other_at ≡ true
+        → (depth segment at other_segment other_at : ℕ)
+        → pairs segment at other_segment other_at ≡ true
         → tree_at depth one segment at ≡ tree_at depth other other_segment other_at }
     ensures release { (depth : ℕ) → root_tree depth release_whole ≡ root_tree depth release_cut }
 {}
@@ -54,22 +63,27 @@ pub fn cuts_keep_values()
 /// A call that visits one struct pays its words, and at least 1. One that finds null, or refuses, pays nothing, and so
 /// does one that finds a list.
 pub fn one_visit_is_paid()
-    ensures read { (tree : Tree) (words left : ℕ) (sections : Sections) → run (structure_in tree) words ≡ (Ok (Some sections), left)
+    ensures read { (tree : Tree) (words left : ℕ) (sections : Sections)
+        → run (structure_in tree) words ≡ (Ok (Some sections), left)
         → left + cost_of (sections.data_words + sections.pointer_count) ≡ words }
-    ensures null { (tree : Tree) (words left : ℕ) → run (structure_in tree) words ≡ (Ok None, left) → left ≡ words }
-    ensures refused { (tree : Tree) (words left : ℕ) (e : ReadError) → run (structure_in tree) words ≡ (Err e, left) → left ≡ words }
+    ensures null { (tree : Tree) (words left : ℕ)
+        → run (structure_in tree) words ≡ (Ok None, left) → left ≡ words }
+    ensures refused { (tree : Tree) (words left : ℕ) (e : ReadError)
+        → run (structure_in tree) words ≡ (Err e, left) → left ≡ words }
     ensures list { (tree : Tree) (words : ℕ) → (run (elements_in tree) words).1 ≡ words }
 {}
 
-/// No fault of pointers is want of memory: [`ReadError::OutOfMemory`](crate::ReadError::OutOfMemory) comes where a
+/// No fault of pointers is out of memory: [`ReadError::OutOfMemory`](crate::ReadError::OutOfMemory) comes where a
 /// growth was refused, and so from [`fields`](crate::fields) alone.
 pub fn pointers_want_no_memory()
     ensures structs { (depth : ℕ) (segments : List (List ℕ)) (segment at words : ℕ)
         → (run (structure_in (tree_at depth segments segment at)) words).0 ≢ Err OutOfMemory }
     ensures lists { (depth : ℕ) (segments : List (List ℕ)) (segment at words : ℕ)
         → (run (elements_in (tree_at depth segments segment at)) words).0 ≢ Err OutOfMemory }
-    ensures elements { (depth : ℕ) (segments : List (List ℕ)) (segment start data_words pointer_count words : ℕ)
-        → (run (structure_in (structure_at depth segments segment start data_words pointer_count)) words).0 ≢ Err OutOfMemory }
+    ensures elements { (depth : ℕ) (segments : List (List ℕ))
+        (segment start data_words pointer_count words : ℕ) → (run
+        (structure_in (structure_at depth segments segment start data_words pointer_count)) words).0
+        ≢ Err OutOfMemory }
     ensures fields { (depth : ℕ) (segments : List (List ℕ)) (segment at words : ℕ) (path : List ℕ)
         → (run (fields_in path (tree_at depth segments segment at)) words).0 ≢ Err OutOfMemory }
 {}
@@ -77,5 +91,6 @@ pub fn pointers_want_no_memory()
 /// A path to a capability has no more numbers than structs may stand within one another from its pointer on.
 pub fn paths_end()
     ensures { (depth : ℕ) (segments : List (List ℕ)) (segment at : ℕ) (path : List ℕ) (index : ℕ)
-        → capability_at (tree_at depth segments segment at) path ≡ Some index → length path ≤ depth }
+        → capability_at (tree_at depth segments segment at) path ≡ Some index
+        → length path ≤ depth }
 {}

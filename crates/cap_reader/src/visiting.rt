@@ -32,8 +32,11 @@ struct Spot {
 
 /// The struct at a place where so many structs may stand within one another, after paying for the visit.
 fn visit(spot: Spot, depth: u8, limits: &mut Limits) -> Result<StructAt, ReadError>
-    ensures value { (segments : List (List ℕ)) → Runs (λ place. Some (sections_at segments place)) result limits.new.words
-        (run (structure_in (structure_at depth segments spot.segment spot.start spot.data_words spot.pointer_count)) limits.old.words) }
+    ensures value { (segments : List (List ℕ)) → Runs
+        (λ place. Some (sections_at segments place)) result limits.new.words
+        (run (structure_in
+        (structure_at depth segments spot.segment spot.start spot.data_words spot.pointer_count))
+        limits.old.words) }
     ensures falls { IfOk result (λ place. place.below < depth) }
     ensures words { limits.new.words ≤ limits.old.words }
     ensures depth { limits.new.depth ≡ limits.old.depth }
@@ -66,7 +69,8 @@ pub fn enter(
     limits: &mut Limits,
 ) -> Result<StructAt, ReadError>
     ensures value { Runs (λ place. Some (sections_at frame.now place)) result limits.new.words
-        (run (structure_in (structure_there (λ at. structure_at depth frame.now segment at sizes.0 sizes.1)
+        (run (structure_in
+        (structure_there (λ at. structure_at depth frame.now segment at sizes.0 sizes.1)
         (extent_in frame.now segment start (sizes.0 + sizes.1)))) limits.old.words) }
     ensures falls { IfOk result (λ place. place.below < depth) }
     ensures words { limits.new.words ≤ limits.old.words }
@@ -90,7 +94,7 @@ pub fn enter(
 }
 
 /// The struct at the pointer at a place, None where it is null.
-#[tactic(auto, using(crate::proofs::OtherKinds::list_is_no_structure), unfolding(crate::specs::Tree::pointed, crate::specs::Reading::pay_for))]
+#[tactic(auto, using(crate::proofs::OtherKinds::list_is_no_structure), unfolding(crate::specs::Tree::tree_behind, crate::specs::Reading::pay_for))]
 fn struct_at(
     frame: &Frame,
     segment: u32,
@@ -129,7 +133,8 @@ pub fn composite(
     size: u32,
     depth: u8,
 ) -> Result<ListAt, ReadError>
-    ensures { Gives (λ list. Some (elements_at frame.now list)) result (elements_in (composite_there (structure_at depth frame.now segment) frame.now segment size
+    ensures { Gives (λ list. Some (elements_at frame.now list)) result
+        (elements_in (composite_there (structure_at depth frame.now segment) frame.now segment size
         (extent_in frame.now segment start 1))) }
 {
     let Some(tag_at) = extent(frame, segment, start, 1) else {
@@ -160,10 +165,11 @@ pub fn composite(
 }
 
 /// The list of structs at the pointer at a place, None where it is null.
-#[tactic(auto, using(crate::proofs::OtherKinds::structure_is_no_list), unfolding(crate::specs::Tree::pointed, crate::specs::Tree::list_there))]
+#[tactic(auto, using(crate::proofs::OtherKinds::structure_is_no_list), unfolding(crate::specs::Tree::tree_behind, crate::specs::Tree::list_there))]
 fn list_at(frame: &Frame, segment: u32, at: u64, depth: u8) -> Result<Option<ListAt>, ReadError>
     requires { at < 2 ^ 40 }
-    ensures { Gives (λ found. option_map (elements_at frame.now) found) result (elements_in (tree_at depth frame.now segment at)) }
+    ensures { Gives (λ found. option_map (elements_at frame.now) found) result
+        (elements_in (tree_at depth frame.now segment at)) }
 {
     match follow(frame, segment, at)? {
         Pointee::Null => Ok(None),
@@ -269,7 +275,8 @@ impl ListAt {
     pub fn element(&self, i: u32, limits: &mut Limits) -> Result<StructAt, ReadError>
         requires { i < list_len self.now }
         // In any frame, so in the list's own.
-        ensures value { (segments : List (List ℕ)) → Runs (λ place. Some (sections_at segments place)) result limits.new.words
+        ensures value { (segments : List (List ℕ)) → Runs
+            (λ place. Some (sections_at segments place)) result limits.new.words
             (run (structure_in ((elements_at segments self.now).element i)) limits.old.words) }
         ensures depth { limits.new.depth ≡ limits.old.depth }
     {

@@ -5,7 +5,7 @@ use Rattle.std.specs.List.{flat_map}
 use Rattle.std.specs.Option.{option_map}
 use Rattle.case_book.specs.Case.{Contents, or_else, connections_of}
 use Rattle.case_book.specs.Least.{least, IsLeast}
-use Rattle.case_book.specs.Ties.{tie_fault_of, missing, unlinked_in, unlogged, lacks_log, has_log, same_ended}
+use Rattle.case_book.specs.Ties.{tie_fault_of, missing_logs, unlinked_in, links_without_log, lacks_log, has_log, links_of_one_vat}
 use Rattle.case_book.specs.declared.link.Link.{Link}
 use Rattle.case_book.specs.declared.ties.TieFault.{TieFault}
 use Rattle.case_book.specs.declared.ties.TieFault.TheVariants.{MissingLog, SameEnds}
@@ -55,9 +55,9 @@ pub record HasEnds (held : Contents) (link : Link) : Type 0 where
 pub has_ends : (held : Contents) → tie_fault_of held ≡ None → (k : ℕ) (link : Link) → slice_get held.links k ≡ Some link → HasEnds held link
 unfolding tie_fault_of
 has_ends held tied k link at =
-    let two = neither (least (missing held)) MissingLog (option_map SameEnds (least (same_ended held.links))) tied in
-    let no_missing = none_behind (flat_map (unlinked_in held.links) held.logs) (unlogged held.logs held.links) (no_least (missing held) two.0) in
-    let no_same = no_least (same_ended held.links) (none_under (least (same_ended held.links)) SameEnds two.1) in
+    let two = neither (least (missing_logs held)) MissingLog (option_map SameEnds (least (links_of_one_vat held.links))) tied in
+    let no_missing = none_behind (flat_map (unlinked_in held.links) held.logs) (links_without_log held.logs held.links) (no_least (missing_logs held) two.0) in
+    let no_same = no_least (links_of_one_vat held.links) (none_under (least (links_of_one_vat held.links)) SameEnds two.1) in
     let logged = both_true (has_log held.logs link.a) (has_log held.logs link.b) (all_fail (lacks_log held.logs) held.links no_missing k link at) in
     let other = all_fail (λ (l : Link). l.a == l.b) held.links no_same k link at in
     record {

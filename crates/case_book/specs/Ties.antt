@@ -43,17 +43,17 @@ abbrev pub lacks_log : List Log → Link → Bool
 lacks_log logs link = not (has_log logs link.a && has_log logs link.b)
 
 -- the connections whose link names a vat without a log
-abbrev pub unlogged : List Log → List Link → List ℕ
-unlogged logs links = connections_of (filter (lacks_log logs) links)
+abbrev pub links_without_log : List Log → List Link → List ℕ
+links_without_log logs links = connections_of (filter (lacks_log logs) links)
 
 -- the connections for which a log is missing
-abbrev pub missing : Contents → List ℕ
-missing held = flat_map (unlinked_in held.links) held.logs ++ unlogged held.logs held.links
+abbrev pub missing_logs : Contents → List ℕ
+missing_logs held = flat_map (unlinked_in held.links) held.logs ++ links_without_log held.logs held.links
 
 -- the connections whose link has one vat at both ends
-abbrev pub same_ended : List Link → List ℕ
-same_ended links = connections_of (filter (λ link. link.a == link.b) links)
+abbrev pub links_of_one_vat : List Link → List ℕ
+links_of_one_vat links = connections_of (filter (λ link. link.a == link.b) links)
 
 -- the least connection for which a log is missing, else the least whose ends are one vat
 unfoldable pub tie_fault_of : Contents → Option TieFault
-tie_fault_of held = or_else (option_map MissingLog (least (missing held))) (option_map SameEnds (least (same_ended held.links)))
+tie_fault_of held = or_else (option_map MissingLog (least (missing_logs held))) (option_map SameEnds (least (links_of_one_vat held.links)))

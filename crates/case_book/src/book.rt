@@ -102,7 +102,7 @@ fn put<T: Drop>(items: &mut Vec<T>, item: T)
 }
 
 /// The findings of all pieces, each put where room was made for it: first those of vats, then those of links.
-fn parted(
+fn part_findings(
     found: Vec<Option<Finding>>,
     vats: Vec<VatFinding>,
     links: Vec<LinkFinding>,
@@ -110,7 +110,8 @@ fn parted(
     requires no_vats { vats.items ≡ [] }
     requires no_links { links.items ≡ [] }
     requires placed { ArePlaced found.items (vec_capacity vats) (vec_capacity links) }
-    ensures { map Some (map Finding.Vat result.0.items ++ map Finding.Link result.1.items) ≡ found.items }
+    ensures { map Some (map Finding.Vat result.0.items ++ map Finding.Link result.1.items)
+        ≡ found.items }
 {
     let mut vats = vats;
     let mut links = links;
@@ -129,7 +130,7 @@ impl Book {
     ///
     /// # Errors
     ///
-    /// Want of memory, and then the case is dropped.
+    /// Out of memory, and then the case is dropped.
     pub fn new(alloc: Global, case: Case) -> Result<Book, AllocError>
         requires { tie_fault_of case ≡ None }
         ensures { IfOk result (λ book. book ≡ new_book case) }
@@ -255,7 +256,7 @@ impl Book {
             vats,
             links,
         } = self;
-        let (vats, links) = parted(found, vats, links);
+        let (vats, links) = part_findings(found, vats, links);
         Ok(Findings::new(case, vats, links))
     }
 }

@@ -13,7 +13,7 @@ use crate::link::Link;
 use crate::piece::Piece;
 use crate::repeats::{repeated_connection, repeated_vat};
 use crate::ties::{TieFault, least_missing, least_same_ended};
-use crate::work::{audited, compared};
+use crate::work::{audit_log, compare_ends};
 use std::alloc::{AllocError, Global};
 use std::marker::Model;
 use std::sync::Arc;
@@ -37,8 +37,10 @@ const MAX_LINKS: usize = 256;
 fn rising_logs(mut logs: Vec<Arc<VatLog>>) -> Result<Vec<Arc<VatLog>>, CaseError>
     ensures err { IfErr result (λ error. vats_fault (map arc_value logs.items) ≡ Some error) }
     ensures ok { IfOk result (λ sorted. vats_fault (map arc_value logs.items) ≡ None) }
-    ensures just { IfOk result (λ sorted. IsPermutation (map arc_value logs.items) (map arc_value sorted.items)) }
-    ensures rising { IfOk result (λ sorted. IsStrictlyIncreasing (vats_of (map arc_value sorted.items))) }
+    ensures just { IfOk result
+        (λ sorted. IsPermutation (map arc_value logs.items) (map arc_value sorted.items)) }
+    ensures rising { IfOk result
+        (λ sorted. IsStrictlyIncreasing (vats_of (map arc_value sorted.items))) }
     ensures few { IfOk result (λ sorted. length (map arc_value sorted.items) ≤ vat_limit) }
 {
     if logs.len() > MAX_VATS {
@@ -70,7 +72,7 @@ fn rising_links(mut links: Vec<Link>) -> Result<Vec<Link>, CaseError>
 }
 
 /// The same logs once more.
-fn copied(alloc: Global, logs: &[Arc<VatLog>]) -> Result<Vec<Arc<VatLog>>, AllocError>
+fn copied_logs(alloc: Global, logs: &[Arc<VatLog>]) -> Result<Vec<Arc<VatLog>>, AllocError>
     ensures { IfOk result (λ copies. map arc_value copies.items ≡ map arc_value logs.now) }
 {
     let mut copies = Vec::new(alloc);
@@ -102,8 +104,10 @@ impl Case {
     /// above 256 links; `SameLink` with the least connection that has two links.
     pub fn new(logs: Vec<Arc<VatLog>>, links: Vec<Link>) -> Result<Case, CaseError>
         // Where it is refused, and why.
-        ensures err { IfErr result (λ error. refusal_of (map arc_value logs.items) links.items ≡ Some error) }
-        ensures ok { IfOk result (λ case. refusal_of (map arc_value logs.items) links.items ≡ None) }
+        ensures err { IfErr result
+            (λ error. refusal_of (map arc_value logs.items) links.items ≡ Some error) }
+        ensures ok { IfOk result
+            (λ case. refusal_of (map arc_value logs.items) links.items ≡ None) }
         // What it holds.
         ensures held { IfOk result (λ case. HoldsJust (map arc_value logs.items) links.items case) }
         ensures rising { IfOk result IsCase }
@@ -147,13 +151,13 @@ impl Case {
     ///
     /// # Errors
     ///
-    /// Want of memory.
+    /// Out of memory.
     pub fn copy(&self, alloc: Global) -> Result<Case, AllocError>
         ensures { IfOk result (λ case. case ≡ self.now) }
     {
         let Case { logs, links } = self;
         Ok(Case {
-            logs: copied(alloc, logs)?,
+            logs: copied_logs(alloc, logs)?,
             links: Vec::from_slice(alloc, links)?,
         })
     }
@@ -163,20 +167,21 @@ impl Case {
     ///
     /// # Errors
     ///
-    /// Want of memory.
+    /// Out of memory.
     pub fn find(&self, alloc: Global, piece: Piece) -> Result<Option<Finding>, AllocError>
         requires { tie_fault_of self.now ≡ None }
-        ensures { IfOk result (λ found. MatchOption found (length (pieces_of self.now) ≤ piece.number)
+        ensures { IfOk result
+            (λ found. MatchOption found (length (pieces_of self.now) ≤ piece.number)
             (λ finding. IsForPiece self.now finding piece.number)) }
     {
         let Case { logs, links } = self;
         let number = piece.number as usize;
         if number < logs.len() {
-            return Ok(Some(Finding::Vat(audited(alloc, &logs[number])?)));
+            return Ok(Some(Finding::Vat(audit_log(alloc, &logs[number])?)));
         }
         let at = number - logs.len();
         if at < links.len() {
-            return Ok(Some(Finding::Link(compared(logs, &links[at])?)));
+            return Ok(Some(Finding::Link(compare_ends(logs, &links[at])?)));
         }
         Ok(None)
     }

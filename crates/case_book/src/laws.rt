@@ -15,6 +15,6 @@ pub fn least_is_least()
 
 /// A finding is for one piece of a case at most: so a [`Book`](crate::Book) has one answer to what is posted.
 pub fn a_finding_is_for_one_piece()
-    ensures { (held : Contents) → IsCase held → (found : Finding) (one other : ℕ) → IsForPiece held found one
-        → IsForPiece held found other → one ≡ other }
+    ensures { (held : Contents) → IsCase held → (found : Finding) (one other : ℕ)
+        → IsForPiece held found one → IsForPiece held found other → one ≡ other }
 {}

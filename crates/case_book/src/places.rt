@@ -35,7 +35,9 @@ fn place_of(logs: &[Arc<VatLog>], log: &VatLog) -> Option<usize>
 
 /// The place of the log that a finding audits within the default limits.
 fn audited_place(logs: &[Arc<VatLog>], found: &VatFinding) -> Option<usize>
-    ensures { MatchOption result ((k : ℕ) → ¬ IsSomeAnd (slice_get (map arc_value logs.now) k) (λ log. IsAuditOf log found.now))
+    ensures { MatchOption result
+        ((k : ℕ) → ¬ IsSomeAnd (slice_get (map arc_value logs.now) k)
+        (λ log. IsAuditOf log found.now))
         (λ k. IsSomeAnd (slice_get (map arc_value logs.now) k) (λ log. IsAuditOf log found.now)) }
 {
     if found.limits() == Limits::default() {
@@ -61,8 +63,10 @@ fn is_comparison(logs: &[Arc<VatLog>], link: &Link, found: &LinkFinding) -> bool
 /// The place of the link that a finding compares.
 fn compared_place(logs: &[Arc<VatLog>], links: &[Link], found: &LinkFinding) -> Option<usize>
     ensures { MatchOption result
-        ((k : ℕ) → ¬ IsSomeAnd (slice_get links.now k) (λ link. IsComparisonOf (map arc_value logs.now) link found.now))
-        (λ k. IsSomeAnd (slice_get links.now k) (λ link. IsComparisonOf (map arc_value logs.now) link found.now)) }
+        ((k : ℕ) → ¬ IsSomeAnd (slice_get links.now k)
+        (λ link. IsComparisonOf (map arc_value logs.now) link found.now))
+        (λ k. IsSomeAnd (slice_get links.now k)
+        (λ link. IsComparisonOf (map arc_value logs.now) link found.now)) }
 {
     for (index, link) in links.iter().enumerate() {
         if is_comparison(logs, link, found) {
@@ -74,7 +78,8 @@ fn compared_place(logs: &[Arc<VatLog>], links: &[Link], found: &LinkFinding) -> 
 
 /// The number of the piece that a finding is for.
 pub fn number_of(case: &Case, found: &Finding) -> Option<usize>
-    ensures { MatchOption result ((number : ℕ) → ¬ IsForPiece case.now found.now number) (IsForPiece case.now found.now) }
+    ensures { MatchOption result ((number : ℕ) → ¬ IsForPiece case.now found.now number)
+        (IsForPiece case.now found.now) }
 {
     let logs = case.logs();
     match found {

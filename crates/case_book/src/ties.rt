@@ -6,7 +6,7 @@ ghost use Rattle.std.specs.List.{flat_map};
 ghost use Rattle.std.specs.List.Sorted.{IsStrictlyIncreasing};
 ghost use Rattle.case_book.specs.Least.{lower, least};
 ghost use Rattle.case_book.specs.Case.{connections_of};
-ghost use Rattle.case_book.specs.Ties.{used_by, is_linked, unlinked_in, has_log, lacks_log, missing, unlogged, same_ended};
+ghost use Rattle.case_book.specs.Ties.{used_by, is_linked, unlinked_in, has_log, lacks_log, missing_logs, links_without_log, links_of_one_vat};
 
 use crate::link::Link;
 use std::sync::Arc;
@@ -95,7 +95,7 @@ fn is_logged(logs: &[Arc<VatLog>], vat: u32) -> bool
 
 /// The least of the connections whose link names a vat without a log, and of one found before.
 fn least_unlogged(found: Option<u32>, logs: &[Arc<VatLog>], links: &[Link]) -> Option<u32>
-    ensures { result ≡ fold lower found (unlogged (map arc_value logs.now) links.now) }
+    ensures { result ≡ fold lower found (links_without_log (map arc_value logs.now) links.now) }
 {
     let mut found = found;
     for link in links {
@@ -109,14 +109,15 @@ fn least_unlogged(found: Option<u32>, logs: &[Arc<VatLog>], links: &[Link]) -> O
 /// The least connection for which a log is missing, of links by rising connection.
 pub fn least_missing(logs: &[Arc<VatLog>], links: &[Link]) -> Option<u32>
     requires { IsStrictlyIncreasing (connections_of links.now) }
-    ensures { result ≡ least (missing (record { logs = map arc_value logs.now; links = links.now })) }
+    ensures { result ≡ least
+        (missing_logs (record { logs = map arc_value logs.now; links = links.now })) }
 {
     least_unlogged(least_unlinked(logs, links), logs, links)
 }
 
 /// The least connection whose ends are one vat.
 pub fn least_same_ended(links: &[Link]) -> Option<u32>
-    ensures { result ≡ least (same_ended links.now) }
+    ensures { result ≡ least (links_of_one_vat links.now) }
 {
     let mut found = None;
     for link in links {

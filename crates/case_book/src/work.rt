@@ -15,7 +15,7 @@ use vat_log::VatLog;
 use vat_rules::{VatFinding, audit_vat};
 
 /// The audit of a log within the default limits.
-pub fn audited(alloc: Global, log: &Arc<VatLog>) -> Result<VatFinding, AllocError>
+pub fn audit_log(alloc: Global, log: &Arc<VatLog>) -> Result<VatFinding, AllocError>
     ensures { IfOk result (IsAuditOf (arc_value log.now)) }
 {
     audit_vat(alloc, log, Limits::default())
@@ -24,7 +24,8 @@ pub fn audited(alloc: Global, log: &Arc<VatLog>) -> Result<VatFinding, AllocErro
 /// The log of a vat.
 fn log_of(logs: &[Arc<VatLog>], vat: u32) -> Option<&Arc<VatLog>>
     ensures { MatchOption result (has_log (map arc_value logs.now) vat ≡ false)
-        (λ log. Contains (map arc_value logs.now) (arc_value log.now) × ((arc_value log.now).vat ≡ vat)) }
+        (λ log. Contains (map arc_value logs.now) (arc_value log.now)
+        × ((arc_value log.now).vat ≡ vat)) }
 {
     for log in logs {
         if log.vat() == vat {
@@ -35,7 +36,7 @@ fn log_of(logs: &[Arc<VatLog>], vat: u32) -> Option<&Arc<VatLog>>
 }
 
 /// The comparison of a link's two ends, which have logs and are two vats.
-pub fn compared(logs: &[Arc<VatLog>], link: &Link) -> Result<LinkFinding, AllocError>
+pub fn compare_ends(logs: &[Arc<VatLog>], link: &Link) -> Result<LinkFinding, AllocError>
     requires first { has_log (map arc_value logs.now) link.now.a ≡ true }
     requires second { has_log (map arc_value logs.now) link.now.b ≡ true }
     requires apart { link.now.a ≢ link.now.b }

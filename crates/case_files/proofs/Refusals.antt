@@ -1,4 +1,4 @@
--- Logs and links are never refused for want of memory.
+-- Logs and links are never refused because memory ran out.
 use Rattle.std.proofs.Common.{◌≡◌, ℕ, Bool, true, false, cond, ltb, List, length, Option, Some, None, option_map, Err}
 use Rattle.vat_log.specs.Log.{Log}
 use Rattle.case_book.specs.Case.{connections_of, link_limit, or_else, refusal_of, vat_limit, vats_of}

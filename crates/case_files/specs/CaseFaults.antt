@@ -1,4 +1,4 @@
--- Faults of files, and of what they make, as faults of a case. Want of memory is one fault, wherever it was met.
+-- Faults of files, and of what they make, as faults of a case. Running out of memory is one fault, wherever it was met.
 use Rattle.vat_log.specs.declared.error.LogError.{LogError}
 use Rattle.vat_log.specs.declared.error.LogError.TheVariants as log
 use Rattle.merge_order.specs.declared.error.OrderError.{OrderError}

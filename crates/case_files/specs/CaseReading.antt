@@ -1,6 +1,6 @@
 -- What comes of a case by its name: the case file, then each log as it is listed, then the order that it names, then
 -- the case that the logs and links make. Each is asked for where all before it went well, and the first fault is the
--- case's. Of want of memory nothing is said here.
+-- case's. Nothing is said here of running out of memory.
 use Rattle.std.specs.Prelude.{◌≡◌, ℕ, List, [], ◌∷◌, Option, Some, None, Result, Ok, Err}
 use Rattle.vat_log.specs.Log.{Log}
 use Rattle.vat_log.specs.Reading.{log_of}
@@ -70,7 +70,7 @@ log_from (Ok bytes) = with_fault of_log (log_of bytes)
 log_from (Err fault) = Err (of_source fault)
 
 abbrev pub order_from : Read → Result (List ℕ) CaseFault
-order_from (Ok bytes) = with_fault of_order (orders.order_of bytes)
+order_from (Ok bytes) = with_fault of_order (orders.spelled_order bytes)
 order_from (Err fault) = Err (of_source fault)
 
 -- what comes of the case file, of one log, and of one order

@@ -6,9 +6,9 @@ use Rattle.case_files.specs.declared.case_file.CaseFile.{CaseFile}
 use Rattle.case_files.specs.CaseFile.{Listed}
 
 -- an answer, seen by view
-abbrev pub seen : {A B : Type 0} → (A → B) → Result A CaseFault → Result B CaseFault
-seen view (Ok x) = Ok (view x)
-seen view (Err fault) = Err fault
+abbrev pub seen_by : {A B : Type 0} → (A → B) → Result A CaseFault → Result B CaseFault
+seen_by view (Ok x) = Ok (view x)
+seen_by view (Err fault) = Err fault
 
 -- an answer, seen by view, is what was said; `Form` where nothing was
 abbrev pub TellsInMemory : {A B : Type 0} → (A → B) → Result A CaseFault → Option B → Type 0

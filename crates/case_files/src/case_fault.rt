@@ -18,11 +18,11 @@ pub enum CaseFault {
     CannotRead,
     /// The case file isn't of the form of one.
     Form,
-    /// The bytes of a log aren't a log. Never for want of memory.
+    /// The bytes of a log aren't a log. Never because memory ran out.
     Log(LogError),
-    /// The bytes of the order aren't an order. Never for want of memory.
+    /// The bytes of the order aren't an order. Never because memory ran out.
     Order(OrderError),
-    /// The logs and links make no case. Never for want of memory.
+    /// The logs and links make no case. Never because memory ran out.
     Refused(CaseError),
     /// The logs and links don't tie up.
     Untied(TieFault),

@@ -7,7 +7,7 @@ ghost use Rattle.serde_json.specs.Find.{as_str};
 ghost use Rattle.serde_json.specs.View.{view};
 ghost use Rattle.case_files.specs.CaseFile.{each_item, is_known, link_of, listed_in, number_of, order_of};
 ghost use Rattle.case_files.specs.CaseReading.{IsListed};
-ghost use Rattle.case_files.specs.Glue.{TellsInMemory, listed_by, seen};
+ghost use Rattle.case_files.specs.Glue.{TellsInMemory, listed_by, seen_by};
 
 use crate::case_fault::CaseFault;
 use case_book::Link;
@@ -48,7 +48,8 @@ fn link_of(value: &Value) -> Option<Link>
 
 /// The texts that a value lists.
 fn names_in(alloc: Global, value: &Value) -> Result<Vec<String>, CaseFault>
-    ensures { TellsInMemory (λ names. map string_bytes names.items) result (each_item as_str (view value.now)) }
+    ensures { TellsInMemory (λ names. map string_bytes names.items) result
+        (each_item as_str (view value.now)) }
 {
     let mut names = Vec::new(alloc);
     for item in value.as_array().ok_or(CaseFault::Form)? {
@@ -71,7 +72,8 @@ fn links_in(alloc: Global, value: &Value) -> Result<Vec<Link>, CaseFault>
 
 /// The name of the order, where there is none or it is a text.
 fn order_in(alloc: Global, value: Option<&Value>) -> Result<Option<String>, CaseFault>
-    ensures { TellsInMemory (λ name. option_map string_bytes name) result (order_of (option_map (λ v. view v.now) value.entry)) }
+    ensures { TellsInMemory (λ name. option_map string_bytes name) result
+        (order_of (option_map (λ v. view v.now) value.entry)) }
 {
     match value {
         None => Ok(None),
@@ -118,9 +120,9 @@ fn case_file_in(alloc: Global, value: &Value) -> Result<CaseFile, CaseFault>
 ///
 /// # Errors
 ///
-/// `Form`, or want of memory.
+/// `Form`, or out of memory.
 pub fn case_file_of(alloc: Global, bytes: &[u8]) -> Result<CaseFile, CaseFault>
-    ensures { IsListed (seen listed_by result) bytes.now }
+    ensures { IsListed (seen_by listed_by result) bytes.now }
 {
     match Value::from_slice(alloc, bytes) {
         Ok(value) => case_file_in(alloc, &value),

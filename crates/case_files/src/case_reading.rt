@@ -3,7 +3,7 @@
 ghost use Rattle.std.specs.Prelude.{map, option_map, string_bytes};
 ghost use Rattle.std.specs.Arc.{arc_value};
 ghost use Rattle.case_files.specs.CaseReading.{ComesOfCase, IsCaseOf, ListedComes, LogComes, LogsCome, NamedOrderComes, OrderComes};
-ghost use Rattle.case_files.specs.Glue.{listed_by, seen};
+ghost use Rattle.case_files.specs.Glue.{listed_by, seen_by};
 
 use crate::case_fault::CaseFault;
 use crate::case_file::{CaseFile, case_file_of};
@@ -20,7 +20,7 @@ fn read_case_file<S: Source>(
     source: &mut S,
     name: &str,
 ) -> Result<CaseFile, CaseFault>
-    ensures { ListedComes S.read_gives name.now source.old (seen listed_by result) source.new }
+    ensures { ListedComes S.read_gives name.now source.old (seen_by listed_by result) source.new }
 {
     let bytes = source.read(name)?;
     case_file_of(alloc, bytes.as_slice())
@@ -28,7 +28,7 @@ fn read_case_file<S: Source>(
 
 /// One log.
 fn read_log<S: Source>(alloc: Global, source: &mut S, name: &str) -> Result<Arc<VatLog>, CaseFault>
-    ensures { LogComes S.read_gives name.now source.old (seen arc_value result) source.new }
+    ensures { LogComes S.read_gives name.now source.old (seen_by arc_value result) source.new }
 {
     let bytes = source.read(name)?;
     let log = parse_log(alloc, bytes)?;
@@ -41,7 +41,8 @@ fn read_logs<S: Source>(
     source: &mut S,
     names: &[String],
 ) -> Result<Vec<Arc<VatLog>>, CaseFault>
-    ensures { LogsCome S.read_gives (map string_bytes names.now) source.old (seen (λ logs. map arc_value logs.items) result) source.new }
+    ensures { LogsCome S.read_gives (map string_bytes names.now) source.old
+        (seen_by (λ logs. map arc_value logs.items) result) source.new }
 {
     let mut logs = Vec::new(alloc);
     for name in names {
@@ -65,7 +66,8 @@ fn read_named_order<S: Source>(
     source: &mut S,
     name: &Option<String>,
 ) -> Result<Option<Order>, CaseFault>
-    ensures { NamedOrderComes S.read_gives (option_map string_bytes name.now) source.old result source.new }
+    ensures { NamedOrderComes S.read_gives
+        (option_map string_bytes name.now) source.old result source.new }
 {
     match name {
         None => Ok(None),

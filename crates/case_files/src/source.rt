@@ -46,7 +46,7 @@ pub trait Source {
     ///
     /// # Errors
     ///
-    /// `CannotRead` where there is nothing that can be read under it, or want of memory.
+    /// `CannotRead` where there is nothing that can be read under it, or out of memory.
     fn read(&mut self, name: &str) -> Result<Bytes, SourceError>
         ensures { read_gives self.old name.now result self.new };
 

@@ -118,7 +118,7 @@ matches_by app words (Ok m) is kinds found =
     let simple : is_simple app ≡ true = ap is_simple is in
     (fails_by app words (Ok m) is kinds, (found simple).1 ∙ ap (λ (a : App). subcommand_of a words) is)
 
--- only want of memory fails where clap finds no fault in the words
+-- only out of memory fails where clap finds no fault in the words
 pub fails_by_memory : (words others : List Text) (e : Error) → HasKind (fault_of program words) e → words ≡ others → fault_of program others ≡ [] → kind_of e ≡ OutOfMemory
 fails_by_memory words others e has same none =
     elim (subst (λ (ks : Kinds). HasKind ks e) (ap (fault_of program) same ∙ none) has) [ inl memory ↦ memory | inr h ↦ absurd h ]

@@ -108,7 +108,8 @@ fn workers_of(given: &ArgMatches<'_>) -> u32
 /// The command of words that `clap` took.
 fn command_in<'a>(matches: &ArgMatches<'a>) -> Command<'a>
     requires { (words : List (List ℕ)) × AreMatchesOf words matches.now }
-    ensures spelled { (words : List (List ℕ)) → AreMatchesOf words matches.now → Spells words result }
+    ensures spelled { (words : List (List ℕ)) → AreMatchesOf words matches.now
+        → Spells words result }
     ensures workers { HasWorkers result }
 {
     let Some((name, given)) = matches.subcommand() else {
@@ -141,7 +142,7 @@ fn command_in<'a>(matches: &ArgMatches<'a>) -> Command<'a>
 ///
 /// # Errors
 ///
-/// `clap`'s: the fault of the words, or want of memory.
+/// `clap`'s: the fault of the words, or out of memory.
 fn matches_of<'a, S: AsStr>(alloc: Global, words: &'a [S]) -> Result<ArgMatches<'a>, Error>
     ensures kinds { FailsBy (fault_of program (map S.text words.entry.now)) result }
     ensures matches { IfOk result (AreMatchesOf (map S.text words.entry.now)) }
@@ -156,32 +157,48 @@ fn matches_of<'a, S: AsStr>(alloc: Global, words: &'a [S]) -> Result<ArgMatches<
 ///
 /// # Errors
 ///
-/// `clap`'s: what is wrong with the words, a request for help, or want of memory.
+/// `clap`'s: what is wrong with the words, a request for help, or out of memory.
 pub fn command_of<'a, S: AsStr>(alloc: Global, words: &'a [S]) -> Result<Command<'a>, Error>
     ensures ok { IfOk result (λ command. Spells (map S.text words.entry.now) command) }
     ensures workers { IfOk result HasWorkers }
-    ensures taken { (first name thing : List ℕ) → IsReader name → map S.text words.entry.now ≡ first ∷ name ∷ thing ∷ [] → is_flag thing ≡ false
+    ensures taken { (first name thing : List ℕ) → IsReader name
+        → map S.text words.entry.now ≡ first ∷ name ∷ thing ∷ [] → is_flag thing ≡ false
         → IfErr result (λ e. kind_of e ≡ ErrorKind.OutOfMemory) }
-    ensures taken_after { (first name thing : List ℕ) → IsReader name → map S.text words.entry.now ≡ first ∷ name ∷ codes "--" ∷ thing ∷ []
+    ensures taken_after { (first name thing : List ℕ) → IsReader name
+        → map S.text words.entry.now ≡ first ∷ name ∷ codes "--" ∷ thing ∷ []
         → IfErr result (λ e. kind_of e ≡ ErrorKind.OutOfMemory) }
-    ensures taken_check { (first case : List ℕ) → map S.text words.entry.now ≡ first ∷ codes "check" ∷ case ∷ []
-        → is_flag case ≡ false → IfErr result (λ e. kind_of e ≡ ErrorKind.OutOfMemory) }
-    ensures taken_workers { (first case number : List ℕ) → map S.text words.entry.now ≡ first ∷ codes "check" ∷ case ∷ codes "--workers" ∷ number ∷ []
-        → is_flag case ≡ false → IsUnsignedIn 1 64 number → IfErr result (λ e. kind_of e ≡ ErrorKind.OutOfMemory) }
-    ensures refused_workers { (first case number : List ℕ) → map S.text words.entry.now ≡ first ∷ codes "check" ∷ case ∷ codes "--workers" ∷ number ∷ []
-        → is_flag case ≡ false → is_flag number ≡ false → (IsUnsignedIn 1 64 number → ⊥)
-        → IsErrAnd result (λ e. (kind_of e ≡ ErrorKind.OutOfMemory) ⊎ (kind_of e ≡ ErrorKind.ValueValidation)) }
-    ensures taken_order { (first case out : List ℕ) → map S.text words.entry.now ≡ first ∷ codes "order" ∷ case ∷ codes "--out" ∷ out ∷ []
-        → is_flag case ≡ false → is_flag out ≡ false → IfErr result (λ e. kind_of e ≡ ErrorKind.OutOfMemory) }
-    ensures taken_records { (first file : List ℕ) → map S.text words.entry.now ≡ first ∷ codes "records" ∷ file ∷ []
-        → is_flag file ≡ false → IfErr result (λ e. kind_of e ≡ ErrorKind.OutOfMemory) }
+    ensures taken_check { (first case : List ℕ)
+        → map S.text words.entry.now ≡ first ∷ codes "check" ∷ case ∷ [] → is_flag case ≡ false
+        → IfErr result (λ e. kind_of e ≡ ErrorKind.OutOfMemory) }
+    ensures taken_workers { (first case number : List ℕ)
+        → map S.text words.entry.now
+        ≡ first ∷ codes "check" ∷ case ∷ codes "--workers" ∷ number ∷ [] → is_flag case ≡ false
+        → IsUnsignedIn 1 64 number → IfErr result (λ e. kind_of e ≡ ErrorKind.OutOfMemory) }
+    ensures refused_workers { (first case number : List ℕ)
+        → map S.text words.entry.now
+        ≡ first ∷ codes "check" ∷ case ∷ codes "--workers" ∷ number ∷ [] → is_flag case ≡ false
+        → is_flag number ≡ false → (IsUnsignedIn 1 64 number → ⊥)
+        → IsErrAnd result
+        (λ e. (kind_of e ≡ ErrorKind.OutOfMemory) ⊎ (kind_of e ≡ ErrorKind.ValueValidation)) }
+    ensures taken_order { (first case out : List ℕ)
+        → map S.text words.entry.now ≡ first ∷ codes "order" ∷ case ∷ codes "--out" ∷ out ∷ []
+        → is_flag case ≡ false → is_flag out ≡ false
+        → IfErr result (λ e. kind_of e ≡ ErrorKind.OutOfMemory) }
+    ensures taken_records { (first file : List ℕ)
+        → map S.text words.entry.now ≡ first ∷ codes "records" ∷ file ∷ [] → is_flag file ≡ false
+        → IfErr result (λ e. kind_of e ≡ ErrorKind.OutOfMemory) }
     ensures taken_part { (first file from count : List ℕ)
-        → map S.text words.entry.now ≡ first ∷ codes "records" ∷ file ∷ codes "--from" ∷ from ∷ codes "--count" ∷ count ∷ []
-        → is_flag file ≡ false → IsUnsignedIn 0 most from → IsUnsignedIn 0 most count → IfErr result (λ e. kind_of e ≡ ErrorKind.OutOfMemory) }
+        → map S.text words.entry.now
+        ≡ first ∷ codes "records" ∷ file ∷ codes "--from" ∷ from ∷ codes "--count" ∷ count ∷ []
+        → is_flag file ≡ false → IsUnsignedIn 0 most from → IsUnsignedIn 0 most count
+        → IfErr result (λ e. kind_of e ≡ ErrorKind.OutOfMemory) }
     ensures refused_part { (first file from count : List ℕ)
-        → map S.text words.entry.now ≡ first ∷ codes "records" ∷ file ∷ codes "--from" ∷ from ∷ codes "--count" ∷ count ∷ []
-        → is_flag file ≡ false → is_flag from ≡ false → is_flag count ≡ false → (IsUnsignedIn 0 most from × IsUnsignedIn 0 most count → ⊥)
-        → IsErrAnd result (λ e. (kind_of e ≡ ErrorKind.OutOfMemory) ⊎ (kind_of e ≡ ErrorKind.ValueValidation)) }
+        → map S.text words.entry.now
+        ≡ first ∷ codes "records" ∷ file ∷ codes "--from" ∷ from ∷ codes "--count" ∷ count ∷ []
+        → is_flag file ≡ false → is_flag from ≡ false → is_flag count ≡ false
+        → (IsUnsignedIn 0 most from × IsUnsignedIn 0 most count → ⊥)
+        → IsErrAnd result
+        (λ e. (kind_of e ≡ ErrorKind.OutOfMemory) ⊎ (kind_of e ≡ ErrorKind.ValueValidation)) }
 {
     let matches = matches_of(alloc, words)?;
     Ok(command_in(&matches))

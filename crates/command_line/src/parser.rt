@@ -54,7 +54,9 @@ fn number_option<'a>(
     numbers: ValueParser<'a>,
     help: &'a str,
 ) -> Arg<'a>
-    ensures rule { rule_of result ≡ record (new_rule name.entry.now) { long = Some name.entry.now; value_names = 1; parser = Some numbers.entry } }
+    ensures rule { rule_of result
+        ≡ record (new_rule name.entry.now)
+        { long = Some name.entry.now; value_names = 1; parser = Some numbers.entry } }
     ensures local { result.global ≡ false }
 {
     Arg::new(alloc, name)
@@ -68,13 +70,14 @@ fn number_option<'a>(
 ///
 /// # Errors
 ///
-/// Want of memory.
+/// Out of memory.
 fn with_reader<'a>(
     alloc: Global,
     program: Command<'a>,
     said: Reader<'a>,
 ) -> Result<Command<'a>, AllocError>
-    ensures { IfOk result (λ c. app_of c ≡ with_subcommand (app_of program.entry) (reader said.entry.name.now).top) }
+    ensures { IfOk result
+        (λ c. app_of c ≡ with_subcommand (app_of program.entry) (reader said.entry.name.now).top) }
 {
     let command = Command::new(alloc, said.name)
         .about(said.about)
@@ -88,7 +91,7 @@ fn with_reader<'a>(
 ///
 /// # Errors
 ///
-/// Want of memory.
+/// Out of memory.
 fn with_check<'a>(alloc: Global, program: Command<'a>) -> Result<Command<'a>, AllocError>
     ensures { IfOk result (λ c. app_of c ≡ with_subcommand (app_of program.entry) check.top) }
 {
@@ -107,7 +110,7 @@ fn with_check<'a>(alloc: Global, program: Command<'a>) -> Result<Command<'a>, Al
 ///
 /// # Errors
 ///
-/// Want of memory.
+/// Out of memory.
 fn with_order<'a>(alloc: Global, program: Command<'a>) -> Result<Command<'a>, AllocError>
     ensures { IfOk result (λ c. app_of c ≡ with_subcommand (app_of program.entry) order.top) }
 {
@@ -129,7 +132,7 @@ fn with_order<'a>(alloc: Global, program: Command<'a>) -> Result<Command<'a>, Al
 ///
 /// # Errors
 ///
-/// Want of memory.
+/// Out of memory.
 fn with_records<'a>(alloc: Global, program: Command<'a>) -> Result<Command<'a>, AllocError>
     ensures { IfOk result (λ c. app_of c ≡ with_subcommand (app_of program.entry) records.top) }
 {
@@ -149,7 +152,7 @@ fn with_records<'a>(alloc: Global, program: Command<'a>) -> Result<Command<'a>, 
 ///
 /// # Errors
 ///
-/// Want of memory.
+/// Out of memory.
 fn with_cases<'a>(alloc: Global, program: Command<'a>) -> Result<Command<'a>, AllocError>
     requires { app_of program ≡ top }
     ensures { IfOk result (λ c. app_of c ≡ judging) }
@@ -178,7 +181,7 @@ fn with_cases<'a>(alloc: Global, program: Command<'a>) -> Result<Command<'a>, Al
 ///
 /// # Errors
 ///
-/// Want of memory.
+/// Out of memory.
 fn with_files<'a>(alloc: Global, cases: Command<'a>) -> Result<Command<'a>, AllocError>
     requires { app_of cases ≡ judging }
     ensures { IfOk result (λ c. app_of c ≡ program) }
@@ -215,7 +218,7 @@ fn with_files<'a>(alloc: Global, cases: Command<'a>) -> Result<Command<'a>, Allo
 ///
 /// # Errors
 ///
-/// Want of memory.
+/// Out of memory.
 pub(crate) fn command_line<'a>(alloc: Global) -> Result<Command<'a>, AllocError>
     ensures { IfOk result (λ c. app_of c ≡ program) }
 {

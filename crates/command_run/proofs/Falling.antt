@@ -15,7 +15,7 @@ use Rattle.rpc_view.specs.declared.message.RpcMessage.{RpcMessage}
 use Rattle.rpc_view.specs.declared.view_error.ViewError.{ViewError}
 use Rattle.command_run.specs.Answers.{view_status}
 use Rattle.cap_reader.specs.Defaults.{default_limits}
-use Rattle.command_run.specs.Pieces.{Falls, lines, piece_len, piece_line, piece_status, status_of}
+use Rattle.command_run.specs.FrameFiles.{Falls, lines, piece_len, piece_line, piece_status, status_of}
 
 -- the first piece of the rest falls off too
 falls_more : (bytes : List ℕ) (pieces : List (List ℕ)) (rest : List ℕ) → Falls bytes pieces rest → rest ≢ []

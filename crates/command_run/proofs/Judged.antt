@@ -17,7 +17,7 @@ use Rattle.case_files.specs.declared.case_reading.ReadCase.{ReadCase}
 use Rattle.report_lines.specs.declared.answer.Answer.TheVariants.{Fault, Report}
 use Rattle.report_lines.specs.declared.fault.Fault.{Fault as FaultOf}
 use Rattle.report_lines.specs.Faults.{of_case}
-use Rattle.report_lines.specs.Lines.{Says, answer_status, answer_text, line}
+use Rattle.report_lines.specs.Lines.{SaysAnswer, answer_status, answer_text, line}
 use Rattle.command_run.specs.CommandAnswers.{AnswersReportOf, IsOutOfMemory}
 use Rattle.command_run.specs.Glue.{ComesJudged, Prints}
 use Rattle.command_run.specs.ReportAnswers.{AnswersGraph, AnswersRun, Reporting}
@@ -46,7 +46,7 @@ tied gives old new name came (Ok listed, (s, (is, (Ok logs, (t, (was, (Ok order,
 pub accepted : (held : Contents) (workers : ℕ) → 1 ≤ workers → workers ≤ 64 → tie_fault_of held ≡ None → refusal_of held workers ≡ None
 accepted held workers some few ties = sym (by_ties held workers None (λ none. absurd (omega (arith, none, some))) few (sym ties))
 
--- so nothing but want of memory keeps it from that
+-- so nothing but out of memory keeps it from that
 pub only_memory : (held : Contents) (workers : ℕ) (error : AuditError) → refusal_of held workers ≡ None → IsRefusal held workers error → error ≡ OutOfMemory
 only_memory held workers OutOfMemory none is = refl
 only_memory held workers NoWorkers none is = absurd (none-some _ (sym none ∙ is))
@@ -84,7 +84,7 @@ fault_is answers gives old new name fault (inr (found, (comes, is))) =
 abbrev pub IsNoYes : ReportOf → Type 0
 IsNoYes report = (vats records delivered under_way : ℕ) (run : List StepOf) → report ≡ Yes vats records delivered under_way run → ⊥
 
-pub no_edges : (report : ReportOf) (text : List ℕ) (status : ℕ) → IsNoYes report → Says (Report report) text status → AnswersGraph report text status
+pub no_edges : (report : ReportOf) (text : List ℕ) (status : ℕ) → IsNoYes report → SaysAnswer (Report report) text status → AnswersGraph report text status
 no_edges (Yes v r d u run) text status not says = absurd (not v r d u run refl)
 no_edges (Vat v i b) text status not says = says
 no_edges (OutsideVat v i w) text status not says = says
@@ -92,7 +92,7 @@ no_edges (Link c e m) text status not says = says
 no_edges (OrderStep k) text status not says = says
 no_edges NoOrder text status not says = says
 
-pub no_steps : (report : ReportOf) (text : List ℕ) (status : ℕ) → IsNoYes report → Says (Report report) text status → AnswersRun report text status
+pub no_steps : (report : ReportOf) (text : List ℕ) (status : ℕ) → IsNoYes report → SaysAnswer (Report report) text status → AnswersRun report text status
 no_steps (Yes v r d u run) text status not says = absurd (not v r d u run refl)
 no_steps (Vat v i b) text status not says = says
 no_steps (OutsideVat v i w) text status not says = says

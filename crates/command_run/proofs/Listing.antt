@@ -124,7 +124,7 @@ module _ (first many : Option ℕ) (n at end count : ℕ) (events : List Body) (
       let all : take (at - n) (drop n events) ≡ first_ones many (drop n events) = ap (λ k. take k (drop n events)) last ∙ ends events long in
       inl (ap (record_lines n) all ∙ ap (λ k. record_lines k (first_ones many (drop k events))) is, refl)
 
--- lines were written, and a last one for want of memory is said or not
+-- lines were written, and a last one for out of memory is said or not
 pub stop_said : {W E : Type 0} (contents : W → Option (List ℕ)) (is_finished : W → Type 0) (old now new : W) (answers : List ℕ → ℕ → Type 0) (lines : List ℕ) (r : Result ℕ E)
     → answers (lines ++ text_of OutOfMemory) 3 → Appends (contents old) (contents now) lines → IfOk r (λ s. s ≡ 3)
     → OnOk r (Wrote contents is_finished now (text_of OutOfMemory) new) → Prints answers (Wrote contents is_finished) old new r

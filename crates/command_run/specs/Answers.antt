@@ -15,14 +15,14 @@ use Rattle.report_lines.specs.declared.answer.Answer.{Answer}
 use Rattle.report_lines.specs.declared.answer.Answer.TheVariants.{Message, Fault}
 use Rattle.report_lines.specs.declared.fault.Fault.TheVariants.{BadHex}
 use Rattle.report_lines.specs.Faults.{of_log, of_view}
-use Rattle.report_lines.specs.Lines.{Says, answer_text, line, outcome_status, outcome_text}
+use Rattle.report_lines.specs.Lines.{SaysAnswer, answer_text, line, outcome_status, log_outcome_text}
 
 -- a line and a status answer what a log reads as: its fault, or what the rules say of it
 abbrev pub AnswersReading : Result Log LogError → List ℕ → ℕ → Type 0
-AnswersReading (Err fault) text status = Says (Fault (of_log fault)) text status
+AnswersReading (Err fault) text status = SaysAnswer (Fault (of_log fault)) text status
 AnswersReading (Ok log) text status =
     (outcome : Outcome) × IsTrueOf log default_limits outcome
-    × (text ≡ line (outcome_text log.vat (length log.records) outcome)) × (status ≡ outcome_status outcome)
+    × (text ≡ line (log_outcome_text log.vat (length log.records) outcome)) × (status ≡ outcome_status outcome)
 
 -- a line and a status answer the bytes of a log
 abbrev pub AnswersLog : List ℕ → List ℕ → ℕ → Type 0
@@ -37,7 +37,7 @@ view_answer (Err fault) = Fault (of_view fault)
 abbrev pub view_line : Result RpcMessage ViewError → List ℕ
 view_line view = line (answer_text (view_answer view))
 
--- and its status; no frame's bytes give want of memory, whose status would be another
+-- and its status; no frame's bytes give out of memory, whose status would be another
 abbrev pub view_status : Result RpcMessage ViewError → ℕ
 view_status (Ok message) = 0
 view_status (Err fault) = 2
@@ -49,7 +49,7 @@ AnswersView view text status = (text ≡ view_line view) × (status ≡ view_sta
 -- a line and a status answer what hexadecimal digits give: a frame's bytes, or nothing
 abbrev pub AnswersDigits : Result (List ℕ) FromHexError → List ℕ → ℕ → Type 0
 AnswersDigits (Ok bytes) text status = AnswersView (message_of_bytes bytes default_limits) text status
-AnswersDigits (Err fault) text status = Says (Fault BadHex) text status
+AnswersDigits (Err fault) text status = SaysAnswer (Fault BadHex) text status
 
 -- a line and a status answer a frame in hexadecimal
 abbrev pub AnswersHex : List ℕ → List ℕ → ℕ → Type 0

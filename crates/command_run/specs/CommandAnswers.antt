@@ -7,21 +7,21 @@ use Rattle.case_files.specs.declared.case_reading.ReadCase.{ReadCase}
 use Rattle.report_lines.specs.declared.answer.Answer.TheVariants.{Fault}
 use Rattle.report_lines.specs.declared.fault.Fault.TheVariants.{OutOfMemory}
 use Rattle.report_lines.specs.Faults.{of_source}
-use Rattle.report_lines.specs.Lines.{Says}
+use Rattle.report_lines.specs.Lines.{SaysAnswer}
 use Rattle.command_run.specs.Answers.{AnswersHex, AnswersLog}
 use Rattle.command_run.specs.OrderAnswers.{AnswersCase}
-use Rattle.command_run.specs.Pieces.{AnswersFrames, Falls, lines}
+use Rattle.command_run.specs.FrameFiles.{AnswersFrames, Falls, lines}
 use Rattle.command_run.specs.RecordAnswers.{AnswersRecords}
 use Rattle.command_run.specs.ReportAnswers.{AnswersJudged, Reporting}
 
--- the line and the status for want of memory
+-- the line and the status for out of memory
 abbrev pub IsOutOfMemory : List ℕ → ℕ → Type 0
-IsOutOfMemory text status = Says (Fault OutOfMemory) text status
+IsOutOfMemory text status = SaysAnswer (Fault OutOfMemory) text status
 
 -- a line and a status answer what a source gave as a log
 abbrev pub AnswersSource : Read → List ℕ → ℕ → Type 0
 AnswersSource (Ok bytes) text status = AnswersLog bytes text status ⊎ IsOutOfMemory text status
-AnswersSource (Err fault) text status = Says (Fault (of_source fault)) text status
+AnswersSource (Err fault) text status = SaysAnswer (Fault (of_source fault)) text status
 
 -- a line and a status answer a frame in hexadecimal
 abbrev pub AnswersFrame : List ℕ → List ℕ → ℕ → Type 0
@@ -40,12 +40,12 @@ AnswersBytes bytes text status = AnswersFrames bytes text status ⊎ StopsShort 
 -- lines and a status answer what a source gave as a file of frames
 abbrev pub AnswersFile : Read → List ℕ → ℕ → Type 0
 AnswersFile (Ok bytes) text status = AnswersBytes bytes text status
-AnswersFile (Err fault) text status = Says (Fault (of_source fault)) text status
+AnswersFile (Err fault) text status = SaysAnswer (Fault (of_source fault)) text status
 
 -- lines and a status answer what a source gave as a log whose records are asked for, from this one on and as many
 abbrev pub AnswersLogRecords : Option ℕ → Option ℕ → Read → List ℕ → ℕ → Type 0
 AnswersLogRecords first many (Ok bytes) text status = AnswersRecords first many (log_of bytes) text status
-AnswersLogRecords first many (Err fault) text status = Says (Fault (of_source fault)) text status
+AnswersLogRecords first many (Err fault) text status = SaysAnswer (Fault (of_source fault)) text status
 
 -- A line, a status and the bytes for the file answer the case that a source has under a name; or memory ran out, and then
 -- nothing is said of what the source was asked for.

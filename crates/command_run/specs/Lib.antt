@@ -2,7 +2,7 @@ pub mod Answers
 pub mod CommandAnswers
 pub mod Glue
 pub mod OrderAnswers
-pub mod Pieces
+pub mod FrameFiles
 pub mod RecordAnswers
 pub mod ReportAnswers
 pub mod Runs

@@ -10,7 +10,7 @@ use Rattle.report_lines.specs.declared.answer.Answer.{Answer}
 use Rattle.report_lines.specs.declared.answer.Answer.TheVariants.{Fault}
 use Rattle.report_lines.specs.declared.fault.Fault.TheVariants.{OutOfMemory}
 use Rattle.report_lines.specs.Faults.{of_log}
-use Rattle.report_lines.specs.Lines.{Says, line}
+use Rattle.report_lines.specs.Lines.{SaysAnswer, line}
 use Rattle.report_lines.specs.RecordText.{record_text}
 use Rattle.command_run.specs.Answers.{view_answer}
 
@@ -39,17 +39,17 @@ abbrev pub first_number : Option ℕ → ℕ
 first_number first = unwrap_or first 0
 
 -- the records that are asked for: from that one on, and as many as are wanted
-abbrev pub chosen : Option ℕ → Option ℕ → List Body → List Body
-chosen first many events = first_ones many (drop (first_number first) events)
+abbrev pub chosen_records : Option ℕ → Option ℕ → List Body → List Body
+chosen_records first many events = first_ones many (drop (first_number first) events)
 
 -- the lines of the records that are asked for, each with its number in the log; the status is 0
 abbrev pub AnswersChosen : Option ℕ → Option ℕ → List Body → List ℕ → ℕ → Type 0
-AnswersChosen first many events text status = (text ≡ record_lines (first_number first) (chosen first many events)) × (status ≡ 0)
+AnswersChosen first many events text status = (text ≡ record_lines (first_number first) (chosen_records first many events)) × (status ≡ 0)
 
 -- memory ran out: the lines of some of them, and then that one
 abbrev pub StopsAtRecord : Option ℕ → Option ℕ → List Body → List ℕ → ℕ → Type 0
-StopsAtRecord first many events text status = (shown : ℕ) × ((last : List ℕ) × Says (Fault OutOfMemory) last status
-    × (text ≡ record_lines (first_number first) (take shown (chosen first many events)) ++ last))
+StopsAtRecord first many events text status = (shown : ℕ) × ((last : List ℕ) × SaysAnswer (Fault OutOfMemory) last status
+    × (text ≡ record_lines (first_number first) (take shown (chosen_records first many events)) ++ last))
 
 -- lines and a status answer the records of a log
 abbrev pub AnswersListing : Option ℕ → Option ℕ → List Body → List ℕ → ℕ → Type 0
@@ -58,4 +58,4 @@ AnswersListing first many events text status = AnswersChosen first many events t
 -- lines and a status answer what a log reads as: its records, or its fault
 abbrev pub AnswersRecords : Option ℕ → Option ℕ → Result Log LogError → List ℕ → ℕ → Type 0
 AnswersRecords first many (Ok log) text status = AnswersListing first many log.records text status
-AnswersRecords first many (Err fault) text status = Says (Fault (of_log fault)) text status ⊎ Says (Fault OutOfMemory) text status
+AnswersRecords first many (Err fault) text status = SaysAnswer (Fault (of_log fault)) text status ⊎ SaysAnswer (Fault OutOfMemory) text status

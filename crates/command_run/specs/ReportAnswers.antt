@@ -3,7 +3,7 @@
 use Rattle.std.specs.Prelude.{◌≡◌, ◌≢◌, ℕ, List, [], ◌∷◌, ◌++◌, length, Result, Ok, Err}
 use Rattle.std.specs.List.{flat_map}
 use Rattle.run_model.specs.Edges.{AreEdges, Edge}
-use Rattle.run_model.specs.Steps.{Past}
+use Rattle.run_model.specs.Steps.{PastSteps}
 use Rattle.run_model.specs.declared.step.Step.{Step}
 use Rattle.authority.specs.Records.{record_of}
 use Rattle.audit_core.specs.Report.{IsReport}
@@ -15,7 +15,7 @@ use Rattle.case_files.specs.declared.case_reading.ReadCase.{ReadCase}
 use Rattle.report_lines.specs.declared.answer.Answer.TheVariants.{Fault, Report}
 use Rattle.report_lines.specs.EdgeText.{edge_text}
 use Rattle.report_lines.specs.Faults.{of_case}
-use Rattle.report_lines.specs.Lines.{Says, line}
+use Rattle.report_lines.specs.Lines.{SaysAnswer, line}
 use Rattle.report_lines.specs.StepText.{step_text}
 
 -- ---- the lines of a run
@@ -25,11 +25,11 @@ abbrev pub edge_lines : List Edge → List ℕ
 edge_lines edges = flat_map (λ edge. line (edge_text edge)) edges
 
 -- the line of a step, by the steps before it
-abbrev pub step_line : Past → Step → List ℕ
+abbrev pub step_line : PastSteps → Step → List ℕ
 step_line before step = line (step_text (length before) (record_of before step) step)
 
 -- a line for each step of those that follow one another
-abbrev pub step_lines_from : Past → List Step → List ℕ
+abbrev pub step_lines_from : PastSteps → List Step → List ℕ
 step_lines_from before [] = []
 step_lines_from before (step ∷ steps) = step_line before step ++ step_lines_from (step ∷ before) steps
 
@@ -53,20 +53,20 @@ Reporting = ReportOf → List ℕ → ℕ → Type 0
 
 -- where it is asked for: its line
 abbrev pub AnswersReport : Reporting
-AnswersReport report text status = Says (Report report) text status
+AnswersReport report text status = SaysAnswer (Report report) text status
 
 -- where the graph is asked for: the edges of the run, or the line of a report that isn't yes
 abbrev pub AnswersGraph : Reporting
 AnswersGraph (Yes vats records delivered under_way run) text status = ShowsEdges run text status
-AnswersGraph report text status = Says (Report report) text status
+AnswersGraph report text status = SaysAnswer (Report report) text status
 
 -- where the run is asked for: its steps, or the line of a report that isn't yes
 abbrev pub AnswersRun : Reporting
 AnswersRun (Yes vats records delivered under_way run) text status = ShowsSteps run text status
-AnswersRun report text status = Says (Report report) text status
+AnswersRun report text status = SaysAnswer (Report report) text status
 
 -- Lines and a status answer what came of a case: its report by the order that its file names, if it names one, or why there
--- is none. Want of memory is no answer of a case.
+-- is none. Running out of memory is no answer of a case.
 abbrev pub AnswersJudged : Reporting → Result ReadCase CaseFault → List ℕ → ℕ → Type 0
 AnswersJudged answers (Ok came) text status = (report : ReportOf) × (IsReport came.case came.order report × answers report text status)
-AnswersJudged answers (Err found) text status = (found ≢ fault.OutOfMemory) × Says (Fault (of_case found)) text status
+AnswersJudged answers (Err found) text status = (found ≢ fault.OutOfMemory) × SaysAnswer (Fault (of_case found)) text status

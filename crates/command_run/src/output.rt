@@ -26,7 +26,9 @@ pub trait Output {
     /// Writes a text, and behind it the end of the line.
     fn write_line<D: Display + Drop>(&mut self, text: D) -> Result<(), Self::Error>
         requires { can_write self.old }
-        ensures line { OnOk result (IfSome (with_newline (D.output text)) (Appends (contents self.old) (contents self.new))) }
+        ensures line { OnOk result
+            (IfSome (with_newline (D.output text))
+            (Appends (contents self.old) (contents self.new))) }
         ensures more { OnOk result (can_write self.new) };
 
     /// Writes bytes.

@@ -5,17 +5,17 @@ ghost use Rattle.command_line.specs.Spelled.{HasWorkers};
 ghost use Rattle.command_run.specs.Glue.{of_lines};
 ghost use Rattle.command_run.specs.Runs.{Adds, CarriesOut, Writes, WritesOrFails, Wrote};
 
-use crate::edges::say_graph;
-use crate::frame::say_frame;
-use crate::frames::say_frames;
-use crate::heard::Heard;
-use crate::notes::notes_of;
-use crate::order::say_order;
+use crate::commands::check::say_report;
+use crate::commands::frame_list::say_frames;
+use crate::commands::graph::say_graph;
+use crate::commands::hex_frame::say_frame;
+use crate::commands::log_records::say_records;
+use crate::commands::make_order::say_order;
+use crate::commands::run_steps::say_run;
+use crate::commands::vat_audit::say_vat;
+use crate::notes::cause::Heard;
+use crate::notes::note_lines::notes_of;
 use crate::output::{Failed, Output};
-use crate::records::say_records;
-use crate::report::say_report;
-use crate::steps::say_run;
-use crate::vat::say_vat;
 use case_files::Source;
 use command_line::Command;
 use std::alloc::Global;
@@ -49,7 +49,9 @@ fn answer_heard<R: Threads + Wait + Sync, S: Source, O: Output, F: Output>(
     requires workers { HasWorkers command.now }
     requires out { O.can_write out.old }
     requires file { F.can_write file.old }
-    ensures { CarriesOut S.read_gives command.now source.old source.new (λ answers. Writes answers (Wrote O.contents O.is_finished) (Wrote F.contents F.is_finished) out.old out.new file.old file.new result) }
+    ensures { CarriesOut S.read_gives command.now source.old source.new
+        (λ answers. Writes answers (Wrote O.contents O.is_finished)
+        (Wrote F.contents F.is_finished) out.old out.new file.old file.new result) }
 {
     match command {
         Command::Check { case, workers } => {
@@ -89,7 +91,9 @@ pub fn answer_command<R: Threads + Wait + Sync, S: Source, O: Output, F: Output>
     requires workers { HasWorkers command.now }
     requires out { O.can_write out.old }
     requires file { F.can_write file.old }
-    ensures { CarriesOut S.read_gives command.now source.old source.new (λ answers. Writes answers (Wrote O.contents O.is_finished) (Wrote F.contents F.is_finished) out.old out.new file.old file.new result) }
+    ensures { CarriesOut S.read_gives command.now source.old source.new
+        (λ answers. Writes answers (Wrote O.contents O.is_finished)
+        (Wrote F.contents F.is_finished) out.old out.new file.old file.new result) }
 {
     answer_heard(rt, alloc, command, source, &mut Heard::Nothing, out, file)
 }
@@ -104,7 +108,9 @@ pub fn run_on<R: Threads + Wait + Sync, S: Source, W: Write, F: Write>(
     file: &mut F,
 ) -> u8
     requires { HasWorkers command.now }
-    ensures { CarriesOut S.read_gives command.now source.old source.new (λ answers. WritesOrFails answers (Adds W.contents) (Adds F.contents) out.old out.new file.old file.new result) }
+    ensures { CarriesOut S.read_gives command.now source.old source.new
+        (λ answers. WritesOrFails answers (Adds W.contents)
+        (Adds F.contents) out.old out.new file.old file.new result) }
 {
     answer_command(rt, alloc, command, source, out, file).unwrap_or(FAILED)
 }
@@ -123,7 +129,9 @@ pub fn run_with_notes<R: Threads + Wait + Sync, S: Source, W: Write, F: Write, N
     notes: &mut N,
 ) -> u8
     requires { HasWorkers command.now }
-    ensures { CarriesOut S.read_gives command.now source.old source.new (λ answers. WritesOrFails answers (Adds W.contents) (Adds F.contents) out.old out.new file.old file.new result) }
+    ensures { CarriesOut S.read_gives command.now source.old source.new
+        (λ answers. WritesOrFails answers (Adds W.contents)
+        (Adds F.contents) out.old out.new file.old file.new result) }
 {
     let mut heard = Heard::Nothing;
     let answered = answer_heard(rt, alloc, command, source, &mut heard, out, file);

@@ -11,7 +11,7 @@ use Rattle.vat_log.specs.declared.body.Body.{Body}
 use Rattle.vat_log.specs.declared.body.Body.TheVariants.{Send, Receive}
 use Rattle.link_check.specs.declared.outcome.LinkOutcome.{LinkOutcome}
 use Rattle.link_check.specs.declared.outcome.LinkOutcome.TheVariants.{Good, Broken}
-use Rattle.link_check.specs.Prefix.{sent_by, received_by, sent, received, Ends, IsPrefix, IsLeastFault, IsGood, IsBrokenAtFirst, IsBrokenAtSecond, IsOutcome}
+use Rattle.link_check.specs.Prefix.{frame_sent, frame_received, frames_sent, frames_received, Ends, IsPrefix, IsLeastFault, IsGood, IsBrokenAtFirst, IsBrokenAtSecond, IsOutcome}
 use Rattle.link_check.specs.Glue.{first_fault}
 
 none_same : (b : Bool) (o : Option ℕ) → cond b (option_map suc o) (Some 0) ≡ None → (b ≡ true) × (o ≡ None)
@@ -113,7 +113,7 @@ one_outcome link (Broken v m) (Good d f) one other = absurd (not_good link d f v
 one_outcome link (Broken v m) (Broken w n) one other = breaks_same link v m w n one other
 
 -- a record sends a frame or receives one, and not both
-at_most_one : (connection : ℕ) (b : Body) → length (option_to_list (sent_by connection b)) + length (option_to_list (received_by connection b)) ≤ 1
+at_most_one : (connection : ℕ) (b : Body) → length (option_to_list (frame_sent connection b)) + length (option_to_list (frame_received connection b)) ≤ 1
 at_most_one connection (Send on call references frame) = elim (on == connection) as (λ t. length (option_to_list (cond t (Some frame) None)) + 0 ≤ 1) [ true ↦ omega arith | false ↦ omega arith ]
 at_most_one connection (Receive on call references frame) = elim (on == connection) as (λ t. 0 + length (option_to_list (cond t (Some frame) None)) ≤ 1) [ true ↦ omega arith | false ↦ omega arith ]
 at_most_one connection _ = omega arith
@@ -122,15 +122,15 @@ cons_length : {Y : Type 0} (o : Option Y) (ys : List Y) → length (cons_option 
 cons_length None ys = omega arith
 cons_length (Some y) ys = omega arith
 
-within_list : (connection : ℕ) (bs : List Body) → length (filter_map (sent_by connection) bs) + length (filter_map (received_by connection) bs) ≤ length bs
+within_list : (connection : ℕ) (bs : List Body) → length (filter_map (frame_sent connection) bs) + length (filter_map (frame_received connection) bs) ≤ length bs
 within_list connection [] = omega arith
 within_list connection (b ∷ bs) =
-    let out = filter_map (sent_by connection) bs in
-    let into = filter_map (received_by connection) bs in
-    omega (arith, within_list connection bs, at_most_one connection b, cons_length (sent_by connection b) out, cons_length (received_by connection b) into)
+    let out = filter_map (frame_sent connection) bs in
+    let into = filter_map (frame_received connection) bs in
+    omega (arith, within_list connection bs, at_most_one connection b, cons_length (frame_sent connection b) out, cons_length (frame_received connection b) into)
 
 -- no more frames than records
-pub within : (connection : ℕ) (log : Log) → length (sent connection log) + length (received connection log) ≤ length log.records
+pub within : (connection : ℕ) (log : Log) → length (frames_sent connection log) + length (frames_received connection log) ≤ length log.records
 within connection log = within_list connection log.records
 
 -- ---- one message further
@@ -174,15 +174,15 @@ goes_on r s m total x y rs ss b so_far e f is holds =
 
 -- ---- the outcome, by what was found
 
-pub broken_at_first : (link : Ends) (v m : ℕ) → v ≡ link.first.vat → Some m ≡ first_fault (received link.connection link.first) (sent link.connection link.second) → IsOutcome link (Broken v m)
+pub broken_at_first : (link : Ends) (v m : ℕ) → v ≡ link.first.vat → Some m ≡ first_fault (frames_received link.connection link.first) (frames_sent link.connection link.second) → IsOutcome link (Broken v m)
 broken_at_first link v m vat fault = inl (record { end = vat; fault = least_from_some _ _ m (sym fault) })
 
-pub broken_at_second : (link : Ends) (v m : ℕ) → v ≡ link.second.vat → None ≡ first_fault (received link.connection link.first) (sent link.connection link.second)
-    → Some m ≡ first_fault (received link.connection link.second) (sent link.connection link.first) → IsOutcome link (Broken v m)
+pub broken_at_second : (link : Ends) (v m : ℕ) → v ≡ link.second.vat → None ≡ first_fault (frames_received link.connection link.first) (frames_sent link.connection link.second)
+    → Some m ≡ first_fault (frames_received link.connection link.second) (frames_sent link.connection link.first) → IsOutcome link (Broken v m)
 broken_at_second link v m vat none fault = inr (record { end = vat; at_first = prefix_from_none _ _ (sym none); fault = least_from_some _ _ m (sym fault) })
 
-pub good_link : (link : Ends) (r1 r2 s1 s2 : ℕ) → None ≡ first_fault (received link.connection link.first) (sent link.connection link.second) → None ≡ first_fault (received link.connection link.second) (sent link.connection link.first)
-    → r1 ≡ length (received link.connection link.first) → r2 ≡ length (received link.connection link.second) → s1 ≡ length (sent link.connection link.first) → s2 ≡ length (sent link.connection link.second)
+pub good_link : (link : Ends) (r1 r2 s1 s2 : ℕ) → None ≡ first_fault (frames_received link.connection link.first) (frames_sent link.connection link.second) → None ≡ first_fault (frames_received link.connection link.second) (frames_sent link.connection link.first)
+    → r1 ≡ length (frames_received link.connection link.first) → r2 ≡ length (frames_received link.connection link.second) → s1 ≡ length (frames_sent link.connection link.first) → s2 ≡ length (frames_sent link.connection link.second)
     → IsOutcome link (Good (r1 + r2) (s1 - r2 + (s2 - r1)))
 good_link link r1 r2 s1 s2 first second er1 er2 es1 es2 =
     let p = prefix_from_none _ _ (sym first) in

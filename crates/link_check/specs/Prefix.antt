@@ -9,22 +9,22 @@ use Rattle.link_check.specs.declared.outcome.LinkOutcome.{LinkOutcome}
 use Rattle.link_check.specs.declared.outcome.LinkOutcome.TheVariants.{Good, Broken}
 
 -- the frame that a record sends on the connection
-abbrev pub sent_by : ℕ → Body → Option (List ℕ)
-sent_by connection (Send on call references frame) = if on == connection then Some frame else None
-sent_by connection _ = None
+abbrev pub frame_sent : ℕ → Body → Option (List ℕ)
+frame_sent connection (Send on call references frame) = if on == connection then Some frame else None
+frame_sent connection _ = None
 
 -- the frame that a record receives on the connection
-abbrev pub received_by : ℕ → Body → Option (List ℕ)
-received_by connection (Receive on call references frame) = if on == connection then Some frame else None
-received_by connection _ = None
+abbrev pub frame_received : ℕ → Body → Option (List ℕ)
+frame_received connection (Receive on call references frame) = if on == connection then Some frame else None
+frame_received connection _ = None
 
 -- the frames that a vat sent on the connection, in order
-abbrev pub sent : ℕ → Log → List (List ℕ)
-sent connection log = filter_map (sent_by connection) log.records
+abbrev pub frames_sent : ℕ → Log → List (List ℕ)
+frames_sent connection log = filter_map (frame_sent connection) log.records
 
 -- the frames that a vat received on the connection, in order
-abbrev pub received : ℕ → Log → List (List ℕ)
-received connection log = filter_map (received_by connection) log.records
+abbrev pub frames_received : ℕ → Log → List (List ℕ)
+frames_received connection log = filter_map (frame_received connection) log.records
 
 -- a connection and the logs of its two ends
 pub record Ends : Type 0 where
@@ -38,31 +38,31 @@ ends_of connection a b = if nat_lt a.vat b.vat then record { connection = connec
 
 -- what was received is a prefix of what was sent
 abbrev pub IsPrefix : List (List ℕ) → List (List ℕ) → Type 0
-IsPrefix received sent = (rest : List (List ℕ)) × (sent ≡ received ++ rest)
+IsPrefix frames_received frames_sent = (rest : List (List ℕ)) × (frames_sent ≡ frames_received ++ rest)
 
 -- the message of this number was received and isn't the one sent; all before it are
-pub record IsLeastFault (received sent : List (List ℕ)) (message : ℕ) : Type 0 where
-  pub came : message < length received
-  pub differs : slice_get sent message ≢ slice_get received message
-  pub least : (before : ℕ) → before < message → slice_get sent before ≡ slice_get received before
+pub record IsLeastFault (frames_received frames_sent : List (List ℕ)) (message : ℕ) : Type 0 where
+  pub came : message < length frames_received
+  pub differs : slice_get frames_sent message ≢ slice_get frames_received message
+  pub least : (before : ℕ) → before < message → slice_get frames_sent before ≡ slice_get frames_received before
 
 -- both ends received a prefix of what the other sent; the frames received, and those sent and not received
 pub record IsGood (link : Ends) (delivered in_flight : ℕ) : Type 0 where
-  pub at_first : IsPrefix (received link.connection link.first) (sent link.connection link.second)
-  pub at_second : IsPrefix (received link.connection link.second) (sent link.connection link.first)
-  pub came : delivered ≡ length (received link.connection link.first) + length (received link.connection link.second)
-  pub went : delivered + in_flight ≡ length (sent link.connection link.first) + length (sent link.connection link.second)
+  pub at_first : IsPrefix (frames_received link.connection link.first) (frames_sent link.connection link.second)
+  pub at_second : IsPrefix (frames_received link.connection link.second) (frames_sent link.connection link.first)
+  pub came : delivered ≡ length (frames_received link.connection link.first) + length (frames_received link.connection link.second)
+  pub went : delivered + in_flight ≡ length (frames_sent link.connection link.first) + length (frames_sent link.connection link.second)
 
 -- the least fault is at the first end
 pub record IsBrokenAtFirst (link : Ends) (at message : ℕ) : Type 0 where
   pub end : at ≡ link.first.vat
-  pub fault : IsLeastFault (received link.connection link.first) (sent link.connection link.second) message
+  pub fault : IsLeastFault (frames_received link.connection link.first) (frames_sent link.connection link.second) message
 
 -- the first end has no fault, and the least fault is at the second
 pub record IsBrokenAtSecond (link : Ends) (at message : ℕ) : Type 0 where
   pub end : at ≡ link.second.vat
-  pub at_first : IsPrefix (received link.connection link.first) (sent link.connection link.second)
-  pub fault : IsLeastFault (received link.connection link.second) (sent link.connection link.first) message
+  pub at_first : IsPrefix (frames_received link.connection link.first) (frames_sent link.connection link.second)
+  pub fault : IsLeastFault (frames_received link.connection link.second) (frames_sent link.connection link.first) message
 
 -- what an outcome says of a link
 abbrev pub IsOutcome : Ends → LinkOutcome → Type 0

@@ -111,7 +111,7 @@ fn outcome_between(connection: u32, first: &VatLog, second: &VatLog) -> LinkOutc
 }
 
 /// What is found, where the first log has the smaller vat number.
-fn ordered(
+fn in_order(
     connection: u32,
     first: &Arc<VatLog>,
     second: &Arc<VatLog>,
@@ -134,7 +134,7 @@ fn ordered(
 }
 
 /// What is found of a connection between the vats of two logs, in either order. The two logs are of different vats. The end
-/// with the smaller vat number is tried first, then the least message. The only error is want of memory, where a log has
+/// with the smaller vat number is tried first, then the least message. The only error is that memory ran out, where a log has
 /// too many owners to count.
 pub fn check_link(
     connection: u32,
@@ -145,8 +145,8 @@ pub fn check_link(
     ensures { IfOk result (λ link. link ≡ ends_of connection (arc_value a.now) (arc_value b.now)) }
 {
     if a.vat() < b.vat() {
-        ordered(connection, a, b)
+        in_order(connection, a, b)
     } else {
-        ordered(connection, b, a)
+        in_order(connection, b, a)
     }
 }

@@ -2,7 +2,7 @@
 
 ghost use Rattle.std.specs.Prelude.{◌≡◌, ◌+◌, ◌≤◌, length, option_and_then, slice_get};
 ghost use Rattle.std.specs.Option.{option_copied, option_map};
-ghost use Rattle.link_check.specs.Prefix.{sent_by, received_by, sent, received};
+ghost use Rattle.link_check.specs.Prefix.{frame_sent, frame_received, frames_sent, frames_received};
 ghost use Rattle.link_check.specs.Glue.{IsNext, first_fault};
 
 use bytes::Bytes;
@@ -11,7 +11,7 @@ use vat_log::{Body, VatLog};
 /// The frame that the record of this number sends on the connection.
 fn sent_at(log: &VatLog, connection: u32, index: usize) -> Option<&Bytes>
     ensures { option_copied result
-        ≡ option_and_then (sent_by connection) (slice_get log.now.records index) }
+        ≡ option_and_then (frame_sent connection) (slice_get log.now.records index) }
 {
     match log.get(index)?.body() {
         Body::Send {
@@ -26,7 +26,7 @@ fn sent_at(log: &VatLog, connection: u32, index: usize) -> Option<&Bytes>
 /// The frame that the record of this number receives on the connection.
 fn received_at(log: &VatLog, connection: u32, index: usize) -> Option<&Bytes>
     ensures { option_copied result
-        ≡ option_and_then (received_by connection) (slice_get log.now.records index) }
+        ≡ option_and_then (frame_received connection) (slice_get log.now.records index) }
 {
     match log.get(index)?.body() {
         Body::Receive {
@@ -40,8 +40,8 @@ fn received_at(log: &VatLog, connection: u32, index: usize) -> Option<&Bytes>
 
 /// How many frames a vat sent on the connection.
 pub fn count_sent(log: &VatLog, connection: u32) -> u64
-    ensures count { result ≡ length (sent connection log.now) }
-    ensures fits { result + length (received connection log.now) ≤ 1048576 }
+    ensures count { result ≡ length (frames_sent connection log.now) }
+    ensures fits { result + length (frames_received connection log.now) ≤ 1048576 }
 {
     let mut count = 0;
     for index in 0..log.len() {
@@ -54,7 +54,7 @@ pub fn count_sent(log: &VatLog, connection: u32) -> u64
 
 /// How many frames a vat received on the connection.
 pub fn count_received(log: &VatLog, connection: u32) -> u64
-    ensures count { result ≡ length (received connection log.now) }
+    ensures count { result ≡ length (frames_received connection log.now) }
 {
     let mut count = 0;
     for index in 0..log.len() {
@@ -67,7 +67,7 @@ pub fn count_received(log: &VatLog, connection: u32) -> u64
 
 /// The next frame that a vat sent on the connection, in the records from this number on, and the number after its record.
 fn next_sent(log: &VatLog, connection: u32, from: usize) -> Option<(usize, &Bytes)>
-    ensures { IsNext (sent_by connection) log.now.records from
+    ensures { IsNext (frame_sent connection) log.now.records from
         (option_map (λ p. (p.0, p.1.now)) result) }
 {
     for index in from..log.len() {
@@ -80,7 +80,7 @@ fn next_sent(log: &VatLog, connection: u32, from: usize) -> Option<(usize, &Byte
 
 /// The next frame that a vat received on the connection, in the same way.
 fn next_received(log: &VatLog, connection: u32, from: usize) -> Option<(usize, &Bytes)>
-    ensures { IsNext (received_by connection) log.now.records from
+    ensures { IsNext (frame_received connection) log.now.records from
         (option_map (λ p. (p.0, p.1.now)) result) }
 {
     for index in from..log.len() {
@@ -93,7 +93,8 @@ fn next_received(log: &VatLog, connection: u32, from: usize) -> Option<(usize, &
 
 /// The least message that the receiver got and that isn't the one of this number that the sender sent, counted from 0.
 pub fn find_fault(receiver: &VatLog, sender: &VatLog, connection: u32) -> Option<u64>
-    ensures { result ≡ first_fault (received connection receiver.now) (sent connection sender.now) }
+    ensures { result ≡ first_fault (frames_received connection receiver.now)
+        (frames_sent connection sender.now) }
 {
     let mut message = 0;
     let mut begin = 0;

@@ -10,7 +10,7 @@ use Rattle.std.proofs.lemmas.Option.{slice_get_past}
 use Rattle.vat_log.specs.Log.{Log}
 use Rattle.vat_log.specs.declared.body.Body.{Body}
 use Rattle.vat_log.specs.declared.body.Body.TheVariants.{Receive}
-use Rattle.merge_order.specs.Fits.{Part, sends, sent, received, part_of, sent_by_others, may_follow, may_come_from, may_come, further, after, used_up, FitsFrom}
+use Rattle.merge_order.specs.Fits.{Part, sends_frame, sent_so_far, received_so_far, part_of, sent_by_the_others, may_follow, may_come_from, may_come, further, after, used_up, FitsFrom}
 
 pub bool_cases : (b : Bool) → (b ≡ true) ⊎ (b ≡ false)
 bool_cases true = inl refl
@@ -109,21 +109,21 @@ count_grows p xs n =
           omega (arith, ap (count_by p) all, ap (count_by p) all_later)
     ]
 
-sent_grows : (connection w : ℕ) (p : Part) → sent connection p ≤ sent connection (further w p)
+sent_grows : (connection w : ℕ) (p : Part) → sent_so_far connection p ≤ sent_so_far connection (further w p)
 sent_grows connection w p =
     elim (further_cases w p) [
-      | inl stays ↦ omega (arith, ap (sent connection) stays.0)
-      | inr moves ↦ omega (arith, ap (sent connection) moves.0, count_grows (sends connection) p.log.records p.came)
+      | inl stays ↦ omega (arith, ap (sent_so_far connection) stays.0)
+      | inr moves ↦ omega (arith, ap (sent_so_far connection) moves.0, count_grows (sends_frame connection) p.log.records p.came)
     ]
 
 -- a vat's own part isn't among the others, and any other is
-pub others_own : (v connection : ℕ) (p : Part) (ps : List Part) → p.log.vat ≡ v → sent_by_others v connection (p ∷ ps) ≡ sent_by_others v connection ps
+pub others_own : (v connection : ℕ) (p : Part) (ps : List Part) → p.log.vat ≡ v → sent_by_the_others v connection (p ∷ ps) ≡ sent_by_the_others v connection ps
 others_own v connection p ps same = rw (eq-eqb _ _ same) refl
 
-pub others_more : (v connection : ℕ) (p : Part) (ps : List Part) → p.log.vat ≢ v → sent_by_others v connection (p ∷ ps) ≡ sent connection p + sent_by_others v connection ps
-others_more v connection p ps other = rw (eqb_apart _ _ other) (sum_by-cons (sent connection) p (filter (λ (q : Part). not (q.log.vat == v)) ps))
+pub others_more : (v connection : ℕ) (p : Part) (ps : List Part) → p.log.vat ≢ v → sent_by_the_others v connection (p ∷ ps) ≡ sent_so_far connection p + sent_by_the_others v connection ps
+others_more v connection p ps other = rw (eqb_apart _ _ other) (sum_by-cons (sent_so_far connection) p (filter (λ (q : Part). not (q.log.vat == v)) ps))
 
-pub others_grow : (v connection w : ℕ) (ps : List Part) → sent_by_others v connection ps ≤ sent_by_others v connection (after w ps)
+pub others_grow : (v connection w : ℕ) (ps : List Part) → sent_by_the_others v connection ps ≤ sent_by_the_others v connection (after w ps)
 others_grow v connection w [] = omega arith
 others_grow v connection w (p ∷ ps) =
     let later = others_grow v connection w ps in
@@ -135,13 +135,13 @@ others_grow v connection w (p ∷ ps) =
 
 -- ---- what may come may still come
 
-follows_later : (v : ℕ) (ps qs : List Part) (own : Part) (o : Option Body) → ((connection : ℕ) → sent_by_others v connection ps ≤ sent_by_others v connection qs) → may_follow v ps own o ≡ true → may_follow v qs own o ≡ true
+follows_later : (v : ℕ) (ps qs : List Part) (own : Part) (o : Option Body) → ((connection : ℕ) → sent_by_the_others v connection ps ≤ sent_by_the_others v connection qs) → may_follow v ps own o ≡ true → may_follow v qs own o ≡ true
 follows_later v ps qs own None grows may = absurd (false≢true may)
 follows_later v ps qs own (Some (Receive connection call references frame)) grows may =
-    lt-ltb _ _ (let lt = ltb-true (received connection own) (sent_by_others v connection ps) may in omega (arith, lt, grows connection))
+    lt-ltb _ _ (let lt = ltb-true (received_so_far connection own) (sent_by_the_others v connection ps) may in omega (arith, lt, grows connection))
 follows_later v ps qs own (Some _) grows may = refl
 
-comes_later : (v : ℕ) (ps qs : List Part) (o : Option Part) → ((connection : ℕ) → sent_by_others v connection ps ≤ sent_by_others v connection qs) → may_come_from v ps o ≡ true → may_come_from v qs o ≡ true
+comes_later : (v : ℕ) (ps qs : List Part) (o : Option Part) → ((connection : ℕ) → sent_by_the_others v connection ps ≤ sent_by_the_others v connection qs) → may_come_from v ps o ≡ true → may_come_from v qs o ≡ true
 comes_later v ps qs None grows may = absurd (false≢true may)
 comes_later v ps qs (Some own) grows may = follows_later v ps qs own (slice_get own.log.records own.came) grows may
 

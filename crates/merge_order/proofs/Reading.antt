@@ -11,7 +11,7 @@ use Rattle.std.proofs.lemmas.Nat.{le_bytes_4, from_le_bytes-to_le_bytes_4}
 use Rattle.std.proofs.lemmas.Slice.Eq.{starts_is}
 use Rattle.merge_order.specs.declared.error.OrderError.{OrderError}
 use Rattle.merge_order.specs.declared.error.OrderError.TheVariants.{BadMagic, Short}
-use Rattle.merge_order.specs.Spelling.{magic, spelling, AreVats, preceded, steps_at, order_of, GivesInMemory}
+use Rattle.merge_order.specs.Spelling.{order_magic, spelling, AreVats, with_step_before, steps_at, spelled_order, GivesOrderInMemory}
 
 -- the steps that were read before, and what is still read
 abbrev pub with_front : List ℕ → Result (List ℕ) OrderError → Result (List ℕ) OrderError
@@ -22,11 +22,11 @@ pub front_none : (read : Result (List ℕ) OrderError) → with_front [] read �
 front_none (Ok vats) = refl
 front_none (Err fault) = refl
 
-front_more : (front : List ℕ) (vat : ℕ) (read : Result (List ℕ) OrderError) → with_front front (preceded vat read) ≡ with_front (front ++ vat ∷ []) read
+front_more : (front : List ℕ) (vat : ℕ) (read : Result (List ℕ) OrderError) → with_front front (with_step_before vat read) ≡ with_front (front ++ vat ∷ []) read
 front_more front vat (Ok vats) = ap (λ (l : List ℕ). Ok l) (sym (append_assoc front (vat ∷ []) vats))
 front_more front vat (Err fault) = refl
 
-next_step : (at : ℕ) (bytes : List ℕ) → 4 ≤ length bytes → steps_at at bytes ≡ preceded (from_le_bytes w32 (take 4 bytes)) (steps_at (at + 4) (drop 4 bytes))
+next_step : (at : ℕ) (bytes : List ℕ) → 4 ≤ length bytes → steps_at at bytes ≡ with_step_before (from_le_bytes w32 (take 4 bytes)) (steps_at (at + 4) (drop 4 bytes))
 unfolding steps_at
 next_step at [] le = absurd (omega arith)
 next_step at (a ∷ []) le = absurd (omega arith)
@@ -50,7 +50,7 @@ no_step at (a ∷ bytes) e = absurd (omega arith)
 pub reads_on : (front : List ℕ) (at vat : ℕ) (bytes : List ℕ) (total : Result (List ℕ) OrderError) → 4 ≤ length bytes → vat ≡ from_le_bytes w32 (take 4 bytes) → with_front front (steps_at at bytes) ≡ total
     → with_front (front ++ vat ∷ []) (steps_at (at + 4) (drop 4 bytes)) ≡ total
 reads_on front at vat bytes total le is so_far =
-    sym (front_more front vat (steps_at (at + 4) (drop 4 bytes))) ∙ ap (λ (k : ℕ). with_front front (preceded k (steps_at (at + 4) (drop 4 bytes)))) is ∙ ap (with_front front) (sym (next_step at bytes le)) ∙ so_far
+    sym (front_more front vat (steps_at (at + 4) (drop 4 bytes))) ∙ ap (λ (k : ℕ). with_front front (with_step_before k (steps_at (at + 4) (drop 4 bytes)))) is ∙ ap (with_front front) (sym (next_step at bytes le)) ∙ so_far
 
 pub reads_cut : (front : List ℕ) (at : ℕ) (bytes : List ℕ) (total : Result (List ℕ) OrderError) → length bytes < 4 → 0 < length bytes → with_front front (steps_at at bytes) ≡ total → total ≡ Err (Short at)
 reads_cut front at bytes total lt some so_far = sym so_far ∙ ap (with_front front) (cut_step at bytes lt some)
@@ -70,7 +70,7 @@ none_left n b is e = eqb-true n 0 (sym is ∙ e)
 abbrev pub IsBytes : List ℕ → Type 0
 IsBytes bytes = (i : ℕ) → get_or bytes i 0 < 256
 
-ok_is : (vat : ℕ) (read : Result (List ℕ) OrderError) (vats : List ℕ) → preceded vat read ≡ Ok vats → (later : List ℕ) × (read ≡ Ok later) × (vat ∷ later ≡ vats)
+ok_is : (vat : ℕ) (read : Result (List ℕ) OrderError) (vats : List ℕ) → with_step_before vat read ≡ Ok vats → (later : List ℕ) × (read ≡ Ok later) × (vat ∷ later ≡ vats)
 ok_is vat (Ok later) vats e = (later, refl, cc)
 ok_is vat (Err fault) vats e = absurd cc
 
@@ -114,26 +114,26 @@ steps_again at (vat ∷ vats) fits =
 rest_fits : (bytes : List ℕ) (i : ℕ) → IsBytes bytes → get_or (drop 8 bytes) i 0 < 256
 rest_fits bytes i fits = rw get_or-drop (fits (8 + i))
 
-begins : (bytes : List ℕ) → starts_with eqb bytes magic ≡ true → bytes ≡ magic ++ drop 8 bytes
-begins bytes e = (starts_is Decides-eqb bytes magic (starts_with eqb bytes magic) refl).0 e
+begins : (bytes : List ℕ) → starts_with eqb bytes order_magic ≡ true → bytes ≡ order_magic ++ drop 8 bytes
+begins bytes e = (starts_is Decides-eqb bytes order_magic (starts_with eqb bytes order_magic) refl).0 e
 
-begins_again : (bytes rest : List ℕ) → bytes ≡ magic ++ rest → starts_with eqb bytes magic ≡ true
-begins_again bytes rest e = (starts_is Decides-eqb bytes magic (starts_with eqb bytes magic) refl).1 rest e
+begins_again : (bytes rest : List ℕ) → bytes ≡ order_magic ++ rest → starts_with eqb bytes order_magic ≡ true
+begins_again bytes rest e = (starts_is Decides-eqb bytes order_magic (starts_with eqb bytes order_magic) refl).1 rest e
 
 chosen : (b : Bool) (read : Result (List ℕ) OrderError) (vats : List ℕ) → cond b read (Err BadMagic) ≡ Ok vats → (b ≡ true) × (read ≡ Ok vats)
 chosen true read vats e = (refl, e)
 chosen false read vats e = absurd cc
 
-pub spelled : (bytes vats : List ℕ) → IsBytes bytes → order_of bytes ≡ Ok vats → AreVats vats × (bytes ≡ spelling vats)
-unfolding order_of
+pub spelled : (bytes vats : List ℕ) → IsBytes bytes → spelled_order bytes ≡ Ok vats → AreVats vats × (bytes ≡ spelling vats)
+unfolding spelled_order
 spelled bytes vats fits e =
-    let parts = chosen (starts_with eqb bytes magic) (steps_at 8 (drop 8 bytes)) vats e in
+    let parts = chosen (starts_with eqb bytes order_magic) (steps_at 8 (drop 8 bytes)) vats e in
     let whole = begins bytes parts.0 in
     let steps = steps_spelled 8 (drop 8 bytes) vats (λ i. rest_fits bytes i fits) parts.1 in
-    (steps.0, whole ∙ ap (λ (l : List ℕ). magic ++ l) steps.1)
+    (steps.0, whole ∙ ap (λ (l : List ℕ). order_magic ++ l) steps.1)
 
-pub again : (bytes vats : List ℕ) → AreVats vats → bytes ≡ spelling vats → order_of bytes ≡ Ok vats
-unfolding order_of
+pub again : (bytes vats : List ℕ) → AreVats vats → bytes ≡ spelling vats → spelled_order bytes ≡ Ok vats
+unfolding spelled_order
 again bytes vats fits e =
     let starts = begins_again bytes (flat_map (λ vat. to_le_bytes w32 vat) vats) e in
     let rest : drop 8 bytes ≡ flat_map (λ vat. to_le_bytes w32 vat) vats = ap (drop 8) e in
@@ -146,11 +146,11 @@ from_each bytes h i =
       | inr le ↦ rw (get_or_past bytes i 0 le) (omega arith)
     ]
 
-pub found_law : (bytes seen : List ℕ) (r : Result (List ℕ) OrderError) → seen ≡ bytes → EachIndex seen (λ i. slice_index seen i < 256) → GivesInMemory (λ (x : List ℕ). x) r (order_of seen) → IfOk r (λ order. AreVats order × (bytes ≡ spelling order))
+pub found_law : (bytes seen : List ℕ) (r : Result (List ℕ) OrderError) → seen ≡ bytes → EachIndex seen (λ i. slice_index seen i < 256) → GivesOrderInMemory (λ (x : List ℕ). x) r (spelled_order seen) → IfOk r (λ order. AreVats order × (bytes ≡ spelling order))
 found_law bytes seen (Ok order) same fits e = let law = spelled seen order (from_each seen fits) e in (law.0, sym same ∙ law.1)
 found_law bytes seen (Err fault) same fits e = tt
 
-pub only_law : (bytes seen : List ℕ) (r : Result (List ℕ) OrderError) → seen ≡ bytes → GivesInMemory (λ (x : List ℕ). x) r (order_of seen) → (vats : List ℕ) → AreVats vats → bytes ≡ spelling vats → GivesInMemory (λ (x : List ℕ). x) r (Ok vats)
+pub only_law : (bytes seen : List ℕ) (r : Result (List ℕ) OrderError) → seen ≡ bytes → GivesOrderInMemory (λ (x : List ℕ). x) r (spelled_order seen) → (vats : List ℕ) → AreVats vats → bytes ≡ spelling vats → GivesOrderInMemory (λ (x : List ℕ). x) r (Ok vats)
 only_law bytes seen r same e vats fits spells =
-    let P : Result (List ℕ) OrderError → Type 0 = λ read. GivesInMemory (λ (x : List ℕ). x) r read in
+    let P : Result (List ℕ) OrderError → Type 0 = λ read. GivesOrderInMemory (λ (x : List ℕ). x) r read in
     subst P (again seen vats fits (same ∙ spells)) e

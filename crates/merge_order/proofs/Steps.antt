@@ -10,7 +10,7 @@ use Rattle.vat_log.specs.declared.body.Body.TheVariants.{Receive}
 use Rattle.vat_log.specs.Log.{Log}
 use Rattle.merge_order.specs.declared.checking.OrderFinding.{OrderFinding}
 use Rattle.merge_order.specs.declared.checking.OrderFinding.TheVariants as findings
-use Rattle.merge_order.specs.Fits.{Part, received, part_of, sent_by_others, may_come_from, may_come, further, after, used_up, begin, FitsFrom, IsFitting, TakesLeastFrom, fault_from, finding, finding_of}
+use Rattle.merge_order.specs.Fits.{Part, received_so_far, part_of, sent_by_the_others, may_come_from, may_come, further, after, used_up, begin, FitsFrom, IsFitting, TakesLeastFrom, fault_from, finding_at, finding_of_order}
 use Rattle.merge_order.proofs.Greedy.{bool_cases, some_is, eqb_apart, further_cases, further_log, left_from, front}
 
 -- ---- how many records are left
@@ -160,14 +160,14 @@ pub none_from_fits : (ps : List Part) (order : List ℕ) → FitsFrom ps order �
 none_from_fits ps [] fits = fault_end ps fits
 none_from_fits ps (v ∷ order) fits = fault_next ps v order fits.0 ∙ ap (option_map suc) (none_from_fits (after v ps) order fits.1)
 
-none_from_finding : (o : Option ℕ) → finding o ≡ findings.Fits → o ≡ None
+none_from_finding : (o : Option ℕ) → finding_at o ≡ findings.Fits → o ≡ None
 none_from_finding None e = refl
 none_from_finding (Some k) e = absurd cc
 
 -- an order is found to fit just where it fits
-pub finding_fits : (logs : List Log) (order : List ℕ) → (finding_of logs order ≡ findings.Fits) ↔ IsFitting logs order
+pub finding_fits : (logs : List Log) (order : List ℕ) → (finding_of_order logs order ≡ findings.Fits) ↔ IsFitting logs order
 finding_fits logs order =
-    (λ e. fits_from_none (begin logs) order (none_from_finding _ e), λ fits. ap finding (none_from_fits (begin logs) order fits))
+    (λ e. fits_from_none (begin logs) order (none_from_finding _ e), λ fits. ap finding_at (none_from_fits (begin logs) order fits))
 
 -- ---- the least vat
 
@@ -218,10 +218,10 @@ smaller_may_not ps i p v lt is rising vat before u small =
 -- ---- the next record
 
 pub may_receive : (ps : List Part) (v : ℕ) (own : Part) (b : Body) (connection call : ℕ) (references frame : List ℕ) (n : ℕ) (r : Bool) → Some own ≡ part_of v ps → Some b ≡ slice_get own.log.records own.came
-    → b ≡ Receive connection call references frame → n ≡ received connection own → r ≡ nat_lt n (sent_by_others v connection ps) → r ≡ may_come ps v
+    → b ≡ Receive connection call references frame → n ≡ received_so_far connection own → r ≡ nat_lt n (sent_by_the_others v connection ps) → r ≡ may_come ps v
 unfolding may_come
 may_receive ps v own b connection call references frame n r part next kind count is =
-    rw (← part, ← next, kind) (is ∙ ap (λ k. nat_lt k (sent_by_others v connection ps)) count)
+    rw (← part, ← next, kind) (is ∙ ap (λ k. nat_lt k (sent_by_the_others v connection ps)) count)
 
 -- ---- the order of the vat numbers stays
 
@@ -245,13 +245,13 @@ rising_after v ps qs same rising =
     subst (λ (l : List ℕ). IsStrictlyIncreasing l) (sym (ap (map (λ (q : Part). q.log.vat)) same ∙ vats_after v ps)) rising
 
 -- an order is found to fit just where it fits
-pub found_fits : (logs : List Log) (order : List ℕ) (found : OrderFinding) → found ≡ finding_of logs order → (found ≡ findings.Fits) ↔ IsFitting logs order
+pub found_fits : (logs : List Log) (order : List ℕ) (found : OrderFinding) → found ≡ finding_of_order logs order → (found ≡ findings.Fits) ↔ IsFitting logs order
 found_fits logs order found same =
     let both = finding_fits logs order in
     (λ e. both.0 (sym same ∙ e), λ fits. same ∙ both.1 fits)
 
-pub fault_is : (logs : List Log) (order seen : List ℕ) (o : Option ℕ) (found : OrderFinding) → seen ≡ order → fault_from (begin logs) seen ≡ o → found ≡ finding o → found ≡ finding_of logs order
-fault_is logs order seen o found same e is = is ∙ ap finding (sym e ∙ ap (fault_from (begin logs)) same)
+pub fault_is : (logs : List Log) (order seen : List ℕ) (o : Option ℕ) (found : OrderFinding) → seen ≡ order → fault_from (begin logs) seen ≡ o → found ≡ finding_at o → found ≡ finding_of_order logs order
+fault_is logs order seen o found same e is = is ∙ ap finding_at (sym e ∙ ap (fault_from (begin logs)) same)
 
-pub fault_fits : (logs : List Log) (order seen : List ℕ) (o : Option ℕ) (found : OrderFinding) → seen ≡ order → fault_from (begin logs) seen ≡ o → found ≡ finding o → (found ≡ findings.Fits) ↔ IsFitting logs order
+pub fault_fits : (logs : List Log) (order seen : List ℕ) (o : Option ℕ) (found : OrderFinding) → seen ≡ order → fault_from (begin logs) seen ≡ o → found ≡ finding_at o → (found ≡ findings.Fits) ↔ IsFitting logs order
 fault_fits logs order seen o found same e is = found_fits logs order found (fault_is logs order seen o found same e is)

@@ -7,8 +7,8 @@ use Rattle.std.proofs.lemmas.Option.{slice_get-get_or, slice_get_past}
 use Rattle.vat_log.specs.declared.body.Body.{Body}
 use Rattle.vat_log.specs.declared.body.Body.TheVariants.{Send, Receive}
 use Rattle.merge_order.specs.declared.counts.Counts.{Counts}
-use Rattle.merge_order.specs.Fits.{Part, sends, receives}
-use Rattle.merge_order.specs.Glue.{count_of, IsCounted, IsRaised, RisesWith}
+use Rattle.merge_order.specs.Fits.{Part, sends_frame, receives_frame}
+use Rattle.merge_order.specs.Glue.{count_on, IsCounted, IsRaisedByOne, RisesWith}
 use Rattle.merge_order.proofs.Greedy.{bool_cases}
 
 none_more : (n : ℕ) → n ≡ n + 0
@@ -39,30 +39,30 @@ count_next p xs i b e =
 
 -- tables that count a record are those of the log with that record
 counted : (part : Part) (b : Body) (out into later_out later_into : Counts) → IsCounted part out into → slice_get part.log.records part.came ≡ Some b
-    → ((connection : ℕ) → count_of later_out connection ≡ count_of out connection + cond (sends connection b) 1 0)
-    → ((connection : ℕ) → count_of later_into connection ≡ count_of into connection + cond (receives connection b) 1 0)
+    → ((connection : ℕ) → count_on later_out connection ≡ count_on out connection + cond (sends_frame connection b) 1 0)
+    → ((connection : ℕ) → count_on later_into connection ≡ count_on into connection + cond (receives_frame connection b) 1 0)
     → IsCounted (record { log = part.log; came = part.came + 1 }) later_out later_into
 counted part b out into later_out later_into before next went came =
     let xs = part.log.records in
     let lt = is_there xs part.came b next in
     record {
       within = omega (arith, lt);
-      went = λ connection. went connection ∙ ap (λ (n : ℕ). n + cond (sends connection b) 1 0) (before.went connection) ∙ sym (count_next (sends connection) xs part.came b next);
-      came = λ connection. came connection ∙ ap (λ (n : ℕ). n + cond (receives connection b) 1 0) (before.came connection) ∙ sym (count_next (receives connection) xs part.came b next);
+      went = λ connection. went connection ∙ ap (λ (n : ℕ). n + cond (sends_frame connection b) 1 0) (before.went connection) ∙ sym (count_next (sends_frame connection) xs part.came b next);
+      came = λ connection. came connection ∙ ap (λ (n : ℕ). n + cond (receives_frame connection b) 1 0) (before.came connection) ∙ sym (count_next (receives_frame connection) xs part.came b next);
     }
 
-pub counted_send : (part : Part) (connection call : ℕ) (references frame : List ℕ) (out into later : Counts) → IsCounted part out into → slice_get part.log.records part.came ≡ Some (Send connection call references frame) → IsRaised connection out later
+pub counted_send : (part : Part) (connection call : ℕ) (references frame : List ℕ) (out into later : Counts) → IsCounted part out into → slice_get part.log.records part.came ≡ Some (Send connection call references frame) → IsRaisedByOne connection out later
     → IsCounted (record { log = part.log; came = part.came + 1 }) later into
 counted_send part connection call references frame out into later before next raised =
-    counted part (Send connection call references frame) out into later into before next raised (λ other. none_more (count_of into other))
+    counted part (Send connection call references frame) out into later into before next raised (λ other. none_more (count_on into other))
 
-pub counted_receive : (part : Part) (connection call : ℕ) (references frame : List ℕ) (out into later : Counts) → IsCounted part out into → slice_get part.log.records part.came ≡ Some (Receive connection call references frame) → IsRaised connection into later
+pub counted_receive : (part : Part) (connection call : ℕ) (references frame : List ℕ) (out into later : Counts) → IsCounted part out into → slice_get part.log.records part.came ≡ Some (Receive connection call references frame) → IsRaisedByOne connection into later
     → IsCounted (record { log = part.log; came = part.came + 1 }) out later
 counted_receive part connection call references frame out into later before next raised =
-    counted part (Receive connection call references frame) out into out later before next (λ other. none_more (count_of out other)) raised
+    counted part (Receive connection call references frame) out into out later before next (λ other. none_more (count_on out other)) raised
 
 neither : (b : Body) → ((connection call : ℕ) (references frame : List ℕ) → b ≡ Send connection call references frame → ⊥) → ((connection call : ℕ) (references frame : List ℕ) → b ≡ Receive connection call references frame → ⊥)
-    → (connection : ℕ) → (sends connection b ≡ false) × (receives connection b ≡ false)
+    → (connection : ℕ) → (sends_frame connection b ≡ false) × (receives_frame connection b ≡ false)
 neither (Send on call references frame) not_send not_receive connection = absurd (not_send on call references frame refl)
 neither (Receive on call references frame) not_send not_receive connection = absurd (not_receive on call references frame refl)
 neither _ not_send not_receive connection = (refl, refl)
@@ -72,12 +72,12 @@ pub counted_other : (part : Part) (b : Body) (out into : Counts) → IsCounted p
     → IsCounted (record { log = part.log; came = part.came + 1 }) out into
 counted_other part b out into before next not_send not_receive =
     counted part b out into out into before next
-    (λ connection. none_more (count_of out connection) ∙ ap (λ (t : Bool). count_of out connection + cond t 1 0) (sym (neither b not_send not_receive connection).0))
-    (λ connection. none_more (count_of into connection) ∙ ap (λ (t : Bool). count_of into connection + cond t 1 0) (sym (neither b not_send not_receive connection).1))
+    (λ connection. none_more (count_on out connection) ∙ ap (λ (t : Bool). count_on out connection + cond t 1 0) (sym (neither b not_send not_receive connection).0))
+    (λ connection. none_more (count_on into connection) ∙ ap (λ (t : Bool). count_on into connection + cond t 1 0) (sym (neither b not_send not_receive connection).1))
 
 -- ---- the totals rise with what a part sends
 
-pub rises_send : (part next : Part) (connection : ℕ) (out into later into_later totals totals_later : Counts) → IsCounted part out into → IsCounted next later into_later → IsRaised connection out later → IsRaised connection totals totals_later
+pub rises_send : (part next : Part) (connection : ℕ) (out into later into_later totals totals_later : Counts) → IsCounted part out into → IsCounted next later into_later → IsRaisedByOne connection out later → IsRaisedByOne connection totals totals_later
     → RisesWith part next totals totals_later
 rises_send part next connection out into later into_later totals totals_later before now raised totals_raised other =
     omega (arith, before.went other, now.went other, raised other, totals_raised other)

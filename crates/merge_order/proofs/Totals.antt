@@ -12,8 +12,8 @@ use Rattle.std.specs.List.{position, position_or_len}
 use Rattle.std.proofs.lemmas.List.Sums.{sum_by-cons, sum_by-set, count_by-le-length}
 use Rattle.vat_log.specs.Log.{Log}
 use Rattle.merge_order.specs.declared.counts.Counts.{Counts}
-use Rattle.merge_order.specs.Fits.{Part, sends, sent, part_of, sent_by_others, may_come, after, begin}
-use Rattle.merge_order.specs.Glue.{count_of, IsEmpty, RisesWith, moved, came_by_all, sent_by_all, IsTotalled}
+use Rattle.merge_order.specs.Fits.{Part, sends_frame, sent_so_far, part_of, sent_by_the_others, may_come, after, begin}
+use Rattle.merge_order.specs.Glue.{count_on, IsEmpty, RisesWith, one_further, came_by_all, sent_by_all, IsTotalled}
 use Rattle.merge_order.proofs.Greedy.{bool_cases, some_is, eqb_apart, has_left, other_stays, own_moves, others_own, others_more}
 use Rattle.merge_order.proofs.Steps.{rising_tail, none_smaller, all_passed}
 
@@ -59,7 +59,7 @@ stays_all v (p ∷ ps) e =
       | inr other ↦ let one = other_stays v p other in let rest = stays_all v ps (rw (eqb_apart _ _ other) at e) in cc
     ]
 
-pub after_at : (v : ℕ) (ps : List Part) (i : ℕ) (d : Part) → IsStrictlyIncreasing (map (λ q. q.log.vat) ps) → i < length ps → (get_or ps i d).log.vat ≡ v → after v ps ≡ set ps i (moved (get_or ps i d))
+pub after_at : (v : ℕ) (ps : List Part) (i : ℕ) (d : Part) → IsStrictlyIncreasing (map (λ q. q.log.vat) ps) → i < length ps → (get_or ps i d).log.vat ≡ v → after v ps ≡ set ps i (one_further (get_or ps i d))
 after_at v [] i d rising lt vat = absurd (omega arith)
 after_at v (p ∷ ps) zero d rising lt vat =
     let one = own_moves v p vat in
@@ -77,7 +77,7 @@ after_at v (p ∷ ps) (suc i) d rising lt vat =
 pub record IsOwn (v : ℕ) (ps : List Part) (i : ℕ) (own : Part) : Type 0 where
   pub there : i < length ps
   pub left : own.came < length own.log.records
-  pub after : after v ps ≡ set ps i (moved own)
+  pub after : after v ps ≡ set ps i (one_further own)
 
 pub own_at : (v : ℕ) (ps now : List Part) (i : ℕ) (own : Part) → ps ≡ now → IsStrictlyIncreasing (map (λ q. q.log.vat) ps) → may_come now v ≡ true → position (λ q. q.log.vat == v) now ≡ Some i → own ≡ get_or ps i own → IsOwn v ps i own
 own_at v ps now i own view rising may place is =
@@ -87,7 +87,7 @@ own_at v ps now i own view rising may place is =
     record {
       there = found.0;
       left = subst (λ (q : Part). q.came < length q.log.records) (sym is) left;
-      after = after_at v ps i own rising found.0 vat ∙ ap (λ (q : Part). set ps i (moved q)) (sym is);
+      after = after_at v ps i own rising found.0 vat ∙ ap (λ (q : Part). set ps i (one_further q)) (sym is);
     }
 
 some_none_place : (i : ℕ) → Some i ≡ None → ⊥
@@ -104,14 +104,14 @@ no_place v ps none may =
 
 -- ---- how many records came
 
-sent_le_came : (connection : ℕ) (p : Part) → sent connection p ≤ p.came
+sent_le_came : (connection : ℕ) (p : Part) → sent_so_far connection p ≤ p.came
 sent_le_came connection p =
-    omega (arith, count_by-le-length (sends connection) (take p.came p.log.records), length-take p.came p.log.records, min-le_left p.came (length p.log.records))
+    omega (arith, count_by-le-length (sends_frame connection) (take p.came p.log.records), length-take p.came p.log.records, min-le_left p.came (length p.log.records))
 
 pub all_le_came : (connection : ℕ) (ps : List Part) → sent_by_all connection ps ≤ came_by_all ps
 all_le_came connection [] = omega arith
 all_le_came connection (p ∷ ps) =
-    omega (arith, sum_by-cons (sent connection) p ps, sum_by-cons (λ (q : Part). q.came) p ps, sent_le_came connection p, all_le_came connection ps)
+    omega (arith, sum_by-cons (sent_so_far connection) p ps, sum_by-cons (λ (q : Part). q.came) p ps, sent_le_came connection p, all_le_came connection ps)
 
 pub came_begin : (logs : List Log) → came_by_all (begin logs) ≡ 0
 came_begin [] = refl
@@ -119,32 +119,32 @@ came_begin (log ∷ logs) = omega (arith, sum_by-cons (λ (q : Part). q.came) (r
 
 -- ---- all vats, and all but one
 
-others_are_all : (v connection : ℕ) (ps : List Part) → part_of v ps ≡ None → sent_by_others v connection ps ≡ sent_by_all connection ps
+others_are_all : (v connection : ℕ) (ps : List Part) → part_of v ps ≡ None → sent_by_the_others v connection ps ≡ sent_by_all connection ps
 others_are_all v connection [] e = refl
 others_are_all v connection (p ∷ ps) e =
     elim (cases_eq p.log.vat v) [
       | inl same ↦ absurd (none_some_part p (sym e ∙ rw (eq-eqb _ _ same) refl))
       | inr other ↦
           let later = others_are_all v connection ps (rw (eqb_apart _ _ other) at e) in
-          others_more v connection p ps other ∙ ap (λ (n : ℕ). sent connection p + n) later ∙ sym (sum_by-cons (sent connection) p ps)
+          others_more v connection p ps other ∙ ap (λ (n : ℕ). sent_so_far connection p + n) later ∙ sym (sum_by-cons (sent_so_far connection) p ps)
     ]
 
-own_and_others : (v connection : ℕ) (ps : List Part) (own : Part) → IsStrictlyIncreasing (map (λ q. q.log.vat) ps) → part_of v ps ≡ Some own → sent_by_all connection ps ≡ sent connection own + sent_by_others v connection ps
+own_and_others : (v connection : ℕ) (ps : List Part) (own : Part) → IsStrictlyIncreasing (map (λ q. q.log.vat) ps) → part_of v ps ≡ Some own → sent_by_all connection ps ≡ sent_so_far connection own + sent_by_the_others v connection ps
 own_and_others v connection [] own rising e = absurd (none_some_part own e)
 own_and_others v connection (p ∷ ps) own rising e =
-    let whole = sum_by-cons (sent connection) p ps in
+    let whole = sum_by-cons (sent_so_far connection) p ps in
     elim (cases_eq p.log.vat v) [
       | inl same ↦
           let is : p ≡ own = some_is p own (rw (eq-eqb _ _ same) at e) in
           let rest = others_are_all v connection ps (ap (λ (u : ℕ). part_of u ps) (sym same) ∙ own_not_again p ps rising) in
-          omega (arith, whole, ap (sent connection) is, rest, others_own v connection p ps same)
+          omega (arith, whole, ap (sent_so_far connection) is, rest, others_own v connection p ps same)
       | inr other ↦
           let later = own_and_others v connection ps own (rising_tail p.log.vat (map (λ q. q.log.vat) ps) rising) (rw (eqb_apart _ _ other) at e) in
           omega (arith, whole, later, others_more v connection p ps other)
     ]
 
 -- the table says what the vat sent and what the others sent
-pub totalled : (v connection : ℕ) (ps : List Part) (own : Part) (totals : Counts) → IsTotalled ps totals → part_of v ps ≡ Some own → count_of totals connection ≡ sent connection own + sent_by_others v connection ps
+pub totalled : (v connection : ℕ) (ps : List Part) (own : Part) (totals : Counts) → IsTotalled ps totals → part_of v ps ≡ Some own → count_on totals connection ≡ sent_so_far connection own + sent_by_the_others v connection ps
 totalled v connection ps own totals kept part = kept.sum connection ∙ own_and_others v connection ps own kept.rising part
 
 -- ---- at the begin, and after a step
@@ -152,12 +152,12 @@ totalled v connection ps own totals kept part = kept.sum connection ∙ own_and_
 total_begin : (logs : List Log) (connection : ℕ) → sent_by_all connection (begin logs) ≡ 0
 total_begin [] connection = refl
 total_begin (log ∷ logs) connection =
-    omega (arith, sum_by-cons (sent connection) (record { log = log; came = 0 }) (begin logs), total_begin logs connection)
+    omega (arith, sum_by-cons (sent_so_far connection) (record { log = log; came = 0 }) (begin logs), total_begin logs connection)
 
-pub totals_begin : (logs : List Log) (ps : List Part) (totals : Counts) → ps ≡ begin logs → IsEmpty totals → (connection : ℕ) → count_of totals connection ≡ sent_by_all connection ps
+pub totals_begin : (logs : List Log) (ps : List Part) (totals : Counts) → ps ≡ begin logs → IsEmpty totals → (connection : ℕ) → count_on totals connection ≡ sent_by_all connection ps
 totals_begin logs ps totals is empty connection = empty connection ∙ sym (ap (sent_by_all connection) is ∙ total_begin logs connection)
 
 -- one part goes on, and the totals rise with what it sends
-pub totals_set : (ps : List Part) (i : ℕ) (new d : Part) (totals later : Counts) → i < length ps → RisesWith (get_or ps i d) new totals later → ((connection : ℕ) → count_of totals connection ≡ sent_by_all connection ps)
-    → (connection : ℕ) → count_of later connection ≡ sent_by_all connection (set ps i new)
-totals_set ps i new d totals later lt rises sum connection = omega (arith, sum_by-set (sent connection) ps i new d lt, rises connection, sum connection)
+pub totals_set : (ps : List Part) (i : ℕ) (new d : Part) (totals later : Counts) → i < length ps → RisesWith (get_or ps i d) new totals later → ((connection : ℕ) → count_on totals connection ≡ sent_by_all connection ps)
+    → (connection : ℕ) → count_on later connection ≡ sent_by_all connection (set ps i new)
+totals_set ps i new d totals later lt rises sum connection = omega (arith, sum_by-set (sent_so_far connection) ps i new d lt, rises connection, sum connection)

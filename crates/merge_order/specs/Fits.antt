@@ -16,36 +16,36 @@ pub record Part : Type 0 where
   pub came : ℕ
 
 -- a record sends a frame on the connection
-abbrev pub sends : ℕ → Body → Bool
-sends connection (Send on call references frame) = on == connection
-sends connection _ = false
+abbrev pub sends_frame : ℕ → Body → Bool
+sends_frame connection (Send on call references frame) = on == connection
+sends_frame connection _ = false
 
 -- a record receives a frame on the connection
-abbrev pub receives : ℕ → Body → Bool
-receives connection (Receive on call references frame) = on == connection
-receives connection _ = false
+abbrev pub receives_frame : ℕ → Body → Bool
+receives_frame connection (Receive on call references frame) = on == connection
+receives_frame connection _ = false
 
 -- the frames that a vat sent on the connection before
-abbrev pub sent : ℕ → Part → ℕ
-sent connection part = count_by (sends connection) (take part.came part.log.records)
+abbrev pub sent_so_far : ℕ → Part → ℕ
+sent_so_far connection part = count_by (sends_frame connection) (take part.came part.log.records)
 
 -- the frames that a vat received on the connection before
-abbrev pub received : ℕ → Part → ℕ
-received connection part = count_by (receives connection) (take part.came part.log.records)
+abbrev pub received_so_far : ℕ → Part → ℕ
+received_so_far connection part = count_by (receives_frame connection) (take part.came part.log.records)
 
 -- the part of a vat
 abbrev pub part_of : ℕ → List Part → Option Part
 part_of vat parts = find (λ part. part.log.vat == vat) parts
 
 -- the frames that all vats but this one sent on the connection before
-abbrev pub sent_by_others : ℕ → ℕ → List Part → ℕ
-sent_by_others vat connection parts = sum_by (sent connection) (filter (λ part. not (part.log.vat == vat)) parts)
+abbrev pub sent_by_the_others : ℕ → ℕ → List Part → ℕ
+sent_by_the_others vat connection parts = sum_by (sent_so_far connection) (filter (λ part. not (part.log.vat == vat)) parts)
 
 -- The next record of a vat may come, if there is one: a RECV where the others sent more frames on the connection than the
 -- vat received there, any other record always.
 abbrev pub may_follow : ℕ → List Part → Part → Option Body → Bool
 may_follow vat parts own None = false
-may_follow vat parts own (Some (Receive connection call references frame)) = nat_lt (received connection own) (sent_by_others vat connection parts)
+may_follow vat parts own (Some (Receive connection call references frame)) = nat_lt (received_so_far connection own) (sent_by_the_others vat connection parts)
 may_follow vat parts own (Some _) = true
 
 -- the same, where the vat has a log
@@ -101,9 +101,9 @@ fault_from parts [] = if used_up parts then None else Some 0
 fault_from parts (vat ∷ order) = if may_come parts vat then option_map suc (fault_from (after vat parts) order) else Some 0
 
 -- what is found of an order
-abbrev pub finding : Option ℕ → OrderFinding
-finding None = findings.Fits
-finding (Some step) = findings.Fails step
+abbrev pub finding_at : Option ℕ → OrderFinding
+finding_at None = findings.Fits
+finding_at (Some step) = findings.Fails step
 
-abbrev pub finding_of : List Log → List ℕ → OrderFinding
-finding_of logs order = finding (fault_from (begin logs) order)
+abbrev pub finding_of_order : List Log → List ℕ → OrderFinding
+finding_of_order logs order = finding_at (fault_from (begin logs) order)

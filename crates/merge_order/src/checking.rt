@@ -2,7 +2,7 @@
 
 ghost use Rattle.std.specs.Prelude.{◌≡◌, ◌↔◌, map, IfOk};
 ghost use Rattle.std.specs.Arc.{arc_value};
-ghost use Rattle.merge_order.specs.Fits.{IsRising, IsFitting, finding_of};
+ghost use Rattle.merge_order.specs.Fits.{IsRising, IsFitting, finding_of_order};
 
 use crate::order::Order;
 use crate::progress::Progress;
@@ -22,7 +22,7 @@ pub enum OrderFinding {
 /// Whether an order of the records of these logs fits. The logs come by rising vat numbers, no two the same. The first step
 /// fails that names no log, a log without a record left, or a RECV before which that vat received on the connection as many
 /// frames as the other vats sent on it. Where no step fails and records are left, the order's length does. The only error
-/// is want of memory.
+/// is that memory ran out.
 pub fn check_order(
     alloc: Global,
     logs: &[Arc<VatLog>],
@@ -32,7 +32,7 @@ pub fn check_order(
     requires { IsRising (map arc_value logs.now) }
     // Which finding.
     ensures exact { IfOk result
-        (λ finding. finding ≡ finding_of (map arc_value logs.now) order.now) }
+        (λ finding. finding ≡ finding_of_order (map arc_value logs.now) order.now) }
     // What it means.
     ensures fits { IfOk result
         (λ finding. (finding ≡ OrderFinding.Fits) ↔ IsFitting (map arc_value logs.now) order.now) }

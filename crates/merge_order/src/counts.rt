@@ -1,7 +1,7 @@
 //! How often connections came up.
 
 ghost use Rattle.std.specs.Prelude.{◌≡◌, ◌+◌, ◌<◌, ◌^◌, OnOk, OnErr};
-ghost use Rattle.merge_order.specs.Glue.{count_of, IsEmpty, IsRaised, IsSame};
+ghost use Rattle.merge_order.specs.Glue.{count_on, IsEmpty, IsRaisedByOne, HasSameCounts};
 
 use std::alloc::{AllocError, Global};
 use std::collections::BTreeMap;
@@ -24,16 +24,16 @@ impl Counts {
 
     /// How often this connection came up.
     pub fn of(&self, connection: u32) -> u64
-        ensures { result ≡ count_of self.now connection }
+        ensures { result ≡ count_on self.now connection }
     {
         self.counts.get(&connection).copied().unwrap_or(0)
     }
 
     /// This connection came up once more, and no count is full. Where memory is refused, nothing changes.
     pub fn raise(&mut self, connection: u32) -> Result<(), AllocError>
-        requires { count_of self.old connection + 1 < 2 ^ 64 }
-        ensures ok { OnOk result (IsRaised connection self.old self.new) }
-        ensures err { OnErr result (IsSame self.old self.new) }
+        requires { count_on self.old connection + 1 < 2 ^ 64 }
+        ensures ok { OnOk result (IsRaisedByOne connection self.old self.new) }
+        ensures err { OnErr result (HasSameCounts self.old self.new) }
     {
         let count = self.of(connection) + 1;
         self.counts.insert(connection, count)?;

@@ -34,8 +34,8 @@ impl Model for Cursor {
 }
 
 impl Cursor {
-    ghost use Rattle.merge_order.specs.Fits.{sent, received};
-    ghost use Rattle.merge_order.specs.Glue.{RisesWith, moved, count_of};
+    ghost use Rattle.merge_order.specs.Fits.{sent_so_far, received_so_far};
+    ghost use Rattle.merge_order.specs.Glue.{RisesWith, one_further, count_on};
 
     /// At the log's begin.
     pub fn new(alloc: Global, log: &Arc<VatLog>) -> Result<Cursor, AllocError>
@@ -72,14 +72,14 @@ impl Cursor {
 
     /// How many frames were sent on the connection.
     pub fn sent(&self, connection: u32) -> u64
-        ensures { result ≡ sent connection self.now }
+        ensures { result ≡ sent_so_far connection self.now }
     {
         self.sent_counts.of(connection)
     }
 
     /// How many frames were received on the connection.
     pub fn received(&self, connection: u32) -> u64
-        ensures { result ≡ received connection self.now }
+        ensures { result ≡ received_so_far connection self.now }
     {
         self.received_counts.of(connection)
     }
@@ -89,8 +89,8 @@ impl Cursor {
         requires left { self.old.came < length self.old.log.records }
         // No count is full.
         requires few { self.old.came + 1 < 2 ^ 64 }
-        requires roomy { (connection : ℕ) → count_of totals.old connection + 1 < 2 ^ 64 }
-        ensures goes { OnOk result (self.new ≡ moved self.old) }
+        requires roomy { (connection : ℕ) → count_on totals.old connection + 1 < 2 ^ 64 }
+        ensures goes { OnOk result (self.new ≡ one_further self.old) }
         ensures adds { OnOk result (RisesWith self.old self.new totals.old totals.new) }
     {
         let Some(event) = self.log.get(self.came) else {

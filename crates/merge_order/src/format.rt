@@ -3,7 +3,7 @@
 ghost use Rattle.std.specs.Prelude.{◌≡◌, ◌<◌, ◌+◌, ◌^◌, ℕ, List, Ok, false, length, nat_eq, All, IfErr, IfOk, EachIndex, slice_index};
 ghost use Rattle.std.specs.List.{starts_with};
 ghost use Rattle.std.specs.Int.{w32, from_le_bytes};
-ghost use Rattle.merge_order.specs.Spelling.{magic, spelling, AreVats, steps_at, order_of, GivesInMemory};
+ghost use Rattle.merge_order.specs.Spelling.{order_magic, spelling, AreVats, steps_at, spelled_order, GivesOrderInMemory};
 
 use crate::error::OrderError;
 use crate::order::Order;
@@ -24,7 +24,7 @@ fn step_of(step: &[u8]) -> u32
 /// The steps that these bytes spell, the first of which stands at the offset 8.
 fn steps_of(alloc: Global, bytes: &[u8]) -> Result<Vec<u32>, OrderError>
     requires { length bytes.now + 8 < 2 ^ 64 }
-    ensures { GivesInMemory (λ vats. vats.items) result (steps_at 8 bytes.now) }
+    ensures { GivesOrderInMemory (λ vats. vats.items) result (steps_at 8 bytes.now) }
 {
     let mut vats = Vec::new(alloc);
     let mut rest = bytes;
@@ -42,11 +42,11 @@ fn steps_of(alloc: Global, bytes: &[u8]) -> Result<Vec<u32>, OrderError>
 }
 
 /// The order that the bytes spell.
-#[tactic(auto, unfolding(crate::specs::Spelling::order_of))]
+#[tactic(auto, unfolding(crate::specs::Spelling::spelled_order))]
 fn order_in(alloc: Global, bytes: &[u8]) -> Result<Order, OrderError>
-    ensures exact { GivesInMemory (λ order. order) result (order_of bytes.now) }
+    ensures exact { GivesOrderInMemory (λ order. order) result (spelled_order bytes.now) }
     ensures octets { EachIndex bytes.now (λ i. slice_index bytes.now i < 256) }
-    ensures early { starts_with nat_eq bytes.now magic ≡ false
+    ensures early { starts_with nat_eq bytes.now order_magic ≡ false
         → IfErr result (λ e. e ≡ OrderError.BadMagic) }
 {
     if !bytes.starts_with(MAGIC) {
@@ -64,20 +64,20 @@ fn order_in(alloc: Global, bytes: &[u8]) -> Result<Order, OrderError>
 /// is cut; or [`OrderError::OutOfMemory`], where a growth was refused.
 pub fn read_order(alloc: Global, bytes: Bytes) -> Result<Order, OrderError>
     // Which order, or which fault.
-    ensures exact { GivesInMemory (λ order. order) result (order_of bytes) }
+    ensures exact { GivesOrderInMemory (λ order. order) result (spelled_order bytes) }
     // What is read is spelled so.
     ensures found { IfOk result (λ order. AreVats order × (bytes ≡ spelling order)) }
     // What is spelled so is read, unless memory runs out.
     ensures only { (vats : List ℕ) → AreVats vats → bytes ≡ spelling vats
-        → GivesInMemory (λ order. order) result (Ok vats) }
+        → GivesOrderInMemory (λ order. order) result (Ok vats) }
     // Another magic is refused as such before memory is asked for.
-    ensures early { starts_with nat_eq bytes magic ≡ false
+    ensures early { starts_with nat_eq bytes order_magic ≡ false
         → IfErr result (λ e. e ≡ OrderError.BadMagic) }
 {
     order_in(alloc, bytes.as_slice())
 }
 
-/// The one spelling of an order. The only error is want of memory.
+/// The one spelling of an order. The only error is that memory ran out.
 pub fn write_order(alloc: Global, order: &Order) -> Result<Bytes, AllocError>
     ensures { IfOk result (λ bytes. bytes ≡ spelling order.now) }
 {

@@ -33,7 +33,7 @@ impl Model for Progress {
 }
 
 impl Progress {
-    ghost use Rattle.merge_order.specs.Fits.{IsRising, begin, part_of, sent_by_others, may_come, after, used_up};
+    ghost use Rattle.merge_order.specs.Fits.{IsRising, begin, part_of, sent_by_the_others, may_come, after, used_up};
     ghost use Rattle.merge_order.specs.Glue.{came_by_all};
 
     /// Before the first step.
@@ -65,7 +65,7 @@ impl Progress {
     /// How many frames the other vats sent on the connection. The vat's own cursor is one of these.
     fn sent_by_others(&self, own: &Cursor, connection: u32) -> u64
         requires { part_of own.now.log.vat self.now ≡ Some own.now }
-        ensures { result ≡ sent_by_others own.now.log.vat connection self.now }
+        ensures { result ≡ sent_by_the_others own.now.log.vat connection self.now }
     {
         self.totals.of(connection) - own.sent(connection)
     }

@@ -15,7 +15,7 @@ use std::alloc::{AllocError, Global};
 pub struct Frames {
     /// The frames, cut off one after another.
     pub count: u64,
-    /// Those of them that weren't read as a message, by a fault or for want of memory.
+    /// Those of them that weren't read as a message, by a fault or because memory ran out.
     pub refused: u64,
     /// The bytes of the frames.
     pub bytes: usize,
@@ -28,7 +28,7 @@ pub struct Frames {
 ///
 /// # Errors
 ///
-/// Want of memory, where a frame can't be cut off. One that can't be read for want of memory is refused, and the next follows.
+/// Out of memory, where a frame can't be cut off. One that can't be read because memory ran out is refused, and the next follows.
 pub fn read_frames(alloc: Global, bytes: Bytes) -> Result<Frames, AllocError>
     // All bytes are those of the frames, or are left.
     ensures bytes { IfOk result (λ found. found.bytes + found.left ≡ length bytes) }

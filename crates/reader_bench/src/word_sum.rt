@@ -7,7 +7,8 @@ ghost use Rattle.std.specs.Simd.{first_chunks};
 /// The sum of the whole words, each a little-endian number of 8 bytes, less the carries out of 64 bits. Bytes behind the last
 /// whole word aren't summed.
 pub fn word_sum(bytes: &[u8]) -> u64
-    ensures { result ≡ sum_by (from_le_bytes w64) (first_chunks 8 (length bytes.now / 8) bytes.now) % 2 ^ 64 }
+    ensures { result ≡ sum_by (from_le_bytes w64)
+        (first_chunks 8 (length bytes.now / 8) bytes.now) % 2 ^ 64 }
 {
     let (words, _) = bytes.as_chunks::<8>();
     let mut sum: u64 = 0;

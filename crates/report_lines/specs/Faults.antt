@@ -101,7 +101,7 @@ abbrev pub fault_status : Fault → ℕ
 fault_status OutOfMemory = 3
 fault_status _ = 2
 
--- ---- the faults that the calls below answer; want of memory is one fault, wherever it was met
+-- ---- the faults that the calls below answer; out of memory is one fault, wherever it was met
 
 abbrev pub of_source : SourceError → Fault
 of_source source.CannotRead = CannotRead

@@ -51,10 +51,10 @@ abbrev pub outside_text : ℕ → ℕ → Why → List ℕ
 outside_text vat at reason = codes "outside vat " ++ (decimal vat ++ (codes " record " ++ (decimal at ++ (codes " " ++ word_of reason))))
 
 -- what was found of a vat, with the number of records in its log
-abbrev pub outcome_text : ℕ → ℕ → Outcome → List ℕ
-outcome_text vat records (Good told) = codes "good vat " ++ (decimal vat ++ (codes " records " ++ (decimal records ++ (codes " delivered " ++ decimal told.delivered))))
-outcome_text vat records (Broken at broken) = broken_text vat at (code_of broken)
-outcome_text vat records (Outside at reason) = outside_text vat at reason
+abbrev pub log_outcome_text : ℕ → ℕ → Outcome → List ℕ
+log_outcome_text vat records (Good told) = codes "good vat " ++ (decimal vat ++ (codes " records " ++ (decimal records ++ (codes " delivered " ++ decimal told.delivered))))
+log_outcome_text vat records (Broken at broken) = broken_text vat at (code_of broken)
+log_outcome_text vat records (Outside at reason) = outside_text vat at reason
 
 -- 0 for good, 1 for a broken rule, 2 for a record that isn't judged
 abbrev pub outcome_status : Outcome → ℕ
@@ -89,7 +89,7 @@ report_status _ = 1
 
 -- the text of an answer
 abbrev pub answer_text : Answer → List ℕ
-answer_text (Finding found) = outcome_text found.log.vat (length found.log.records) found.outcome
+answer_text (Finding found) = log_outcome_text found.log.vat (length found.log.records) found.outcome
 answer_text (Report found) = report_text found
 answer_text (Message message) = message_text message
 answer_text (Order steps) = codes "order steps " ++ decimal (length steps)
@@ -110,5 +110,5 @@ abbrev pub line : List ℕ → List ℕ
 line text = text ++ (10 ∷ [])
 
 -- a line and a status are those of an answer
-abbrev pub Says : Answer → List ℕ → ℕ → Type 0
-Says answer text status = (text ≡ line (answer_text answer)) × (status ≡ answer_status answer)
+abbrev pub SaysAnswer : Answer → List ℕ → ℕ → Type 0
+SaysAnswer answer text status = (text ≡ line (answer_text answer)) × (status ≡ answer_status answer)

@@ -13,8 +13,8 @@ abbrev pub references_text : List ℕ → List ℕ
 references_text references = codes "[" ++ (join_by decimal (codes ",") references ++ codes "]")
 
 -- the call that is noted beside a frame, if one is
-abbrev pub noted_call : ℕ → List ℕ
-noted_call call = if call == 0 then [] else codes " call " ++ decimal call
+abbrev pub noted_call_text : ℕ → List ℕ
+noted_call_text call = if call == 0 then [] else codes " call " ++ decimal call
 
 -- the references that are noted beside a frame, if there are any
 abbrev pub noted_references : List ℕ → List ℕ
@@ -23,7 +23,7 @@ noted_references (reference ∷ others) = codes " references " ++ references_tex
 
 -- what is noted beside a frame: its connection, and the call and the references, if there are any
 abbrev pub noted_text : ℕ → ℕ → List ℕ → List ℕ
-noted_text connection call references = codes " connection " ++ (decimal connection ++ (noted_call call ++ noted_references references))
+noted_text connection call references = codes " connection " ++ (decimal connection ++ (noted_call_text call ++ noted_references references))
 
 -- a capability in the results of a call: where it stands, and its reference
 abbrev pub answered_text : (ℕ × List ℕ) → List ℕ

@@ -53,14 +53,14 @@ kind_text (Send vat connection message) = codes "send " ++ message_word message
 kind_text (Receive vat connection message bound) = codes "receive " ++ message_word message
 
 -- the call that a step names, if it does
-abbrev pub call_of : Step → Option Name
-call_of (Make vat number cap reference interface method) = Some (call vat number)
-call_of (Deliver vat c object) = Some c
-call_of (Answer vat c results) = Some c
-call_of (Fault vat c) = Some c
-call_of (Send vat connection message) = call_of_message message
-call_of (Receive vat connection message bound) = call_of_message message
-call_of _ = None
+abbrev pub call_of_step : Step → Option Name
+call_of_step (Make vat number cap reference interface method) = Some (call vat number)
+call_of_step (Deliver vat c object) = Some c
+call_of_step (Answer vat c results) = Some c
+call_of_step (Fault vat c) = Some c
+call_of_step (Send vat connection message) = call_of_message message
+call_of_step (Receive vat connection message bound) = call_of_message message
+call_of_step _ = None
 
 -- a call behind its word, if there is one
 abbrev pub called_text : Option Name → List ℕ
@@ -70,4 +70,4 @@ called_text (Some c) = codes " call " ++ name_text c
 -- a step, with its number in the run and that of its record in its vat's log, each counted from 0
 abbrev pub step_text : ℕ → ℕ → Step → List ℕ
 step_text at number step = codes "step " ++ (decimal at ++ (codes " vat " ++ (decimal (vat_of step) ++ (codes " record " ++ (decimal number
-    ++ (codes " " ++ (kind_text step ++ called_text (call_of step))))))))
+    ++ (codes " " ++ (kind_text step ++ called_text (call_of_step step))))))))

@@ -17,7 +17,7 @@ use std::fmt::{Display, Formatter};
 use vat_log::LogError;
 
 /// Why an input has no finding, message or order. It is shown as its line (docs/FORMATS.md), without the line's end.
-/// Want of memory is `OutOfMemory` alone, and in none of the others.
+/// Running out of memory is `OutOfMemory` alone, and in none of the others.
 #[derive(Clone, Copy, Debug, PartialEq, Eq)]
 pub enum Fault {
     /// A file can't be read.

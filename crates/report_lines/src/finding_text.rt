@@ -2,7 +2,7 @@
 
 ghost use Rattle.std.specs.Prelude.{◌≡◌};
 ghost use Rattle.std.specs.Fmt.{WritesOnOk};
-ghost use Rattle.report_lines.specs.Lines.{broken_text, code_of, outcome_status, outcome_text, outside_text, word_of};
+ghost use Rattle.report_lines.specs.Lines.{broken_text, code_of, outcome_status, log_outcome_text, outside_text, word_of};
 
 use std::fmt;
 use std::fmt::Formatter;
@@ -67,7 +67,7 @@ pub fn put_outcome<W: fmt::Write>(
     outcome: &Outcome,
 ) -> fmt::Result
     ensures { WritesOnOk W.write_str_gives f.old result
-        (outcome_text vat records outcome.now) f.new }
+        (log_outcome_text vat records outcome.now) f.new }
 {
     match outcome {
         Outcome::Good(story) => {

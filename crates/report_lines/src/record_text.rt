@@ -4,7 +4,7 @@
 ghost use Rattle.std.specs.Prelude.{Some, codes, ◌++◌};
 ghost use Rattle.std.specs.Fmt.{WritesOnOk, decimal};
 ghost use Rattle.std.specs.List.{join_by};
-ghost use Rattle.report_lines.specs.RecordText.{answered_text, body_text, noted_call, noted_references, noted_text, record_text};
+ghost use Rattle.report_lines.specs.RecordText.{answered_text, body_text, noted_call_text, noted_references, noted_text, record_text};
 
 use crate::answer::Answer;
 use crate::message_text::Interface;
@@ -47,7 +47,7 @@ impl Display for Shown<&[(u64, Path)]> {
 struct NotedCall(u64);
 
 impl Display for NotedCall {
-    ghost output = { λ call. Some (noted_call call.0) };
+    ghost output = { λ call. Some (noted_call_text call.0) };
 
     fn fmt<W: fmt::Write>(&self, f: &mut Formatter<W>) -> fmt::Result {
         match self.0 {

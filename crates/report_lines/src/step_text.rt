@@ -2,7 +2,7 @@
 //! it names (docs/FORMATS.md).
 
 ghost use Rattle.std.specs.Prelude.{◌≡◌, Some};
-ghost use Rattle.report_lines.specs.StepText.{call_of, call_of_message, called_text, kind_text, message_word, plain_word, step_text};
+ghost use Rattle.report_lines.specs.StepText.{call_of_step, call_of_message, called_text, kind_text, message_word, plain_word, step_text};
 
 use crate::shown::Shown;
 use run_model::{Message, Name, Plain, Step, vat_of};
@@ -50,7 +50,7 @@ fn call_of_message(message: &Message) -> Option<Name>
 
 /// The call that a step names, if it does.
 fn call_of(step: &Step) -> Option<Name>
-    ensures { result ≡ call_of step.now }
+    ensures { result ≡ call_of_step step.now }
 {
     match step {
         Step::Make { vat, number, .. } => Some(Name {

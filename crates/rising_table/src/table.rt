@@ -30,7 +30,7 @@ impl<V> Model for RisingTable<V> {
 }
 
 /// The place of a number in a row that has all numbers from its first one up to this.
-fn counted<V>(row: &[(u64, V)], key: u64) -> Option<usize>
+fn place_by_count<V>(row: &[(u64, V)], key: u64) -> Option<usize>
     ensures { IfSome result (IsAt row.now key) }
 {
     let (first, _) = row.first()?;
@@ -56,7 +56,8 @@ const LAST: usize = 8;
 /// Where a number is among the last entries of a row, or where it would go there.
 fn near_the_end<V>(row: &[(u64, V)], key: u64) -> Option<Result<usize, usize>>
     requires { AreRising row.now }
-    ensures { IfSome result (λ place. IfOk place (IsAt row.now key) × IfErr place (IsGapFor row.now key)) }
+    ensures { IfSome result
+        (λ place. IfOk place (IsAt row.now key) × IfErr place (IsGapFor row.now key)) }
 {
     for back in 1..=LAST {
         let place = row.len().checked_sub(back)?;
@@ -78,7 +79,7 @@ fn search<V>(row: &[(u64, V)], key: u64) -> Result<usize, usize>
     ensures found { IfOk result (IsAt row.now key) }
     ensures absent { IfErr result (IsGapFor row.now key) }
 {
-    if let Some(place) = counted(row, key) {
+    if let Some(place) = place_by_count(row, key) {
         return Ok(place);
     }
     if is_above(row, key) {
@@ -129,9 +130,11 @@ impl<V: Drop> RisingTable<V> {
     ///
     /// # Errors
     ///
-    /// Want of memory, and then nothing changes.
+    /// Out of memory, and then nothing changes.
     pub fn put(&mut self, key: u64, value: V) -> Result<(), AllocError>
-        ensures ok { OnOk result ((q : ℕ) → entry_at self.new q ≡ (if key == q then Some value else entry_at self.old q)) }
+        ensures ok { OnOk result
+            ((q : ℕ) → entry_at self.new q
+            ≡ (if key == q then Some value else entry_at self.old q)) }
         ensures err { OnErr result (self.new ≡ self.old) }
     {
         match search(&self.row, key) {
@@ -148,7 +151,9 @@ impl<V: Drop> RisingTable<V> {
     /// nothing changes. It takes no memory.
     pub fn replace(&mut self, key: u64, value: V) -> Option<V>
         ensures last { result ≡ entry_at self.old key }
-        ensures values { MatchOption result (self.new ≡ self.old) (λ _. (q : ℕ) → entry_at self.new q ≡ (if key == q then Some value else entry_at self.old q)) }
+        ensures values { MatchOption result (self.new ≡ self.old)
+            (λ _. (q : ℕ) → entry_at self.new q
+            ≡ (if key == q then Some value else entry_at self.old q)) }
         ensures len { length self.new ≡ length self.old }
     {
         match search(&self.row, key) {

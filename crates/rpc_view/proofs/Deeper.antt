@@ -8,8 +8,8 @@ use Rattle.cap_reader.specs.declared.pointee.Pointee.{Pointee}
 use Rattle.cap_reader.specs.declared.pointee.Pointee.TheVariants as leads
 use Rattle.cap_reader.specs.declared.read_error.ReadError.{ReadError}
 use Rattle.cap_reader.specs.declared.read_error.ReadError.TheVariants as reads
-use Rattle.cap_reader.specs.Pointers.{extent, followed}
-use Rattle.cap_reader.specs.Tree.{Tree, nothing, structure, bad_structure, composite, bad_composite, plain, bad_plain, capability, reserved, unfollowed, structure_there, composite_there, plain_there, plain_words, list_there, elements_behind, pointed, structure_at, root_tree}
+use Rattle.cap_reader.specs.Pointers.{extent, pointee_at}
+use Rattle.cap_reader.specs.Tree.{Tree, nothing, structure, bad_structure, composite, bad_composite, plain, bad_plain, capability, reserved, unfollowed, structure_there, composite_there, plain_there, plain_words, list_there, elements_behind, tree_behind, structure_at, root_tree}
 use Rattle.cap_reader.specs.Reading.{Reading, done, fault, visit, and_then, pay_for, each, structure_in, elements_in, root_in, or_default, Sections, Elements}
 use Rattle.cap_reader.specs.Fields.{fields_in}
 use Rattle.rpc_view.specs.declared.message.RpcMessage.{RpcMessage}
@@ -121,8 +121,8 @@ module _ (made whole : ℕ → ℕ → ℕ → Tree) (cut : (start data_words po
   cut_list segments segment start element_size count =
       cut_choice _ _ _ _ _ (cut_composite_there segments segment count (extent segments segment start 1)) (cut_plain_there (extent segments segment start (plain_words element_size count)))
 
-cut_pointed : (made whole : ℕ → ℕ → ℕ → ℕ → Tree) → ((segment start data_words pointer_count : ℕ) → Cut (made segment start data_words pointer_count) (whole segment start data_words pointer_count)) → (segments : List (List ℕ)) (lead : Result Pointee ReadError) → Cut (pointed made segments lead) (pointed whole segments lead)
-unfolding Cut pointed
+cut_pointed : (made whole : ℕ → ℕ → ℕ → ℕ → Tree) → ((segment start data_words pointer_count : ℕ) → Cut (made segment start data_words pointer_count) (whole segment start data_words pointer_count)) → (segments : List (List ℕ)) (lead : Result Pointee ReadError) → Cut (tree_behind made segments lead) (tree_behind whole segments lead)
+unfolding Cut tree_behind
 cut_pointed made whole cut segments (Err e) = tt
 cut_pointed made whole cut segments (Ok leads.Null) = refl
 cut_pointed made whole cut segments (Ok (leads.Struct segment start data_words pointer_count)) =
@@ -138,11 +138,11 @@ cut_structure (suc depth) zero le segments segment start data_words pointer_coun
 cut_structure (suc depth) (suc deeper) le segments segment start data_words pointer_count = (
   _,
   refl,
-  λ n. cut_choice (nat_lt n pointer_count) _ _ _ _ (cut_pointed (structure_at depth segments) (structure_at deeper segments) (cut_structure depth deeper (omega (arith, le)) segments) segments (followed segments segment (start + data_words + n))) cut_nothing,
+  λ n. cut_choice (nat_lt n pointer_count) _ _ _ _ (cut_pointed (structure_at depth segments) (structure_at deeper segments) (cut_structure depth deeper (omega (arith, le)) segments) segments (pointee_at segments segment (start + data_words + n))) cut_nothing,
 )
 
 cut_root : (depth deeper : ℕ) → depth ≤ deeper → (segments : List (List ℕ)) → Cut (root_tree depth segments) (root_tree deeper segments)
-cut_root depth deeper le segments = cut_pointed (structure_at depth segments) (structure_at deeper segments) (cut_structure depth deeper le segments) segments (followed segments 0 0)
+cut_root depth deeper le segments = cut_pointed (structure_at depth segments) (structure_at deeper segments) (cut_structure depth deeper le segments) segments (pointee_at segments 0 0)
 
 -- ---- structs and lists
 

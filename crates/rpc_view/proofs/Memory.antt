@@ -1,4 +1,4 @@
--- No fault of a message is want of memory.
+-- No fault of a message is out of memory.
 use Rattle.std.proofs.Common.{◌≢◌, ◌≡◌, ℕ, zero, suc, ◌+◌, ◌-◌, inl, inr, Bool, true, false, cond, List, [], ◌∷◌, ◌++◌, Option, Some, None, Result, Ok, Err, refl, subst}
 use Rattle.std.specs.Prelude.{nat_lt, if◌then◌else◌}
 use Rattle.std.proofs.lemmas.Bool.{cases_lt, lt-ltb, le-ltb}
@@ -7,8 +7,8 @@ use Rattle.cap_reader.specs.declared.pointee.Pointee.{Pointee}
 use Rattle.cap_reader.specs.declared.pointee.Pointee.TheVariants as leads
 use Rattle.cap_reader.specs.declared.read_error.ReadError.{ReadError}
 use Rattle.cap_reader.specs.declared.read_error.ReadError.TheVariants as reads
-use Rattle.cap_reader.specs.Pointers.{extent, followed}
-use Rattle.cap_reader.specs.Tree.{Tree, nothing, structure, bad_structure, composite, bad_composite, plain, bad_plain, capability, reserved, unfollowed, structure_there, composite_there, plain_there, plain_words, list_there, elements_behind, pointed, structure_at, root_tree}
+use Rattle.cap_reader.specs.Pointers.{extent, pointee_at}
+use Rattle.cap_reader.specs.Tree.{Tree, nothing, structure, bad_structure, composite, bad_composite, plain, bad_plain, capability, reserved, unfollowed, structure_there, composite_there, plain_there, plain_words, list_there, elements_behind, tree_behind, structure_at, root_tree}
 use Rattle.cap_reader.specs.Reading.{Reading, done, fault, visit, and_then, pay_for, each, structure_in, elements_in, root_in, or_default, Sections, Elements}
 use Rattle.cap_reader.specs.Reading as trees
 use Rattle.cap_reader.specs.Fields.{fields_in}
@@ -20,7 +20,7 @@ use Rattle.rpc_view.specs.Reading.{part, run, struct_in, list_in, or_empty, Give
 use Rattle.rpc_view.specs.Layouts.{message_tag, promised_transform}
 use Rattle.rpc_view.specs.Message.{message_of, message_in, body_in, bootstrap_in, unless_refused, call_in, called_in, return_in, returned_in, outcome_in, finish_in, resolve_in, release_in, disembargo_in, disembargoed_in, target_in, promised_in, operation_in, operations_in, payload_in, descriptors_in, descriptor_in, described_in}
 
--- any fault of pointers but want of memory
+-- any fault of pointers but out of memory
 abbrev OfPointers : ReadError → Type 0
 OfPointers reads.OutOfMemory = ⊥
 OfPointers reads.OutOfSegment = Unit {0}
@@ -31,7 +31,7 @@ OfPointers reads.Reserved = Unit {0}
 OfPointers reads.TooDeep = Unit {0}
 OfPointers reads.TooMuch = Unit {0}
 
--- any fault of a message but want of memory, in either form
+-- any fault of a message but out of memory, in either form
 abbrev OfMessages : ViewError → Type 0
 OfMessages errors.OutOfMemory = ⊥
 OfMessages (errors.Read e) = OfPointers e
@@ -69,7 +69,7 @@ part_meets P (visit cost rest) p = part_meets P rest p
 
 -- ---- trees
 
--- nothing at and below it is want of memory
+-- nothing at and below it is out of memory
 unfoldable Sound : Tree → Type 0
 Sound nothing = Unit {0}
 Sound (structure data_words word pointer_count child) = (n : ℕ) → Sound (child n)
@@ -112,13 +112,13 @@ of_pointers reads.Reserved p = tt
 of_pointers reads.TooDeep p = tt
 of_pointers reads.TooMuch p = tt
 
-leads_so : (segments : List (List ℕ)) (lead : Result Pointee ReadError) → ((trees.run (structure_in (pointed (structure_at 0 segments) segments lead)) 0).0 ≡ Err reads.OutOfMemory → ⊥) → Leads lead
-unfolding pointed pay_for
+leads_so : (segments : List (List ℕ)) (lead : Result Pointee ReadError) → ((trees.run (structure_in (tree_behind (structure_at 0 segments) segments lead)) 0).0 ≡ Err reads.OutOfMemory → ⊥) → Leads lead
+unfolding tree_behind pay_for
 leads_so segments (Ok lead) p = tt
 leads_so segments (Err e) p = of_pointers e p
 
-followed_leads : (segments : List (List ℕ)) (segment at : ℕ) → Leads (followed segments segment at)
-followed_leads segments segment at = leads_so segments (followed segments segment at) (structures_want_none 0 segments segment at 0)
+followed_leads : (segments : List (List ℕ)) (segment at : ℕ) → Leads (pointee_at segments segment at)
+followed_leads segments segment at = leads_so segments (pointee_at segments segment at) (structures_want_none 0 segments segment at 0)
 
 module _ (made : ℕ → ℕ → ℕ → Tree) (sound : (start data_words pointer_count : ℕ) → Sound (made start data_words pointer_count)) where
   sound_structure_there : (data_words pointer_count : ℕ) (start : Option ℕ) → Sound (structure_there (λ at. made at data_words pointer_count) start)
@@ -142,8 +142,8 @@ module _ (made : ℕ → ℕ → ℕ → Tree) (sound : (start data_words pointe
   sound_list segments segment start element_size count =
       sound_choice _ _ _ (sound_composite_there segments segment count (extent segments segment start 1)) (sound_plain_there (extent segments segment start (plain_words element_size count)))
 
-sound_pointed : (made : ℕ → ℕ → ℕ → ℕ → Tree) → ((segment start data_words pointer_count : ℕ) → Sound (made segment start data_words pointer_count)) → (segments : List (List ℕ)) (lead : Result Pointee ReadError) → Leads lead → Sound (pointed made segments lead)
-unfolding Sound pointed
+sound_pointed : (made : ℕ → ℕ → ℕ → ℕ → Tree) → ((segment start data_words pointer_count : ℕ) → Sound (made segment start data_words pointer_count)) → (segments : List (List ℕ)) (lead : Result Pointee ReadError) → Leads lead → Sound (tree_behind made segments lead)
+unfolding Sound tree_behind
 sound_pointed made sound segments (Err e) p = p
 sound_pointed made sound segments (Ok leads.Null) p = tt
 sound_pointed made sound segments (Ok (leads.Struct segment start data_words pointer_count)) p =
@@ -156,12 +156,12 @@ sound_structure : (depth : ℕ) (segments : List (List ℕ)) (segment start data
 unfolding Sound structure_at
 sound_structure zero segments segment start data_words pointer_count = tt
 sound_structure (suc depth) segments segment start data_words pointer_count = λ n.
-    sound_choice (nat_lt n pointer_count) (pointed (structure_at depth segments) segments (followed segments segment (start + data_words + n))) nothing
-    (sound_pointed (structure_at depth segments) (sound_structure depth segments) segments (followed segments segment (start + data_words + n)) (followed_leads segments segment (start + data_words + n)))
+    sound_choice (nat_lt n pointer_count) (tree_behind (structure_at depth segments) segments (pointee_at segments segment (start + data_words + n))) nothing
+    (sound_pointed (structure_at depth segments) (sound_structure depth segments) segments (pointee_at segments segment (start + data_words + n)) (followed_leads segments segment (start + data_words + n)))
     tt
 
 sound_root : (depth : ℕ) (segments : List (List ℕ)) → Sound (root_tree depth segments)
-sound_root depth segments = sound_pointed (structure_at depth segments) (sound_structure depth segments) segments (followed segments 0 0) (followed_leads segments 0 0)
+sound_root depth segments = sound_pointed (structure_at depth segments) (sound_structure depth segments) segments (pointee_at segments 0 0) (followed_leads segments 0 0)
 
 -- ---- parts of messages
 
@@ -368,7 +368,7 @@ message_fine : (segments : List (List ℕ)) (limits : Limits) → Fine (message_
 unfolding message_of
 message_fine segments limits = ran_fine (message_in (root_tree limits.depth segments)) limits.words (message_whole (root_tree limits.depth segments) (sound_root limits.depth segments))
 
--- no answer to a frame is a pointer's fault that is want of memory
+-- no answer to a frame is a pointer's fault that is out of memory
 pub of_message : (segments : List (List ℕ)) (limits : Limits) (r : Result RpcMessage ViewError) → GivesInMemory (λ message. message) r (message_of segments limits) → r ≢ Err (errors.Read reads.OutOfMemory)
 of_message segments limits r p e =
     let P : Result RpcMessage ViewError → Type 0 = λ answer. GivesInMemory (λ message. message) answer (message_of segments limits) in

@@ -1,8 +1,8 @@
 -- What is spelled as a message is read as it.
 use Rattle.std.proofs.Common.{◌≡◌, ℕ, suc, ◌+◌, ◌-◌, ◌*◌, ◌/◌, ◌%◌, ◌^◌, ◌<◌, ◌≤◌, true, false, List, [], ◌∷◌, Ok, refl, arith}
 use Rattle.cap_reader.specs.declared.limits.Limits.{Limits}
-use Rattle.cap_reader.specs.Pointers.{pointer_of, start_from, extent, pointee_of, landed}
-use Rattle.cap_reader.specs.Tree.{structure_at, elements_behind, list_there, pointed}
+use Rattle.cap_reader.specs.Pointers.{pointer_of, start_from, extent, pointee_of, pointee_behind}
+use Rattle.cap_reader.specs.Tree.{structure_at, elements_behind, list_there, tree_behind}
 use Rattle.cap_reader.specs.Reading.{pay_for, and_then, each}
 use Rattle.cap_reader.specs.Fields.{fields_in}
 use Rattle.rpc_view.specs.declared.message.RpcMessage.{RpcMessage}
@@ -118,7 +118,7 @@ bare_answer_2_1 n lt = omega arith
 -- ---- with just the words that it costs
 
 at_price : (words : List ℕ) (message : RpcMessage) (cost least depth : ℕ) → Spells words message cost least → least ≤ depth → message_of (words ∷ []) (record { words = cost; depth = depth }) ≡ Ok message
-unfolding message_of message_in body_in bootstrap_in unless_refused call_in called_in return_in returned_in outcome_in finish_in resolve_in release_in disembargo_in disembargoed_in target_in promised_in operations_in payload_in descriptors_in descriptor_in described_in part each fields_in pay_for and_then structure_at elements_behind list_there pointed extent pointee_of landed pointer_of start_from
+unfolding message_of message_in body_in bootstrap_in unless_refused call_in called_in return_in returned_in outcome_in finish_in resolve_in release_in disembargo_in disembargoed_in target_in promised_in operations_in payload_in descriptors_in descriptor_in described_in part each fields_in pay_for and_then structure_at elements_behind list_there tree_behind extent pointee_of pointee_behind pointer_of start_from
 at_price words message cost least depth (bootstrap {question} fits) deep =
     let d : depth ≡ suc (suc (depth - 2)) = omega arith in
     rw (d, message_of, first_of_32 question fits) refl

@@ -10,7 +10,7 @@ use Rattle.rpc_view.specs.Reading.{or_empty}
 
 -- ---- what a function of the code answers, with the words that are left
 
--- a refusal, but want of memory may come in the place of any other answer
+-- a refusal, but out of memory may come in the place of any other answer
 abbrev pub Refuses : {Y : Type 0} → ViewError → ℕ → Result Y ViewError × ℕ → Type 0
 Refuses errors.OutOfMemory left ran = Unit {0}
 Refuses e left ran = ran ≡ (Err e, left)
@@ -32,6 +32,6 @@ elements_of segments None = or_empty None
 elements_of segments (Some list) = elements_at segments list
 
 -- a number that may be left out, as a list
-abbrev pub numbers_of : Option ℕ → List ℕ
-numbers_of None = []
-numbers_of (Some n) = n ∷ []
+abbrev pub optional_number : Option ℕ → List ℕ
+optional_number None = []
+optional_number (Some n) = n ∷ []

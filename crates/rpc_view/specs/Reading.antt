@@ -31,7 +31,7 @@ run reading words = pay_for (errors.Read reads.TooMuch) reading words
 
 -- ---- what a function of the code answers
 
--- want of memory may come in the place of any other answer; each other fault is the definition's
+-- out of memory may come in the place of any other answer; each other fault is the definition's
 abbrev pub Fails : {Y : Type 0} → ViewError → Result Y ViewError → Type 0
 Fails errors.OutOfMemory defined = Unit {0}
 Fails e defined = defined ≡ Err e
@@ -41,7 +41,7 @@ abbrev pub GivesInMemory : {X Y : Type 0} → (X → Y) → Result X ViewError �
 GivesInMemory seen (Ok x) defined = defined ≡ Ok (seen x)
 GivesInMemory seen (Err e) defined = Fails e defined
 
--- the fault of a message for a fault of a pointer; want of memory isn't one of a pointer
+-- the fault of a message for a fault of a pointer; out of memory isn't one of a pointer
 abbrev pub fault_of : ReadError → ViewError
 fault_of reads.OutOfMemory = errors.OutOfMemory
 fault_of e = errors.Read e

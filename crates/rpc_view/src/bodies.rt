@@ -28,7 +28,8 @@ pub fn bootstrap(
     message: &Option<StructAt>,
     limits: &mut Limits,
 ) -> Result<RpcMessage, ViewError>
-    ensures { RunsInMemory (λ found. found) result limits.new.words (run (bootstrap_in ((sections_of frame.now message.now).child 0)) limits.old.words) }
+    ensures { RunsInMemory (λ found. found) result limits.new.words
+        (run (bootstrap_in ((sections_of frame.now message.now).child 0)) limits.old.words) }
 {
     let bootstrap = struct_in(frame, message, MESSAGE_BODY, limits)?;
     Ok(RpcMessage::Bootstrap {
@@ -38,13 +39,14 @@ pub fn bootstrap(
 
 /// What the pointers of a Call hold.
 #[tactic(auto, using(crate::proofs::Running::run_then), unfolding(crate::specs::Message::called_in, cap_reader::specs::Reading::pay_for, cap_reader::specs::Reading::and_then))]
-fn called(
+fn read_call_parts(
     alloc: Global,
     frame: &Frame,
     call: &Option<StructAt>,
     limits: &mut Limits,
 ) -> Result<RpcMessage, ViewError>
-    ensures { RunsInMemory (λ found. found) result limits.new.words (run (called_in (sections_of frame.now call.now)) limits.old.words) }
+    ensures { RunsInMemory (λ found. found) result limits.new.words
+        (run (called_in (sections_of frame.now call.now)) limits.old.words) }
 {
     let target = target(alloc, frame, call, CALL_TARGET, limits)?;
     let params = payload(alloc, frame, call, CALL_PARAMS, limits)?;
@@ -65,7 +67,8 @@ pub fn call(
     message: &Option<StructAt>,
     limits: &mut Limits,
 ) -> Result<RpcMessage, ViewError>
-    ensures { RunsInMemory (λ found. found) result limits.new.words (run (call_in ((sections_of frame.now message.now).child 0)) limits.old.words) }
+    ensures { RunsInMemory (λ found. found) result limits.new.words
+        (run (call_in ((sections_of frame.now message.now).child 0)) limits.old.words) }
 {
     let call = struct_in(frame, message, MESSAGE_BODY, limits)?;
     let send_results_to = u16_of(frame, &call, CALL_SEND_RESULTS_TO);
@@ -81,7 +84,7 @@ pub fn call(
     if bit_of(frame, &call, CALL_LATER) {
         return Err(ViewError::Outside(Outside::LaterField));
     }
-    called(alloc, frame, &call, limits)
+    read_call_parts(alloc, frame, &call, limits)
 }
 
 /// What a Return says of its call, as results, an exception or canceled.
@@ -92,7 +95,8 @@ fn outcome(
     answer: &Option<StructAt>,
     limits: &mut Limits,
 ) -> Result<Outcome, ViewError>
-    ensures { RunsInMemory (λ found. found) result limits.new.words (run (outcome_in (sections_of frame.now answer.now)) limits.old.words) }
+    ensures { RunsInMemory (λ found. found) result limits.new.words
+        (run (outcome_in (sections_of frame.now answer.now)) limits.old.words) }
 {
     match u16_of(frame, answer, RETURN_TAG) {
         0 => Ok(Outcome::Results(payload(alloc, frame, answer, RETURN_RESULTS, limits)?)),
@@ -104,13 +108,14 @@ fn outcome(
 
 /// What the pointer of a Return holds.
 #[tactic(auto, using(crate::proofs::Running::run_then), unfolding(crate::specs::Message::returned_in, cap_reader::specs::Reading::pay_for, cap_reader::specs::Reading::and_then))]
-fn returned(
+fn read_return_parts(
     alloc: Global,
     frame: &Frame,
     answer: &Option<StructAt>,
     limits: &mut Limits,
 ) -> Result<RpcMessage, ViewError>
-    ensures { RunsInMemory (λ found. found) result limits.new.words (run (returned_in (sections_of frame.now answer.now)) limits.old.words) }
+    ensures { RunsInMemory (λ found. found) result limits.new.words
+        (run (returned_in (sections_of frame.now answer.now)) limits.old.words) }
 {
     let outcome = outcome(alloc, frame, answer, limits)?;
     Ok(RpcMessage::Return {
@@ -128,7 +133,8 @@ pub fn answer(
     message: &Option<StructAt>,
     limits: &mut Limits,
 ) -> Result<RpcMessage, ViewError>
-    ensures { RunsInMemory (λ found. found) result limits.new.words (run (return_in ((sections_of frame.now message.now).child 0)) limits.old.words) }
+    ensures { RunsInMemory (λ found. found) result limits.new.words
+        (run (return_in ((sections_of frame.now message.now).child 0)) limits.old.words) }
 {
     let answer = struct_in(frame, message, MESSAGE_BODY, limits)?;
     let tag = u16_of(frame, &answer, RETURN_TAG);
@@ -144,7 +150,7 @@ pub fn answer(
     if bit_of(frame, &answer, RETURN_LATER) {
         return Err(ViewError::Outside(Outside::LaterField));
     }
-    returned(alloc, frame, &answer, limits)
+    read_return_parts(alloc, frame, &answer, limits)
 }
 
 /// The Finish behind a Message's pointer.
@@ -154,7 +160,8 @@ pub fn finish(
     message: &Option<StructAt>,
     limits: &mut Limits,
 ) -> Result<RpcMessage, ViewError>
-    ensures { RunsInMemory (λ found. found) result limits.new.words (run (finish_in ((sections_of frame.now message.now).child 0)) limits.old.words) }
+    ensures { RunsInMemory (λ found. found) result limits.new.words
+        (run (finish_in ((sections_of frame.now message.now).child 0)) limits.old.words) }
 {
     let finish = struct_in(frame, message, MESSAGE_BODY, limits)?;
     Ok(RpcMessage::Finish {
@@ -171,7 +178,8 @@ pub fn resolve(
     message: &Option<StructAt>,
     limits: &mut Limits,
 ) -> Result<RpcMessage, ViewError>
-    ensures { RunsInMemory (λ found. found) result limits.new.words (run (resolve_in ((sections_of frame.now message.now).child 0)) limits.old.words) }
+    ensures { RunsInMemory (λ found. found) result limits.new.words
+        (run (resolve_in ((sections_of frame.now message.now).child 0)) limits.old.words) }
 {
     let resolve = struct_in(frame, message, MESSAGE_BODY, limits)?;
     let promise = u32_of(frame, &resolve, RESOLVE_PROMISE);
@@ -193,7 +201,8 @@ pub fn release(
     message: &Option<StructAt>,
     limits: &mut Limits,
 ) -> Result<RpcMessage, ViewError>
-    ensures { RunsInMemory (λ found. found) result limits.new.words (run (release_in ((sections_of frame.now message.now).child 0)) limits.old.words) }
+    ensures { RunsInMemory (λ found. found) result limits.new.words
+        (run (release_in ((sections_of frame.now message.now).child 0)) limits.old.words) }
 {
     let release = struct_in(frame, message, MESSAGE_BODY, limits)?;
     Ok(RpcMessage::Release {
@@ -204,14 +213,15 @@ pub fn release(
 
 /// What the pointer of a Disembargo holds.
 #[tactic(auto, using(crate::proofs::Running::run_then), unfolding(crate::specs::Message::disembargoed_in, cap_reader::specs::Reading::pay_for, cap_reader::specs::Reading::and_then))]
-fn disembargoed(
+fn read_disembargo_parts(
     alloc: Global,
     frame: &Frame,
     disembargo: &Option<StructAt>,
     loopback: Loopback,
     limits: &mut Limits,
 ) -> Result<RpcMessage, ViewError>
-    ensures { RunsInMemory (λ found. found) result limits.new.words (run (disembargoed_in (sections_of frame.now disembargo.now) loopback) limits.old.words) }
+    ensures { RunsInMemory (λ found. found) result limits.new.words
+        (run (disembargoed_in (sections_of frame.now disembargo.now) loopback) limits.old.words) }
 {
     let target = target(alloc, frame, disembargo, DISEMBARGO_TARGET, limits)?;
     Ok(RpcMessage::Disembargo {
@@ -229,12 +239,13 @@ pub fn disembargo(
     message: &Option<StructAt>,
     limits: &mut Limits,
 ) -> Result<RpcMessage, ViewError>
-    ensures { RunsInMemory (λ found. found) result limits.new.words (run (disembargo_in ((sections_of frame.now message.now).child 0)) limits.old.words) }
+    ensures { RunsInMemory (λ found. found) result limits.new.words
+        (run (disembargo_in ((sections_of frame.now message.now).child 0)) limits.old.words) }
 {
     let disembargo = struct_in(frame, message, MESSAGE_BODY, limits)?;
     match u16_of(frame, &disembargo, DISEMBARGO_TAG) {
-        0 => disembargoed(alloc, frame, &disembargo, Loopback::Sender, limits),
-        1 => disembargoed(alloc, frame, &disembargo, Loopback::Receiver, limits),
+        0 => read_disembargo_parts(alloc, frame, &disembargo, Loopback::Sender, limits),
+        1 => read_disembargo_parts(alloc, frame, &disembargo, Loopback::Receiver, limits),
         2..=3 => Err(ViewError::Outside(Outside::Level)),
         _ => Err(ViewError::BadTag),
     }

@@ -22,7 +22,8 @@ pub fn payload(
     n: u16,
     limits: &mut Limits,
 ) -> Result<Payload, ViewError>
-    ensures { RunsInMemory (λ payload. payload) result limits.new.words (run (payload_in ((sections_of frame.now place.now).child n)) limits.old.words) }
+    ensures { RunsInMemory (λ payload. payload) result limits.new.words
+        (run (payload_in ((sections_of frame.now place.now).child n)) limits.old.words) }
 {
     let payload = struct_in(frame, place, n, limits)?;
     let table = list_in(frame, &payload, PAYLOAD_CAP_TABLE, limits)?;

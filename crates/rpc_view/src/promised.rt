@@ -3,7 +3,7 @@
 ghost use Rattle.std.specs.Prelude.{◌<◌};
 ghost use Rattle.cap_reader.specs.Places.{elements_at, list_len};
 ghost use Rattle.rpc_view.specs.Reading.{run};
-ghost use Rattle.rpc_view.specs.Glue.{RunsInMemory, sections_of, elements_of, numbers_of};
+ghost use Rattle.rpc_view.specs.Glue.{RunsInMemory, sections_of, elements_of, optional_number};
 ghost use Rattle.rpc_view.specs.Message.{operation_in, operations_in, promised_in};
 
 use crate::layouts::{OPERATION_FIELD, OPERATION_TAG, PROMISED_QUESTION, PROMISED_TRANSFORM};
@@ -22,7 +22,8 @@ fn operation(
     limits: &mut Limits,
 ) -> Result<Option<u16>, ViewError>
     requires { i < list_len operations.now }
-    ensures { RunsInMemory numbers_of result limits.new.words (run (operation_in ((elements_at frame.now operations.now).element i)) limits.old.words) }
+    ensures { RunsInMemory optional_number result limits.new.words
+        (run (operation_in ((elements_at frame.now operations.now).element i)) limits.old.words) }
 {
     let operation = element_in(frame, operations, i, limits)?;
     match u16_of(frame, &operation, OPERATION_TAG) {
@@ -40,7 +41,8 @@ fn path_of(
     operations: &ListAt,
     limits: &mut Limits,
 ) -> Result<Path, ViewError>
-    ensures { RunsInMemory (λ path. path) result limits.new.words (run (operations_in (elements_at frame.now operations.now)) limits.old.words) }
+    ensures { RunsInMemory (λ path. path) result limits.new.words
+        (run (operations_in (elements_at frame.now operations.now)) limits.old.words) }
 {
     let mut numbers = Vec::new(alloc);
     for i in 0..operations.len() {
@@ -59,7 +61,8 @@ fn transform(
     operations: &Option<ListAt>,
     limits: &mut Limits,
 ) -> Result<Path, ViewError>
-    ensures { RunsInMemory (λ path. path) result limits.new.words (run (operations_in (elements_of frame.now operations.now)) limits.old.words) }
+    ensures { RunsInMemory (λ path. path) result limits.new.words
+        (run (operations_in (elements_of frame.now operations.now)) limits.old.words) }
 {
     match operations {
         Some(operations) => path_of(alloc, frame, operations, limits),
@@ -76,7 +79,8 @@ pub fn promised_answer(
     n: u16,
     limits: &mut Limits,
 ) -> Result<(u32, Path), ViewError>
-    ensures { RunsInMemory (λ answer. answer) result limits.new.words (run (promised_in ((sections_of frame.now place.now).child n)) limits.old.words) }
+    ensures { RunsInMemory (λ answer. answer) result limits.new.words
+        (run (promised_in ((sections_of frame.now place.now).child n)) limits.old.words) }
 {
     let promised = struct_in(frame, place, n, limits)?;
     let operations = list_in(frame, &promised, PROMISED_TRANSFORM, limits)?;

@@ -31,7 +31,9 @@ fn body(
     message: &Option<StructAt>,
     limits: &mut Limits,
 ) -> Result<RpcMessage, ViewError>
-    ensures { RunsInMemory (λ found. found) result limits.new.words (run (body_in (message_tag (sections_of frame.now message.now)) (message_body (sections_of frame.now message.now))) limits.old.words) }
+    ensures { RunsInMemory (λ found. found) result limits.new.words
+        (run (body_in (message_tag (sections_of frame.now message.now))
+        (message_body (sections_of frame.now message.now))) limits.old.words) }
 {
     match u16_of(frame, message, MESSAGE_TAG) {
         0 => Err(ViewError::Outside(Outside::Unimplemented)),
@@ -51,7 +53,8 @@ fn body(
 /// The message at the root pointer of a frame.
 #[tactic(auto, using(crate::proofs::Running::run_then), unfolding(crate::specs::Message::message_in, cap_reader::specs::Reading::pay_for, cap_reader::specs::Reading::and_then))]
 fn message(alloc: Global, frame: &Frame, limits: &mut Limits) -> Result<RpcMessage, ViewError>
-    ensures { RunsInMemory (λ found. found) result limits.new.words (run (message_in (root_tree limits.old.depth frame.now)) limits.old.words) }
+    ensures { RunsInMemory (λ found. found) result limits.new.words
+        (run (message_in (root_tree limits.old.depth frame.now)) limits.old.words) }
 {
     let message = root_struct(frame, limits)?;
     body(alloc, frame, &message, limits)
@@ -70,10 +73,14 @@ pub fn read_message(alloc: Global, frame: &Frame, limits: Limits) -> Result<RpcM
     // Which message, or which fault.
     ensures exact { GivesInMemory (λ message. message) result (message_of frame.now limits) }
     // A message that is spelled in one of the forms of Spells is read.
-    ensures spelled { (words : List ℕ) (message : RpcMessage) (cost depth : ℕ) → Spells words message cost depth → frame.now ≡ words ∷ [] → cost ≤ limits.words → depth ≤ limits.depth → GivesInMemory (λ message. message) result (Ok message) }
+    ensures spelled { (words : List ℕ) (message : RpcMessage) (cost depth : ℕ)
+        → Spells words message cost depth → frame.now ≡ words ∷ [] → cost ≤ limits.words
+        → depth ≤ limits.depth → GivesInMemory (λ message. message) result (Ok message) }
     // More words never change a message, and with fewer than it costs it isn't read.
-    ensures priced { IfOk result (λ message. (cost : ℕ) × (cost ≤ limits.words) × HasPrice frame.now limits.depth message cost) }
-    // Want of memory is `OutOfMemory` alone, and never a pointer's fault.
+    ensures priced { IfOk result
+        (λ message. (cost : ℕ) × (cost ≤ limits.words)
+        × HasPrice frame.now limits.depth message cost) }
+    // Running out of memory is `OutOfMemory` alone, and never a pointer's fault.
     ensures memory { result ≢ Err (Read OutOfMemory) }
 {
     let mut limits = limits;
@@ -84,9 +91,10 @@ pub fn read_message(alloc: Global, frame: &Frame, limits: Limits) -> Result<RpcM
 pub fn read_bytes(alloc: Global, bytes: Bytes, limits: Limits) -> Result<RpcMessage, ViewError>
     // Which message, or which fault.
     ensures exact { GivesInMemory (λ message. message) result (message_of_bytes bytes limits) }
-    // Bytes that aren't a frame are refused by the fault of the frame, and never for want of memory.
-    ensures frame { (fault : FrameError) → segments_of bytes ≡ Err fault → result ≡ Err (NoFrame fault) }
-    // Want of memory is `OutOfMemory` alone, and never a pointer's fault.
+    // Bytes that aren't a frame are refused by the fault of the frame, and never because memory ran out.
+    ensures frame { (fault : FrameError) → segments_of bytes ≡ Err fault
+        → result ≡ Err (NoFrame fault) }
+    // Running out of memory is `OutOfMemory` alone, and never a pointer's fault.
     ensures memory { result ≢ Err (Read OutOfMemory) }
 {
     let frame = Frame::read(bytes)?;

@@ -17,7 +17,8 @@ use std::alloc::Global;
 
 /// The root struct of a frame.
 pub fn root_struct(frame: &Frame, limits: &mut Limits) -> Result<Option<StructAt>, ViewError>
-    ensures { RunsInMemory (sections_of frame.now) result limits.new.words (run (struct_in_tree (root_tree limits.old.depth frame.now)) limits.old.words) }
+    ensures { RunsInMemory (sections_of frame.now) result limits.new.words
+        (run (struct_in_tree (root_tree limits.old.depth frame.now)) limits.old.words) }
 {
     Ok(Some(root(frame, limits)?))
 }
@@ -30,7 +31,8 @@ pub fn struct_in(
     n: u16,
     limits: &mut Limits,
 ) -> Result<Option<StructAt>, ViewError>
-    ensures { RunsInMemory (sections_of frame.now) result limits.new.words (run (struct_in_tree ((sections_of frame.now place.now).child n)) limits.old.words) }
+    ensures { RunsInMemory (sections_of frame.now) result limits.new.words
+        (run (struct_in_tree ((sections_of frame.now place.now).child n)) limits.old.words) }
 {
     match place {
         Some(place) => Ok(struct_field(frame, place, n, limits)?),
@@ -46,7 +48,8 @@ pub fn list_in(
     n: u16,
     limits: &mut Limits,
 ) -> Result<Option<ListAt>, ViewError>
-    ensures { RunsInMemory (elements_of frame.now) result limits.new.words (run (list_in_tree ((sections_of frame.now place.now).child n)) limits.old.words) }
+    ensures { RunsInMemory (elements_of frame.now) result limits.new.words
+        (run (list_in_tree ((sections_of frame.now place.now).child n)) limits.old.words) }
 {
     match place {
         Some(place) => Ok(list_field(frame, place, n, limits)?),
@@ -62,7 +65,8 @@ pub fn element_in(
     limits: &mut Limits,
 ) -> Result<Option<StructAt>, ViewError>
     requires { i < list_len list.now }
-    ensures { RunsInMemory (sections_of frame.now) result limits.new.words (run (struct_in_tree ((elements_at frame.now list.now).element i)) limits.old.words) }
+    ensures { RunsInMemory (sections_of frame.now) result limits.new.words
+        (run (struct_in_tree ((elements_at frame.now list.now).element i)) limits.old.words) }
 {
     Ok(Some(list.element(i, limits)?))
 }
@@ -76,7 +80,8 @@ pub fn fields_of(
     n: u16,
     limits: &mut Limits,
 ) -> Result<Fields, ViewError>
-    ensures { RunsInMemory (λ found. found) result limits.new.words (run (part (fields_in [] ((sections_of frame.now place.now).child n))) limits.old.words) }
+    ensures { RunsInMemory (λ found. found) result limits.new.words
+        (run (part (fields_in [] ((sections_of frame.now place.now).child n))) limits.old.words) }
 {
     match place {
         Some(place) => Ok(fields(alloc, frame, place, n, limits)?),

@@ -17,13 +17,14 @@ use std::alloc::{AllocError, Global};
 
 /// What a descriptor says.
 #[tactic(auto, using(crate::proofs::Running::run_then), unfolding(crate::specs::Message::described_in, cap_reader::specs::Reading::pay_for, cap_reader::specs::Reading::and_then))]
-fn described(
+fn read_descriptor(
     alloc: Global,
     frame: &Frame,
     place: &Option<StructAt>,
     limits: &mut Limits,
 ) -> Result<Descriptor, ViewError>
-    ensures { RunsInMemory (λ found. found) result limits.new.words (run (described_in (sections_of frame.now place.now)) limits.old.words) }
+    ensures { RunsInMemory (λ found. found) result limits.new.words
+        (run (described_in (sections_of frame.now place.now)) limits.old.words) }
 {
     let number = u32_of(frame, place, DESCRIPTOR_NUMBER);
     match u16_of(frame, place, DESCRIPTOR_TAG) {
@@ -49,10 +50,11 @@ pub fn descriptor(
     n: u16,
     limits: &mut Limits,
 ) -> Result<Descriptor, ViewError>
-    ensures { RunsInMemory (λ found. found) result limits.new.words (run (descriptor_in ((sections_of frame.now place.now).child n)) limits.old.words) }
+    ensures { RunsInMemory (λ found. found) result limits.new.words
+        (run (descriptor_in ((sections_of frame.now place.now).child n)) limits.old.words) }
 {
     let descriptor = struct_in(frame, place, n, limits)?;
-    described(alloc, frame, &descriptor, limits)
+    read_descriptor(alloc, frame, &descriptor, limits)
 }
 
 /// The descriptor at a place of a table.
@@ -65,10 +67,11 @@ fn entry(
     limits: &mut Limits,
 ) -> Result<Descriptor, ViewError>
     requires { i < list_len table.now }
-    ensures { RunsInMemory (λ found. found) result limits.new.words (run (descriptor_in ((elements_at frame.now table.now).element i)) limits.old.words) }
+    ensures { RunsInMemory (λ found. found) result limits.new.words
+        (run (descriptor_in ((elements_at frame.now table.now).element i)) limits.old.words) }
 {
     let descriptor = element_in(frame, table, i, limits)?;
-    described(alloc, frame, &descriptor, limits)
+    read_descriptor(alloc, frame, &descriptor, limits)
 }
 
 /// Puts a descriptor behind those read. Room is made for one, and then for as many again as there are: most tables have
@@ -91,7 +94,8 @@ fn entries(
     table: &ListAt,
     limits: &mut Limits,
 ) -> Result<Descriptors, ViewError>
-    ensures { RunsInMemory (λ found. found) result limits.new.words (run (descriptors_in (elements_at frame.now table.now)) limits.old.words) }
+    ensures { RunsInMemory (λ found. found) result limits.new.words
+        (run (descriptors_in (elements_at frame.now table.now)) limits.old.words) }
 {
     let mut items = Vec::new(alloc);
     for i in 0..table.len() {
@@ -108,7 +112,8 @@ pub fn descriptors(
     table: &Option<ListAt>,
     limits: &mut Limits,
 ) -> Result<Descriptors, ViewError>
-    ensures { RunsInMemory (λ found. found) result limits.new.words (run (descriptors_in (elements_of frame.now table.now)) limits.old.words) }
+    ensures { RunsInMemory (λ found. found) result limits.new.words
+        (run (descriptors_in (elements_of frame.now table.now)) limits.old.words) }
 {
     match table {
         Some(table) => entries(alloc, frame, table, limits),

@@ -22,7 +22,8 @@ pub fn target(
     n: u16,
     limits: &mut Limits,
 ) -> Result<Target, ViewError>
-    ensures { RunsInMemory (λ target. target) result limits.new.words (run (target_in ((sections_of frame.now place.now).child n)) limits.old.words) }
+    ensures { RunsInMemory (λ target. target) result limits.new.words
+        (run (target_in ((sections_of frame.now place.now).child n)) limits.old.words) }
 {
     let target = struct_in(frame, place, n, limits)?;
     match u16_of(frame, &target, TARGET_TAG) {

@@ -46,7 +46,7 @@ impl From<FrameError> for ViewError {
     }
 }
 
-/// Want of memory stays what it is; any other fault is that of a pointer.
+/// Running out of memory stays what it is; any other fault is that of a pointer.
 impl From<ReadError> for ViewError {
     ghost from_gives = { λ e error. error ≡ fault_of e };
 

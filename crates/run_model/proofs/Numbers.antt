@@ -1,8 +1,8 @@
 -- The steps of each vat among the first steps of a run, counted.
 use Rattle.std.proofs.Common.{◌≡◌, ◌∙◌, ℕ, suc, ◌+◌, ◌<◌, ◌≤◌, sym, ap, ap₂, ◌==◌, List, [], ◌∷◌, ◌++◌, Bool, true, false, reverse, take, length, get_or, arith, if◌then◌else◌}
 use Rattle.std.proofs.lemmas.List.{take_more, reverse-append, length-reverse, length-take-le}
-use Rattle.run_model.specs.StepNumbers.{IsCounted, number_of}
-use Rattle.run_model.specs.Steps.{Past, count, vat_of}
+use Rattle.run_model.specs.StepNumbers.{IsStepCounted, step_count}
+use Rattle.run_model.specs.Steps.{PastSteps, count_steps, vat_of}
 use Rattle.run_model.specs.Types.{Step}
 use Rattle.run_model.specs.declared.step_numbers.StepNumbers.{StepNumbers}
 
@@ -14,12 +14,12 @@ at_most : (b : Bool) (n k : ℕ) → n ≤ k → (if b then suc n else n) ≤ su
 at_most true n k l = omega (arith, l)
 at_most false n k l = omega (arith, l)
 
-count_within : (test : Step → Bool) (past : Past) → count test past ≤ length past
+count_within : (test : Step → Bool) (past : PastSteps) → count_steps test past ≤ length past
 count_within test [] = omega arith
-count_within test (s ∷ past) = at_most (test s) (count test past) (length past) (count_within test past)
+count_within test (s ∷ past) = at_most (test s) (count_steps test past) (length past) (count_within test past)
 
 -- no vat has more steps than came
-pub counted_within : (run : List Step) (i v : ℕ) → i < length run → count (λ t. vat_of t == v) (reverse (take i run)) ≤ i
+pub counted_within : (run : List Step) (i v : ℕ) → i < length run → count_steps (λ t. vat_of t == v) (reverse (take i run)) ≤ i
 counted_within run i v lt =
     let all = count_within (λ t. vat_of t == v) (reverse (take i run)) in
     let same = length-reverse (take i run) in
@@ -32,12 +32,12 @@ suc_if false n = omega arith
 
 -- the table says how many steps of each vat are among the first
 abbrev pub IsNumbered : List Step → ℕ → StepNumbers → Type 0
-IsNumbered run i table = (v : ℕ) → number_of table v ≡ count (λ t. vat_of t == v) (reverse (take i run))
+IsNumbered run i table = (v : ℕ) → step_count table v ≡ count_steps (λ t. vat_of t == v) (reverse (take i run))
 
 pub numbered_more : (run : List Step) (i : ℕ) (s : Step) (vat : ℕ) (old new : StepNumbers) → i < length run → s ≡ get_or run i s → vat ≡ vat_of s →
-    IsCounted vat old new → IsNumbered run i old → IsNumbered run (i + 1) new
+    IsStepCounted vat old new → IsNumbered run i old → IsNumbered run (i + 1) new
 numbered_more run i s vat old new lt at is counted before v =
     counted v
     ∙ ap₂ (λ n w. n + (if w == v then 1 else 0)) (before v) is
-    ∙ suc_if (vat_of s == v) (count (λ t. vat_of t == v) (reverse (take i run)))
-    ∙ sym (ap (count (λ t. vat_of t == v)) (past_more run i s lt at))
+    ∙ suc_if (vat_of s == v) (count_steps (λ t. vat_of t == v) (reverse (take i run)))
+    ∙ sym (ap (count_steps (λ t. vat_of t == v)) (past_more run i s lt at))

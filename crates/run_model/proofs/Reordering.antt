@@ -15,12 +15,12 @@ use Rattle.run_model.proofs.Turning.{clash, leads_to_one_object, same_to_itself}
 use Rattle.run_model.specs.Early.{early, early_from, is_early, IsAtMost, IsOrderFault}
 use Rattle.run_model.specs.Edges.{Edge, IsBefore, IsBound, IsEarlier, IsWitness, AreEdges}
 use Rattle.run_model.specs.Leads.{Leads}
-use Rattle.run_model.specs.Legal.{IsLegal, IsLegalRun, begins, delivers}
+use Rattle.run_model.specs.Legal.{IsLegal, IsLegalRun, begins_call, delivers_call}
 use Rattle.run_model.specs.Links.{IsLinked, IsLinkedRun}
-use Rattle.run_model.specs.Places.{Asked, asks}
+use Rattle.run_model.specs.Places.{Asked, asked_by_parts}
 use Rattle.run_model.specs.Reordered.{HaveSameSteps, MakesThrough, KeepsReferences}
-use Rattle.run_model.specs.Right.{ReachesObject, is_made_before, made, makes_through}
-use Rattle.run_model.specs.Steps.{Each, OneOf, Past, call, count, is_same, last_answer, steps_of, vat_of}
+use Rattle.run_model.specs.Right.{ReachesObject, is_made_before, request_in_make, makes_through}
+use Rattle.run_model.specs.Steps.{EachStep, OneOf, PastSteps, call, count_steps, is_same_call, last_step_answer, steps_of, vat_of}
 
 -- ---- a vat's steps among those of all
 
@@ -42,34 +42,34 @@ steps_turned v (s ∷ run) =
     at true h = ap (λ l. l ++ s ∷ []) h ∙ sym (reverse-append (s ∷ []) (steps_of v run))
     at false h = append-nil (steps_of v (reverse run)) ∙ h
 
-own_step : (v : ℕ) (s : Step) (past : Past) → vat_of s ≡ v → steps_of v (s ∷ past) ≡ s ∷ steps_of v past
+own_step : (v : ℕ) (s : Step) (past : PastSteps) → vat_of s ≡ v → steps_of v (s ∷ past) ≡ s ∷ steps_of v past
 own_step v s past own = ap (λ b. if b then s ∷ steps_of v past else steps_of v past) (eq-eqb (vat_of s) v own)
 
-other_step : (v : ℕ) (s : Step) (past : Past) → (vat_of s == v) ≡ false → steps_of v (s ∷ past) ≡ steps_of v past
+other_step : (v : ℕ) (s : Step) (past : PastSteps) → (vat_of s == v) ≡ false → steps_of v (s ∷ past) ≡ steps_of v past
 other_step v s past apart = ap (λ b. if b then s ∷ steps_of v past else steps_of v past) apart
 
-own_steps : (v : ℕ) (later before : Past) (s : Step) → vat_of s ≡ v → steps_of v (later ++ s ∷ before) ≡ steps_of v later ++ s ∷ steps_of v before
+own_steps : (v : ℕ) (later before : PastSteps) (s : Step) → vat_of s ≡ v → steps_of v (later ++ s ∷ before) ≡ steps_of v later ++ s ∷ steps_of v before
 own_steps v later before s own = filter-append (λ s. vat_of s == v) later (s ∷ before) ∙ ap (λ l. steps_of v later ++ l) (own_step v s before own)
 
 -- how many steps of a vat stand before
-counted : (v : ℕ) (past : Past) → count (λ s. vat_of s == v) past ≡ length (steps_of v past)
+counted : (v : ℕ) (past : PastSteps) → count_steps (λ s. vat_of s == v) past ≡ length (steps_of v past)
 counted v [] = refl
 counted v (s ∷ past) = at (vat_of s == v) (counted v past)
   where
-    at : (b : Bool) → count (λ s. vat_of s == v) past ≡ length (steps_of v past) →
-        (if b then suc (count (λ s. vat_of s == v) past) else count (λ s. vat_of s == v) past) ≡ length (if b then s ∷ steps_of v past else steps_of v past)
+    at : (b : Bool) → count_steps (λ s. vat_of s == v) past ≡ length (steps_of v past) →
+        (if b then suc (count_steps (λ s. vat_of s == v) past) else count_steps (λ s. vat_of s == v) past) ≡ length (if b then s ∷ steps_of v past else steps_of v past)
     at true h = ap suc h
     at false h = h
 
 -- a step of a vat, with the vat's steps before and after it, stands so among all steps
-record IsAmong (v : ℕ) (past xs ys : Past) (s : Step) : Type 0 where
-  pub later : Past
-  pub before : Past
+record IsAmong (v : ℕ) (past xs ys : PastSteps) (s : Step) : Type 0 where
+  pub later : PastSteps
+  pub before : PastSteps
   pub split : past ≡ later ++ s ∷ before
   pub own_later : steps_of v later ≡ xs
   pub own_before : steps_of v before ≡ ys
 
-among : (v : ℕ) (past xs ys : Past) (s : Step) → steps_of v past ≡ xs ++ s ∷ ys → IsAmong v past xs ys s
+among : (v : ℕ) (past xs ys : PastSteps) (s : Step) → steps_of v past ≡ xs ++ s ∷ ys → IsAmong v past xs ys s
 among v [] [] ys s h = absurd (no_cons h)
 among v [] (x ∷ xs) ys s h = absurd (no_cons h)
 among v (t ∷ past) xs ys s h = elim (cases_Bool (vat_of t == v)) [
@@ -79,7 +79,7 @@ among v (t ∷ past) xs ys s h = elim (cases_Bool (vat_of t == v)) [
       record { later = t ∷ r.later; before = r.before; split = ap (λ l. t ∷ l) r.split; own_later = other_step v t r.later apart ∙ r.own_later; own_before = r.own_before }
 ]
   where
-    at : vat_of t ≡ v → (xs : Past) → t ∷ steps_of v past ≡ xs ++ s ∷ ys → ((xs : Past) → steps_of v past ≡ xs ++ s ∷ ys → IsAmong v past xs ys s) → IsAmong v (t ∷ past) xs ys s
+    at : vat_of t ≡ v → (xs : PastSteps) → t ∷ steps_of v past ≡ xs ++ s ∷ ys → ((xs : PastSteps) → steps_of v past ≡ xs ++ s ∷ ys → IsAmong v past xs ys s) → IsAmong v (t ∷ past) xs ys s
     at own [] h rest = record { later = []; before = past; split = ap (λ x. x ∷ past) (heads h); own_later = refl; own_before = tails h }
     at own (x ∷ xs) h rest =
         let r = rest xs (tails h) in
@@ -91,12 +91,12 @@ among v (t ∷ past) xs ys s h = elim (cases_Bool (vat_of t == v)) [
           own_before = r.own_before;
         }
 
-any_there : (test : Step → Bool) (later before : Past) (s : Step) → test s ≡ true → list_any test (later ++ s ∷ before) ≡ true
+any_there : (test : Step → Bool) (later before : PastSteps) (s : Step) → test s ≡ true → list_any test (later ++ s ∷ before) ≡ true
 any_there test [] before s h = or_left (test s) (list_any test before) h
 any_there test (t ∷ later) before s h = or_right (test t) (list_any test (later ++ s ∷ before)) (any_there test later before s h)
 
 -- what one of a vat's steps passes, one of all steps does; and the other way, where only a step of that vat can
-any_of_all : (v : ℕ) (test : Step → Bool) (past : Past) → list_any test (steps_of v past) ≡ true → list_any test past ≡ true
+any_of_all : (v : ℕ) (test : Step → Bool) (past : PastSteps) → list_any test (steps_of v past) ≡ true → list_any test past ≡ true
 any_of_all v test [] h = h
 any_of_all v test (s ∷ past) h = at (vat_of s == v) h (any_of_all v test past)
   where
@@ -107,7 +107,7 @@ any_of_all v test (s ∷ past) h = at (vat_of s == v) h (any_of_all v test past)
       | inr there ↦ or_right (test s) (list_any test past) (rest there)
     ]
 
-any_of_own : (v : ℕ) (test : Step → Bool) → ((s : Step) → test s ≡ true → vat_of s ≡ v) → (past : Past) → list_any test past ≡ true → list_any test (steps_of v past) ≡ true
+any_of_own : (v : ℕ) (test : Step → Bool) → ((s : Step) → test s ≡ true → vat_of s ≡ v) → (past : PastSteps) → list_any test past ≡ true → list_any test (steps_of v past) ≡ true
 any_of_own v test own [] h = h
 any_of_own v test own (s ∷ past) h = elim (or_either (test s) (list_any test past) h) [
   | inl here ↦ subst (λ l. list_any test l ≡ true) (sym (own_step v s past (own s here))) (or_left (test s) (list_any test (steps_of v past)) here)
@@ -120,21 +120,21 @@ any_of_own v test own (s ∷ past) h = elim (or_either (test s) (list_any test p
 
 -- ---- a call that is delivered
 
-record IsDelivered (c : Name) (past : Past) : Type 0 where
+record IsDelivered (c : Name) (past : PastSteps) : Type 0 where
   pub vat : ℕ
   pub object : ℕ
-  pub later : Past
-  pub before : Past
+  pub later : PastSteps
+  pub before : PastSteps
   pub split : past ≡ later ++ Deliver vat c object ∷ before
 
-delivered_now : (c : Name) (s : Step) (past : Past) → delivers c s ≡ true → IsDelivered c (s ∷ past)
+delivered_now : (c : Name) (s : Step) (past : PastSteps) → delivers_call c s ≡ true → IsDelivered c (s ∷ past)
 delivered_now c (Deliver v d o) past h = record { vat = v; object = o; later = []; before = past; split = ap (λ n. Deliver v n o ∷ past) (names_same d c h) }
 delivered_now c (Host v o) past h = absurd (false≢true h)
 delivered_now c _ past h = absurd (false≢true h)
 
-delivered : (c : Name) (past : Past) → list_any (delivers c) past ≡ true → IsDelivered c past
+delivered : (c : Name) (past : PastSteps) → list_any (delivers_call c) past ≡ true → IsDelivered c past
 delivered c [] h = absurd (false≢true h)
-delivered c (s ∷ past) h = elim (or_either (delivers c s) (list_any (delivers c) past) h) [
+delivered c (s ∷ past) h = elim (or_either (delivers_call c s) (list_any (delivers_call c) past) h) [
   | inl here ↦ delivered_now c s past here
   | inr there ↦ let r = delivered c past there in record { vat = r.vat; object = r.object; later = s ∷ r.later; before = r.before; split = ap (λ l. s ∷ l) r.split }
 ]
@@ -142,19 +142,19 @@ delivered c (s ∷ past) h = elim (or_either (delivers c s) (list_any (delivers 
 -- ---- the early steps
 
 -- a step delivers a call after which another is delivered that was made before it
-record IsEarlyAt (whole : Past) (later : List Step) (past : Past) (place : ℕ × ℕ) : Type 0 where
+record IsEarlyAt (whole : PastSteps) (later : List Step) (past : PastSteps) (place : ℕ × ℕ) : Type 0 where
   pub vat : ℕ
   pub object : ℕ
   pub call : Name
   pub first : Name
-  pub added : Past
-  pub before : Past
+  pub added : PastSteps
+  pub before : PastSteps
   pub split : past ≡ added ++ Deliver vat call object ∷ before
-  pub at_place : (vat, count (λ s. vat_of s == vat) before) ≡ place
+  pub at_place : (vat, count_steps (λ s. vat_of s == vat) before) ≡ place
   pub made : is_made_before first call whole ≡ true
-  pub overtaken : (list_any (delivers first) added || list_any (delivers first) later) ≡ true
+  pub overtaken : (list_any (delivers_call first) added || list_any (delivers_call first) later) ≡ true
 
-early_now : (whole : Past) (later : List Step) (s : Step) (past : Past) (place : ℕ × ℕ) → is_early whole s later ≡ true → (vat_of s, count (λ t. vat_of t == vat_of s) past) ≡ place →
+early_now : (whole : PastSteps) (later : List Step) (s : Step) (past : PastSteps) (place : ℕ × ℕ) → is_early whole s later ≡ true → (vat_of s, count_steps (λ t. vat_of t == vat_of s) past) ≡ place →
     IsEarlyAt whole later (s ∷ past) place
 early_now whole later (Deliver v c o) past place early at_place =
     let r = overtaker whole c later early in
@@ -173,7 +173,7 @@ or_passed_back true b c h = refl
 or_passed_back false true c h = refl
 or_passed_back false false c h = h
 
-early_past : (whole : Past) (later : List Step) (s : Step) (past : Past) (place : ℕ × ℕ) → IsEarlyAt whole (s ∷ later) past place → IsEarlyAt whole later (s ∷ past) place
+early_past : (whole : PastSteps) (later : List Step) (s : Step) (past : PastSteps) (place : ℕ × ℕ) → IsEarlyAt whole (s ∷ later) past place → IsEarlyAt whole later (s ∷ past) place
 early_past whole later s past place r = record {
   vat = r.vat;
   object = r.object;
@@ -184,15 +184,15 @@ early_past whole later s past place r = record {
   split = ap (λ l. s ∷ l) r.split;
   at_place = r.at_place;
   made = r.made;
-  overtaken = or_passed (list_any (delivers r.first) r.added) (delivers r.first s) (list_any (delivers r.first) later) r.overtaken;
+  overtaken = or_passed (list_any (delivers_call r.first) r.added) (delivers_call r.first s) (list_any (delivers_call r.first) later) r.overtaken;
 }
 
-early_at : (whole : Past) (later : List Step) (past : Past) (place : ℕ × ℕ) → OneOf (λ p. p ≡ place) (early_from whole later past) → IsEarlyAt whole later past place
+early_at : (whole : PastSteps) (later : List Step) (past : PastSteps) (place : ℕ × ℕ) → OneOf (λ p. p ≡ place) (early_from whole later past) → IsEarlyAt whole later past place
 early_at whole later [] place h = absurd h
 early_at whole later (s ∷ past) place h = at (is_early whole s later) refl h (early_at whole (s ∷ later) past place)
   where
     at : (b : Bool) → is_early whole s later ≡ b →
-        OneOf (λ p. p ≡ place) (if b then (vat_of s, count (λ t. vat_of t == vat_of s) past) ∷ early_from whole (s ∷ later) past else early_from whole (s ∷ later) past) →
+        OneOf (λ p. p ≡ place) (if b then (vat_of s, count_steps (λ t. vat_of t == vat_of s) past) ∷ early_from whole (s ∷ later) past else early_from whole (s ∷ later) past) →
         (OneOf (λ p. p ≡ place) (early_from whole (s ∷ later) past) → IsEarlyAt whole (s ∷ later) past place) → IsEarlyAt whole later (s ∷ past) place
     at true early (inl here) rest = early_now whole later s past place early here
     at true early (inr there) rest = early_past whole later s past place (rest there)
@@ -206,31 +206,31 @@ one_of_rest : {A : Type 0} (P : A → Type 0) (b : Bool) (x : A) (xs : List A) �
 one_of_rest P true x xs h = inr h
 one_of_rest P false x xs h = h
 
-early_there : (whole : Past) (later : List Step) (added before : Past) (v o : ℕ) (c first : Name) → is_made_before first c whole ≡ true →
-    (list_any (delivers first) added || list_any (delivers first) later) ≡ true →
-    OneOf (λ p. p ≡ (v, count (λ s. vat_of s == v) before)) (early_from whole later (added ++ Deliver v c o ∷ before))
+early_there : (whole : PastSteps) (later : List Step) (added before : PastSteps) (v o : ℕ) (c first : Name) → is_made_before first c whole ≡ true →
+    (list_any (delivers_call first) added || list_any (delivers_call first) later) ≡ true →
+    OneOf (λ p. p ≡ (v, count_steps (λ s. vat_of s == v) before)) (early_from whole later (added ++ Deliver v c o ∷ before))
 early_there whole later [] before v o c first made h =
     one_if _ (is_early whole (Deliver v c o) later) _ (early_from whole (Deliver v c o ∷ later) before) (overtaken whole c first later made h) refl
 early_there whole later (s ∷ added) before v o c first made h =
     one_of_rest _ (is_early whole s later) _ (early_from whole (s ∷ later) (added ++ Deliver v c o ∷ before))
-    (early_there whole (s ∷ later) added before v o c first made (or_passed_back (list_any (delivers first) added) (delivers first s) (list_any (delivers first) later) h))
+    (early_there whole (s ∷ later) added before v o c first made (or_passed_back (list_any (delivers_call first) added) (delivers_call first s) (list_any (delivers_call first) later) h))
 
 -- ---- two calls made through one reference
 
-record IsMadeBefore (c d : Name) (past : Past) : Type 0 where
+record IsMadeBefore (c d : Name) (past : PastSteps) : Type 0 where
   pub vat : ℕ
   pub number : ℕ
   pub cap : Cap
   pub reference : ℕ
   pub interface : ℕ
   pub method : ℕ
-  pub later : Past
-  pub before : Past
+  pub later : PastSteps
+  pub before : PastSteps
   pub split : past ≡ later ++ Make vat number cap reference interface method ∷ before
-  pub second : is_same (call vat number) d ≡ true
+  pub second : is_same_call (call vat number) d ≡ true
   pub first : list_any (makes_through vat reference c) before ≡ true
 
-made_past : (c d : Name) (s : Step) (past : Past) → IsMadeBefore c d past → IsMadeBefore c d (s ∷ past)
+made_past : (c d : Name) (s : Step) (past : PastSteps) → IsMadeBefore c d past → IsMadeBefore c d (s ∷ past)
 made_past c d s past r = record {
   vat = r.vat;
   number = r.number;
@@ -245,35 +245,35 @@ made_past c d s past r = record {
   first = r.first;
 }
 
-made_at : (c d : Name) (past : Past) → is_made_before c d past ≡ true → IsMadeBefore c d past
+made_at : (c d : Name) (past : PastSteps) → is_made_before c d past ≡ true → IsMadeBefore c d past
 made_at c d [] h = absurd (false≢true h)
-made_at c d (Make v n cap r i m ∷ past) h = elim (or_either (is_same (call v n) d && list_any (makes_through v r c) past) (is_made_before c d past) h) [
+made_at c d (Make v n cap r i m ∷ past) h = elim (or_either (is_same_call (call v n) d && list_any (makes_through v r c) past) (is_made_before c d past) h) [
   | inl now ↦
-      let parts = and_parts (is_same (call v n) d) (list_any (makes_through v r c) past) now in
+      let parts = and_parts (is_same_call (call v n) d) (list_any (makes_through v r c) past) now in
       record { vat = v; number = n; cap = cap; reference = r; interface = i; method = m; later = []; before = past; split = refl; second = parts.0; first = parts.1 }
   | inr old ↦ made_past c d (Make v n cap r i m) past (made_at c d past old)
 ]
 made_at c d (Host v o ∷ past) h = made_past c d (Host v o) past (made_at c d past h)
 made_at c d (s ∷ past) h = made_past c d s past (made_at c d past h)
 
-made_later : (c d : Name) (s : Step) (past : Past) → is_made_before c d past ≡ true → is_made_before c d (s ∷ past) ≡ true
-made_later c d (Make v n cap r i m) past h = or_right (is_same (call v n) d && list_any (makes_through v r c) past) (is_made_before c d past) h
+made_later : (c d : Name) (s : Step) (past : PastSteps) → is_made_before c d past ≡ true → is_made_before c d (s ∷ past) ≡ true
+made_later c d (Make v n cap r i m) past h = or_right (is_same_call (call v n) d && list_any (makes_through v r c) past) (is_made_before c d past) h
 made_later c d (Host v o) past h = h
 made_later c d s past h = h
 
-made_there : (c d : Name) (later before : Past) (v n : ℕ) (cap : Cap) (r i m : ℕ) → is_same (call v n) d ≡ true → list_any (makes_through v r c) before ≡ true →
+made_there : (c d : Name) (later before : PastSteps) (v n : ℕ) (cap : Cap) (r i m : ℕ) → is_same_call (call v n) d ≡ true → list_any (makes_through v r c) before ≡ true →
     is_made_before c d (later ++ Make v n cap r i m ∷ before) ≡ true
 made_there c d [] before v n cap r i m second first =
-    or_left (is_same (call v n) d && list_any (makes_through v r c) before) (is_made_before c d before) (and_from (is_same (call v n) d) (list_any (makes_through v r c) before) second first)
+    or_left (is_same_call (call v n) d && list_any (makes_through v r c) before) (is_made_before c d before) (and_from (is_same_call (call v n) d) (list_any (makes_through v r c) before) second first)
 made_there c d (s ∷ later) before v n cap r i m second first = made_later c d s (later ++ Make v n cap r i m ∷ before) (made_there c d later before v n cap r i m second first)
 
 own_make : (v r : ℕ) (c : Name) (s : Step) → makes_through v r c s ≡ true → vat_of s ≡ v
-own_make v r c (Make w n a reference i m) h = eqb-true w v (and_parts (w == v) (reference == r) (and_parts ((w == v) && (reference == r)) (is_same (call w n) c) h).0).0
+own_make v r c (Make w n a reference i m) h = eqb-true w v (and_parts (w == v) (reference == r) (and_parts ((w == v) && (reference == r)) (is_same_call (call w n) c) h).0).0
 own_make v r c (Host w o) h = absurd (false≢true h)
 own_make v r c _ h = absurd (false≢true h)
 
 -- what was made before is so in each order of the same steps
-module _ (c d : Name) (a b : Past) (same : (v : ℕ) → steps_of v a ≡ steps_of v b) where
+module _ (c d : Name) (a b : PastSteps) (same : (v : ℕ) → steps_of v a ≡ steps_of v b) where
   abbrev IsAt : IsMadeBefore c d a → Type 0
   IsAt r = IsAmong r.vat b (steps_of r.vat r.later) (steps_of r.vat r.before) (Make r.vat r.number r.cap r.reference r.interface r.method)
 
@@ -307,22 +307,22 @@ one_of_later : {A : Type 0} (P : A → Type 0) (front xs : List A) → OneOf P x
 one_of_later P [] xs h = h
 one_of_later P (x ∷ front) xs h = inr (one_of_later P front xs h)
 
-begun_by : (c : Name) (a : Cap) (s : Step) → Makes c a s → begins c s ≡ true
-begun_by c a (Make w n cap r i m) h = subst (λ x. is_same (call w n) x ≡ true) h.0 (same_to_itself (call w n))
+begun_by : (c : Name) (a : Cap) (s : Step) → Makes c a s → begins_call c s ≡ true
+begun_by c a (Make w n cap r i m) h = subst (λ x. is_same_call (call w n) x ≡ true) h.0 (same_to_itself (call w n))
 begun_by c a (Host w o) h = absurd h
 begun_by c a _ h = absurd h
 
-begun_in : (c : Name) (a : Cap) (past : Past) → OneOf (Makes c a) past → list_any (begins c) past ≡ true
+begun_in : (c : Name) (a : Cap) (past : PastSteps) → OneOf (Makes c a) past → list_any (begins_call c) past ≡ true
 begun_in c a [] h = absurd h
-begun_in c a (s ∷ past) (inl now) = or_left (begins c s) (list_any (begins c) past) (begun_by c a s now)
-begun_in c a (s ∷ past) (inr old) = or_right (begins c s) (list_any (begins c) past) (begun_in c a past old)
+begun_in c a (s ∷ past) (inl now) = or_left (begins_call c s) (list_any (begins_call c) past) (begun_by c a s now)
+begun_in c a (s ∷ past) (inr old) = or_right (begins_call c s) (list_any (begins_call c) past) (begun_in c a past old)
 
 by_one : (c : Name) (a b : Cap) (s : Step) → Makes c a s → Makes c b s → a ≡ b
 by_one c a b (Make w n cap r i m) h k = sym h.1 ∙ k.1
 by_one c a b (Host w o) h k = absurd h
 by_one c a b _ h k = absurd h
 
-made_through_one : (past : Past) → Each IsLegal past → (c : Name) (a b : Cap) → OneOf (Makes c a) past → OneOf (Makes c b) past → a ≡ b
+made_through_one : (past : PastSteps) → EachStep IsLegal past → (c : Name) (a b : Cap) → OneOf (Makes c a) past → OneOf (Makes c b) past → a ≡ b
 made_through_one [] legal c a b h k = absurd h
 made_through_one (s ∷ past) legal c a b (inl h) (inl k) = by_one c a b s h k
 made_through_one (s ∷ past) legal c a b (inl h) (inr k) = absurd (clash (begun_in c b past k) (begun_once c past s legal.0 (begun_by c a s h)))
@@ -330,36 +330,36 @@ made_through_one (s ∷ past) legal c a b (inr h) (inl k) = absurd (clash (begun
 made_through_one (s ∷ past) legal c a b (inr h) (inr k) = made_through_one past legal.1 c a b h k
 
 -- the cap through which a call was made
-abbrev MadeTo : Name → Past → (Cap → Type 0) → Type 0
+abbrev MadeTo : Name → PastSteps → (Cap → Type 0) → Type 0
 MadeTo c past P = (a : Cap) × OneOf (Makes c a) past × P a
 
-makes_it : (c : Name) (s : Step) (asked : Asked) → made c s ≡ Some asked → Makes c asked.goal s
-makes_it c (Make v n cap r i m) asked h = at (is_same (call v n) c) refl h
+makes_it : (c : Name) (s : Step) (asked : Asked) → request_in_make c s ≡ Some asked → Makes c asked.goal s
+makes_it c (Make v n cap r i m) asked h = at (is_same_call (call v n) c) refl h
   where
-    at : (b : Bool) → is_same (call v n) c ≡ b → (if b then Some (asks cap i m) else None) ≡ Some asked → Makes c asked.goal (Make v n cap r i m)
-    at true same h = let it : asks cap i m ≡ asked = cc in (names_same (call v n) c same, ap (λ x. x.goal) it)
+    at : (b : Bool) → is_same_call (call v n) c ≡ b → (if b then Some (asked_by_parts cap i m) else None) ≡ Some asked → Makes c asked.goal (Make v n cap r i m)
+    at true same h = let it : asked_by_parts cap i m ≡ asked = cc in (names_same (call v n) c same, ap (λ x. x.goal) it)
     at false same h = absurd (let no : ⊥ = cc in no)
 makes_it c (Host v o) asked h = absurd (let no : ⊥ = cc in no)
 makes_it c _ asked h = absurd (let no : ⊥ = cc in no)
 
-made_to : (c : Name) (past : Past) (P : Cap → Type 0) → IsSomeAnd (last_answer (made c) past) (λ asked. P asked.goal) → MadeTo c past P
+made_to : (c : Name) (past : PastSteps) (P : Cap → Type 0) → IsSomeAnd (last_step_answer (request_in_make c) past) (λ asked. P asked.goal) → MadeTo c past P
 made_to c [] P h = absurd h
-made_to c (s ∷ past) P h = at (made c s) refl h (made_to c past P)
+made_to c (s ∷ past) P h = at (request_in_make c s) refl h (made_to c past P)
   where
-    at : (o : Option Asked) → made c s ≡ o → IsSomeAnd (option_or o (last_answer (made c) past)) (λ asked. P asked.goal) →
-        (IsSomeAnd (last_answer (made c) past) (λ asked. P asked.goal) → MadeTo c past P) → MadeTo c (s ∷ past) P
+    at : (o : Option Asked) → request_in_make c s ≡ o → IsSomeAnd (option_or o (last_step_answer (request_in_make c) past)) (λ asked. P asked.goal) →
+        (IsSomeAnd (last_step_answer (request_in_make c) past) (λ asked. P asked.goal) → MadeTo c past P) → MadeTo c (s ∷ past) P
     at (Some asked) now h rest = (asked.goal, inl (makes_it c s asked now), h)
     at None now h rest = let r = rest h in (r.0, inr r.1, r.2)
 
-each_there : (P : Past → Step → Type 0) (later before : Past) (s : Step) → Each P (later ++ s ∷ before) → P before s
+each_there : (P : PastSteps → Step → Type 0) (later before : PastSteps) (s : Step) → EachStep P (later ++ s ∷ before) → P before s
 each_there P [] before s h = h.0
 each_there P (t ∷ later) before s h = each_there P later before s h.1
 
 -- the cap through which a delivered call was made leads to its object
-led : (past : Past) → Each IsLegal past → Each IsLinked past → (later before : Past) (v o : ℕ) (c : Name) → past ≡ later ++ Deliver v c o ∷ before →
+led : (past : PastSteps) → EachStep IsLegal past → EachStep IsLinked past → (later before : PastSteps) (v o : ℕ) (c : Name) → past ≡ later ++ Deliver v c o ∷ before →
     MadeTo c past (λ a. Leads past a (Object v o))
 led past legal linked later before v o c split =
-    let reached = each_there ReachesObject later before (Deliver v c o) (subst (Each ReachesObject) split (each_reaches_object past legal linked)) in
+    let reached = each_there ReachesObject later before (Deliver v c o) (subst (EachStep ReachesObject) split (each_reaches_object past legal linked)) in
     let r = made_to c before (λ a. Leads before a (Object v o)) reached.1 in
     subst (λ l. MadeTo c l (λ a. Leads l a (Object v o))) (sym split) (
       r.0,
@@ -368,25 +368,25 @@ led past legal linked later before v o c split =
     )
 
 -- the cap of a call that was made through a reference
-abbrev MadeThrough : ℕ → ℕ → Name → Past → Type 0
+abbrev MadeThrough : ℕ → ℕ → Name → PastSteps → Type 0
 MadeThrough v r c past = (a : Cap) × OneOf (MakesThrough v r a) past × OneOf (Makes c a) past
 
-through_now : (v r : ℕ) (c : Name) (s : Step) (past : Past) → makes_through v r c s ≡ true → MadeThrough v r c (s ∷ past)
+through_now : (v r : ℕ) (c : Name) (s : Step) (past : PastSteps) → makes_through v r c s ≡ true → MadeThrough v r c (s ∷ past)
 through_now v r c (Make w n a reference i m) past h =
-    let parts = and_parts ((w == v) && (reference == r)) (is_same (call w n) c) h in
+    let parts = and_parts ((w == v) && (reference == r)) (is_same_call (call w n) c) h in
     let by = and_parts (w == v) (reference == r) parts.0 in
     (a, inl (eqb-true w v by.0, eqb-true reference r by.1, refl), inl (names_same (call w n) c parts.1, refl))
 through_now v r c (Host w o) past h = absurd (false≢true h)
 through_now v r c _ past h = absurd (false≢true h)
 
-through : (v r : ℕ) (c : Name) (past : Past) → list_any (makes_through v r c) past ≡ true → MadeThrough v r c past
+through : (v r : ℕ) (c : Name) (past : PastSteps) → list_any (makes_through v r c) past ≡ true → MadeThrough v r c past
 through v r c [] h = absurd (false≢true h)
 through v r c (s ∷ past) h = elim (or_either (makes_through v r c s) (list_any (makes_through v r c) past) h) [
   | inl now ↦ through_now v r c s past now
   | inr old ↦ let t = through v r c past old in (t.0, inr t.1, inr t.2)
 ]
 
-one_cap_at : (past : Past) → Each IsLegal past → KeepsReferences past → (c d : Name) (a b : Cap) (r : IsMadeBefore c d past) → MadeThrough r.vat r.reference c r.before → OneOf (Makes c a) past →
+one_cap_at : (past : PastSteps) → EachStep IsLegal past → KeepsReferences past → (c d : Name) (a b : Cap) (r : IsMadeBefore c d past) → MadeThrough r.vat r.reference c r.before → OneOf (Makes c a) past →
     OneOf (Makes d b) past → a ≡ b
 one_cap_at past legal keeps c d a b r t is_a is_b =
     made_through_one past legal c a t.0 is_a (there (Makes c t.0) (inr t.2)) ∙ same
@@ -398,10 +398,10 @@ one_cap_at past legal keeps c d a b r t is_a is_b =
     same : t.0 ≡ r.cap
     same = keeps r.vat r.reference t.0 r.cap (there (MakesThrough r.vat r.reference t.0) (inr t.1)) (there (MakesThrough r.vat r.reference r.cap) (inl (refl, refl, refl)))
 
-one_cap : (past : Past) → Each IsLegal past → KeepsReferences past → (c d : Name) (a b : Cap) → is_made_before c d past ≡ true → OneOf (Makes c a) past → OneOf (Makes d b) past → a ≡ b
+one_cap : (past : PastSteps) → EachStep IsLegal past → KeepsReferences past → (c d : Name) (a b : Cap) → is_made_before c d past ≡ true → OneOf (Makes c a) past → OneOf (Makes d b) past → a ≡ b
 one_cap past legal keeps c d a b h = let r = made_at c d past h in one_cap_at past legal keeps c d a b r (through r.vat r.reference c r.before r.first)
 
-one_vat : (past : Past) → Each IsLegal past → Each IsLinked past → KeepsReferences past → (c d : Name) (later earlier later_d before : Past) (v o w p : ℕ) → is_made_before d c past ≡ true →
+one_vat : (past : PastSteps) → EachStep IsLegal past → EachStep IsLinked past → KeepsReferences past → (c d : Name) (later earlier later_d before : PastSteps) (v o w p : ℕ) → is_made_before d c past ≡ true →
     past ≡ later ++ Deliver v c o ∷ earlier → past ≡ later_d ++ Deliver w d p ∷ before → w ≡ v
 one_vat past legal linked keeps c d later earlier later_d before v o w p h at_c at_d =
     let one = led past legal linked later earlier v o c at_c in
@@ -411,11 +411,11 @@ one_vat past legal linked keeps c d later earlier later_d before v o w p h at_c 
 
 -- ---- the same steps are early
 
-append_three : (x y z : Past) → (x ++ y) ++ z ≡ x ++ (y ++ z)
+append_three : (x y z : PastSteps) → (x ++ y) ++ z ≡ x ++ (y ++ z)
 append_three [] y z = refl
 append_three (s ∷ x) y z = ap (λ l. s ∷ l) (append_three x y z)
 
-module _ (a b : Past) (legal : Each IsLegal a) (linked : Each IsLinked a) (keeps : KeepsReferences a) (same : (v : ℕ) → steps_of v a ≡ steps_of v b) (place : ℕ × ℕ) where
+module _ (a b : PastSteps) (legal : EachStep IsLegal a) (linked : EachStep IsLinked a) (keeps : KeepsReferences a) (same : (v : ℕ) → steps_of v a ≡ steps_of v b) (place : ℕ × ℕ) where
   abbrev IsEarlyIn : IsEarlyAt a [] a place → Type 0
   IsEarlyIn r = IsAmong r.vat b (steps_of r.vat r.added) (steps_of r.vat r.before) (Deliver r.vat r.call r.object)
 
@@ -425,10 +425,10 @@ module _ (a b : Past) (legal : Each IsLegal a) (linked : Each IsLinked a) (keeps
       (sym (same r.vat) ∙ ap (steps_of r.vat) r.split ∙ own_steps r.vat r.added r.before (Deliver r.vat r.call r.object) refl)
 
   -- the first of the calls was delivered by the same vat
-  first_is_own : (r : IsEarlyAt a [] a place) → IsDelivered r.first r.added → list_any (delivers r.first) (steps_of r.vat r.added) ≡ true
+  first_is_own : (r : IsEarlyAt a [] a place) → IsDelivered r.first r.added → list_any (delivers_call r.first) (steps_of r.vat r.added) ≡ true
   first_is_own r d =
-      subst (λ l. list_any (delivers r.first) l ≡ true) (sym (ap (steps_of r.vat) d.split ∙ own_steps r.vat d.later d.before (Deliver d.vat r.first d.object) here))
-      (any_there (delivers r.first) (steps_of r.vat d.later) (steps_of r.vat d.before) (Deliver d.vat r.first d.object) (same_to_itself r.first))
+      subst (λ l. list_any (delivers_call r.first) l ≡ true) (sym (ap (steps_of r.vat) d.split ∙ own_steps r.vat d.later d.before (Deliver d.vat r.first d.object) here))
+      (any_there (delivers_call r.first) (steps_of r.vat d.later) (steps_of r.vat d.before) (Deliver d.vat r.first d.object) (same_to_itself r.first))
     where
       split : a ≡ d.later ++ Deliver d.vat r.first d.object ∷ (d.before ++ Deliver r.vat r.call r.object ∷ r.before)
       split =
@@ -442,22 +442,22 @@ module _ (a b : Past) (legal : Each IsLegal a) (linked : Each IsLinked a) (keeps
   overtaking true h = refl
   overtaking false h = h
 
-  early_so : (r : IsEarlyAt a [] a place) → IsEarlyIn r → list_any (delivers r.first) (steps_of r.vat r.added) ≡ true → OneOf (λ p. p ≡ place) (early_from b [] b)
+  early_so : (r : IsEarlyAt a [] a place) → IsEarlyIn r → list_any (delivers_call r.first) (steps_of r.vat r.added) ≡ true → OneOf (λ p. p ≡ place) (early_from b [] b)
   early_so r p own =
       subst (λ q. OneOf (λ p. p ≡ q) (early_from b [] b)) (ap (λ n. (r.vat, n)) number ∙ r.at_place)
-      (subst (λ l. OneOf (λ q. q ≡ (r.vat, count (λ s. vat_of s == r.vat) p.before)) (early_from b [] l)) (sym p.split)
-      (early_there b [] p.later p.before r.vat r.object r.call r.first (made_too r.first r.call a b same r.made) (or_left (list_any (delivers r.first) p.later) false overtaken_there)))
+      (subst (λ l. OneOf (λ q. q ≡ (r.vat, count_steps (λ s. vat_of s == r.vat) p.before)) (early_from b [] l)) (sym p.split)
+      (early_there b [] p.later p.before r.vat r.object r.call r.first (made_too r.first r.call a b same r.made) (or_left (list_any (delivers_call r.first) p.later) false overtaken_there)))
     where
-      number : count (λ s. vat_of s == r.vat) p.before ≡ count (λ s. vat_of s == r.vat) r.before
+      number : count_steps (λ s. vat_of s == r.vat) p.before ≡ count_steps (λ s. vat_of s == r.vat) r.before
       number = counted r.vat p.before ∙ ap length p.own_before ∙ sym (counted r.vat r.before)
 
-      overtaken_there : list_any (delivers r.first) p.later ≡ true
-      overtaken_there = any_of_all r.vat (delivers r.first) p.later (subst (λ l. list_any (delivers r.first) l ≡ true) (sym p.own_later) own)
+      overtaken_there : list_any (delivers_call r.first) p.later ≡ true
+      overtaken_there = any_of_all r.vat (delivers_call r.first) p.later (subst (λ l. list_any (delivers_call r.first) l ≡ true) (sym p.own_later) own)
 
   early_in_past : OneOf (λ p. p ≡ place) (early_from a [] a) → OneOf (λ p. p ≡ place) (early_from b [] b)
   early_in_past h =
       let r = early_at a [] a place h in
-      early_so r (early_among r) (first_is_own r (delivered r.first r.added (overtaking (list_any (delivers r.first) r.added) r.overtaken)))
+      early_so r (early_among r) (first_is_own r (delivered r.first r.added (overtaking (list_any (delivers_call r.first) r.added) r.overtaken)))
 
 -- ---- so of runs
 
@@ -479,12 +479,12 @@ one_of_turned P (x ∷ xs) h = at (one_of_split P (reverse xs) (x ∷ []) (subst
     at (inr (inl h)) rest = inl h
     at (inr (inr h)) rest = absurd h
 
-pub one_of_own : (v : ℕ) (P : Step → Type 0) → ((s : Step) → P s → vat_of s ≡ v) → (past : Past) → OneOf P past → OneOf P (steps_of v past)
+pub one_of_own : (v : ℕ) (P : Step → Type 0) → ((s : Step) → P s → vat_of s ≡ v) → (past : PastSteps) → OneOf P past → OneOf P (steps_of v past)
 one_of_own v P own [] h = h
 one_of_own v P own (s ∷ past) (inl h) = subst (OneOf P) (sym (own_step v s past (own s h))) (inl h)
 one_of_own v P own (s ∷ past) (inr h) = one_of_rest P (vat_of s == v) s (steps_of v past) (one_of_own v P own past h)
 
-one_of_all : (v : ℕ) (P : Step → Type 0) (past : Past) → OneOf P (steps_of v past) → OneOf P past
+one_of_all : (v : ℕ) (P : Step → Type 0) (past : PastSteps) → OneOf P (steps_of v past) → OneOf P past
 one_of_all v P [] h = h
 one_of_all v P (s ∷ past) h = at (vat_of s == v) h (one_of_all v P past)
   where

@@ -7,9 +7,9 @@ use Rattle.std.specs.List.{AllByRecursion, cons_option, list_any}
 use Rattle.run_model.specs.Types.{Name, Cap, FieldOf, Message, Return, Resolve, Step, Host, Send, Receive}
 use Rattle.run_model.proofs.Growing.{leads_by_turns_grow}
 use Rattle.run_model.specs.Leads.{LeadsByTurns}
-use Rattle.run_model.specs.Legal.{IsLegal, answers}
-use Rattle.run_model.specs.Links.{IsLinked, IsLinked, receives, sent_to}
-use Rattle.run_model.specs.Steps.{Each, Past, count}
+use Rattle.run_model.specs.Legal.{IsLegal, answers_call}
+use Rattle.run_model.specs.Links.{IsLinked, receives_on, sent_to}
+use Rattle.run_model.specs.Steps.{EachStep, PastSteps, count_steps}
 
 -- an element of the list gives this
 abbrev pub Gives : {A B : Type 0} → (A → Option B) → List A → B → Type 0
@@ -45,51 +45,51 @@ sent_by v k (Send w j n) m e = let r = sender v k w j m n _ refl e in (w, r.0, r
 sent_by v k (Host w o) m e = absurd (none_some e)
 sent_by v k _ m e = absurd (none_some e)
 
-pub back_again : (before front back : Past) (s : Step) → reverse before ≡ front ++ s ∷ back → before ≡ reverse back ++ s ∷ reverse front
+pub back_again : (before front back : PastSteps) (s : Step) → reverse before ≡ front ++ s ∷ back → before ≡ reverse back ++ s ∷ reverse front
 back_again before front back s e = sym (reverse-reverse before) ∙ ap (λ l. reverse l) e ∙ reverse-append front (s ∷ back)
     ∙ ap (λ l. l ++ reverse front) (reverse-append (s ∷ []) back) ∙ append_assoc (reverse back) (s ∷ []) (reverse front)
 
-pub was_sent : (before : Past) (v k : ℕ) (m : Message) (bound : List Cap) → IsLinked before (Receive v k m bound) →
-    (w : ℕ) × (later earlier : Past) × (w ≢ v) × (before ≡ later ++ Send w k m ∷ earlier)
+pub was_sent : (before : PastSteps) (v k : ℕ) (m : Message) (bound : List Cap) → IsLinked before (Receive v k m bound) →
+    (w : ℕ) × (later earlier : PastSteps) × (w ≢ v) × (before ≡ later ++ Send w k m ∷ earlier)
 was_sent before v k m bound linked =
-    let g = gives (sent_to v k) (reverse before) m (count (receives v k) before) linked.1 in
+    let g = gives (sent_to v k) (reverse before) m (count_steps (receives_on v k) before) linked.1 in
     let s = sent_by v k g.1 m g.4 in
     (s.0, reverse g.2, reverse g.0, s.1, back_again before g.0 g.2 g.1 g.3 ∙ ap (λ t. reverse g.2 ++ t ∷ reverse g.0) s.2)
 
 -- the step that stands at a point is legal after those before it
-legal_at : (later earlier : Past) (s : Step) → Each IsLegal (later ++ s ∷ earlier) → IsLegal earlier s
+legal_at : (later earlier : PastSteps) (s : Step) → EachStep IsLegal (later ++ s ∷ earlier) → IsLegal earlier s
 legal_at [] earlier s h = h.0
 legal_at (x ∷ later) earlier s h = legal_at later earlier s h.1
 
-all_grow : (later earlier : Past) (c : Name) (results : List (List ℕ × Cap)) → AllByRecursion (λ r. LeadsByTurns earlier (FieldOf c r.0) r.1) results →
+all_grow : (later earlier : PastSteps) (c : Name) (results : List (List ℕ × Cap)) → AllByRecursion (λ r. LeadsByTurns earlier (FieldOf c r.0) r.1) results →
     AllByRecursion (λ r. LeadsByTurns (later ++ earlier) (FieldOf c r.0) r.1) results
 all_grow later earlier c [] h = h
 all_grow later earlier c (r ∷ rs) h = (leads_by_turns_grow later earlier (FieldOf c r.0) r.1 h.0, all_grow later earlier c rs h.1)
 
-pub received_leads : (before : Past) → Each IsLegal before → (v k : ℕ) (c : Name) (results : List (List ℕ × Cap)) (caps bound : List Cap) →
+pub received_leads : (before : PastSteps) → EachStep IsLegal before → (v k : ℕ) (c : Name) (results : List (List ℕ × Cap)) (caps bound : List Cap) →
     IsLinked before (Receive v k (Return c results caps) bound) → AllByRecursion (λ r. LeadsByTurns before (FieldOf c r.0) r.1) results
 received_leads before legal v k c results caps bound linked =
     let s = was_sent before v k (Return c results caps) bound linked in
-    let there = legal_at s.1 s.2 (Send s.0 k (Return c results caps)) (subst (λ l. Each IsLegal l) s.4 legal) in
+    let there = legal_at s.1 s.2 (Send s.0 k (Return c results caps)) (subst (λ l. EachStep IsLegal l) s.4 legal) in
     subst (λ l. AllByRecursion (λ r. LeadsByTurns l (FieldOf c r.0) r.1) results) (sym s.4)
     (all_grow s.1 (Send s.0 k (Return c results caps) ∷ s.2) c results (all_grow (Send s.0 k (Return c results caps) ∷ []) s.2 c results there.1.1))
 
 -- a step that passes a test stays
-pub passes_later : (test : Step → Bool) (later earlier : Past) → list_any test earlier ≡ true → list_any test (later ++ earlier) ≡ true
+pub passes_later : (test : Step → Bool) (later earlier : PastSteps) → list_any test earlier ≡ true → list_any test (later ++ earlier) ≡ true
 passes_later test later earlier e = list_any-append test later earlier ∙ or_right (list_any test later) (list_any test earlier) e
 
-pub received_answered : (before : Past) → Each IsLegal before → (v k : ℕ) (c : Name) (results : List (List ℕ × Cap)) (caps bound : List Cap) →
-    IsLinked before (Receive v k (Return c results caps) bound) → list_any (answers c) before ≡ true
+pub received_answered : (before : PastSteps) → EachStep IsLegal before → (v k : ℕ) (c : Name) (results : List (List ℕ × Cap)) (caps bound : List Cap) →
+    IsLinked before (Receive v k (Return c results caps) bound) → list_any (answers_call c) before ≡ true
 received_answered before legal v k c results caps bound linked =
     let m : Message = Return c results caps in
     let s = was_sent before v k m bound linked in
-    let there = legal_at s.1 s.2 (Send s.0 k m) (subst (λ l. Each IsLegal l) s.4 legal) in
-    subst (λ l. list_any (answers c) l ≡ true) (sym s.4) (passes_later (answers c) s.1 (Send s.0 k m ∷ s.2) there.1.0)
+    let there = legal_at s.1 s.2 (Send s.0 k m) (subst (λ l. EachStep IsLegal l) s.4 legal) in
+    subst (λ l. list_any (answers_call c) l ≡ true) (sym s.4) (passes_later (answers_call c) s.1 (Send s.0 k m ∷ s.2) there.1.0)
 
-pub resolved_leads : (before : Past) → Each IsLegal before → (v k : ℕ) (promise cap : Cap) (bound : List Cap) → IsLinked before (Receive v k (Resolve promise cap) bound) →
+pub resolved_leads : (before : PastSteps) → EachStep IsLegal before → (v k : ℕ) (promise cap : Cap) (bound : List Cap) → IsLinked before (Receive v k (Resolve promise cap) bound) →
     LeadsByTurns before promise cap
 resolved_leads before legal v k promise cap bound linked =
     let s = was_sent before v k (Resolve promise cap) bound linked in
-    let there = legal_at s.1 s.2 (Send s.0 k (Resolve promise cap)) (subst (λ l. Each IsLegal l) s.4 legal) in
+    let there = legal_at s.1 s.2 (Send s.0 k (Resolve promise cap)) (subst (λ l. EachStep IsLegal l) s.4 legal) in
     subst (λ l. LeadsByTurns l promise cap) (sym s.4)
     (leads_by_turns_grow s.1 (Send s.0 k (Resolve promise cap) ∷ s.2) promise cap (leads_by_turns_grow (Send s.0 k (Resolve promise cap) ∷ []) s.2 promise cap there.1))

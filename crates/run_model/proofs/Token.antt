@@ -7,33 +7,33 @@ use Rattle.std.proofs.lemmas.Bool.{and_parts, and_from, eq-eqb, false≢true, ca
 use Rattle.run_model.specs.Types.{Name, Cap, Message, Call, Step, Host, Send, Receive}
 use Rattle.run_model.proofs.Turning.{clash}
 use Rattle.run_model.proofs.Sending.{sent_by, back_again}
-use Rattle.run_model.specs.Links.{CarriesNext, IsEnd, IsLinked, are_one, other_user, receives, sent_to}
-use Rattle.run_model.specs.Steps.{OneOf, Past, count, is_same}
+use Rattle.run_model.specs.Links.{CarriesNext, IsEnd, IsLinked, are_one, other_user, receives_on, sent_to}
+use Rattle.run_model.specs.Steps.{OneOf, PastSteps, count_steps, is_same_call}
 
 -- the number that a message from another vat would have that is sent to v on k next
-abbrev pub number_at : ℕ → ℕ → Past → ℕ
+abbrev pub number_at : ℕ → ℕ → PastSteps → ℕ
 number_at v k before = length (filter_map (sent_to v k) (reverse before))
 
 -- a vat received the message that w sent on k after these steps
-abbrev pub IsReceived : Past → Past → ℕ → ℕ → Type 0
-IsReceived whole before w k = (v : ℕ) × (v ≢ w) × (number_at v k before < count (receives v k) whole)
+abbrev pub IsReceived : PastSteps → PastSteps → ℕ → ℕ → Type 0
+IsReceived whole before w k = (v : ℕ) × (v ≢ w) × (number_at v k before < count_steps (receives_on v k) whole)
 
 -- a message is a Call of this call
 abbrev pub is_call : Name → Message → Bool
-is_call c (Call d target i j caps) = is_same d c
+is_call c (Call d target i j caps) = is_same_call d c
 is_call c _ = false
 
 -- if the step sends such a message, that was received
-abbrev pub IsDone : (Message → Bool) → Past → Past → Step → Type 0
+abbrev pub IsDone : (Message → Bool) → PastSteps → PastSteps → Step → Type 0
 IsDone test whole before (Send w k m) = test m ≡ true → IsReceived whole before w k
 IsDone test whole before _ = ⊤
 
 -- each such message that was sent was received
-abbrev pub AllDone : (Message → Bool) → Past → Past → Type 0
+abbrev pub AllDone : (Message → Bool) → PastSteps → PastSteps → Type 0
 AllDone test whole [] = ⊤
 AllDone test whole (s ∷ before) = IsDone test whole before s × AllDone test whole before
 
-pub done_at : (test : Message → Bool) (whole later earlier : Past) (s : Step) → AllDone test whole (later ++ s ∷ earlier) → IsDone test whole earlier s
+pub done_at : (test : Message → Bool) (whole later earlier : PastSteps) (s : Step) → AllDone test whole (later ++ s ∷ earlier) → IsDone test whole earlier s
 done_at test whole [] earlier s h = h.0
 done_at test whole (x ∷ later) earlier s h = done_at test whole later earlier s h.1
 
@@ -57,12 +57,12 @@ found f [] y n e = absurd (none_some e)
 found f (x ∷ xs) y n e = found_first f x xs y (f x) refl (found f xs y) n e
 
 -- the point at which the next message for v on k was sent
-abbrev pub IsSentAt : Past → ℕ → ℕ → Message → Type 0
-IsSentAt before v k m = (w : ℕ) × (later earlier : Past) × (w ≢ v) × (before ≡ later ++ Send w k m ∷ earlier) × (number_at v k earlier ≡ count (receives v k) before)
+abbrev pub IsSentAt : PastSteps → ℕ → ℕ → Message → Type 0
+IsSentAt before v k m = (w : ℕ) × (later earlier : PastSteps) × (w ≢ v) × (before ≡ later ++ Send w k m ∷ earlier) × (number_at v k earlier ≡ count_steps (receives_on v k) before)
 
-pub sent_at : (before : Past) (v k : ℕ) (m : Message) → CarriesNext before v k m → IsSentAt before v k m
+pub sent_at : (before : PastSteps) (v k : ℕ) (m : Message) → CarriesNext before v k m → IsSentAt before v k m
 sent_at before v k m next =
-    let g = found (sent_to v k) (reverse before) m (count (receives v k) before) next in
+    let g = found (sent_to v k) (reverse before) m (count_steps (receives_on v k) before) next in
     let s = sent_by v k g.1 m g.4 in (
       s.0,
       reverse g.2,
@@ -95,12 +95,12 @@ kept_by (Some x) xs a (inr h) = inr h
 used_by : (v k w j : ℕ) → (j == k) ≡ true → w ≢ v → (if (j == k) && not (w == v) then Some w else None) ≡ Some w
 used_by v k w j on apart = ap (λ b. if b then Some w else None) (and_from (j == k) (not (w == v)) on (ap not (ne_eqb w v apart)))
 
-sender_uses : (v k w : ℕ) (m : Message) (later earlier : Past) → w ≢ v → OneOf (λ x. x ≡ w) (filter_map (other_user v k) (later ++ Send w k m ∷ earlier))
+sender_uses : (v k w : ℕ) (m : Message) (later earlier : PastSteps) → w ≢ v → OneOf (λ x. x ≡ w) (filter_map (other_user v k) (later ++ Send w k m ∷ earlier))
 sender_uses v k w m [] earlier apart = kept_by (other_user v k (Send w k m)) (filter_map (other_user v k) earlier) w (inl (used_by v k w k (eq-eqb k k refl) apart))
 sender_uses v k w m (x ∷ later) earlier apart =
     kept_by (other_user v k x) (filter_map (other_user v k) (later ++ Send w k m ∷ earlier)) w (inr (sender_uses v k w m later earlier apart))
 
-receiver_at : (v k w : ℕ) (s : Step) → w ≢ v → receives w k s ≡ true → other_user v k s ≡ Some w
+receiver_at : (v k w : ℕ) (s : Step) → w ≢ v → receives_on w k s ≡ true → other_user v k s ≡ Some w
 receiver_at v k w (Receive u j m bound) apart e =
     let parts = and_parts (u == w) (j == k) e in
     let same = eqb-true u w parts.0 in
@@ -112,18 +112,18 @@ counted : (b : Bool) (n m : ℕ) → n < (if b then suc m else m) → (b ≡ tru
 counted true n m lt = inl refl
 counted false n m lt = inr lt
 
-receiver_uses : (v k w n : ℕ) (before : Past) → w ≢ v → n < count (receives w k) before → OneOf (λ x. x ≡ w) (filter_map (other_user v k) before)
+receiver_uses : (v k w n : ℕ) (before : PastSteps) → w ≢ v → n < count_steps (receives_on w k) before → OneOf (λ x. x ≡ w) (filter_map (other_user v k) before)
 receiver_uses v k w n [] apart lt = absurd (let no : ⊥ = omega (arith, lt) in no)
-receiver_uses v k w n (s ∷ before) apart lt = elim (counted (receives w k s) n (count (receives w k) before) lt) [
+receiver_uses v k w n (s ∷ before) apart lt = elim (counted (receives_on w k s) n (count_steps (receives_on w k) before) lt) [
   | inl here ↦ kept_by (other_user v k s) (filter_map (other_user v k) before) w (inl (receiver_at v k w s apart here))
   | inr there ↦ kept_by (other_user v k s) (filter_map (other_user v k) before) w (inr (receiver_uses v k w n before apart there))
 ]
 
 -- what comes next on a link wasn't received before
-pub not_received : (before : Past) (v k : ℕ) (m : Message) → IsEnd before v k → (at : IsSentAt before v k m) → IsReceived before at.2 at.0 k → ⊥
+pub not_received : (before : PastSteps) (v k : ℕ) (m : Message) → IsEnd before v k → (at : IsSentAt before v k m) → IsReceived before at.2 at.0 k → ⊥
 not_received before v k m end at done = elim (cases_eq done.0 v) [
   | inl e ↦
-      let lt : number_at v k at.2 < count (receives v k) before = subst (λ x. number_at x k at.2 < count (receives x k) before) e done.2 in
+      let lt : number_at v k at.2 < count_steps (receives_on v k) before = subst (λ x. number_at x k at.2 < count_steps (receives_on x k) before) e done.2 in
       let number = at.5 in omega (arith, lt, number)
   | inr apart ↦ done.1
       (one_other (filter_map (other_user v k) before) done.0 at.0 end (receiver_uses v k done.0 (number_at done.0 k at.2) before apart done.2)
@@ -131,7 +131,7 @@ not_received before v k m end at done = elim (cases_eq done.0 v) [
 ]
 
 -- where each such message that was sent was received, none is received
-pub nothing_to_receive : (test : Message → Bool) (before : Past) (v k : ℕ) (m : Message) → test m ≡ true → IsEnd before v k → CarriesNext before v k m → AllDone test before before → ⊥
+pub nothing_to_receive : (test : Message → Bool) (before : PastSteps) (v k : ℕ) (m : Message) → test m ≡ true → IsEnd before v k → CarriesNext before v k m → AllDone test before before → ⊥
 nothing_to_receive test before v k m same end next all =
     let at = sent_at before v k m next in
     not_received before v k m end at (done_at test before at.1 at.2 (Send at.0 k m) (subst (λ l. AllDone test before l) at.4 all) same)
@@ -140,13 +140,13 @@ grows : (b : Bool) (n m : ℕ) → n < m → n < (if b then suc m else m)
 grows true n m lt = omega (arith, lt)
 grows false n m lt = lt
 
-done_grows : (test : Message → Bool) (t : Step) (whole before : Past) (s : Step) → IsDone test whole before s → IsDone test (t ∷ whole) before s
+done_grows : (test : Message → Bool) (t : Step) (whole before : PastSteps) (s : Step) → IsDone test whole before s → IsDone test (t ∷ whole) before s
 done_grows test t whole before (Send w k m) h =
-    λ e. let r = h e in (r.0, r.1, grows (receives r.0 k t) (number_at r.0 k before) (count (receives r.0 k) whole) r.2)
+    λ e. let r = h e in (r.0, r.1, grows (receives_on r.0 k t) (number_at r.0 k before) (count_steps (receives_on r.0 k) whole) r.2)
 done_grows test t whole before (Host w o) h = h
 done_grows test t whole before _ h = h
 
-pub all_grow : (test : Message → Bool) (t : Step) (whole before : Past) → AllDone test whole before → AllDone test (t ∷ whole) before
+pub all_grow : (test : Message → Bool) (t : Step) (whole before : PastSteps) → AllDone test whole before → AllDone test (t ∷ whole) before
 all_grow test t whole [] h = h
 all_grow test t whole (s ∷ before) h = (done_grows test t whole before s h.0, all_grow test t whole before h.1)
 
@@ -156,23 +156,23 @@ sends test (Send v k m) = test m
 sends test _ = false
 
 -- each such message that was sent but the newest was received
-abbrev pub AllButLast : (Message → Bool) → Past → Past → Type 0
+abbrev pub AllButLast : (Message → Bool) → PastSteps → PastSteps → Type 0
 AllButLast test whole [] = ⊥
 AllButLast test whole (s ∷ before) = ((sends test s ≡ true) × AllDone test whole before) ⊎ ((sends test s ≡ false) × AllButLast test whole before)
 
-pub but_last_grows : (test : Message → Bool) (t : Step) (whole before : Past) → AllButLast test whole before → AllButLast test (t ∷ whole) before
+pub but_last_grows : (test : Message → Bool) (t : Step) (whole before : PastSteps) → AllButLast test whole before → AllButLast test (t ∷ whole) before
 but_last_grows test t whole [] h = h
 but_last_grows test t whole (s ∷ before) (inl h) = inl (h.0, all_grow test t whole before h.1)
 but_last_grows test t whole (s ∷ before) (inr h) = inr (h.0, but_last_grows test t whole before h.1)
 
 -- a step that sends no such message has nothing to be received
-pub no_send : (test : Message → Bool) (whole before : Past) (s : Step) → sends test s ≡ false → IsDone test whole before s
+pub no_send : (test : Message → Bool) (whole before : PastSteps) (s : Step) → sends test s ≡ false → IsDone test whole before s
 no_send test whole before (Send w k m) e = λ f. absurd (clash f e)
 no_send test whole before (Host w o) e = tt
 no_send test whole before _ e = tt
 
 -- the message that was left is received now
-finish : (test : Message → Bool) (t : Step) (whole later earlier : Past) (s : Step) → sends test s ≡ true → IsDone test (t ∷ whole) earlier s → (IsDone test whole earlier s → ⊥) →
+finish : (test : Message → Bool) (t : Step) (whole later earlier : PastSteps) (s : Step) → sends test s ≡ true → IsDone test (t ∷ whole) earlier s → (IsDone test whole earlier s → ⊥) →
     AllButLast test whole (later ++ s ∷ earlier) → AllDone test (t ∷ whole) (later ++ s ∷ earlier)
 finish test t whole [] earlier s now done before (inl h) = (done, all_grow test t whole earlier h.1)
 finish test t whole [] earlier s now done before (inr h) = absurd (clash now h.0)
@@ -181,14 +181,14 @@ finish test t whole (x ∷ later) earlier s now done before (inr h) =
     (no_send test (t ∷ whole) (later ++ s ∷ earlier) x h.0, finish test t whole later earlier s now done before h.1)
 
 -- such a message is received: it is the one that was left, so all were received now
-pub all_received : (test : Message → Bool) (past : Past) (v k : ℕ) (m : Message) (bound : List Cap) → test m ≡ true → IsLinked past (Receive v k m bound) →
+pub all_received : (test : Message → Bool) (past : PastSteps) (v k : ℕ) (m : Message) (bound : List Cap) → test m ≡ true → IsLinked past (Receive v k m bound) →
     AllButLast test past past → AllDone test (Receive v k m bound ∷ past) (Receive v k m bound ∷ past)
 all_received test past v k m bound same linked left =
     let t : Step = Receive v k m bound in
     let at = sent_at past v k m linked.1 in
     let number = at.5 in
-    let more : number_at v k at.2 < count (receives v k) (t ∷ past) =
-    subst (λ b. number_at v k at.2 < (if b then suc (count (receives v k) past) else count (receives v k) past)) (sym (and_from (v == v) (k == k) (eq-eqb v v refl) (eq-eqb k k refl))) (omega (arith, number)) in (
+    let more : number_at v k at.2 < count_steps (receives_on v k) (t ∷ past) =
+    subst (λ b. number_at v k at.2 < (if b then suc (count_steps (receives_on v k) past) else count_steps (receives_on v k) past)) (sym (and_from (v == v) (k == k) (eq-eqb v v refl) (eq-eqb k k refl))) (omega (arith, number)) in (
       tt,
       subst (λ l. AllDone test (t ∷ past) l) (sym at.4)
           (finish test t past at.1 at.2 (Send at.0 k m) same (λ e. (v, (λ e. at.3 (sym e)), more)) (λ h. not_received past v k m linked.0 at (h same)) (subst (λ l. AllButLast test past l) at.4 left)),

@@ -6,8 +6,8 @@ use Rattle.std.proofs.lemmas.Bool.{and_from, or_left, or_right, eq-eqb, or_parts
 use Rattle.std.proofs.lemmas.Slice.Eq.{bytes_eq-Decides}
 use Rattle.run_model.specs.Types.{Name, Cap, Object, Promise, FieldOf, Host, Fulfil, Answer, Step}
 use Rattle.run_model.specs.Leads.{Leads, MakesTurn, Turns, here, turn}
-use Rattle.run_model.specs.Legal.{IsLegal, distinct_paths, ends, settles}
-use Rattle.run_model.specs.Steps.{Each, OneOf, Past, is_same}
+use Rattle.run_model.specs.Legal.{IsLegal, has_distinct_paths, ends, answers_or_faults}
+use Rattle.run_model.specs.Steps.{EachStep, OneOf, PastSteps, is_same_call}
 
 object_is_no_promise : {v o w p : ℕ} → Object v o ≡ Promise w p → ⊥
 object_is_no_promise e = cc
@@ -30,12 +30,12 @@ no_turn_of_object (Answer w c results) v o b h = object_is_no_field (of_results 
 no_turn_of_object (Host w n) v o b h = h
 no_turn_of_object _ v o b h = h
 
-pub objects_stay : (before : Past) (v o : ℕ) (b : Cap) → Turns before (Object v o) b → ⊥
+pub objects_stay : (before : PastSteps) (v o : ℕ) (b : Cap) → Turns before (Object v o) b → ⊥
 objects_stay [] v o b h = h
 objects_stay (s ∷ before) v o b (inl h) = no_turn_of_object s v o b h
 objects_stay (s ∷ before) v o b (inr h) = objects_stay before v o b h
 
-pub same_to_itself : (c : Name) → is_same c c ≡ true
+pub same_to_itself : (c : Name) → is_same_call c c ≡ true
 same_to_itself c = and_from _ _ (eq-eqb c.maker c.maker refl) (eq-eqb c.number c.number refl)
 
 -- a promise that turned was kept
@@ -46,20 +46,20 @@ kept_at (Answer w c results) v p b h = absurd (promise_is_no_field (of_results (
 kept_at (Host w n) v p b h = absurd h
 kept_at _ v p b h = absurd h
 
-kept : (before : Past) (v p : ℕ) (b : Cap) → Turns before (Promise v p) b → list_any (ends v p) before ≡ true
+kept : (before : PastSteps) (v p : ℕ) (b : Cap) → Turns before (Promise v p) b → list_any (ends v p) before ≡ true
 kept [] v p b h = absurd h
 kept (s ∷ before) v p b (inl h) = or_left _ _ (kept_at s v p b h)
 kept (s ∷ before) v p b (inr h) = or_right _ _ (kept before v p b h)
 
 -- a call whose field turned was settled
-settled_at : (s : Step) (c : Name) (path : List ℕ) (b : Cap) → MakesTurn (FieldOf c path) b s → settles c s ≡ true
+settled_at : (s : Step) (c : Name) (path : List ℕ) (b : Cap) → MakesTurn (FieldOf c path) b s → answers_or_faults c s ≡ true
 settled_at (Fulfil w q to) c path b h = absurd (promise_is_no_field (sym h.0))
 settled_at (Answer w d results) c path b h =
     let e = (of_results (FieldOf c path) b d results h).1 in let same : c ≡ d = cc in rw (sym same) (same_to_itself c)
 settled_at (Host w n) c path b h = absurd h
 settled_at _ c path b h = absurd h
 
-settled : (before : Past) (c : Name) (path : List ℕ) (b : Cap) → Turns before (FieldOf c path) b → list_any (settles c) before ≡ true
+settled : (before : PastSteps) (c : Name) (path : List ℕ) (b : Cap) → Turns before (FieldOf c path) b → list_any (answers_or_faults c) before ≡ true
 settled [] c path b h = absurd h
 settled (s ∷ before) c path b (inl h) = or_left _ _ (settled_at s c path b h)
 settled (s ∷ before) c path b (inr h) = or_right _ _ (settled before c path b h)
@@ -79,7 +79,7 @@ false_of_not : (b : Bool) → not b ≡ true → b ≡ false
 false_of_not true e = sym e
 false_of_not false e = refl
 
-one_result : (a b d : Cap) (c : Name) (results : List (List ℕ × Cap)) → distinct_paths results ≡ true →
+one_result : (a b d : Cap) (c : Name) (results : List (List ℕ × Cap)) → has_distinct_paths results ≡ true →
     OneOf (λ r. (a ≡ FieldOf c r.0) × (b ≡ r.1)) results → OneOf (λ r. (a ≡ FieldOf c r.0) × (d ≡ r.1)) results → b ≡ d
 one_result a b d c [] distinct h k = absurd h
 one_result a b d c (r ∷ rs) distinct (inl h) (inl k) = h.1 ∙ sym k.1
@@ -87,36 +87,36 @@ one_result a b d c (r ∷ rs) distinct (inl h) (inr k) = absurd (not_there a d c
 one_result a b d c (r ∷ rs) distinct (inr h) (inl k) = absurd (not_there a b c r.0 rs k.0 (false_of_not _ (and_parts _ _ distinct).0) h)
 one_result a b d c (r ∷ rs) distinct (inr h) (inr k) = one_result a b d c rs (and_parts _ _ distinct).1 h k
 
-by_one_step : (before : Past) (s : Step) → IsLegal before s → (a b c : Cap) → MakesTurn a b s → MakesTurn a c s → b ≡ c
+by_one_step : (before : PastSteps) (s : Step) → IsLegal before s → (a b c : Cap) → MakesTurn a b s → MakesTurn a c s → b ≡ c
 by_one_step before (Fulfil v p to) legal a b c h k = h.1 ∙ sym k.1
 by_one_step before (Answer v d results) legal a b c h k = one_result a b c d results legal.1.2 h k
 by_one_step before (Host v o) legal a b c h k = absurd h
 by_one_step before _ legal a b c h k = absurd h
 
-not_again : (before : Past) (s : Step) → IsLegal before s → (a b c : Cap) → MakesTurn a b s → Turns before a c → ⊥
+not_again : (before : PastSteps) (s : Step) → IsLegal before s → (a b c : Cap) → MakesTurn a b s → Turns before a c → ⊥
 not_again before (Fulfil v p to) legal a b c h k = clash (kept before v p c (subst (λ x. Turns before x c) h.0 k)) legal.1.1
 not_again before (Answer v d results) legal a b c h k =
     let e = of_results a b d results h in clash (settled before d e.0 c (subst (λ x. Turns before x c) e.1 k)) legal.1.1
 not_again before (Host v o) legal a b c h k = h
 not_again before _ legal a b c h k = h
 
-pub turns_one_way : (before : Past) → Each IsLegal before → (a b c : Cap) → Turns before a b → Turns before a c → b ≡ c
+pub turns_one_way : (before : PastSteps) → EachStep IsLegal before → (a b c : Cap) → Turns before a b → Turns before a c → b ≡ c
 turns_one_way [] legal a b c h k = absurd h
 turns_one_way (s ∷ before) legal a b c (inl h) (inl k) = by_one_step before s legal.0 a b c h k
 turns_one_way (s ∷ before) legal a b c (inl h) (inr k) = absurd (not_again before s legal.0 a b c h k)
 turns_one_way (s ∷ before) legal a b c (inr h) (inl k) = absurd (not_again before s legal.0 a c b k h)
 turns_one_way (s ∷ before) legal a b c (inr h) (inr k) = turns_one_way before legal.1 a b c h k
 
-from_object : (before : Past) (v o : ℕ) (x y : Cap) → x ≡ Object v o → Leads before x y → y ≡ Object v o
+from_object : (before : PastSteps) (v o : ℕ) (x y : Cap) → x ≡ Object v o → Leads before x y → y ≡ Object v o
 from_object before v o x y e here = e
 from_object before v o x y e (turn {b = b} t l) = absurd (objects_stay before v o b (subst (λ z. Turns before z b) e t))
 
-one_end : (before : Past) → Each IsLegal before → (v o w n : ℕ) (a x y : Cap) → x ≡ Object v o → y ≡ Object w n → Leads before a x → Leads before a y → x ≡ y
+one_end : (before : PastSteps) → EachStep IsLegal before → (v o w n : ℕ) (a x y : Cap) → x ≡ Object v o → y ≡ Object w n → Leads before a x → Leads before a y → x ≡ y
 one_end before legal v o w n a x y e f here l = e ∙ sym (from_object before v o a y e l)
 one_end before legal v o w n a x y e f (turn {b = b} t l) here = absurd (objects_stay before w n b (subst (λ z. Turns before z b) f t))
 one_end before legal v o w n a x y e f (turn {b = b} t l) (turn {b = d} u k) =
     one_end before legal v o w n b x y e f l (subst (λ z. Leads before z y) (turns_one_way before legal a d b u t) k)
 
-pub leads_to_one_object : (before : Past) → Each IsLegal before → (a : Cap) (v o w n : ℕ) → Leads before a (Object v o) → Leads before a (Object w n) → (v ≡ w) × (o ≡ n)
+pub leads_to_one_object : (before : PastSteps) → EachStep IsLegal before → (a : Cap) (v o w n : ℕ) → Leads before a (Object v o) → Leads before a (Object w n) → (v ≡ w) × (o ≡ n)
 leads_to_one_object before legal a v o w n l k =
     let e = one_end before legal v o w n a (Object v o) (Object w n) refl refl l k in ((let s : v ≡ w = cc in s), (let s : o ≡ n = cc in s))

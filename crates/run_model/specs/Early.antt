@@ -2,25 +2,25 @@
 use Rattle.std.specs.Prelude.{ℕ, List, [], Bool, false, Option, Some, None, if◌then◌else◌, reverse, ◌≡◌, ◌⊎◌, ◌∷◌, ◌==◌, ◌≤◌, ◌<◌}
 use Rattle.std.specs.List.{list_any, AllByRecursion}
 use Rattle.run_model.specs.Right.{is_made_before, IsOrdered}
-use Rattle.run_model.specs.Steps.{Past, vat_of, OneOf, count}
+use Rattle.run_model.specs.Steps.{PastSteps, vat_of, OneOf, count_steps}
 use Rattle.run_model.specs.Types.{Name, Step, Deliver}
 
 -- a step delivers a call that was made before this one, through its reference
-abbrev pub overtakes : Past → Name → Step → Bool
+abbrev pub overtakes : PastSteps → Name → Step → Bool
 overtakes whole c (Deliver v d object) = is_made_before d c whole
 overtakes whole c _ = false
 
 -- a step delivers a call too early: one of the later steps delivers another that was made before it through its reference
-abbrev pub is_early : Past → Step → List Step → Bool
+abbrev pub is_early : PastSteps → Step → List Step → Bool
 is_early whole (Deliver v c object) later = list_any (overtakes whole c) later
 is_early whole s later = false
 
 -- the early steps of these, each by its vat and how many steps of that vat stand before it; the latest first
-abbrev pub early_from : Past → List Step → Past → List (ℕ × ℕ)
+abbrev pub early_from : PastSteps → List Step → PastSteps → List (ℕ × ℕ)
 early_from whole later [] = []
 early_from whole later (s ∷ before) =
     let rest = early_from whole (s ∷ later) before in
-    if is_early whole s later then (vat_of s, count (λ t. vat_of t == vat_of s) before) ∷ rest else rest
+    if is_early whole s later then (vat_of s, count_steps (λ t. vat_of t == vat_of s) before) ∷ rest else rest
 
 -- those of a run
 abbrev pub early : List Step → List (ℕ × ℕ)

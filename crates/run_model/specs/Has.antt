@@ -1,14 +1,14 @@
 -- Which caps a vat has: what it made itself, and what a message brought it (rpc.capnp, the comments of CapDescriptor and
 -- PromisedAnswer): only connectivity begets connectivity
 use Rattle.std.specs.Prelude.{ℕ, List, Option, Some, None, IsSomeAnd, ◌≡◌, ◌⊎◌}
-use Rattle.run_model.specs.Steps.{Past, call, OneOf}
+use Rattle.run_model.specs.Steps.{PastSteps, call, OneOf}
 use Rattle.run_model.specs.Types.{Name, Cap, Object, Promise, FieldOf, Message, Boot, Call, Step, Host, Vow, Make, Send, Receive}
 
 -- the call that a Bootstrap or a Call is
-abbrev pub called : Message → Option Name
-called (Boot c) = Some c
-called (Call c target interface method caps) = Some c
-called _ = None
+abbrev pub call_in_message : Message → Option Name
+call_in_message (Boot c) = Some c
+call_in_message (Call c target interface method caps) = Some c
+call_in_message _ = None
 
 -- a cap is a field of this call, at any path
 abbrev pub IsField : Cap → Name → Type 0
@@ -16,7 +16,7 @@ IsField a c = (path : List ℕ) × (a ≡ FieldOf c path)
 
 -- a step brings a cap to a vat with a message: the vat binds it, or the message is a call and the cap is a field of it
 abbrev pub Brings : ℕ → Cap → Step → Type 0
-Brings v a (Receive w connection m bound) = (w ≡ v) × (OneOf (λ b. b ≡ a) bound ⊎ IsSomeAnd (called m) (IsField a))
+Brings v a (Receive w connection m bound) = (w ≡ v) × (OneOf (λ b. b ≡ a) bound ⊎ IsSomeAnd (call_in_message m) (IsField a))
 Brings v a _ = ⊥
 
 -- a vat gets a cap by a step: its own object or promise; a field of a call that it made or booted; what a message brought
@@ -29,5 +29,5 @@ Gets v a (Receive w connection m bound) = Brings v a (Receive w connection m bou
 Gets v a _ = ⊥
 
 -- a vat has a cap by one of the steps before
-abbrev pub Has : Past → ℕ → Cap → Type 0
+abbrev pub Has : PastSteps → ℕ → Cap → Type 0
 Has before v a = OneOf (Gets v a) before

@@ -1,6 +1,6 @@
 -- Where capabilities lead in a run (rpc.capnp, the comments of PromisedAnswer, Payload and Resolve).
 use Rattle.std.specs.Prelude.{◌≡◌}
-use Rattle.run_model.specs.Steps.{Past, OneOf}
+use Rattle.run_model.specs.Steps.{PastSteps, OneOf}
 use Rattle.run_model.specs.Types.{Cap, Promise, FieldOf, Step, Fulfil, Answer}
 
 -- a step turns a cap to another: a Fulfil turns its promise to what it turned out to be; an Answer turns each field that
@@ -11,14 +11,14 @@ MakesTurn a b (Answer v c results) = OneOf (λ result. (a ≡ FieldOf c result.0
 MakesTurn a b _ = ⊥
 
 -- a cap turns to another by one of the steps before
-abbrev pub Turns : Past → Cap → Cap → Type 0
+abbrev pub Turns : PastSteps → Cap → Cap → Type 0
 Turns before a b = OneOf (MakesTurn a b) before
 
 -- a cap leads to another: by no turn, or by a turn to a cap that leads there
-pub data Leads (before : Past) : Cap → Cap → Type 0 where
+pub data Leads (before : PastSteps) : Cap → Cap → Type 0 where
   here : {a : Cap} → Leads before a a
   turn : {a b c : Cap} → Turns before a b → Leads before b c → Leads before a c
 
 -- a cap leads to another by 1 or more turns: it turns to a cap that leads there
-abbrev pub LeadsByTurns : Past → Cap → Cap → Type 0
+abbrev pub LeadsByTurns : PastSteps → Cap → Cap → Type 0
 LeadsByTurns before a c = (b : Cap) × Turns before a b × Leads before b c

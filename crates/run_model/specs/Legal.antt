@@ -5,30 +5,30 @@ use Rattle.std.specs.Str.{bytes_eq as same_path}
 use Rattle.run_model.specs.Has.{Has}
 use Rattle.run_model.specs.Leads.{Leads, LeadsByTurns}
 use Rattle.run_model.specs.Places.{at_vat}
-use Rattle.run_model.specs.Steps.{Past, call, is_same, vat_of, EachOf}
+use Rattle.run_model.specs.Steps.{PastSteps, call, is_same_call, vat_of, EachOf}
 use Rattle.run_model.specs.Types.{Name, Cap, Object, Promise, FieldOf, Nothing, Message, Boot, Call, Return, Late, Failed, Resolve, Broken, Plain, Step, Host, Vow, Fulfil, Break, Make, Named, Deliver, Answer, Fault, Send, Receive}
 
 -- a cap is there: it isn't Nothing
-abbrev pub is_cap : Cap → Bool
-is_cap Nothing = false
-is_cap (Object v object) = true
-is_cap (Promise v promise) = true
-is_cap (FieldOf c path) = true
+abbrev pub is_present : Cap → Bool
+is_present Nothing = false
+is_present (Object v object) = true
+is_present (Promise v promise) = true
+is_present (FieldOf c path) = true
 
 -- the caps that are there, of these
 abbrev pub present : List Cap → List Cap
-present caps = filter is_cap caps
+present caps = filter is_present caps
 
 -- the caps that a message brings to its receiver, by place: those of a Call or a Return, and what a promise resolved to
-abbrev pub brought : Message → List Cap
-brought (Call c target interface method caps) = caps
-brought (Return c results caps) = caps
-brought (Resolve promise cap) = cap ∷ []
-brought (Boot c) = []
-brought (Late c) = []
-brought (Failed c) = []
-brought (Broken promise) = []
-brought (Plain plain) = []
+abbrev pub caps_brought : Message → List Cap
+caps_brought (Call c target interface method caps) = caps
+caps_brought (Return c results caps) = caps
+caps_brought (Resolve promise cap) = cap ∷ []
+caps_brought (Boot c) = []
+caps_brought (Late c) = []
+caps_brought (Failed c) = []
+caps_brought (Broken promise) = []
+caps_brought (Plain plain) = []
 
 -- the caps in a message
 abbrev pub caps_of : Message → List Cap
@@ -42,28 +42,28 @@ caps_of (Failed c) = []
 caps_of (Plain plain) = []
 
 -- the caps that a step uses; a Receive uses none
-abbrev pub uses : Step → List Cap
-uses (Fulfil v promise to) = to ∷ []
-uses (Make v number cap reference interface method) = cap ∷ []
-uses (Named v cap) = cap ∷ []
-uses (Answer v c results) = map (λ result. result.1) results
-uses (Send v connection m) = caps_of m
-uses (Host v object) = []
-uses (Vow v promise) = []
-uses (Break v promise) = []
-uses (Deliver v c object) = []
-uses (Fault v c) = []
-uses (Receive v connection m bound) = []
+abbrev pub used_caps : Step → List Cap
+used_caps (Fulfil v promise to) = to ∷ []
+used_caps (Make v number cap reference interface method) = cap ∷ []
+used_caps (Named v cap) = cap ∷ []
+used_caps (Answer v c results) = map (λ result. result.1) results
+used_caps (Send v connection m) = caps_of m
+used_caps (Host v object) = []
+used_caps (Vow v promise) = []
+used_caps (Break v promise) = []
+used_caps (Deliver v c object) = []
+used_caps (Fault v c) = []
+used_caps (Receive v connection m bound) = []
 
--- each cap that a step uses, other than Nothing, is had by its vat
-abbrev pub HasUsed : Past → Step → Type 0
-HasUsed before s = AllByRecursion (Has before (vat_of s)) (present (uses s))
+-- the vat has every capability that the step uses, other than Nothing
+abbrev pub HasUsed : PastSteps → Step → Type 0
+HasUsed before s = AllByRecursion (Has before (vat_of s)) (present (used_caps s))
 
 -- a step makes the call, or sends its Bootstrap
-abbrev pub begins : Name → Step → Bool
-begins c (Make v number cap reference interface method) = is_same (call v number) c
-begins c (Send v connection (Boot d)) = is_same d c
-begins c _ = false
+abbrev pub begins_call : Name → Step → Bool
+begins_call c (Make v number cap reference interface method) = is_same_call (call v number) c
+begins_call c (Send v connection (Boot d)) = is_same_call d c
+begins_call c _ = false
 
 -- a step vows this promise of this vat
 abbrev pub vows : ℕ → ℕ → Step → Bool
@@ -77,42 +77,42 @@ ends v p (Break w q) = (w == v) && (q == p)
 ends v p _ = false
 
 -- a step delivers the call
-abbrev pub delivers : Name → Step → Bool
-delivers c (Deliver v d object) = is_same d c
-delivers c _ = false
+abbrev pub delivers_call : Name → Step → Bool
+delivers_call c (Deliver v d object) = is_same_call d c
+delivers_call c _ = false
 
 -- a step delivers the call at this vat, or receives its Bootstrap there: it is this vat's to answer
 abbrev pub arrives : Name → ℕ → Step → Bool
-arrives c v (Deliver w d object) = (w == v) && is_same d c
-arrives c v (Receive w connection (Boot d) bound) = (w == v) && is_same d c
+arrives c v (Deliver w d object) = (w == v) && is_same_call d c
+arrives c v (Receive w connection (Boot d) bound) = (w == v) && is_same_call d c
 arrives c v _ = false
 
 -- a step answers the call
-abbrev pub answers : Name → Step → Bool
-answers c (Answer v d results) = is_same d c
-answers c _ = false
+abbrev pub answers_call : Name → Step → Bool
+answers_call c (Answer v d results) = is_same_call d c
+answers_call c _ = false
 
 -- a step answers or faults the call
-abbrev pub settles : Name → Step → Bool
-settles c (Answer v d results) = is_same d c
-settles c (Fault v d) = is_same d c
-settles c _ = false
+abbrev pub answers_or_faults : Name → Step → Bool
+answers_or_faults c (Answer v d results) = is_same_call d c
+answers_or_faults c (Fault v d) = is_same_call d c
+answers_or_faults c _ = false
 
 -- no path twice
-abbrev pub distinct_paths : List (List ℕ × Cap) → Bool
-distinct_paths [] = true
-distinct_paths (result ∷ rest) = not (list_any (λ other. same_path result.0 other.0) rest) && distinct_paths rest
+abbrev pub has_distinct_paths : List (List ℕ × Cap) → Bool
+has_distinct_paths [] = true
+has_distinct_paths (result ∷ rest) = not (list_any (λ other. same_path result.0 other.0) rest) && has_distinct_paths rest
 
 -- no call of this name was made or booted
-abbrev pub IsNew : Past → Name → Type 0
-IsNew before c = IsFalse (list_any (begins c) before)
+abbrev pub IsNew : PastSteps → Name → Type 0
+IsNew before c = IsFalse (list_any (begins_call c) before)
 
 -- a vat vowed the promise, and neither kept nor broke it
-abbrev pub MayEnd : Past → ℕ → ℕ → Type 0
+abbrev pub MayEnd : PastSteps → ℕ → ℕ → Type 0
 MayEnd before v p = IsTrue (list_any (vows v p) before) × IsFalse (list_any (ends v p) before)
 
 -- what a vat may send
-abbrev pub MaySend : Past → ℕ → Message → Type 0
+abbrev pub MaySend : PastSteps → ℕ → Message → Type 0
 -- a Bootstrap: it is the vat's own call, and new
 MaySend before v (Boot c) = (c.maker ≡ v) × IsNew before c
 -- a Call: it is at the vat, its goal leads to the target, and interface and method are those with which it came there
@@ -120,7 +120,7 @@ MaySend before v (Call c target interface method caps) =
     IsSomeAnd (at_vat before c v) (λ asked. Leads before asked.goal target × (interface ≡ asked.interface) × (method ≡ asked.method))
 -- a Return with results: the call was answered, and its field leads by 1 or more turns to the cap given at each path
 MaySend before v (Return c results caps) =
-    IsTrue (list_any (answers c) before) × AllByRecursion (λ result. LeadsByTurns before (FieldOf c result.0) result.1) results
+    IsTrue (list_any (answers_call c) before) × AllByRecursion (λ result. LeadsByTurns before (FieldOf c result.0) result.1) results
 -- a Resolve: the promise leads by 1 or more turns to the cap
 MaySend before v (Resolve promise cap) = LeadsByTurns before promise cap
 -- nothing is asked of the others
@@ -133,10 +133,10 @@ MaySend before v (Plain plain) = ⊤
 -- be late where it is received
 abbrev pub MayBind : Message → List Cap → Type 0
 MayBind (Return c results caps) bound = (bound ≡ present caps) ⊎ (bound ≡ [])
-MayBind m bound = bound ≡ present (brought m)
+MayBind m bound = bound ≡ present (caps_brought m)
 
 -- what is asked of a step by its kind
-abbrev pub MayCome : Past → Step → Type 0
+abbrev pub MayCome : PastSteps → Step → Type 0
 -- a promise is kept or broken once, by the vat that vowed it
 MayCome before (Fulfil v p to) = MayEnd before v p
 MayCome before (Break v p) = MayEnd before v p
@@ -145,9 +145,9 @@ MayCome before (Make v number cap reference interface method) = IsNew before (ca
 -- a call that is delivered is at the vat, and its goal leads to the vat's object
 MayCome before (Deliver v c object) = IsSomeAnd (at_vat before c v) (λ asked. Leads before asked.goal (Object v object))
 -- a call is answered at the vat at which it was delivered or its Bootstrap received, and once; no path has two results
-MayCome before (Answer v c results) = IsTrue (list_any (arrives c v) before) × IsFalse (list_any (settles c) before) × IsTrue (distinct_paths results)
+MayCome before (Answer v c results) = IsTrue (list_any (arrives c v) before) × IsFalse (list_any (answers_or_faults c) before) × IsTrue (has_distinct_paths results)
 -- so it is faulted, or where it is at the vat
-MayCome before (Fault v c) = IsTrue (list_any (arrives c v) before || is_some (at_vat before c v)) × IsFalse (list_any (settles c) before)
+MayCome before (Fault v c) = IsTrue (list_any (arrives c v) before || is_some (at_vat before c v)) × IsFalse (list_any (answers_or_faults c) before)
 MayCome before (Send v connection m) = MaySend before v m
 MayCome before (Receive v connection m bound) = MayBind m bound
 -- nothing is asked of Host, Vow and Name
@@ -156,7 +156,7 @@ MayCome before (Vow v promise) = ⊤
 MayCome before (Named v cap) = ⊤
 
 -- a step is legal: its vat has the caps that it uses, and it may come
-abbrev pub IsLegal : Past → Step → Type 0
+abbrev pub IsLegal : PastSteps → Step → Type 0
 IsLegal before s = HasUsed before s × MayCome before s
 
 -- a run of the level 1 machine: each step is legal

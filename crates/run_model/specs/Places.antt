@@ -1,6 +1,6 @@
 -- At which vat a call is, and what it asks for there (rpc.capnp, the comments of Call).
 use Rattle.std.specs.Prelude.{ℕ, [], Option, Some, None, if◌then◌else◌, ◌∷◌, ◌&&◌, ◌==◌}
-use Rattle.run_model.specs.Steps.{Past, call, is_same}
+use Rattle.run_model.specs.Steps.{PastSteps, call, is_same_call}
 use Rattle.run_model.specs.Types.{Name, Cap, Call, Step, Make, Deliver, Fault, Send, Receive}
 
 -- where a call is to go, and which method of which interface it calls
@@ -10,8 +10,8 @@ pub record Asked : Type 0 where
   pub method : ℕ
 
 -- this is asked for, by its parts
-abbrev pub asks : Cap → ℕ → ℕ → Asked
-asks goal interface method = record { goal = goal; interface = interface; method = method }
+abbrev pub asked_by_parts : Cap → ℕ → ℕ → Asked
+asked_by_parts goal interface method = record { goal = goal; interface = interface; method = method }
 
 -- what a step does to where a call is: it brings the call to a vat, where it asks for this; it takes it away from there; or
 -- it leaves it where it is
@@ -24,12 +24,12 @@ pub data Move : Type 0 where
 -- call is taken away where it is sent on, delivered or faulted
 abbrev pub move_of : Name → ℕ → Step → Move
 move_of c v (Make w number cap reference interface method) =
-    if (w == v) && is_same (call w number) c then brings_it (asks cap interface method) else leaves_it
+    if (w == v) && is_same_call (call w number) c then brings_it (asked_by_parts cap interface method) else leaves_it
 move_of c v (Receive w connection (Call d target interface method caps) bound) =
-    if (w == v) && is_same d c then brings_it (asks target interface method) else leaves_it
-move_of c v (Send w connection (Call d target interface method caps)) = if (w == v) && is_same d c then takes_it_away else leaves_it
-move_of c v (Deliver w d object) = if (w == v) && is_same d c then takes_it_away else leaves_it
-move_of c v (Fault w d) = if (w == v) && is_same d c then takes_it_away else leaves_it
+    if (w == v) && is_same_call d c then brings_it (asked_by_parts target interface method) else leaves_it
+move_of c v (Send w connection (Call d target interface method caps)) = if (w == v) && is_same_call d c then takes_it_away else leaves_it
+move_of c v (Deliver w d object) = if (w == v) && is_same_call d c then takes_it_away else leaves_it
+move_of c v (Fault w d) = if (w == v) && is_same_call d c then takes_it_away else leaves_it
 move_of c v _ = leaves_it
 
 -- what a call asks for at a vat after this, by what it asked for there before; none where the call isn't there
@@ -39,6 +39,6 @@ asked_after takes_it_away before = None
 asked_after leaves_it before = before
 
 -- what a call at a vat asks for; none where the call isn't there
-abbrev pub at_vat : Past → Name → ℕ → Option Asked
+abbrev pub at_vat : PastSteps → Name → ℕ → Option Asked
 at_vat [] c v = None
 at_vat (s ∷ before) c v = asked_after (move_of c v s) (at_vat before c v)

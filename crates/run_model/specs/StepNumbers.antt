@@ -5,9 +5,9 @@ use Rattle.std.specs.Ordering.{nat_cmp}
 use Rattle.run_model.specs.declared.step_numbers.StepNumbers.{StepNumbers}
 
 -- how many steps of a vat came
-abbrev pub number_of : StepNumbers → ℕ → ℕ
-number_of table vat = unwrap_or (get nat_cmp table.entries vat) 0
+abbrev pub step_count : StepNumbers → ℕ → ℕ
+step_count table vat = unwrap_or (get nat_cmp table.entries vat) 0
 
 -- one step of a vat more came
-abbrev pub IsCounted : ℕ → StepNumbers → StepNumbers → Type 0
-IsCounted vat old new = (v : ℕ) → number_of new v ≡ number_of old v + (if vat == v then 1 else 0)
+abbrev pub IsStepCounted : ℕ → StepNumbers → StepNumbers → Type 0
+IsStepCounted vat old new = (v : ℕ) → step_count new v ≡ step_count old v + (if vat == v then 1 else 0)

@@ -4,16 +4,16 @@ use Rattle.std.specs.Option.{option_or}
 use Rattle.run_model.specs.Types.{Name, Step, Host, Vow, Fulfil, Break, Make, Named, Deliver, Answer, Fault, Send, Receive}
 
 -- the steps before a point, the newest first
-abbrev pub Past : Type 0
-Past = List Step
+abbrev pub PastSteps : Type 0
+PastSteps = List Step
 
 -- a call, by the vat that made it and that vat's number of it
 abbrev pub call : ℕ → ℕ → Name
 call maker number = record { maker = maker; number = number }
 
 -- two names are of one call
-abbrev pub is_same : Name → Name → Bool
-is_same c d = (c.maker == d.maker) && (c.number == d.number)
+abbrev pub is_same_call : Name → Name → Bool
+is_same_call c d = (c.maker == d.maker) && (c.number == d.number)
 
 -- whose step it is
 abbrev pub vat_of : Step → ℕ
@@ -39,20 +39,20 @@ OneOf P [] = ⊥
 OneOf P (x ∷ xs) = P x ⊎ OneOf P xs
 
 -- each step is so, by the steps before it
-abbrev pub Each : (Past → Step → Type 0) → Past → Type 0
-Each P [] = ⊤
-Each P (s ∷ before) = P before s × Each P before
+abbrev pub EachStep : (PastSteps → Step → Type 0) → PastSteps → Type 0
+EachStep P [] = ⊤
+EachStep P (s ∷ before) = P before s × EachStep P before
 
 -- each step of a run is so; a run has its steps in their order
-abbrev pub EachOf : (Past → Step → Type 0) → List Step → Type 0
-EachOf P run = Each P (reverse run)
+abbrev pub EachOf : (PastSteps → Step → Type 0) → List Step → Type 0
+EachOf P run = EachStep P (reverse run)
 
 -- the last answer that a step gives
-abbrev pub last_answer : {A : Type 0} → (Step → Option A) → Past → Option A
-last_answer ask [] = None
-last_answer ask (s ∷ before) = option_or (ask s) (last_answer ask before)
+abbrev pub last_step_answer : {A : Type 0} → (Step → Option A) → PastSteps → Option A
+last_step_answer ask [] = None
+last_step_answer ask (s ∷ before) = option_or (ask s) (last_step_answer ask before)
 
 -- how many steps pass a test
-abbrev pub count : (Step → Bool) → Past → ℕ
-count test [] = 0
-count test (s ∷ before) = if test s then suc (count test before) else count test before
+abbrev pub count_steps : (Step → Bool) → PastSteps → ℕ
+count_steps test [] = 0
+count_steps test (s ∷ before) = if test s then suc (count_steps test before) else count_steps test before

@@ -21,7 +21,7 @@ pub enum Cap {
 }
 
 impl Cap {
-    /// A second name that is the same. The only error is want of memory.
+    /// A second name that is the same. The only error is that memory ran out.
     pub fn copy(&self) -> Result<Cap, AllocError>
         ensures { IfOk result (λ copied. copied ≡ self.now) }
     {

@@ -37,7 +37,7 @@ impl Caps {
         &self.caps
     }
 
-    /// A second list of the same capabilities. The only error is want of memory.
+    /// A second list of the same capabilities. The only error is that memory ran out.
     pub(crate) fn copy(&self) -> Result<Caps, AllocError>
         ensures { IfOk result (λ copied. copied ≡ self.now) }
     {

@@ -3,14 +3,14 @@
 ghost use Rattle.std.specs.Prelude.{◌≡◌, ◌≢◌, ◌↔◌, ◌≤◌, ◌++◌, ◌∷◌, [], ◌⊎◌, ℕ, List, Option, Some, None, IsTrue, IsFalse, IsSome, IsSomeAnd};
 ghost use Rattle.std.specs.List.{list_any, AllByRecursion};
 ghost use Rattle.run_model.specs.Types.{Name, Cap, Object, FieldOf, Message, Boot, Call, Return, Resolve, Step, Send, Receive};
-ghost use Rattle.run_model.specs.Steps.{Past, OneOf, Each, last_answer, count};
+ghost use Rattle.run_model.specs.Steps.{PastSteps, OneOf, EachStep, last_step_answer, count_steps};
 ghost use Rattle.run_model.specs.Leads.{Turns, Leads, LeadsByTurns};
 ghost use Rattle.run_model.specs.Has.{Brings, Has};
 ghost use Rattle.run_model.specs.Places.{Asked, at_vat};
-ghost use Rattle.run_model.specs.Legal.{IsLegal, IsLegalRun, begins, ends, answers, arrives, settles, delivers};
+ghost use Rattle.run_model.specs.Legal.{IsLegal, IsLegalRun, begins_call, ends, answers_call, arrives, answers_or_faults, delivers_call};
 ghost use Rattle.run_model.specs.Links.{IsLinked, IsLinkedRun};
 ghost use Rattle.run_model.specs.UnderWay.{IsUnderWay, IsSomewhere};
-ghost use Rattle.run_model.specs.Right.{made, ReachesObject, IsOrdered};
+ghost use Rattle.run_model.specs.Right.{request_in_make, ReachesObject, IsOrdered};
 ghost use Rattle.run_model.specs.Early.{early, IsOrderFault};
 ghost use Rattle.run_model.specs.Edges.{IsForeign, Edge, AreEdges};
 ghost use Rattle.run_model.specs.Reordered.{HaveSameSteps, KeepsReferences};
@@ -18,80 +18,81 @@ ghost use Rattle.run_model.specs.Reordered.{HaveSameSteps, KeepsReferences};
 /// Turns only grow: once a cap turns to another, it does so from then on, and what it leads to it leads to from then on,
 /// by 1 or more turns too.
 pub fn turns_only_grow()
-    ensures turned { (later before : Past) (a b : Cap) → Turns before a b
+    ensures turned { (later before : PastSteps) (a b : Cap) → Turns before a b
         → Turns (later ++ before) a b }
-    ensures leads { (later before : Past) (a b : Cap) → Leads before a b
+    ensures leads { (later before : PastSteps) (a b : Cap) → Leads before a b
         → Leads (later ++ before) a b }
-    ensures by_turns { (later before : Past) (a b : Cap) → LeadsByTurns before a b
+    ensures by_turns { (later before : PastSteps) (a b : Cap) → LeadsByTurns before a b
         → LeadsByTurns (later ++ before) a b }
 {}
 
 /// A cap leads where what it leads to does; by 1 or more turns, if either part is.
 pub fn leads_are_transitive()
-    ensures leads { (before : Past) (a b c : Cap) → Leads before a b → Leads before b c
+    ensures leads { (before : PastSteps) (a b c : Cap) → Leads before a b → Leads before b c
         → Leads before a c }
-    ensures turned_first { (before : Past) (a b c : Cap) → LeadsByTurns before a b
+    ensures turned_first { (before : PastSteps) (a b c : Cap) → LeadsByTurns before a b
         → Leads before b c → LeadsByTurns before a c }
-    ensures turned_then { (before : Past) (a b c : Cap) → Leads before a b → LeadsByTurns before b c
-        → LeadsByTurns before a c }
+    ensures turned_then { (before : PastSteps) (a b c : Cap) → Leads before a b
+        → LeadsByTurns before b c → LeadsByTurns before a c }
 {}
 
 /// An object turns to nothing.
 pub fn objects_stay()
-    ensures { (before : Past) (vat object : ℕ) (b : Cap) → Turns before (Object vat object) b → ⊥ }
+    ensures { (before : PastSteps) (vat object : ℕ) (b : Cap) → Turns before (Object vat object) b
+        → ⊥ }
 {}
 
 /// Where each step is legal, a call is made or booted once, a promise is kept or broken once, and a call is answered or
 /// faulted once.
 pub fn what_comes_once()
-    ensures begun { (before : Past) → Each IsLegal before → (c : Name)
-        → count (begins c) before ≤ 1 }
-    ensures ended { (before : Past) → Each IsLegal before → (vat promise : ℕ)
-        → count (ends vat promise) before ≤ 1 }
-    ensures settled { (before : Past) → Each IsLegal before → (c : Name)
-        → count (settles c) before ≤ 1 }
+    ensures begun { (before : PastSteps) → EachStep IsLegal before → (c : Name)
+        → count_steps (begins_call c) before ≤ 1 }
+    ensures ended { (before : PastSteps) → EachStep IsLegal before → (vat promise : ℕ)
+        → count_steps (ends vat promise) before ≤ 1 }
+    ensures settled { (before : PastSteps) → EachStep IsLegal before → (c : Name)
+        → count_steps (answers_or_faults c) before ≤ 1 }
 {}
 
 /// Where each step is legal, a cap turns to one cap at most, and leads to one object at most.
 pub fn turns_go_one_way()
-    ensures turned { (before : Past) → Each IsLegal before → (a b c : Cap) → Turns before a b
-        → Turns before a c → b ≡ c }
-    ensures object { (before : Past) → Each IsLegal before → (a : Cap) (v o w p : ℕ)
+    ensures turned { (before : PastSteps) → EachStep IsLegal before → (a b c : Cap)
+        → Turns before a b → Turns before a c → b ≡ c }
+    ensures object { (before : PastSteps) → EachStep IsLegal before → (a : Cap) (v o w p : ℕ)
         → Leads before a (Object v o) → Leads before a (Object w p) → (v ≡ w) × (o ≡ p) }
 {}
 
 /// What a vat has, it has for ever.
 pub fn what_is_had_stays_had()
-    ensures { (later before : Past) (vat : ℕ) (a : Cap) → Has before vat a
+    ensures { (later before : PastSteps) (vat : ℕ) (a : Cap) → Has before vat a
         → Has (later ++ before) vat a }
 {}
 
 /// Where each step is legal, what a vat has of another came to it with a message.
 pub fn what_is_foreign_was_brought()
-    ensures { (before : Past) → Each IsLegal before → (vat : ℕ) (a : Cap) → IsForeign vat a
+    ensures { (before : PastSteps) → EachStep IsLegal before → (vat : ℕ) (a : Cap) → IsForeign vat a
         → Has before vat a → OneOf (Brings vat a) before }
 {}
 
 /// What is received was sent before, by another vat on the same connection.
 pub fn what_is_received_was_sent()
-    ensures { (before : Past) (v connection : ℕ) (m : Message) (bound : List Cap)
+    ensures { (before : PastSteps) (v connection : ℕ) (m : Message) (bound : List Cap)
         → IsLinked before (Receive v connection m bound)
-        → (w : ℕ) × (later earlier : Past) × (w ≢ v)
+        → (w : ℕ) × (later earlier : PastSteps) × (w ≢ v)
         × (before ≡ later ++ Send w connection m ∷ earlier) }
 {}
 
 /// Where each step is legal, what a received message says holds: the call of a Return with results was answered, its field
 /// leads by 1 or more turns to what the Return gives at each path, and a promise leads so to what a Resolve says.
 pub fn what_is_received_is_led_to()
-    ensures results { (before : Past) → Each IsLegal before
+    ensures results { (before : PastSteps) → EachStep IsLegal before
         → (v connection : ℕ) (c : Name) (results : List (List ℕ × Cap)) (caps bound : List Cap)
         → IsLinked before (Receive v connection (Return c results caps) bound)
         → AllByRecursion (λ result. LeadsByTurns before (FieldOf c result.0) result.1) results }
-    ensures answered { (before : Past) → Each IsLegal before
+    ensures answered { (before : PastSteps) → EachStep IsLegal before
         → (v connection : ℕ) (c : Name) (results : List (List ℕ × Cap)) (caps bound : List Cap)
         → IsLinked before (Receive v connection (Return c results caps) bound)
-        → IsTrue (list_any (answers c) before) }
-    ensures resolved { (before : Past) → Each IsLegal before
+        → IsTrue (list_any (answers_call c) before) }
+    ensures resolved { (before : PastSteps) → EachStep IsLegal before
         → (v connection : ℕ) (promise cap : Cap) (bound : List Cap)
         → IsLinked before (Receive v connection (Resolve promise cap) bound)
         → LeadsByTurns before promise cap }
@@ -101,42 +102,46 @@ pub fn what_is_received_is_led_to()
 /// out of a link. While it is at a vat or under way it wasn't delivered, answered or faulted, and it is delivered once at
 /// most.
 pub fn a_call_has_one_place()
-    ensures at_one { (before : Past) → Each IsLegal before → Each IsLinked before
+    ensures at_one { (before : PastSteps) → EachStep IsLegal before → EachStep IsLinked before
         → (c : Name) (v w : ℕ) → IsSome (at_vat before c v) → IsSome (at_vat before c w) → v ≡ w }
-    ensures at_rest { (before : Past) → Each IsLegal before → Each IsLinked before
+    ensures at_rest { (before : PastSteps) → EachStep IsLegal before → EachStep IsLinked before
         → (c : Name) (v : ℕ) → IsSome (at_vat before c v) → IsUnderWay before c → ⊥ }
-    ensures received { (before : Past) → Each IsLegal before → Each IsLinked before
+    ensures received { (before : PastSteps) → EachStep IsLegal before → EachStep IsLinked before
         → (c : Name) (v connection w : ℕ) (target : Cap) (interface method : ℕ)
         (caps bound : List Cap)
         → IsLinked before (Receive v connection (Call c target interface method caps) bound)
         → at_vat before c w ≡ None }
-    ensures undelivered_here { (before : Past) → Each IsLegal before → Each IsLinked before
-        → (c : Name) (v : ℕ) → IsSome (at_vat before c v) → IsFalse (list_any (delivers c) before) }
-    ensures undelivered_there { (before : Past) → Each IsLegal before → Each IsLinked before
-        → (c : Name) → IsUnderWay before c → IsFalse (list_any (delivers c) before) }
-    ensures unsettled_here { (before : Past) → Each IsLegal before → Each IsLinked before
-        → (c : Name) (v : ℕ) → IsSome (at_vat before c v) → IsFalse (list_any (settles c) before) }
-    ensures unsettled_there { (before : Past) → Each IsLegal before → Each IsLinked before
-        → (c : Name) → IsUnderWay before c → IsFalse (list_any (settles c) before) }
-    ensures delivered { (before : Past) → Each IsLegal before → Each IsLinked before → (c : Name)
-        → count (delivers c) before ≤ 1 }
+    ensures undelivered_here { (before : PastSteps) → EachStep IsLegal before
+        → EachStep IsLinked before → (c : Name) (v : ℕ)
+        → IsSome (at_vat before c v) → IsFalse (list_any (delivers_call c) before) }
+    ensures undelivered_there { (before : PastSteps) → EachStep IsLegal before
+        → EachStep IsLinked before → (c : Name) → IsUnderWay before c
+        → IsFalse (list_any (delivers_call c) before) }
+    ensures unsettled_here { (before : PastSteps) → EachStep IsLegal before
+        → EachStep IsLinked before → (c : Name) (v : ℕ)
+        → IsSome (at_vat before c v) → IsFalse (list_any (answers_or_faults c) before) }
+    ensures unsettled_there { (before : PastSteps) → EachStep IsLegal before
+        → EachStep IsLinked before → (c : Name) → IsUnderWay before c
+        → IsFalse (list_any (answers_or_faults c) before) }
+    ensures delivered { (before : PastSteps) → EachStep IsLegal before → EachStep IsLinked before
+        → (c : Name) → count_steps (delivers_call c) before ≤ 1 }
 {}
 
 /// Where each step is legal and keeps to its link, a call arrives once at most, where it is delivered or its Bootstrap is
 /// received, and at one vat at most. A call whose Bootstrap is received arrived nowhere before, and wasn't answered or
 /// faulted.
 pub fn a_call_arrives_once()
-    ensures booted { (before : Past) → Each IsLegal before → Each IsLinked before
+    ensures booted { (before : PastSteps) → EachStep IsLegal before → EachStep IsLinked before
         → (c : Name) (v connection w : ℕ) (bound : List Cap)
         → IsLinked before (Receive v connection (Boot c) bound)
         → IsFalse (list_any (arrives c w) before) }
-    ensures unsettled { (before : Past) → Each IsLegal before → Each IsLinked before
+    ensures unsettled { (before : PastSteps) → EachStep IsLegal before → EachStep IsLinked before
         → (c : Name) (v connection : ℕ) (bound : List Cap)
         → IsLinked before (Receive v connection (Boot c) bound)
-        → IsFalse (list_any (settles c) before) }
-    ensures once { (before : Past) → Each IsLegal before → Each IsLinked before → (c : Name) (v : ℕ)
-        → count (arrives c v) before ≤ 1 }
-    ensures at_one { (before : Past) → Each IsLegal before → Each IsLinked before
+        → IsFalse (list_any (answers_or_faults c) before) }
+    ensures once { (before : PastSteps) → EachStep IsLegal before → EachStep IsLinked before
+        → (c : Name) (v : ℕ) → count_steps (arrives c v) before ≤ 1 }
+    ensures at_one { (before : PastSteps) → EachStep IsLegal before → EachStep IsLinked before
         → (c : Name) (v w : ℕ) → IsTrue (list_any (arrives c v) before)
         → IsTrue (list_any (arrives c w) before) → v ≡ w }
 {}
@@ -144,24 +149,24 @@ pub fn a_call_arrives_once()
 /// Where each step keeps to its link, a call that was made is at a vat, or under way between two, or was delivered or
 /// faulted.
 pub fn a_call_is_somewhere()
-    ensures { (before : Past) → Each IsLinked before → (c : Name)
-        → IsSome (last_answer (made c) before) → IsSomewhere before c }
+    ensures { (before : PastSteps) → EachStep IsLinked before → (c : Name)
+        → IsSome (last_step_answer (request_in_make c) before) → IsSomewhere before c }
 {}
 
 /// Where each step is legal and keeps to its link, a call that is at a vat was made, the cap that it was made through leads
 /// to its goal there, and interface and method are its Make's.
 pub fn calls_come_from_their_makers()
-    ensures { (before : Past) → Each IsLegal before → Each IsLinked before
+    ensures { (before : PastSteps) → EachStep IsLegal before → EachStep IsLinked before
         → (c : Name) (vat : ℕ) (here : Asked) → at_vat before c vat ≡ Some here
-        → IsSomeAnd (last_answer (made c) before)
+        → IsSomeAnd (last_step_answer (request_in_make c) before)
         (λ asked. Leads before asked.goal here.goal × (here.interface ≡ asked.interface)
         × (here.method ≡ asked.method)) }
 {}
 
 /// Where each step is legal and keeps to its link, each call that is delivered reaches the object that it was to go to.
 pub fn calls_reach_their_objects()
-    ensures { (before : Past) → Each IsLegal before → Each IsLinked before
-        → Each ReachesObject before }
+    ensures { (before : PastSteps) → EachStep IsLegal before → EachStep IsLinked before
+        → EachStep ReachesObject before }
 {}
 
 /// A run is ordered exactly where no step of it is early.

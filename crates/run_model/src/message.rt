@@ -49,7 +49,7 @@ pub enum Message {
 }
 
 impl Message {
-    /// A second message that is the same. The only error is want of memory.
+    /// A second message that is the same. The only error is that memory ran out.
     pub fn copy(&self) -> Result<Message, AllocError>
         ensures { IfOk result (λ copied. copied ≡ self.now) }
     {

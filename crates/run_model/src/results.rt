@@ -38,7 +38,7 @@ impl Results {
         &self.results
     }
 
-    /// A second list of the same capabilities at the same paths. The only error is want of memory.
+    /// A second list of the same capabilities at the same paths. The only error is that memory ran out.
     pub(crate) fn copy(&self) -> Result<Results, AllocError>
         ensures { IfOk result (λ copied. copied ≡ self.now) }
     {

@@ -1,7 +1,7 @@
 //! The steps of each vat, counted.
 
 ghost use Rattle.std.specs.Prelude.{◌≡◌, ◌+◌, ◌<◌, ◌^◌, ℕ, OnOk, IfOk};
-ghost use Rattle.run_model.specs.StepNumbers.{number_of, IsCounted};
+ghost use Rattle.run_model.specs.StepNumbers.{step_count, IsStepCounted};
 
 use std::alloc::{AllocError, Global};
 use std::collections::BTreeMap;
@@ -15,19 +15,19 @@ pub struct StepNumbers {
 impl StepNumbers {
     /// Before any step came. It takes no memory.
     pub fn new(alloc: Global) -> StepNumbers
-        ensures { (vat : ℕ) → number_of result vat ≡ 0 }
+        ensures { (vat : ℕ) → step_count result vat ≡ 0 }
     {
         StepNumbers {
             entries: BTreeMap::new(alloc),
         }
     }
 
-    /// Counts a step of this vat, and answers how many of its steps came before. The only error is want of memory.
+    /// Counts a step of this vat, and answers how many of its steps came before. The only error is that memory ran out.
     pub fn count(&mut self, vat: u32) -> Result<u64, AllocError>
         // No count is full.
-        requires { number_of self.old vat + 1 < 2 ^ 64 }
-        ensures counts { OnOk result (IsCounted vat self.old self.new) }
-        ensures answer { IfOk result (λ number. number ≡ number_of self.old vat) }
+        requires { step_count self.old vat + 1 < 2 ^ 64 }
+        ensures counts { OnOk result (IsStepCounted vat self.old self.new) }
+        ensures answer { IfOk result (λ number. number ≡ step_count self.old vat) }
     {
         let number = self.entries.get(&vat).copied().unwrap_or(0);
         self.entries.insert(vat, number + 1)?;

@@ -56,7 +56,8 @@ impl Span {
 /// Records all of these, the last one first. They go, their room stays.
 fn record_all(lane: &mut Lane, records: &mut Vec<Record>) -> Result<(), Refused>
     ensures same { SameLane lane.old lane.new }
-    ensures all { OnOk result (length lane.new.recorded ≡ length lane.old.recorded + length records.old.items) }
+    ensures all { OnOk result
+        (length lane.new.recorded ≡ length lane.old.recorded + length records.old.items) }
 {
     while let Some(event) = records.pop() {
         lane.record(event)?;

@@ -3,8 +3,8 @@ use Rattle.std.proofs.Common.{◌≡◌, ℕ, ◌+◌, ◌^◌, ◌<◌, ◌≤�
 use Rattle.vat_log.specs.declared.body.Body.{Body}
 use Rattle.vat_log.specs.declared.body.Body.TheVariants as body
 use Rattle.vat_log.specs.declared.error.LogError.{LogError}
-use Rattle.vat_log.specs.declared.kind.Kind.{Kind}
-use Rattle.vat_log.specs.declared.kind.Kind.TheVariants.{Host, Vow, Fulfil, Break, Make, Field, Deliver, Answer, Fault, Send, Receive}
+use Rattle.vat_log.specs.declared.kind.RecordKind.{RecordKind}
+use Rattle.vat_log.specs.declared.kind.RecordKind.TheVariants.{Host, Vow, Fulfil, Break, Make, Field, Deliver, Answer, Fault, Send, Receive}
 use Rattle.vat_log.specs.declared.passage.Passage.{Passage}
 use Rattle.vat_log.specs.Fits.{IsWide, Fits}
 use Rattle.vat_log.specs.Reading.{◌>>=◌, passage_at, host_at, vow_at, fulfil_at, break_at, make_at, field_at, deliver_at, answer_at, fault_at, send_at, receive_at, fields_at}
@@ -138,7 +138,7 @@ passage_field bytes = record {
 
 -- ---- each kind
 
-abbrev Taken : List ℕ → ℕ → ℕ → Kind → Body → Type 0
+abbrev Taken : List ℕ → ℕ → ℕ → RecordKind → Body → Type 0
 Taken bytes at after kind said = Spans bytes at (fields_bytes said) after × FitsWide said × (kind_in said ≡ kind)
 
 host_takes : (bytes : List ℕ) → IsBytes bytes → (at : ℕ) (x : Body × ℕ) → at ≤ length bytes → host_at bytes at ≡ Ok x → Taken bytes at x.1 Host x.0
@@ -231,7 +231,7 @@ receive_takes bytes fits at x le e =
     subst (λ (y : Body × ℕ). Taken bytes at y.1 Receive y.0) (ok_is made x a.3) (a.1, (passage_fits a.0.0 a.2).1, refl)
 
 -- what is read of a kind is a body of that kind, spelled so
-pub fields_take : (kind : Kind) (bytes : List ℕ) → IsBytes bytes → (at : ℕ) (x : Body × ℕ) → at ≤ length bytes → fields_at kind bytes at ≡ Ok x → Taken bytes at x.1 kind x.0
+pub fields_take : (kind : RecordKind) (bytes : List ℕ) → IsBytes bytes → (at : ℕ) (x : Body × ℕ) → at ≤ length bytes → fields_at kind bytes at ≡ Ok x → Taken bytes at x.1 kind x.0
 fields_take Host bytes fits at x le e = host_takes bytes fits at x le e
 fields_take Vow bytes fits at x le e = vow_takes bytes fits at x le e
 fields_take Fulfil bytes fits at x le e = fulfil_takes bytes fits at x le e

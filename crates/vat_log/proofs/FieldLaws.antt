@@ -9,7 +9,7 @@ use Rattle.vat_log.specs.declared.error.LogError.{LogError}
 use Rattle.vat_log.specs.declared.error.LogError.TheVariants.{Short, ZeroNumber, TooLong}
 use Rattle.vat_log.specs.Fits.{frame_limit}
 use Rattle.vat_log.specs.Reading.{◌>>=◌, number_at, nonzero_at, many_at, list_at, path_at, answered_at, frame_at}
-use Rattle.vat_log.specs.Spelling.{number_bytes, listed, path_bytes, answered_bytes, references_bytes, frame_bytes}
+use Rattle.vat_log.specs.Spelling.{number_bytes, counted_list, path_bytes, answered_bytes, references_bytes, frame_bytes}
 use Rattle.vat_log.proofs.Spans.{IsBytes, bind_ok, guard_ok, ok_is, Spans, Spans-nil, Spans-join, Spans-first, Spans-second, Spans-range, Spans-cut, IsField, then_takes, wide16, wide32, wide64, number_field}
 
 pub u16_field : (bytes : List ℕ) → IsField ℕ bytes (number_at w16 bytes) (number_bytes w16) (λ n. n < 2 ^ 16)
@@ -83,7 +83,7 @@ abbrev pub IsList : {A : Type 0} → (A → Type 0) → List A → Type 0
 IsList Fit xs = (length xs < 2 ^ 16) × All Fit xs
 
 list_takes : {A : Type 0} (bytes : List ℕ) (read : ℕ → Result (A × ℕ) LogError) (spell : A → List ℕ) (Fit : A → Type 0) → IsField A bytes read spell Fit → IsBytes bytes
-    → (at : ℕ) (xs : List A) (after : ℕ) → at ≤ length bytes → list_at read bytes at ≡ Ok (xs, after) → Spans bytes at (listed spell xs) after × IsList Fit xs
+    → (at : ℕ) (xs : List A) (after : ℕ) → at ≤ length bytes → list_at read bytes at ≡ Ok (xs, after) → Spans bytes at (counted_list spell xs) after × IsList Fit xs
 unfolding list_at
 list_takes bytes read spell Fit field fits at xs after le e =
     let a = then_takes bytes (number_at w16 bytes) (number_bytes w16) (λ n. n < 2 ^ 16) (u16_field bytes) fits at (λ count. many_at read count.0 count.1) (xs, after) le e in
@@ -92,7 +92,7 @@ list_takes bytes read spell Fit field fits at xs after le e =
     (subst (λ n. Spans bytes at (number_bytes w16 n ++ flat_map spell xs) after) (sym b.1) both, (omega (arith, a.2, b.1), All-from_recursion Fit xs b.2))
 
 list_again : {A : Type 0} (bytes : List ℕ) (read : ℕ → Result (A × ℕ) LogError) (spell : A → List ℕ) (Fit : A → Type 0) → IsField A bytes read spell Fit
-    → (at : ℕ) (xs : List A) (after : ℕ) → IsList Fit xs → Spans bytes at (listed spell xs) after → list_at read bytes at ≡ Ok (xs, after)
+    → (at : ℕ) (xs : List A) (after : ℕ) → IsList Fit xs → Spans bytes at (counted_list spell xs) after → list_at read bytes at ≡ Ok (xs, after)
 unfolding list_at
 list_again bytes read spell Fit field at xs after fit p =
     let count = number_bytes w16 (length xs) in
@@ -101,7 +101,7 @@ list_again bytes read spell Fit field at xs after fit p =
     rw ((u16_field bytes).again at (length xs) (at + length count) fit.0 first) (many_again bytes read spell Fit field xs (at + length count) after (recursion_from_All Fit xs fit.1) second)
 
 pub list_field : {A : Type 0} (bytes : List ℕ) (read : ℕ → Result (A × ℕ) LogError) (spell : A → List ℕ) (Fit : A → Type 0) → IsField A bytes read spell Fit
-    → IsField (List A) bytes (list_at read bytes) (listed spell) (IsList Fit)
+    → IsField (List A) bytes (list_at read bytes) (counted_list spell) (IsList Fit)
 list_field bytes read spell Fit field = record {
   takes = λ fits at xs after le e. list_takes bytes read spell Fit field fits at xs after le e;
   again = λ at xs after fit p. list_again bytes read spell Fit field at xs after fit p;
@@ -143,7 +143,7 @@ answered_field bytes = record {
 pub references_field : (bytes : List ℕ) → IsField (List ℕ) bytes (list_at (nonzero_at bytes) bytes) references_bytes (IsList IsNumber)
 references_field bytes = list_field bytes (nonzero_at bytes) (number_bytes w64) IsNumber (nonzero_field bytes)
 
-pub results_field : (bytes : List ℕ) → IsField (List (ℕ × List ℕ)) bytes (list_at (answered_at bytes) bytes) (listed answered_bytes) (IsList IsAnswered)
+pub results_field : (bytes : List ℕ) → IsField (List (ℕ × List ℕ)) bytes (list_at (answered_at bytes) bytes) (counted_list answered_bytes) (IsList IsAnswered)
 results_field bytes = list_field bytes (answered_at bytes) answered_bytes IsAnswered (answered_field bytes)
 
 -- ---- frames

@@ -11,12 +11,12 @@ use Rattle.std.proofs.lemmas.List.Elements.{All-from_recursion, recursion_from_A
 use Rattle.std.proofs.lemmas.Slice.Eq.{starts_is}
 use Rattle.vat_log.specs.declared.body.Body.{Body}
 use Rattle.vat_log.specs.declared.error.LogError.TheVariants.{BadMagic, TooLong}
-use Rattle.vat_log.specs.declared.kind.Kind.{Kind}
-use Rattle.vat_log.specs.declared.kind.Kind.TheVariants.{Host, Vow, Fulfil, Break, Make, Field, Deliver, Answer, Fault, Send, Receive}
+use Rattle.vat_log.specs.declared.kind.RecordKind.{RecordKind}
+use Rattle.vat_log.specs.declared.kind.RecordKind.TheVariants.{Host, Vow, Fulfil, Break, Make, Field, Deliver, Answer, Fault, Send, Receive}
 use Rattle.vat_log.specs.Fits.{LogFits}
 use Rattle.vat_log.specs.Log.{Log}
-use Rattle.vat_log.specs.Reading.{◌>>=◌, number_at, fields_at, kind_with, known, kind_at, records_at, log_within}
-use Rattle.vat_log.specs.Spelling.{magic, kind_byte, number_bytes, kind_in, fields_bytes, record_bytes, log_bytes}
+use Rattle.vat_log.specs.Reading.{◌>>=◌, number_at, fields_at, kind_with, known_kind, kind_at, records_at, log_within}
+use Rattle.vat_log.specs.Spelling.{log_magic, kind_byte, number_bytes, kind_in, fields_bytes, record_bytes, log_bytes}
 use Rattle.vat_log.proofs.Spans.{IsBytes, bind_ok, ok_is, Spans, Spans-nil, Spans-join, Spans-first, Spans-second, then_takes}
 use Rattle.vat_log.proofs.FieldLaws.{u32_field}
 use Rattle.vat_log.proofs.BodyLaws.{FitsWide, fields_take, fields_again}
@@ -27,24 +27,24 @@ chosen : {A : Type 0} (b : Bool) (x y z : A) → cond b x y ≡ z → ((b ≡ tr
 chosen true x y z e = inl (refl, e)
 chosen false x y z e = inr (refl, e)
 
-abbrev found : Kind → Option Kind
+abbrev found : RecordKind → Option RecordKind
 found kind = Some kind
 
-kind_step : (byte code : ℕ) (k kind : Kind) (rest : Option Kind) → code ≡ kind_byte k → (rest ≡ found kind → byte ≡ kind_byte kind) → cond (eqb byte code) (found k) rest ≡ found kind → byte ≡ kind_byte kind
+kind_step : (byte code : ℕ) (k kind : RecordKind) (rest : Option RecordKind) → code ≡ kind_byte k → (rest ≡ found kind → byte ≡ kind_byte kind) → cond (eqb byte code) (found k) rest ≡ found kind → byte ≡ kind_byte kind
 kind_step byte code k kind rest is more e =
     elim (chosen (eqb byte code) (found k) rest (found kind) e) [
       | inl p ↦ let same : k ≡ kind = cc p.1 in eqb-true _ _ p.0 ∙ is ∙ ap kind_byte same
       | inr p ↦ more p.1
     ]
 
-kind_was : (byte : ℕ) (kind : Kind) → kind_with byte ≡ found kind → byte ≡ kind_byte kind
+kind_was : (byte : ℕ) (kind : RecordKind) → kind_with byte ≡ found kind → byte ≡ kind_byte kind
 unfolding kind_with
 kind_was byte kind e =
     kind_step byte 1 Host kind _ refl (kind_step byte 2 Vow kind _ refl (kind_step byte 3 Fulfil kind _ refl (kind_step byte 4 Break kind _ refl
     (kind_step byte 5 Make kind _ refl (kind_step byte 6 Field kind _ refl (kind_step byte 7 Deliver kind _ refl (kind_step byte 8 Answer kind _ refl
     (kind_step byte 9 Fault kind _ refl (kind_step byte 10 Send kind _ refl (kind_step byte 11 Receive kind None refl (λ none. absurd cc))))))))))) e
 
-kind_is : (kind : Kind) → kind_with (kind_byte kind) ≡ found kind
+kind_is : (kind : RecordKind) → kind_with (kind_byte kind) ≡ found kind
 unfolding kind_with
 kind_is Host = refl
 kind_is Vow = refl
@@ -58,18 +58,18 @@ kind_is Fault = refl
 kind_is Send = refl
 kind_is Receive = refl
 
-known_ok : (o : Option Kind) (at : ℕ) (kind : Kind) → known o at ≡ Ok kind → o ≡ found kind
+known_ok : (o : Option RecordKind) (at : ℕ) (kind : RecordKind) → known_kind o at ≡ Ok kind → o ≡ found kind
 known_ok (Some k) at kind e = ap found (ok_is k kind e)
 known_ok None at kind e = absurd cc
 
-kind_takes : (bytes : List ℕ) (at : ℕ) (kind : Kind) → at < length bytes → kind_at bytes at ≡ Ok kind → Spans bytes at (kind_byte kind ∷ []) (at + 1)
+kind_takes : (bytes : List ℕ) (at : ℕ) (kind : RecordKind) → at < length bytes → kind_at bytes at ≡ Ok kind → Spans bytes at (kind_byte kind ∷ []) (at + 1)
 unfolding kind_at
 kind_takes bytes at kind lt e =
     let byte : get_or bytes at 0 ≡ kind_byte kind = kind_was (get_or bytes at 0) kind (known_ok (kind_with (get_or bytes at 0)) at kind e) in
     let cell : drop at bytes ≡ get_or bytes at 0 ∷ drop (at + 1) bytes = rw (add-one) (drop-cons bytes at 0 lt) in
     record { parts = cell ∙ ap (λ b. b ∷ drop (at + 1) bytes) byte; places = refl; within = omega arith }
 
-kind_again : (bytes : List ℕ) (at : ℕ) (kind : Kind) (after : ℕ) → Spans bytes at (kind_byte kind ∷ []) after → (at < length bytes) × (kind_at bytes at ≡ Ok kind)
+kind_again : (bytes : List ℕ) (at : ℕ) (kind : RecordKind) (after : ℕ) → Spans bytes at (kind_byte kind ∷ []) after → (at < length bytes) × (kind_at bytes at ≡ Ok kind)
 unfolding kind_at
 kind_again bytes at kind after p =
     let lt : at < length bytes = omega (arith, p.places, p.within) in
@@ -80,7 +80,7 @@ kind_again bytes at kind after p =
 
 -- ---- records
 
-record_takes : (bytes : List ℕ) → IsBytes bytes → (at : ℕ) (kind : Kind) (x : Body × ℕ) → at < length bytes → kind_at bytes at ≡ Ok kind → fields_at kind bytes (at + 1) ≡ Ok x → Spans bytes at (record_bytes x.0) x.1 × FitsWide x.0
+record_takes : (bytes : List ℕ) → IsBytes bytes → (at : ℕ) (kind : RecordKind) (x : Body × ℕ) → at < length bytes → kind_at bytes at ≡ Ok kind → fields_at kind bytes (at + 1) ≡ Ok x → Spans bytes at (record_bytes x.0) x.1 × FitsWide x.0
 record_takes bytes fits at kind x lt k e =
     let t = fields_take kind bytes fits (at + 1) x (omega arith) e in
     let both = Spans-join bytes at (kind_byte kind ∷ []) (at + 1) (fields_bytes x.0) x.1 (kind_takes bytes at kind lt k) t.0 in
@@ -133,13 +133,13 @@ records_again (x ∷ xs) (suc left) bytes at le fit p =
 
 -- ---- logs
 
-begins : (bytes : List ℕ) → starts_with eqb bytes magic ≡ true → Spans bytes 0 magic 8
+begins : (bytes : List ℕ) → starts_with eqb bytes log_magic ≡ true → Spans bytes 0 log_magic 8
 begins bytes e =
-    let parts : bytes ≡ magic ++ drop 8 bytes = (starts_is Decides-eqb bytes magic (starts_with eqb bytes magic) refl).0 e in
+    let parts : bytes ≡ log_magic ++ drop 8 bytes = (starts_is Decides-eqb bytes log_magic (starts_with eqb bytes log_magic) refl).0 e in
     record { parts = parts; places = refl; within = omega (arith, ap length parts) }
 
-begins_again : (bytes : List ℕ) (after : ℕ) → Spans bytes 0 magic after → starts_with eqb bytes magic ≡ true
-begins_again bytes after p = (starts_is Decides-eqb bytes magic (starts_with eqb bytes magic) refl).1 (drop after bytes) p.parts
+begins_again : (bytes : List ℕ) (after : ℕ) → Spans bytes 0 log_magic after → starts_with eqb bytes log_magic ≡ true
+begins_again bytes after p = (starts_is Decides-eqb bytes log_magic (starts_with eqb bytes log_magic) refl).1 (drop after bytes) p.parts
 
 whole : (bytes text : List ℕ) → Spans bytes 0 text (length bytes) → bytes ≡ text
 whole bytes text p = p.parts ∙ ap (λ rest. text ++ rest) (drop_all (length bytes) bytes (omega arith)) ∙ append-nil text
@@ -150,7 +150,7 @@ all_of_it bytes text e = record { parts = e ∙ sym (append-nil text) ∙ ap (λ
 pub log_takes : (limit : ℕ) (bytes : List ℕ) (log : Log) → IsBytes bytes → log_within limit bytes ≡ Ok log → (bytes ≡ log_bytes log) × LogFits limit log
 unfolding log_within
 log_takes limit bytes log fits e =
-    elim (chosen (starts_with eqb bytes magic) (number_at w32 bytes 8 >>= λ vat. records_at bytes limit vat.1 >>= λ records. Ok (record { vat = vat.0; records = records })) (Err BadMagic) (Ok log) e) [
+    elim (chosen (starts_with eqb bytes log_magic) (number_at w32 bytes 8 >>= λ vat. records_at bytes limit vat.1 >>= λ records. Ok (record { vat = vat.0; records = records })) (Err BadMagic) (Ok log) e) [
       | inl p ↦
           let front = begins bytes p.0 in
           let v = then_takes bytes (number_at w32 bytes) (number_bytes w32) (λ n. n < 2 ^ 32) (u32_field bytes) fits 8 (λ vat. records_at bytes limit vat.1 >>= λ records. Ok (record { vat = vat.0; records = records })) log front.within p.1 in
@@ -158,7 +158,7 @@ log_takes limit bytes log fits e =
           let rest = records_take limit bytes fits v.0.1 r.0 v.1.within r.1 in
           let made : Log = record { vat = v.0.0; records = r.0 } in
           let tail = Spans-join bytes 8 (number_bytes w32 v.0.0) v.0.1 (flat_map record_bytes r.0) (length bytes) v.1 rest.0 in
-          let spelled = whole bytes (log_bytes made) (Spans-join bytes 0 magic 8 (number_bytes w32 v.0.0 ++ flat_map record_bytes r.0) (length bytes) front tail) in
+          let spelled = whole bytes (log_bytes made) (Spans-join bytes 0 log_magic 8 (number_bytes w32 v.0.0 ++ flat_map record_bytes r.0) (length bytes) front tail) in
           let fit = All-from_recursion FitsWide r.0 rest.2 in
           subst (λ (l : Log). (bytes ≡ log_bytes l) × LogFits limit l) (ok_is made log r.2) (spelled, record { vat = v.2; counted = rest.1; fit = λ k d lt. (fit k d lt).fits; wide = λ k d lt. (fit k d lt).wide })
       | inr p ↦ absurd (cc p.1)
@@ -169,9 +169,9 @@ unfolding log_within
 log_again limit bytes log fit e =
     let vat = number_bytes w32 log.vat in
     let records = flat_map record_bytes log.records in
-    let all = all_of_it bytes (magic ++ (vat ++ records)) e in
-    let front = Spans-first bytes 0 magic (vat ++ records) (length bytes) all in
-    let tail = Spans-second bytes 0 magic (vat ++ records) (length bytes) all in
+    let all = all_of_it bytes (log_magic ++ (vat ++ records)) e in
+    let front = Spans-first bytes 0 log_magic (vat ++ records) (length bytes) all in
+    let tail = Spans-second bytes 0 log_magic (vat ++ records) (length bytes) all in
     let v = (u32_field bytes).again 8 log.vat (8 + length vat) fit.vat (Spans-first bytes 8 vat records (length bytes) tail) in
     let both : All FitsWide log.records = λ k d lt. record { fits = fit.fit k d lt; wide = fit.wide k d lt } in
     let r = records_again log.records limit bytes (8 + length vat) fit.counted (recursion_from_All FitsWide log.records both) (Spans-second bytes 8 vat records (length bytes) tail) in

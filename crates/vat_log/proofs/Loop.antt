@@ -7,7 +7,7 @@ use Rattle.std.proofs.lemmas.List.Elements.{All-push}
 use Rattle.vat_log.specs.declared.error.LogError.{LogError}
 use Rattle.vat_log.specs.declared.error.LogError.TheVariants.{BadMagic, Short, BadKind, ZeroNumber, TooLong, OutOfMemory}
 use Rattle.vat_log.specs.declared.body.Body.{Body}
-use Rattle.vat_log.specs.declared.kind.Kind.{Kind}
+use Rattle.vat_log.specs.declared.kind.RecordKind.{RecordKind}
 use Rattle.vat_log.specs.Reading.{◌>>=◌, Fails, many_at, kind_at, fields_at, records_at}
 
 -- a step that failed, whatever follows it
@@ -79,7 +79,7 @@ regroup_records : (front : List Body) (x : Body) (read : Result (List Body) LogE
 regroup_records front x (Ok xs) = ap (λ (ys : List Body). Ok ys) (simp append_assoc)
 regroup_records front x (Err e) = refl
 
-pub record_goes_on : (bytes : List ℕ) (front : List Body) (limit at : ℕ) (kind : Kind) (x : Body) (after : ℕ) (total : Result (List Body) LogError) → at < length bytes → length front < limit
+pub record_goes_on : (bytes : List ℕ) (front : List Body) (limit at : ℕ) (kind : RecordKind) (x : Body) (after : ℕ) (total : Result (List Body) LogError) → at < length bytes → length front < limit
     → kind_at bytes at ≡ Ok kind → fields_at kind bytes (at + 1) ≡ Ok (x, after)
     → with_records front (records_at bytes (limit - length front) at) ≡ total → with_records (front ++ x ∷ []) (records_at bytes (limit - length (front ++ x ∷ [])) after) ≡ total
 unfolding records_at
@@ -99,7 +99,7 @@ pub kind_ends : (e : LogError) (bytes : List ℕ) (front : List Body) (limit at 
     → with_records front (records_at bytes (limit - length front) at) ≡ total → Fails e total
 kind_ends e bytes front limit at total lt h so_far = subst (Fails e) so_far (Fails-then e _ _ (kind_stops e bytes (limit - length front) at lt h))
 
-pub record_ends : (e : LogError) (bytes : List ℕ) (front : List Body) (limit at : ℕ) (kind : Kind) (total : Result (List Body) LogError) → at < length bytes → length front < limit
+pub record_ends : (e : LogError) (bytes : List ℕ) (front : List Body) (limit at : ℕ) (kind : RecordKind) (total : Result (List Body) LogError) → at < length bytes → length front < limit
     → kind_at bytes at ≡ Ok kind → Fails e (fields_at kind bytes (at + 1)) → with_records front (records_at bytes (limit - length front) at) ≡ total → Fails e total
 unfolding records_at
 record_ends e bytes front limit at kind total lt room k f so_far =
@@ -107,7 +107,7 @@ record_ends e bytes front limit at kind total lt room k f so_far =
     let test : ltb at (length bytes) ≡ true = lt-ltb _ _ lt in
     subst (Fails e) so_far (rw (n, test, k) (Fails-then e _ _ (Fails-then e (fields_at kind bytes (at + 1)) _ f)))
 
-pub limit_ends : (bytes : List ℕ) (front : List Body) (limit at : ℕ) (kind : Kind) (total : Result (List Body) LogError) → at < length bytes → limit ≤ length front
+pub limit_ends : (bytes : List ℕ) (front : List Body) (limit at : ℕ) (kind : RecordKind) (total : Result (List Body) LogError) → at < length bytes → limit ≤ length front
     → kind_at bytes at ≡ Ok kind → with_records front (records_at bytes (limit - length front) at) ≡ total → total ≡ Err TooLong
 unfolding records_at
 limit_ends bytes front limit at kind total lt full k so_far =

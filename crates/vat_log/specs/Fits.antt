@@ -84,8 +84,8 @@ pub record LogFits (limit : ℕ) (log : Log) : Type 0 where
   pub wide : All IsWide log.records
 
 -- What is written: the log that is handed in, unless it has too many records.
-abbrev pub stored : Log → Result Log LogError
-stored log = if nat_lt record_limit (length log.records) then Err TooLong else Ok log
+abbrev pub stored_log : Log → Result Log LogError
+stored_log log = if nat_lt record_limit (length log.records) then Err TooLong else Ok log
 
 -- Why a record isn't taken in: the log has as many as it may have, or memory was refused.
 abbrev pub NotPushed : Log → LogError → Type 0

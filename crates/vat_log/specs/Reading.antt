@@ -7,19 +7,19 @@ use Rattle.vat_log.specs.declared.body.Body.{Body}
 use Rattle.vat_log.specs.declared.body.Body.TheVariants as body
 use Rattle.vat_log.specs.declared.error.LogError.{LogError}
 use Rattle.vat_log.specs.declared.error.LogError.TheVariants.{BadMagic, Short, BadKind, ZeroNumber, TooLong, OutOfMemory}
-use Rattle.vat_log.specs.declared.kind.Kind.{Kind}
-use Rattle.vat_log.specs.declared.kind.Kind.TheVariants.{Host, Vow, Fulfil, Break, Make, Field, Deliver, Answer, Fault, Send, Receive}
+use Rattle.vat_log.specs.declared.kind.RecordKind.{RecordKind}
+use Rattle.vat_log.specs.declared.kind.RecordKind.TheVariants.{Host, Vow, Fulfil, Break, Make, Field, Deliver, Answer, Fault, Send, Receive}
 use Rattle.vat_log.specs.declared.passage.Passage.{Passage}
 use Rattle.vat_log.specs.Fits.{frame_limit, record_limit}
 use Rattle.vat_log.specs.Log.{Log}
-use Rattle.vat_log.specs.Spelling.{magic}
+use Rattle.vat_log.specs.Spelling.{log_magic}
 
 infixl 10 ◌>>=◌
 abbrev pub ◌>>=◌ : {A B : Type 0} → Result A LogError → (A → Result B LogError) → Result B LogError
 (Ok x) >>= f = f x
 (Err e) >>= f = Err e
 
--- want of memory may come in the place of any answer; each other fault is the reading's
+-- out of memory may come in the place of any answer; each other fault is the reading's
 abbrev pub Fails : {Y : Type 0} → LogError → Result Y LogError → Type 0
 Fails OutOfMemory read = Unit {0}
 Fails e read = read ≡ Err e
@@ -148,7 +148,7 @@ receive_at bytes at = do
   Ok (body.Receive passage.0.connection passage.0.call passage.0.references passage.0.frame, passage.1)
 
 -- the fields of a record of this kind
-abbrev pub fields_at : Kind → List ℕ → ℕ → Result (Body × ℕ) LogError
+abbrev pub fields_at : RecordKind → List ℕ → ℕ → Result (Body × ℕ) LogError
 fields_at Host bytes at = host_at bytes at
 fields_at Vow bytes at = vow_at bytes at
 fields_at Fulfil bytes at = fulfil_at bytes at
@@ -162,7 +162,7 @@ fields_at Send bytes at = send_at bytes at
 fields_at Receive bytes at = receive_at bytes at
 
 -- the kind that a byte stands for
-unfoldable pub kind_with : ℕ → Option Kind
+unfoldable pub kind_with : ℕ → Option RecordKind
 kind_with byte =
     if byte == 1 then Some Host
     else if byte == 2 then Some Vow
@@ -177,13 +177,13 @@ kind_with byte =
     else if byte == 11 then Some Receive
     else None
 
-abbrev pub known : Option Kind → ℕ → Result Kind LogError
-known (Some kind) at = Ok kind
-known None at = Err (BadKind at)
+abbrev pub known_kind : Option RecordKind → ℕ → Result RecordKind LogError
+known_kind (Some kind) at = Ok kind
+known_kind None at = Err (BadKind at)
 
 -- the kind of the record that begins at this place, before the end
-unfoldable pub kind_at : List ℕ → ℕ → Result Kind LogError
-kind_at bytes at = known (kind_with (slice_index bytes at)) at
+unfoldable pub kind_at : List ℕ → ℕ → Result RecordKind LogError
+kind_at bytes at = known_kind (kind_with (slice_index bytes at)) at
 
 -- The records from this place to the end, of which there may be so many.
 unfoldable pub records_at : List ℕ → ℕ → ℕ → Result (List Body) LogError
@@ -203,7 +203,7 @@ records_at bytes (suc left) at =
 -- The log that these bytes spell, of so many records at most, or the first fault.
 unfoldable pub log_within : ℕ → List ℕ → Result Log LogError
 log_within limit bytes =
-    if starts_with nat_eq bytes magic then (do
+    if starts_with nat_eq bytes log_magic then (do
       vat ← number_at w32 bytes 8
       records ← records_at bytes limit vat.1
       Ok (record { vat = vat.0; records = records }))

@@ -4,16 +4,16 @@ use Rattle.std.specs.List.{flat_map}
 use Rattle.std.specs.Int.{Width, w16, w32, w64, to_le_bytes}
 use Rattle.vat_log.specs.declared.body.Body.{Body}
 use Rattle.vat_log.specs.declared.body.Body.TheVariants as body
-use Rattle.vat_log.specs.declared.kind.Kind.{Kind}
-use Rattle.vat_log.specs.declared.kind.Kind.TheVariants.{Host, Vow, Fulfil, Break, Make, Field, Deliver, Answer, Fault, Send, Receive}
+use Rattle.vat_log.specs.declared.kind.RecordKind.{RecordKind}
+use Rattle.vat_log.specs.declared.kind.RecordKind.TheVariants.{Host, Vow, Fulfil, Break, Make, Field, Deliver, Answer, Fault, Send, Receive}
 use Rattle.vat_log.specs.Log.{Log}
 
 -- the bytes that begin each log: VATLOG01
-abbrev pub magic : List ℕ
-magic = 86 ∷ 65 ∷ 84 ∷ 76 ∷ 79 ∷ 71 ∷ 48 ∷ 49 ∷ []
+abbrev pub log_magic : List ℕ
+log_magic = 86 ∷ 65 ∷ 84 ∷ 76 ∷ 79 ∷ 71 ∷ 48 ∷ 49 ∷ []
 
 -- the byte that begins a record of this kind
-abbrev pub kind_byte : Kind → ℕ
+abbrev pub kind_byte : RecordKind → ℕ
 kind_byte Host = 1
 kind_byte Vow = 2
 kind_byte Fulfil = 3
@@ -31,12 +31,12 @@ unfoldable pub number_bytes : Width → ℕ → List ℕ
 number_bytes width n = to_le_bytes width n
 
 -- a list: how many there are in two bytes, then one after the other
-abbrev pub listed : {A : Type 0} → (A → List ℕ) → List A → List ℕ
-listed item xs = number_bytes w16 (length xs) ++ flat_map item xs
+abbrev pub counted_list : {A : Type 0} → (A → List ℕ) → List A → List ℕ
+counted_list item xs = number_bytes w16 (length xs) ++ flat_map item xs
 
 -- a path: its pointer field numbers, of two bytes each
 abbrev pub path_bytes : List ℕ → List ℕ
-path_bytes fields = listed (number_bytes w16) fields
+path_bytes fields = counted_list (number_bytes w16) fields
 
 -- a result: its reference, and the path at which it stands
 abbrev pub answered_bytes : ℕ × List ℕ → List ℕ
@@ -44,7 +44,7 @@ answered_bytes answered = number_bytes w64 answered.0 ++ path_bytes answered.1
 
 -- references noted beside a frame
 abbrev pub references_bytes : List ℕ → List ℕ
-references_bytes references = listed (number_bytes w64) references
+references_bytes references = counted_list (number_bytes w64) references
 
 -- a frame: how many bytes it has in four bytes, then those
 abbrev pub frame_bytes : List ℕ → List ℕ
@@ -56,7 +56,7 @@ passage_bytes connection call references frame =
     number_bytes w32 connection ++ (number_bytes w64 call ++ (references_bytes references ++ frame_bytes frame))
 
 -- the kind of the record that says this
-abbrev pub kind_in : Body → Kind
+abbrev pub kind_in : Body → RecordKind
 kind_in (body.Host reference object) = Host
 kind_in (body.Vow reference) = Vow
 kind_in (body.Fulfil reference to) = Fulfil
@@ -80,7 +80,7 @@ fields_bytes (body.Make call reference interface method) =
 fields_bytes (body.Field reference call path) =
     number_bytes w64 reference ++ (number_bytes w64 call ++ path_bytes path)
 fields_bytes (body.Deliver call object) = number_bytes w64 call ++ number_bytes w64 object
-fields_bytes (body.Answer call results) = number_bytes w64 call ++ listed answered_bytes results
+fields_bytes (body.Answer call results) = number_bytes w64 call ++ counted_list answered_bytes results
 fields_bytes (body.Fault call) = number_bytes w64 call
 fields_bytes (body.Send connection call references frame) = passage_bytes connection call references frame
 fields_bytes (body.Receive connection call references frame) = passage_bytes connection call references frame
@@ -91,4 +91,4 @@ record_bytes body = kind_byte (kind_in body) ∷ fields_bytes body
 
 -- a log: the magic, the vat, and its records one after the other
 abbrev pub log_bytes : Log → List ℕ
-log_bytes log = magic ++ (number_bytes w32 log.vat ++ flat_map record_bytes log.records)
+log_bytes log = log_magic ++ (number_bytes w32 log.vat ++ flat_map record_bytes log.records)

@@ -39,7 +39,7 @@ impl References {
         &self.items
     }
 
-    /// A second list of the same references. The only error is want of memory.
+    /// A second list of the same references. The only error is that memory ran out.
     pub fn copy(&self) -> Result<References, AllocError>
         ensures { IfOk result (λ copied. copied ≡ self.now) }
     {
@@ -50,7 +50,7 @@ impl References {
 
 /// Results as they are kept: a single one, as most calls have, takes no memory of its own.
 #[derive(Drop)]
-enum Kept {
+enum KeptResults {
     /// A single one.
     One((u64, Path)),
     /// None or several.
@@ -59,11 +59,11 @@ enum Kept {
 
 /// The results of a call: references, each with the path at which it stands (docs/FORMATS.md).
 #[derive(Drop)]
-pub struct Results {
-    kept: Kept,
+pub struct ResultReferences {
+    kept: KeptResults,
 }
 
-impl Model for Results {
+impl Model for ResultReferences {
     ghost use Rattle.std.specs.Prelude.{List, ℕ};
     ghost use Rattle.vat_log.specs.Glue.{results_of};
 
@@ -72,16 +72,16 @@ impl Model for Results {
     ghost view = { λ results. results_of results.kept };
 }
 
-impl Debug for Results {
+impl Debug for ResultReferences {
     fn fmt<W: Write>(&self, f: &mut Formatter<W>) -> fmt::Result {
-        f.debug_struct("Results")
+        f.debug_struct("ResultReferences")
             .field("items", &self.as_slice())
             .finish()
     }
 }
 
 /// A second list of the same results.
-fn copied(items: &Vec<(u64, Path)>) -> Result<Vec<(u64, Path)>, AllocError>
+fn copied_results(items: &Vec<(u64, Path)>) -> Result<Vec<(u64, Path)>, AllocError>
     ensures { IfOk result (λ copied. copied.items ≡ items.now.items) }
 {
     let mut copied = Vec::with_capacity(*items.allocator(), items.len())?;
@@ -91,20 +91,20 @@ fn copied(items: &Vec<(u64, Path)>) -> Result<Vec<(u64, Path)>, AllocError>
     Ok(copied)
 }
 
-impl Results {
+impl ResultReferences {
     /// The list of these. It takes no memory.
-    pub fn new(mut items: Vec<(u64, Path)>) -> Results
+    pub fn new(mut items: Vec<(u64, Path)>) -> ResultReferences
         ensures { result ≡ items.items }
     {
         if items.len() == 1 {
             if let Some(answered) = items.pop() {
-                return Results {
-                    kept: Kept::One(answered),
+                return ResultReferences {
+                    kept: KeptResults::One(answered),
                 };
             }
         }
-        Results {
-            kept: Kept::Several(items),
+        ResultReferences {
+            kept: KeptResults::Several(items),
         }
     }
 
@@ -113,20 +113,20 @@ impl Results {
         ensures { result.now ≡ self.now }
     {
         match &self.kept {
-            Kept::One(answered) => slice::from_ref(answered),
-            Kept::Several(items) => items.as_slice(),
+            KeptResults::One(answered) => slice::from_ref(answered),
+            KeptResults::Several(items) => items.as_slice(),
         }
     }
 
-    /// A second list of the same results. The only error is want of memory.
-    pub fn copy(&self) -> Result<Results, AllocError>
+    /// A second list of the same results. The only error is that memory ran out.
+    pub fn copy(&self) -> Result<ResultReferences, AllocError>
         ensures { IfOk result (λ copied. copied ≡ self.now) }
     {
         let kept = match &self.kept {
-            Kept::One((reference, path)) => Kept::One((*reference, path.copy()?)),
-            Kept::Several(items) => Kept::Several(copied(items)?),
+            KeptResults::One((reference, path)) => KeptResults::One((*reference, path.copy()?)),
+            KeptResults::Several(items) => KeptResults::Several(copied_results(items)?),
         };
-        Ok(Results { kept })
+        Ok(ResultReferences { kept })
     }
 }
 
@@ -189,7 +189,7 @@ pub enum Body {
         /// The call, which isn't 0.
         call: u64,
         /// The capabilities in its results.
-        results: Results,
+        results: ResultReferences,
     },
     /// A call ends with no results.
     Fault {
@@ -245,7 +245,7 @@ pub(crate) fn field_body(reference: u64, call: u64, path: Path) -> Body
 }
 
 impl Body {
-    /// A second body that says the same; its frame is shared. The only error is want of memory.
+    /// A second body that says the same; its frame is shared. The only error is that memory ran out.
     pub(crate) fn copy(&self) -> Result<Body, AllocError>
         ensures { IfOk result (λ copied. copied ≡ self.now) }
     {
@@ -276,13 +276,13 @@ impl Body {
                 call,
                 references,
                 frame,
-            } => Passage::copied(*connection, *call, references, frame)?.sent(),
+            } => Passage::copied(*connection, *call, references, frame)?.as_send(),
             Body::Receive {
                 connection,
                 call,
                 references,
                 frame,
-            } => Passage::copied(*connection, *call, references, frame)?.received(),
+            } => Passage::copied(*connection, *call, references, frame)?.as_receive(),
         })
     }
 }

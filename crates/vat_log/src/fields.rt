@@ -5,7 +5,7 @@ ghost use Rattle.std.specs.Prelude.{◌≤◌, length, IfOk};
 ghost use Rattle.std.specs.Int.{w16, w32, w64};
 ghost use Rattle.vat_log.specs.Reading.{GivesInMemory, number_at, nonzero_at, many_at, list_at, path_at, answered_at, frame_at};
 
-use crate::body::{References, Results};
+use crate::body::{References, ResultReferences};
 use crate::error::LogError;
 use crate::limits::MAX_FRAME;
 use bytes::Bytes;
@@ -175,7 +175,7 @@ pub(crate) fn results_of(
     alloc: Global,
     bytes: &[u8],
     at: usize,
-) -> Result<(Results, usize), LogError>
+) -> Result<(ResultReferences, usize), LogError>
     requires { at ≤ length bytes.now }
     ensures gives { GivesInMemory (λ x. (x.0, x.1)) result
         (list_at (answered_at bytes.now) bytes.now at) }
@@ -183,7 +183,7 @@ pub(crate) fn results_of(
 {
     let (count, after) = u16_at(bytes, at)?;
     let (results, after) = many_results(alloc, count, bytes, after)?;
-    Ok((Results::new(results), after))
+    Ok((ResultReferences::new(results), after))
 }
 
 /// A frame, cut out of the log's bytes without copying.

@@ -7,7 +7,7 @@ use crate::error::LogError;
 
 /// The kind of a record.
 #[derive(Clone, Copy, PartialEq, Eq)]
-pub(crate) enum Kind {
+pub(crate) enum RecordKind {
     Host,
     Vow,
     Fulfil,
@@ -23,28 +23,28 @@ pub(crate) enum Kind {
 
 /// The kind that a byte stands for.
 #[tactic(auto, unfolding(crate::specs::Reading::kind_with))]
-fn kind_of(byte: u8) -> Option<Kind>
+fn kind_of(byte: u8) -> Option<RecordKind>
     ensures { result ≡ kind_with byte }
 {
     match byte {
-        0x01 => Some(Kind::Host),
-        0x02 => Some(Kind::Vow),
-        0x03 => Some(Kind::Fulfil),
-        0x04 => Some(Kind::Break),
-        0x05 => Some(Kind::Make),
-        0x06 => Some(Kind::Field),
-        0x07 => Some(Kind::Deliver),
-        0x08 => Some(Kind::Answer),
-        0x09 => Some(Kind::Fault),
-        0x0a => Some(Kind::Send),
-        0x0b => Some(Kind::Receive),
+        0x01 => Some(RecordKind::Host),
+        0x02 => Some(RecordKind::Vow),
+        0x03 => Some(RecordKind::Fulfil),
+        0x04 => Some(RecordKind::Break),
+        0x05 => Some(RecordKind::Make),
+        0x06 => Some(RecordKind::Field),
+        0x07 => Some(RecordKind::Deliver),
+        0x08 => Some(RecordKind::Answer),
+        0x09 => Some(RecordKind::Fault),
+        0x0a => Some(RecordKind::Send),
+        0x0b => Some(RecordKind::Receive),
         _ => None,
     }
 }
 
 /// The kind of the record that begins at this place.
 #[tactic(auto, unfolding(crate::specs::Reading::kind_at))]
-pub(crate) fn read_kind(bytes: &[u8], at: usize) -> Result<Kind, LogError>
+pub(crate) fn read_kind(bytes: &[u8], at: usize) -> Result<RecordKind, LogError>
     requires { at < length bytes.now }
     ensures { GivesInMemory (λ kind. kind) result (kind_at bytes.now at) }
 {

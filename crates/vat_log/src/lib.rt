@@ -19,7 +19,7 @@ mod record;
 mod writer;
 mod writing;
 
-pub use body::{Body, References, Results};
+pub use body::{Body, References, ResultReferences};
 pub use error::LogError;
 pub use laws::one_spelling;
 pub use log::{VatLog, parse_log, write_lent_log, write_log};

@@ -4,17 +4,17 @@ ghost use Rattle.std.specs.Prelude.{◌≡◌, ◌<◌, ◌≤◌, ◌^◌, Ok, 
 ghost use Rattle.std.specs.List.{starts_with};
 ghost use Rattle.std.specs.Option.{option_copied};
 ghost use Rattle.vat_log.specs.Reading.{GivesInMemory, records_at, log_within, log_of};
-ghost use Rattle.vat_log.specs.Fits.{record_limit, Fits, IsWide, LogFits, stored};
+ghost use Rattle.vat_log.specs.Fits.{record_limit, Fits, IsWide, LogFits, stored_log};
 ghost use Rattle.vat_log.specs.Ends.{AreEnds};
 ghost use Rattle.vat_log.specs.Log.{Log};
-ghost use Rattle.vat_log.specs.Spelling.{magic, log_bytes};
+ghost use Rattle.vat_log.specs.Spelling.{log_magic, log_bytes};
 
 use crate::error::LogError;
 use crate::fields::u32_at;
 use crate::kind::read_kind;
 use crate::limits::MAX_RECORDS;
 use crate::record::Record;
-use crate::writing::written;
+use crate::writing::written_log;
 use bytes::Bytes;
 use std::alloc::{AllocError, Global};
 use std::marker::Model;
@@ -75,7 +75,7 @@ impl VatLog {
 
 /// Whether the magic stands before all else.
 fn begins_log(bytes: &[u8]) -> bool
-    ensures test { result ≡ starts_with nat_eq bytes.now magic }
+    ensures test { result ≡ starts_with nat_eq bytes.now log_magic }
     ensures octets { All (λ octet. octet < 2 ^ 8) bytes.now }
     ensures long { result ≡ true → 8 ≤ length bytes.now }
 {
@@ -113,7 +113,7 @@ fn parts_of(alloc: Global, bytes: &Bytes, limit: usize) -> Result<(u32, Vec<Reco
     ensures gives { GivesInMemory (λ x. record { vat = x.0; records = x.1.items }) result
         (log_within limit bytes.now) }
     ensures octets { All (λ octet. octet < 2 ^ 8) bytes.now }
-    ensures early { starts_with nat_eq bytes.now magic ≡ false
+    ensures early { starts_with nat_eq bytes.now log_magic ≡ false
         → IfErr result (λ e. e ≡ LogError.BadMagic) }
 {
     if !begins_log(bytes.as_slice()) {
@@ -142,7 +142,7 @@ pub fn parse_log(alloc: Global, bytes: Bytes) -> Result<VatLog, LogError>
     ensures only { (log : Log) → LogFits record_limit log → bytes ≡ log_bytes log
         → GivesInMemory (λ read. read) result (Ok log) }
     // Another magic is refused as such before memory is asked for.
-    ensures early { starts_with nat_eq bytes magic ≡ false
+    ensures early { starts_with nat_eq bytes log_magic ≡ false
         → IfErr result (λ e. e ≡ LogError.BadMagic) }
 {
     let (vat, records) = parts_of(alloc, &bytes, MAX_RECORDS)?;
@@ -174,7 +174,7 @@ fn spelled(alloc: Global, vat: u32, records: &mut Vec<Record>) -> Result<Bytes, 
     ensures fit { IfOk result (λ bytes. All Fits records.old.items) }
     ensures wide { IfOk result (λ bytes. All IsWide records.old.items) }
 {
-    let written = written(alloc, vat, records)?;
+    let written = written_log(alloc, vat, records)?;
     cut_frames(records, &written.bytes, &written.ends)?;
     Ok(written.bytes)
 }
@@ -208,7 +208,7 @@ fn lend(alloc: Global, records: &[Record]) -> Result<Vec<&Record>, AllocError>
 }
 
 /// A second list of the records that are lent.
-fn copied(alloc: Global, records: &[&Record]) -> Result<Vec<Record>, AllocError>
+fn copied_records(alloc: Global, records: &[&Record]) -> Result<Vec<Record>, AllocError>
     ensures { IfOk result (λ copied. copied.items ≡ map (λ entry. entry.now) records.now) }
 {
     let mut copied = Vec::with_capacity(alloc, records.len())?;
@@ -218,14 +218,14 @@ fn copied(alloc: Global, records: &[&Record]) -> Result<Vec<Record>, AllocError>
     Ok(copied)
 }
 
-/// The log of this vat with the records that are lent. The only error is want of memory.
+/// The log of this vat with the records that are lent. The only error is that memory ran out.
 fn log_with_lent(alloc: Global, vat: u32, records: &[&Record]) -> Result<VatLog, LogError>
     requires { length records.now ≤ record_limit }
     ensures ok { IfOk result (λ log.
         log ≡ record { vat = vat; records = map (λ entry. entry.now) records.now }) }
     ensures err { IfErr result (λ e. e ≡ LogError.OutOfMemory) }
 {
-    let copies = copied(alloc, records)?;
+    let copies = copied_records(alloc, records)?;
     log_with(alloc, vat, copies).map_err(|_| LogError::OutOfMemory)
 }
 
@@ -238,7 +238,7 @@ fn log_with_lent(alloc: Global, vat: u32, records: &[&Record]) -> Result<VatLog,
 pub fn write_log(alloc: Global, vat: u32, records: &[Record]) -> Result<VatLog, LogError>
     // Which log, or that there are too many records.
     ensures exact { GivesInMemory (λ log. log) result
-        (stored (record { vat = vat; records = records.now })) }
+        (stored_log (record { vat = vat; records = records.now })) }
     // Too many records are refused as such before memory is asked for.
     ensures too_many { record_limit < length records.now
         → IfErr result (λ e. e ≡ LogError.TooLong) }
@@ -259,7 +259,7 @@ pub fn write_log(alloc: Global, vat: u32, records: &[Record]) -> Result<VatLog, 
 pub fn write_lent_log(alloc: Global, vat: u32, records: &[&Record]) -> Result<VatLog, LogError>
     // Which log, or that there are too many records.
     ensures exact { GivesInMemory (λ log. log) result
-        (stored (record { vat = vat; records = map (λ entry. entry.now) records.now })) }
+        (stored_log (record { vat = vat; records = map (λ entry. entry.now) records.now })) }
     // Too many records are refused as such before memory is asked for.
     ensures too_many { record_limit < length records.now
         → IfErr result (λ e. e ≡ LogError.TooLong) }

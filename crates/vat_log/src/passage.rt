@@ -16,7 +16,7 @@ pub(crate) struct Passage {
 }
 
 impl Passage {
-    /// The same as these say; the frame is shared. The only error is want of memory.
+    /// The same as these say; the frame is shared. The only error is that memory ran out.
     pub(crate) fn copied(
         connection: u32,
         call: u64,
@@ -39,7 +39,7 @@ impl Passage {
     }
 
     /// What a SEND with this frame says.
-    pub(crate) fn sent(self) -> Body
+    pub(crate) fn as_send(self) -> Body
         ensures { result ≡ Body.Send self.connection self.call self.references self.frame }
     {
         Body::Send {
@@ -51,7 +51,7 @@ impl Passage {
     }
 
     /// What a RECV with this frame says.
-    pub(crate) fn received(self) -> Body
+    pub(crate) fn as_receive(self) -> Body
         ensures { result ≡ Body.Receive self.connection self.call self.references self.frame }
     {
         Body::Receive {

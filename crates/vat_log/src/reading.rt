@@ -8,7 +8,7 @@ use crate::error::LogError;
 use crate::fields::{
     frame_of, nonzero_of, path_of, references_of, results_of, u16_at, u32_at, u64_at,
 };
-use crate::kind::Kind;
+use crate::kind::RecordKind;
 use crate::passage::Passage;
 use bytes::Bytes;
 use std::alloc::Global;
@@ -138,7 +138,7 @@ fn send_of(alloc: Global, bytes: &Bytes, at: usize) -> Result<(Body, usize), Log
     ensures within { IfOk result (λ x. x.1 ≤ length bytes.now) }
 {
     let (passage, after) = passage_of(alloc, bytes, at)?;
-    Ok((passage.sent(), after))
+    Ok((passage.as_send(), after))
 }
 
 #[tactic(auto, unfolding(crate::specs::Reading::receive_at))]
@@ -148,13 +148,13 @@ fn receive_of(alloc: Global, bytes: &Bytes, at: usize) -> Result<(Body, usize), 
     ensures within { IfOk result (λ x. x.1 ≤ length bytes.now) }
 {
     let (passage, after) = passage_of(alloc, bytes, at)?;
-    Ok((passage.received(), after))
+    Ok((passage.as_receive(), after))
 }
 
 /// The fields of a record of this kind.
 pub(crate) fn body_of(
     alloc: Global,
-    kind: Kind,
+    kind: RecordKind,
     bytes: &Bytes,
     at: usize,
 ) -> Result<(Body, usize), LogError>
@@ -163,16 +163,16 @@ pub(crate) fn body_of(
     ensures within { IfOk result (λ x. x.1 ≤ length bytes.now) }
 {
     match kind {
-        Kind::Host => host_of(bytes.as_slice(), at),
-        Kind::Vow => vow_of(bytes.as_slice(), at),
-        Kind::Fulfil => fulfil_of(bytes.as_slice(), at),
-        Kind::Break => break_of(bytes.as_slice(), at),
-        Kind::Make => make_of(bytes.as_slice(), at),
-        Kind::Field => field_of(alloc, bytes.as_slice(), at),
-        Kind::Deliver => deliver_of(bytes.as_slice(), at),
-        Kind::Answer => answer_of(alloc, bytes.as_slice(), at),
-        Kind::Fault => fault_of(bytes.as_slice(), at),
-        Kind::Send => send_of(alloc, bytes, at),
-        Kind::Receive => receive_of(alloc, bytes, at),
+        RecordKind::Host => host_of(bytes.as_slice(), at),
+        RecordKind::Vow => vow_of(bytes.as_slice(), at),
+        RecordKind::Fulfil => fulfil_of(bytes.as_slice(), at),
+        RecordKind::Break => break_of(bytes.as_slice(), at),
+        RecordKind::Make => make_of(bytes.as_slice(), at),
+        RecordKind::Field => field_of(alloc, bytes.as_slice(), at),
+        RecordKind::Deliver => deliver_of(bytes.as_slice(), at),
+        RecordKind::Answer => answer_of(alloc, bytes.as_slice(), at),
+        RecordKind::Fault => fault_of(bytes.as_slice(), at),
+        RecordKind::Send => send_of(alloc, bytes, at),
+        RecordKind::Receive => receive_of(alloc, bytes, at),
     }
 }

@@ -6,9 +6,9 @@ ghost use Rattle.vat_log.specs.Ends.{EndsWith};
 ghost use Rattle.vat_log.specs.Reading.{GivesInMemory, fields_at};
 ghost use Rattle.vat_log.specs.Spelling.{record_bytes};
 
-use crate::body::{Body, References, Results};
+use crate::body::{Body, References, ResultReferences};
 use crate::error::LogError;
-use crate::kind::Kind;
+use crate::kind::RecordKind;
 use crate::limits::{MAX_COUNT, MAX_FRAME};
 use crate::reading::body_of;
 use bytes::Bytes;
@@ -60,7 +60,7 @@ impl Record {
     /// The record of this kind whose fields begin at this place, and the place after them.
     pub(crate) fn read(
         alloc: Global,
-        kind: Kind,
+        kind: RecordKind,
         bytes: &Bytes,
         at: usize,
     ) -> Result<(Record, usize), LogError>
@@ -73,7 +73,7 @@ impl Record {
         Ok((Record { body }, after))
     }
 
-    /// A second record that says the same; its frame is shared. The only error is want of memory.
+    /// A second record that says the same; its frame is shared. The only error is that memory ran out.
     pub fn copy(&self) -> Result<Record, AllocError>
         ensures { IfOk result (λ copied. copied ≡ self.now) }
     {
@@ -148,7 +148,7 @@ fn are_references_numbered(references: &References) -> bool
         .all(|reference| *reference != 0)
 }
 
-fn are_results_numbered(results: &Results) -> bool
+fn are_results_numbered(results: &ResultReferences) -> bool
     ensures { IsTrue result ↔ All (λ answered. 0 < answered.0) results.now }
 {
     results.as_slice().iter().all(|answered| answered.0 != 0)
@@ -183,7 +183,7 @@ fn is_passage_counted(references: &References, frame: &Bytes) -> bool
     references.as_slice().len() <= MAX_COUNT && frame.len() <= MAX_FRAME
 }
 
-fn are_results_counted(results: &Results) -> bool
+fn are_results_counted(results: &ResultReferences) -> bool
     ensures { IsTrue result ↔ ((length results.now ≤ count_limit)
         × All (λ answered. length answered.1 ≤ count_limit) results.now) }
 {

@@ -4,9 +4,9 @@ ghost use Rattle.std.specs.Prelude.{◌≡◌, ◌<◌, ◌≤◌, ◌^◌, ◌+
 ghost use Rattle.std.specs.Int.{w16, w32, w64};
 ghost use Rattle.vat_log.specs.Fits.{count_limit, frame_limit, Fits, IsWide};
 ghost use Rattle.vat_log.specs.Ends.{AreEnds};
-ghost use Rattle.vat_log.specs.Spelling.{number_bytes, references_bytes, path_bytes, answered_bytes, listed, passage_bytes, kind_byte, kind_in, fields_bytes, record_bytes, log_bytes};
+ghost use Rattle.vat_log.specs.Spelling.{number_bytes, references_bytes, path_bytes, answered_bytes, counted_list, passage_bytes, kind_byte, kind_in, fields_bytes, record_bytes, log_bytes};
 
-use crate::body::{Body, References, Results};
+use crate::body::{Body, References, ResultReferences};
 use crate::record::Record;
 use bytes::Bytes;
 use cap_frame::Path;
@@ -71,7 +71,8 @@ fn put_answered(out: &mut Vec<u8>, answered: &(u64, Path)) -> Result<(), AllocEr
 fn put_results(out: &mut Vec<u8>, results: &[(u64, Path)]) -> Result<(), AllocError>
     requires counted { length results.now ≤ count_limit }
     requires paths { All (λ answered. length answered.1 ≤ count_limit) results.now }
-    ensures ok { OnOk result (out.new.items ≡ out.old.items ++ listed answered_bytes results.now) }
+    ensures ok { OnOk result
+        (out.new.items ≡ out.old.items ++ counted_list answered_bytes results.now) }
     ensures wide { OnOk result (All (λ answered.
         (answered.0 < 2 ^ 64) × All (λ field. field < 2 ^ 16) answered.1) results.now) }
 {
@@ -141,7 +142,7 @@ fn put_field(out: &mut Vec<u8>, reference: u64, call: u64, path: &Path) -> Resul
 }
 
 /// The fields of an ANSWER.
-fn put_answer(out: &mut Vec<u8>, call: u64, results: &Results) -> Result<(), AllocError>
+fn put_answer(out: &mut Vec<u8>, call: u64, results: &ResultReferences) -> Result<(), AllocError>
     requires counted { length results.now ≤ count_limit }
     requires paths { All (λ answered. length answered.1 ≤ count_limit) results.now }
     ensures ok { OnOk result (out.new.items
@@ -228,7 +229,11 @@ pub(crate) struct LogBytes {
 }
 
 /// The one spelling of the log with this vat and these records.
-pub(crate) fn written(alloc: Global, vat: u32, records: &[Record]) -> Result<LogBytes, AllocError>
+pub(crate) fn written_log(
+    alloc: Global,
+    vat: u32,
+    records: &[Record],
+) -> Result<LogBytes, AllocError>
     ensures spelled { IfOk result (λ written.
         written.bytes ≡ log_bytes (record { vat = vat; records = records.now })) }
     ensures fit { IfOk result (λ written. All Fits records.now) }

@@ -1,18 +1,18 @@
 -- The entries of a story, as two lists.
 use Rattle.std.proofs.Common.{◌≡◌, List, [], ◌∷◌, length, map, refl, ap, arith}
-use Rattle.vat_rules.specs.Types.{Event}
-use Rattle.vat_rules.specs.Told.{Sight, Entry}
-use Rattle.vat_rules.specs.Glue.{entries_with}
+use Rattle.vat_rules.specs.Types.{DecodedRecord}
+use Rattle.vat_rules.specs.LogFacts.{Sight, Entry}
+use Rattle.vat_rules.specs.Glue.Facts.{entries_with}
 
 -- their records
-pub events_of : (events : List Event) (seen : List Sight) → length events ≡ length seen → map (λ (entry : Entry). entry.event) (entries_with events seen) ≡ events
+pub events_of : (events : List DecodedRecord) (seen : List Sight) → length events ≡ length seen → map (λ (entry : Entry). entry.event) (entries_with events seen) ≡ events
 events_of [] [] len = refl
 events_of [] (s ∷ seen) len = refl
 events_of (e ∷ events) [] len = absurd (let no : ⊥ = omega (arith, len) in no)
 events_of (e ∷ events) (s ∷ seen) len = ap (λ es. e ∷ es) (events_of events seen (let shorter : length events ≡ length seen = omega (arith, len) in shorter))
 
 -- what is seen of them
-pub seen_in : (events : List Event) (seen : List Sight) → length events ≡ length seen → map (λ (entry : Entry). entry.seen) (entries_with events seen) ≡ seen
+pub seen_in : (events : List DecodedRecord) (seen : List Sight) → length events ≡ length seen → map (λ (entry : Entry). entry.seen) (entries_with events seen) ≡ seen
 seen_in [] [] len = refl
 seen_in [] (s ∷ seen) len = absurd (let no : ⊥ = omega (arith, len) in no)
 seen_in (e ∷ events) [] len = refl

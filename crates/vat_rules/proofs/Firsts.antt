@@ -7,15 +7,15 @@ use Rattle.std.proofs.lemmas.List.{reverse-append, reverse-reverse, length-rever
 use Rattle.std.proofs.lemmas.List.Elements.{filter_map-append}
 use Rattle.std.proofs.lemmas.Option.{slice_get_within, get_or_from_slice_get}
 use Rattle.vat_log.specs.declared.body.Body.{Body}
-use Rattle.vat_rules.specs.Types.{Event}
+use Rattle.vat_rules.specs.Types.{DecodedRecord}
 use Rattle.vat_rules.specs.declared.outcome.Outcome.TheVariants.{Good, Broken}
 use Rattle.vat_rules.specs.declared.rule.Rule.{Rule}
 use Rattle.vat_view.specs.Past.{Past}
 use Rattle.vat_rules.specs.Rules.{rules}
-use Rattle.vat_rules.specs.Told.{Sight, Entry, Told}
+use Rattle.vat_rules.specs.LogFacts.{Sight, Entry, Told}
 use Rattle.vat_rules.specs.Events.{Reader, event_of, event_or_none, events_before, past_at}
 use Rattle.vat_rules.specs.Telling.{seen_of, entry_of, entries_back, is_delivery}
-use Rattle.vat_rules.specs.Glue.{seen_back, entries_with}
+use Rattle.vat_rules.specs.Glue.Facts.{seen_back, entries_with}
 use Rattle.vat_rules.specs.Judged.{IsGood, BreaksFirst}
 use Rattle.vat_rules.specs.First.{IsGoodAt, AllGood, IsFirst}
 
@@ -35,15 +35,15 @@ one_more : {A B : Type 0} (f : A → Option B) (x : A) (y : B) → f x ≡ Some 
 one_more f x y e = rw e refl
 
 -- the events of one record more
-pub events_before-more : (read : Reader) (log : List Body) (at : ℕ) (b : Body) (e : Event) → slice_get log at ≡ Some b → event_of read b ≡ Ok e →
+pub events_before-more : (read : Reader) (log : List Body) (at : ℕ) (b : Body) (e : DecodedRecord) → slice_get log at ≡ Some b → event_of read b ≡ Ok e →
     events_before read log (at + 1) ≡ events_before read log at ++ e ∷ []
 events_before-more read log at b e here is =
-    let f : Body → Option Event = λ b. event_or_none (event_of read b) in
+    let f : Body → Option DecodedRecord = λ b. event_or_none (event_of read b) in
     ap (λ bs. filter_map f bs) (take-more log at b here) ∙ filter_map-append f (take at log) (b ∷ [])
     ∙ ap (λ es. events_before read log at ++ es) (one_more f b e (ap event_or_none is))
 
 -- what stands before the next record, the newest first
-pub past_at-more : (read : Reader) (log : List Body) (at : ℕ) (b : Body) (e : Event) → slice_get log at ≡ Some b → event_of read b ≡ Ok e →
+pub past_at-more : (read : Reader) (log : List Body) (at : ℕ) (b : Body) (e : DecodedRecord) → slice_get log at ≡ Some b → event_of read b ≡ Ok e →
     past_at read log (at + 1) ≡ e ∷ past_at read log at
 past_at-more read log at b e here is = ap reverse (events_before-more read log at b e here is) ∙ reverse-append (events_before read log at) (e ∷ [])
 
@@ -56,7 +56,7 @@ pub as_many : (past : Past) (seen : List Sight) → seen ≡ reverse (seen_back 
 as_many past seen is = sym (length-seen past) ∙ sym (length-reverse (seen_back past)) ∙ ap length (sym is)
 
 -- what is seen, with what was seen of that record put behind what was seen before
-pub seen_more : (past more : Past) (e : Event) (seen longer : List Sight) → more ≡ e ∷ past → longer ≡ seen ++ seen_of past e ∷ [] →
+pub seen_more : (past more : Past) (e : DecodedRecord) (seen longer : List Sight) → more ≡ e ∷ past → longer ≡ seen ++ seen_of past e ∷ [] →
     seen ≡ reverse (seen_back past) → longer ≡ reverse (seen_back more)
 seen_more past more e seen longer same put so_far =
     put ∙ ap (λ xs. xs ++ seen_of past e ∷ []) so_far ∙ sym (reverse-append (seen_of past e ∷ []) (seen_back past)) ∙ ap (λ p. reverse (seen_back p)) (sym same)
@@ -71,7 +71,7 @@ zip_behind (a ∷ xs) (b ∷ ys) x y len = ap (λ ps. (a, b) ∷ ps) (zip_behind
 pub same_entries : (past : Past) → entries_with (reverse past) (reverse (seen_back past)) ≡ reverse (entries_back past)
 same_entries [] = refl
 same_entries (e ∷ before) =
-    let entry : (Event × Sight) → Entry = λ p. record { event = p.0; seen = p.1 } in
+    let entry : (DecodedRecord × Sight) → Entry = λ p. record { event = p.0; seen = p.1 } in
     let len : length (reverse before) ≡ length (reverse (seen_back before)) = length-reverse before ∙ sym (length-seen before) ∙ sym (length-reverse (seen_back before)) in
     ap (λ es. entries_with es (reverse (seen_back (e ∷ before)))) (reverse-append (e ∷ []) before)
     ∙ ap (λ ss. entries_with (reverse before ++ e ∷ []) ss) (reverse-append (seen_of before e ∷ []) (seen_back before))
@@ -85,19 +85,19 @@ read_at : (P : Body → Type 0) (log : List Body) (at : ℕ) (b : Body) → slic
 read_at P log at b here p = rw here p
 
 -- the first bad record
-pub is_first-Broken : (read : Reader) (log : List Body) (at : ℕ) (b : Body) (e : Event) (past : Past) (rule : Rule) → slice_get log at ≡ Some b → event_of read b ≡ Ok e →
+pub is_first-Broken : (read : Reader) (log : List Body) (at : ℕ) (b : Body) (e : DecodedRecord) (past : Past) (rule : Rule) → slice_get log at ≡ Some b → event_of read b ≡ Ok e →
     past ≡ past_at read log at → BreaksFirst rules past e rule → ((j : ℕ) → j < at → IsGoodAt read log j) → IsFirst read log (Broken at rule)
 is_first-Broken read log at b e past rule here is before breaks good =
     (good, (e, read_at (λ b. event_of read b ≡ Ok e) log at b here is, subst (λ p. BreaksFirst rules p e rule) before breaks))
 
 -- one good record more
-pub good-more : (read : Reader) (log : List Body) (at : ℕ) (b : Body) (e : Event) (past : Past) → slice_get log at ≡ Some b → event_of read b ≡ Ok e →
+pub good-more : (read : Reader) (log : List Body) (at : ℕ) (b : Body) (e : DecodedRecord) (past : Past) → slice_get log at ≡ Some b → event_of read b ≡ Ok e →
     past ≡ past_at read log at → IsGood past e → ((j : ℕ) → j < at → IsGoodAt read log j) → (j : ℕ) → j < at + 1 → IsGoodAt read log j
 good-more read log at b e past here is before is_good good =
     below_more _ at good (e, read_at (λ b. event_of read b ≡ Ok e) log at b here is, subst (λ p. IsGood p e) before is_good)
 
 -- a story is what its events tell
-same_story : (past : Past) (events : List Event) (seen : List Sight) → past ≡ reverse events → seen ≡ reverse (seen_back past) →
+same_story : (past : Past) (events : List DecodedRecord) (seen : List Sight) → past ≡ reverse events → seen ≡ reverse (seen_back past) →
     told (entries_with (reverse past) seen) (count_by is_delivery (reverse past)) ≡ told (reverse (entries_back (reverse events))) (count_by is_delivery events)
 same_story past events seen is seen_is =
     ap (λ ss. told (entries_with (reverse past) ss) (count_by is_delivery (reverse past))) seen_is

@@ -1,6 +1,6 @@
 -- A record that meets each rule.
 use Rattle.std.proofs.Common.{refl}
-use Rattle.vat_rules.specs.Types.{Event, Host, Vow, Fulfil, Break, Make, Field, Deliver, Answer, Fault, Wire}
+use Rattle.vat_rules.specs.Types.{DecodedRecord, Host, Vow, Fulfil, Break, Make, Field, Deliver, Answer, Fault, Wire}
 use Rattle.vat_view.specs.Past.{Past}
 use Rattle.vat_rules.specs.declared.rule.Rule.{Rule}
 use Rattle.vat_rules.specs.declared.rule.Rule.TheVariants as rule
@@ -11,7 +11,7 @@ use Rattle.vat_rules.specs.OfCaps.{Describes, BindsEach}
 use Rattle.vat_rules.specs.Judged.{IsGood}
 
 -- a record that meets each rule is good
-pub all_met : (before : Past) (e : Event) → Meets rule.Closed before e → Meets rule.Ref before e → Meets rule.Vow before e → Meets rule.Here before e → Meets rule.QNew before e → Meets rule.QUse before e →
+pub all_met : (before : Past) (e : DecodedRecord) → Meets rule.Closed before e → Meets rule.Ref before e → Meets rule.Vow before e → Meets rule.Here before e → Meets rule.QNew before e → Meets rule.QUse before e →
     Meets rule.XUse before e → Meets rule.Goal before e → Meets rule.Answer before e → Meets rule.Desc before e → Meets rule.Count before e → Meets rule.Result before e →
     Meets rule.Resolve before e → Meets rule.RecvRef before e → Meets rule.Emb before e → (each : Rule) → Meets each before e
 all_met before e o a v b c d f g h i j k r l m rule.Closed = o
@@ -31,7 +31,7 @@ all_met before e o a v b c d f g h i j k r l m rule.RecvRef = l
 all_met before e o a v b c d f g h i j k r l m rule.Emb = m
 
 -- a record that is as DESC and RECVREF say notes each of its capabilities
-notes_from : (before : Past) (e : Event) → Describes before e → BindsEach before e → NotesEach before e
+notes_from : (before : Past) (e : DecodedRecord) → Describes before e → BindsEach before e → NotesEach before e
 notes_from before (Host r object) d b = refl
 notes_from before (Vow r) d b = refl
 notes_from before (Fulfil r to) d b = refl
@@ -45,5 +45,5 @@ notes_from before (Wire true k call rs m) d b = d.noted_each refl
 notes_from before (Wire false k call rs m) d b = b refl
 
 -- so does a good record
-pub good_notes : (before : Past) (e : Event) → IsGood before e → NotesEach before e
+pub good_notes : (before : Past) (e : DecodedRecord) → IsGood before e → NotesEach before e
 good_notes before e good = notes_from before e (good rule.Desc) (good rule.RecvRef)

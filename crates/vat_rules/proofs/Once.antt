@@ -5,13 +5,13 @@ use Rattle.std.specs.List.{list_all}
 use Rattle.std.specs.Option.{option_or}
 use Rattle.std.proofs.lemmas.Bool.{cases_Bool, and_parts, or_left, or_right, not-true, false≢true, eqb-true}
 use Rattle.vat_rules.specs.declared.rule.Rule.TheVariants as rule
-use Rattle.vat_rules.specs.Types.{Bootstrap, Call, Return, Exception, Canceled, Resolve, Event, Fulfil, Break, Make, Deliver, Answer, Fault, Wire, View, Object, Promise, FieldOf, Import}
+use Rattle.vat_rules.specs.Types.{Bootstrap, Call, Return, Exception, Canceled, Resolve, DecodedRecord, Fulfil, Break, Make, Deliver, Answer, Fault, Wire, View, Object, Promise, FieldOf, Import}
 use Rattle.vat_rules.specs.Judged.{IsGood}
 use Rattle.vat_rules.specs.OfCalls.{distinct_paths}
 use Rattle.vat_rules.specs.OfPromises.{IsUnkept, is_unresolved}
 use Rattle.vat_rules.proofs.Judging.{good_notes}
 use Rattle.vat_view.specs.declared.asked.Asked.{Asked}
-use Rattle.vat_view.specs.declared.id.Id.{Id}
+use Rattle.vat_view.specs.declared.record.table_key.TableKey.{TableKey}
 use Rattle.vat_view.specs.Past.{Past, point, id, is, names, same_id, last_answer, last_where, last_since, Each}
 use Rattle.vat_view.specs.Questions.{opens, opening, call_at, returns, is_opened, is_returned, return_of}
 use Rattle.vat_view.specs.Uses.{UsesQuestions}
@@ -19,7 +19,7 @@ use Rattle.vat_view.specs.Views.{view_of_reference, view_of_target}
 use Rattle.vat_view.specs.Calls.{moves, delivers, boots, settles, has_passed, is_at_vat, is_served, is_settled}
 use Rattle.vat_view.specs.Bindings.{new_calls, contains, is_bound_call}
 use Rattle.vat_view.specs.Sound.{IsSound}
-use Rattle.vat_view.specs.Lives.{birth, begins, began_promised, resolved, is_in_life, is_resolved}
+use Rattle.vat_view.specs.Lives.{birth, begins, began_promised, promise_resolved, is_in_life, is_resolved}
 use Rattle.vat_view.specs.Walks.{Next, stays, is_promise, keeps, resolves, answers, next, TurnsOnce}
 use Rattle.vat_view.specs.Laws.{EachAfter}
 use Rattle.vat_view.proofs.Naming.{same_id_is, same_id_self, names_is}
@@ -28,22 +28,22 @@ use Rattle.vat_view.proofs.Unresolved.{resolve_turns_once}
 
 -- ---- tests that a record has passed
 
-passed_or : (test : Past → Event → Bool) (before : Past) (e : Event) → has_passed test (e ∷ before) ≡ true → (test before e ≡ true) ⊎ (has_passed test before ≡ true)
+passed_or : (test : Past → DecodedRecord → Bool) (before : Past) (e : DecodedRecord) → has_passed test (e ∷ before) ≡ true → (test before e ≡ true) ⊎ (has_passed test before ≡ true)
 passed_or test before e h = elim (cases_Bool (test before e)) [
   | inl now ↦ inl now
   | inr apart ↦ inr (sym (ap (λ b. is_some (if b then Some (point before e) else last_where test before)) apart) ∙ h)
 ]
 
-passed_old : (test : Past → Event → Bool) (before : Past) (e : Event) → test before e ≡ false → has_passed test (e ∷ before) ≡ has_passed test before
+passed_old : (test : Past → DecodedRecord → Bool) (before : Past) (e : DecodedRecord) → test before e ≡ false → has_passed test (e ∷ before) ≡ has_passed test before
 passed_old test before e apart = ap (λ b. is_some (if b then Some (point before e) else last_where test before)) apart
 
-passed_later : (test : Past → Event → Bool) (before : Past) (e : Event) → has_passed test before ≡ true → has_passed test (e ∷ before) ≡ true
+passed_later : (test : Past → DecodedRecord → Bool) (before : Past) (e : DecodedRecord) → has_passed test before ≡ true → has_passed test (e ∷ before) ≡ true
 passed_later test before e h = elim (cases_Bool (test before e)) [
   | inl now ↦ ap (λ b. is_some (if b then Some (point before e) else last_where test before)) now
   | inr apart ↦ passed_old test before e apart ∙ h
 ]
 
-passed_now : (test : Past → Event → Bool) (before : Past) (e : Event) → test before e ≡ true → has_passed test (e ∷ before) ≡ true
+passed_now : (test : Past → DecodedRecord → Bool) (before : Past) (e : DecodedRecord) → test before e ≡ true → has_passed test (e ∷ before) ≡ true
 passed_now test before e now = ap (λ b. is_some (if b then Some (point before e) else last_where test before)) now
 
 both : (a b : Bool) → (a ≡ true → b ≡ true → ⊥) → a ≡ true → b ≡ false
@@ -75,19 +75,19 @@ each_uses_questions (e ∷ before) good = (good.0 rule.QUse, each_uses_questions
 
 module _ (c : ℕ) where
   -- a record asks another vat for the call: it sends a Bootstrap or a Call of it
-  abbrev asks : Past → Event → Bool
+  abbrev asks : Past → DecodedRecord → Bool
   asks before (Wire true k d rs (Bootstrap q)) = d == c
   asks before (Wire true k d rs (Call q t f m p)) = d == c
   asks before _ = false
 
   -- a received Return ends what was asked for
-  abbrev comes_back : Past → Event → Bool
+  abbrev comes_back : Past → DecodedRecord → Bool
   comes_back before (Wire false k d rs (Return q release outcome)) = is c (call_at (opening (id k true q) before))
   comes_back before _ = false
 
   -- ---- what a record does to a call
 
-  data Effect (before : Past) (e : Event) : Type 0 where
+  data Effect (before : Past) (e : DecodedRecord) : Type 0 where
     -- nothing, or it takes the call from the vat
     quiet : asks before e ≡ false → delivers c before e ≡ false → boots c before e ≡ false → settles c before e ≡ false →
         (is_at_vat c (e ∷ before) ≡ true → is_at_vat c before ≡ true) → Effect before e
@@ -124,7 +124,7 @@ module _ (c : ℕ) where
   named : (test : ℕ → Bool) (d : ℕ) → test d ≡ true → (d == c) ≡ true → test c ≡ true
   named test d h same = subst (λ x. test x ≡ true) (eqb-true d c same) h
 
-  effect : (before : Past) (e : Event) → IsGood before e → Effect before e
+  effect : (before : Past) (e : DecodedRecord) → IsGood before e → Effect before e
   effect before (Make d r f m) good = elim (cases_Bool (d == c)) [
     | inl same ↦ makes (fresh before d (good rule.Ref).unused_call same) refl refl refl refl
     | inr apart ↦ quiet refl refl refl refl (let a : Asked = record { goal = view_of_reference before r; interface = f; method = m } in came_if a (d == c) (last_answer (moves c) before) apart)
@@ -169,7 +169,7 @@ module _ (c : ℕ) where
 
   -- ---- what was asked for is bound
 
-  asks_bound : (before : Past) (e : Event) → IsGood before e → asks before e ≡ true → is_bound_call (e ∷ before) c ≡ true
+  asks_bound : (before : Past) (e : DecodedRecord) → IsGood before e → asks before e ≡ true → is_bound_call (e ∷ before) c ≡ true
   asks_bound before (Wire true k d rs (Bootstrap q)) good same = or_left ((d == c) || false) (is_bound_call before c) (or_left (d == c) false same)
   asks_bound before (Wire true k d rs (Call q t f m p)) good same =
       named (λ x. is_bound_call before x) d (and_parts (is_bound_call before d) true (good rule.Ref).bound_call).0 same
@@ -191,7 +191,7 @@ module _ (c : ℕ) where
     asked_unserved : has_passed asks past ≡ true → is_served c past ≡ false
     asked_unsettled : has_passed asks past ≡ true → is_settled c past ≡ false
 
-  served_old : (before : Past) (e : Event) → delivers c before e ≡ false → boots c before e ≡ false → is_served c (e ∷ before) ≡ is_served c before
+  served_old : (before : Past) (e : DecodedRecord) → delivers c before e ≡ false → boots c before e ≡ false → is_served c (e ∷ before) ≡ is_served c before
   served_old before e apart beside = ap (λ b. b || has_passed (boots c) (e ∷ before)) (passed_old (delivers c) before e apart) ∙ ap (λ b. has_passed (delivers c) before || b) (passed_old (boots c) before e beside)
 
   module _ (before : Past) (good : Each IsGood before) where
@@ -216,7 +216,7 @@ module _ (c : ℕ) where
       | inr away ↦ clash (sym (ap (λ b. b || is_served c before) away) ∙ there) (p.asked_unserved asked)
     ]
 
-    placed_by : (e : Event) → Effect before e → IsPlaced before → IsPlaced (e ∷ before)
+    placed_by : (e : DecodedRecord) → Effect before e → IsPlaced before → IsPlaced (e ∷ before)
     placed_by e (quiet a d b s stayed) p = record {
       here_unasked = λ h. passed_old asks before e a ∙ p.here_unasked (stayed h);
       here_unserved = λ h. served_old before e d b ∙ p.here_unserved (stayed h);
@@ -293,27 +293,27 @@ module _ (c : ℕ) where
 
   -- ---- what was asked for is asked for once
 
-  asks_once : (before : Past) (e : Event) → Each IsGood before → IsGood before e → asks before e ≡ true → has_passed asks before ≡ false
+  asks_once : (before : Past) (e : DecodedRecord) → Each IsGood before → IsGood before e → asks before e ≡ true → has_passed asks before ≡ false
   asks_once before (Wire true k d rs (Bootstrap q)) past good same = unasked before past (fresh before d (good rule.Ref).unused_call same)
   asks_once before (Wire true k d rs (Call q t f m p)) past good same = (placed before past).here_unasked (named (λ x. is_at_vat x before) d (good rule.Here) same)
   asks_once before _ past good h = absurd (false≢true h)
 
   -- an own question that is opened for the call asks for it
-  opens_asks : (k n : ℕ) (before : Past) (e : Event) → opens (id k true n) before e ≡ true → is c (call_at (Some (point before e))) ≡ true → asks before e ≡ true
+  opens_asks : (k n : ℕ) (before : Past) (e : DecodedRecord) → opens (id k true n) before e ≡ true → is c (call_at (Some (point before e))) ≡ true → asks before e ≡ true
   opens_asks k n before (Wire true j d rs (Bootstrap q)) new same = same
   opens_asks k n before (Wire true j d rs (Call q t f m p)) new same = same
   opens_asks k n before (Wire false j d rs (Bootstrap q)) new same = absurd (false≢true (sym (ap (λ i. i.ours) (same_id_is (id k true n) (id j false q) new))))
   opens_asks k n before (Wire false j d rs (Call q t f m p)) new same = absurd (false≢true (sym (ap (λ i. i.ours) (same_id_is (id k true n) (id j false q) new))))
   opens_asks k n before _ new same = absurd (false≢true new)
 
-  opening_now : (q : Id) (before : Past) (e : Event) → opens q before e ≡ true → opening q (e ∷ before) ≡ Some (point before e)
+  opening_now : (q : TableKey) (before : Past) (e : DecodedRecord) → opens q before e ≡ true → opening q (e ∷ before) ≡ Some (point before e)
   opening_now q before e new = ap (λ b. if b then Some (point before e) else opening q before) new
 
-  opening_old : (q : Id) (before : Past) (e : Event) → opens q before e ≡ false → opening q (e ∷ before) ≡ opening q before
+  opening_old : (q : TableKey) (before : Past) (e : DecodedRecord) → opens q before e ≡ false → opening q (e ∷ before) ≡ opening q before
   opening_old q before e old = ap (λ b. if b then Some (point before e) else opening q before) old
 
   -- a question stands for the call
-  abbrev of_call : Id → Past → Bool
+  abbrev of_call : TableKey → Past → Bool
   of_call q past = is c (call_at (opening q past))
 
   opening_asked : (k n : ℕ) (past : Past) → of_call (id k true n) past ≡ true → has_passed asks past ≡ true
@@ -324,7 +324,7 @@ module _ (c : ℕ) where
   ]
 
   -- where a record opens a question for the call, none was opened for it before
-  opened_alone : (k n j m : ℕ) (before : Past) (e : Event) → Each IsGood before → IsGood before e → opens (id k true n) before e ≡ true → of_call (id k true n) (e ∷ before) ≡ true →
+  opened_alone : (k n j m : ℕ) (before : Past) (e : DecodedRecord) → Each IsGood before → IsGood before e → opens (id k true n) before e ≡ true → of_call (id k true n) (e ∷ before) ≡ true →
       of_call (id j true m) before ≡ true → ⊥
   opened_alone k n j m before e past good new h g =
       clash (opening_asked j m before g) (asks_once before e past good (opens_asks k n before e new (sym (ap (λ o. is c (call_at o)) (opening_now (id k true n) before e new)) ∙ h)))
@@ -343,12 +343,12 @@ module _ (c : ℕ) where
     ]
   ]
     where
-      both_named : {o : Option Id} {a b : Id} → o ≡ Some a → o ≡ Some b → a ≡ b
+      both_named : {o : Option TableKey} {a b : TableKey} → o ≡ Some a → o ≡ Some b → a ≡ b
       both_named h g = cc
 
   -- ---- what was asked for comes back once
 
-  back_asked : (before : Past) (e : Event) → comes_back before e ≡ true → has_passed asks before ≡ true
+  back_asked : (before : Past) (e : DecodedRecord) → comes_back before e ≡ true → has_passed asks before ≡ true
   back_asked before (Wire false k d rs (Return q release outcome)) h = opening_asked k q before h
   back_asked before _ h = absurd (false≢true h)
 
@@ -359,7 +359,7 @@ module _ (c : ℕ) where
     | inr old ↦ passed_later asks before e (came_asked before old)
   ]
 
-  returned_some : (q : Id) (before : Past) (e : Event) → opens q before e ≡ false → (returns q before e ≡ true) ⊎ (is_returned q before ≡ true) → is_returned q (e ∷ before) ≡ true
+  returned_some : (q : TableKey) (before : Past) (e : DecodedRecord) → opens q before e ≡ false → (returns q before e ≡ true) ⊎ (is_returned q before ≡ true) → is_returned q (e ∷ before) ≡ true
   returned_some q before e old h = ap (λ b. is_some (if b then None else if returns q before e then Some (point before e) else return_of q before)) old ∙ inner h
     where
       inner : (returns q before e ≡ true) ⊎ (is_returned q before ≡ true) → is_some (if returns q before e then Some (point before e) else return_of q before) ≡ true
@@ -369,12 +369,12 @@ module _ (c : ℕ) where
         | inr apart ↦ ap (λ b. is_some (if b then Some (point before e) else return_of q before)) apart ∙ old
       ]
 
-  back_returns : (k n : ℕ) (before : Past) (e : Event) → Each IsGood before → comes_back before e ≡ true → of_call (id k true n) before ≡ true → returns (id k true n) before e ≡ true
+  back_returns : (k n : ℕ) (before : Past) (e : DecodedRecord) → Each IsGood before → comes_back before e ≡ true → of_call (id k true n) before ≡ true → returns (id k true n) before e ≡ true
   back_returns k n before (Wire false j d rs (Return q release outcome)) past h g =
       subst (λ i. same_id i (id j true q) ≡ true) (sym (one_question k n j q before past g h)) (same_id_self (id j true q))
   back_returns k n before _ past h g = absurd (false≢true h)
 
-  opens_not_back : (k n : ℕ) (before : Past) (e : Event) → opens (id k true n) before e ≡ true → comes_back before e ≡ true → ⊥
+  opens_not_back : (k n : ℕ) (before : Past) (e : DecodedRecord) → opens (id k true n) before e ≡ true → comes_back before e ≡ true → ⊥
   opens_not_back k n before (Wire false j d rs (Return q release outcome)) new h = false≢true new
   opens_not_back k n before _ new h = false≢true h
 
@@ -401,13 +401,13 @@ module _ (c : ℕ) where
     quiet_if : (x : Next) (b : Bool) → b ≡ false → (if b then Some x else None) ≡ None
     quiet_if x b h = ap (λ t. if t then Some x else None) h
 
-    no_turn : (before : Past) (e : Event) → settles c before e ≡ false → comes_back before e ≡ false → answers c path before e ≡ None
+    no_turn : (before : Past) (e : DecodedRecord) → settles c before e ≡ false → comes_back before e ≡ false → answers c path before e ≡ None
     no_turn before (Answer d results) s b = quiet_if _ (d == c) s
     no_turn before (Fault d) s b = quiet_if _ (d == c) s
     no_turn before (Wire false k d rs (Return q release outcome)) s b = quiet_if _ (is c (call_at (opening (id k true q) before))) b
     no_turn before _ s b = refl
 
-    passed_parts : (test : Past → Event → Bool) (before : Past) (e : Event) → has_passed test (e ∷ before) ≡ false → (test before e ≡ false) × (has_passed test before ≡ false)
+    passed_parts : (test : Past → DecodedRecord → Bool) (before : Past) (e : DecodedRecord) → has_passed test (e ∷ before) ≡ false → (test before e ≡ false) × (has_passed test before ≡ false)
     passed_parts test before e h = elim (cases_Bool (test before e)) [
       | inl now ↦ absurd (clash (passed_now test before e now) h)
       | inr apart ↦ (apart, sym (passed_old test before e apart) ∙ h)
@@ -433,7 +433,7 @@ module _ (c : ℕ) where
       | inr none ↦ none
     ]
 
-    field_turns_once : (before : Past) (e : Event) → Each IsGood before → IsGood before e → IsSome (answers c path before e) → next before (FieldOf c path) ≡ stays
+    field_turns_once : (before : Past) (e : DecodedRecord) → Each IsGood before → IsGood before e → IsSome (answers c path before e) → next before (FieldOf c path) ≡ stays
     field_turns_once before (Answer d results) past good turned =
         let same : (d == c) ≡ true = turned_if _ (d == c) turned in
         let parts = and_parts (is_served d before && not (is_settled d before)) (distinct_paths results) (good rule.Answer) in
@@ -468,33 +468,33 @@ kept_if : (x : Next) (b : Bool) → IsSome (if b then Some x else None) → b �
 kept_if x true h = refl
 kept_if x false h = absurd (false≢true h)
 
-promise_turns_once : (before : Past) (e : Event) (p : ℕ) → IsGood before e → IsSome (keeps p before e) → next before (Promise p) ≡ stays
+promise_turns_once : (before : Past) (e : DecodedRecord) (p : ℕ) → IsGood before e → IsSome (keeps p before e) → next before (Promise p) ≡ stays
 promise_turns_once before (Fulfil r to) p good turned = unkept before r p (kept_if _ (is_promise p (view_of_reference before r)) turned) (good rule.Vow)
 promise_turns_once before (Break r) p good turned = unkept before r p (kept_if _ (is_promise p (view_of_reference before r)) turned) (good rule.Vow)
 promise_turns_once before _ p good turned = absurd (false≢true turned)
 
 -- a number out of life has no Resolve
-unresolved : (i : Id) (past : Past) → (not (is_in_life i past) || is_unresolved i past) ≡ true → is_resolved i past ≡ false
+unresolved : (i : TableKey) (past : Past) → (not (is_in_life i past) || is_unresolved i past) ≡ true → is_resolved i past ≡ false
 unresolved i past h = elim (cases_Bool (is_in_life i past)) [
   | inl alive ↦
       let rest : is_unresolved i past ≡ true = sym (ap (λ b. not b || is_unresolved i past) alive) ∙ h in
       not-true (is_resolved i past) (and_parts (unwrap_or (option_map began_promised (birth i past)) false) (not (is_resolved i past)) rest).1
-  | inr out ↦ ap (λ b. is_some (if b then last_since (λ before e. is_some (begins i before e)) (λ before e. names i (resolved e)) past else None)) out
+  | inr out ↦ ap (λ b. is_some (if b then last_since (λ before e. is_some (begins i before e)) (λ before e. names i (promise_resolved e)) past else None)) out
 ]
 
-import_turns_once : (before : Past) (e : Event) (number place : ℕ) → IsGood before e → IsSome (resolves number place before e) → next before (Import number place) ≡ stays
+import_turns_once : (before : Past) (e : DecodedRecord) (number place : ℕ) → IsGood before e → IsSome (resolves number place before e) → next before (Import number place) ≡ stays
 import_turns_once before (Wire false k d rs (Resolve n resolution)) number place good turned =
     resolve_turns_once before k d rs n resolution (unresolved (id k false n) before (good rule.Resolve)) (Import number place) turned
 import_turns_once before _ number place good turned = absurd (false≢true turned)
 
 -- a good record turns only views that stay
-pub turns_once : (before : Past) → Each IsGood before → (e : Event) → IsGood before e → TurnsOnce before e
+pub turns_once : (before : Past) → Each IsGood before → (e : DecodedRecord) → IsGood before e → TurnsOnce before e
 turns_once before past e good (Object object) turned = absurd (false≢true turned)
 turns_once before past e good (Promise p) turned = promise_turns_once before e p good turned
 turns_once before past e good (FieldOf call path) turned = field_turns_once call path before e past good turned
 turns_once before past e good (Import number place) turned = import_turns_once before e number place good turned
 
 -- each record that follows in a good log does so
-pub each_turns_once : (later : List Event) (past : Past) → Each IsGood (later ++ past) → EachAfter TurnsOnce later past
+pub each_turns_once : (later : List DecodedRecord) (past : Past) → Each IsGood (later ++ past) → EachAfter TurnsOnce later past
 each_turns_once [] past good = tt
 each_turns_once (e ∷ later) past good = (turns_once (later ++ past) good.1 e good.0, each_turns_once later past good.1)

@@ -4,7 +4,7 @@ use Rattle.std.specs.Prelude.{Option, Some, None, Result, Ok, Err, slice_get, Is
 use Rattle.std.proofs.lemmas.Bool.{cases_lt}
 use Rattle.std.proofs.lemmas.Option.{slice_get_within}
 use Rattle.vat_log.specs.declared.body.Body.{Body}
-use Rattle.vat_rules.specs.Types.{Event}
+use Rattle.vat_rules.specs.Types.{DecodedRecord}
 use Rattle.vat_rules.specs.declared.rule.Rule.{Rule}
 use Rattle.vat_rules.specs.declared.outcome.Why.{Why}
 use Rattle.vat_rules.specs.declared.outcome.Outcome.{Outcome}
@@ -16,13 +16,13 @@ use Rattle.vat_rules.specs.First.{IsReadAs, IsGoodAt, AllGood, IsFirst}
 use Rattle.vat_rules.specs.Judged.{IsGood, BreaksFirst}
 
 -- a record that meets each rule breaks none
-breaks_none : (tried : List Rule) (before : Past) (e : Event) (broken : Rule) → IsGood before e → BreaksFirst tried before e broken → ⊥
+breaks_none : (tried : List Rule) (before : Past) (e : DecodedRecord) (broken : Rule) → IsGood before e → BreaksFirst tried before e broken → ⊥
 breaks_none [] before e broken good breaks = breaks
 breaks_none (rule ∷ rest) before e broken good (inl here) = here.1 (good rule)
 breaks_none (rule ∷ rest) before e broken good (inr later) = breaks_none rest before e broken good later.1
 
 -- the first rule that a record breaks is one
-one_rule : (tried : List Rule) (before : Past) (e : Event) (a b : Rule) → BreaksFirst tried before e a → BreaksFirst tried before e b → a ≡ b
+one_rule : (tried : List Rule) (before : Past) (e : DecodedRecord) (a b : Rule) → BreaksFirst tried before e a → BreaksFirst tried before e b → a ≡ b
 one_rule [] before e a b p q = absurd p
 one_rule (rule ∷ rest) before e a b (inl p) (inl q) = sym p.0 ∙ q.0
 one_rule (rule ∷ rest) before e a b (inl p) (inr q) = absurd (p.1 q.0)
@@ -40,30 +40,30 @@ there_is P (Some b) p = (b, refl)
 there_is P None p = absurd p
 
 -- a record that is read stands in the log
-within : (read : Reader) (log : List Body) (i : ℕ) (r : Result Event Why) → IsReadAs read log i r → i < length log
+within : (read : Reader) (log : List Body) (i : ℕ) (r : Result DecodedRecord Why) → IsReadAs read log i r → i < length log
 within read log i r p = let b = there_is (λ b. event_of read b ≡ r) (slice_get log i) p in slice_get_within log i b.0 b.1
 
 -- a record is read in one way
-reads_one : (read : Reader) (log : List Body) (i : ℕ) (r s : Result Event Why) → IsReadAs read log i r → IsReadAs read log i s → r ≡ s
+reads_one : (read : Reader) (log : List Body) (i : ℕ) (r s : Result DecodedRecord Why) → IsReadAs read log i r → IsReadAs read log i s → r ≡ s
 reads_one read log i r s p q = one_value (event_of read) (slice_get log i) r s p q
 
-abbrev as_read : Event → Result Event Why
+abbrev as_read : DecodedRecord → Result DecodedRecord Why
 as_read e = Ok e
 
-abbrev as_outside : Why → Result Event Why
+abbrev as_outside : Why → Result DecodedRecord Why
 as_outside why = Err why
 
-event_is : (a b : Event) → as_read a ≡ as_read b → a ≡ b
+event_is : (a b : DecodedRecord) → as_read a ≡ as_read b → a ≡ b
 event_is a b e = cc
 
 why_is : (a b : Why) → as_outside a ≡ as_outside b → a ≡ b
 why_is a b e = cc
 
-read_outside : (a : Event) (b : Why) → as_read a ≡ as_outside b → ⊥
+read_outside : (a : DecodedRecord) (b : Why) → as_read a ≡ as_outside b → ⊥
 read_outside a b e = cc
 
 -- a good record breaks no rule
-good_broken : (read : Reader) (log : List Body) (i : ℕ) (rule : Rule) → ((e : Event) × IsReadAs read log i (Ok e) × BreaksFirst rules (past_at read log i) e rule) → IsGoodAt read log i → ⊥
+good_broken : (read : Reader) (log : List Body) (i : ℕ) (rule : Rule) → ((e : DecodedRecord) × IsReadAs read log i (Ok e) × BreaksFirst rules (past_at read log i) e rule) → IsGoodAt read log i → ⊥
 good_broken read log i rule bad good =
     let same : bad.0 ≡ good.0 = event_is bad.0 good.0 (reads_one read log i (Ok bad.0) (Ok good.0) bad.1 good.1) in
     breaks_none rules (past_at read log i) good.0 rule good.2 (subst (λ e. BreaksFirst rules (past_at read log i) e rule) same bad.2)
@@ -83,15 +83,15 @@ one_place read log i j p q bad worse = elim (cases_lt i j) [
 ]
 
 -- the two ways to be bad at one place
-broken_twice : (read : Reader) (log : List Body) (i j : ℕ) (a b : Rule) → i ≡ j → ((e : Event) × IsReadAs read log i (Ok e) × BreaksFirst rules (past_at read log i) e a) →
-    ((e : Event) × IsReadAs read log j (Ok e) × BreaksFirst rules (past_at read log j) e b) → Broken i a ≡ Broken j b
+broken_twice : (read : Reader) (log : List Body) (i j : ℕ) (a b : Rule) → i ≡ j → ((e : DecodedRecord) × IsReadAs read log i (Ok e) × BreaksFirst rules (past_at read log i) e a) →
+    ((e : DecodedRecord) × IsReadAs read log j (Ok e) × BreaksFirst rules (past_at read log j) e b) → Broken i a ≡ Broken j b
 broken_twice read log i j a b at p q =
-    let q' = subst (λ k. (e : Event) × IsReadAs read log k (Ok e) × BreaksFirst rules (past_at read log k) e b) (sym at) q in
+    let q' = subst (λ k. (e : DecodedRecord) × IsReadAs read log k (Ok e) × BreaksFirst rules (past_at read log k) e b) (sym at) q in
     let same : p.0 ≡ q'.0 = event_is p.0 q'.0 (reads_one read log i (Ok p.0) (Ok q'.0) p.1 q'.1) in
     let rule : a ≡ b = one_rule rules (past_at read log i) q'.0 a b (subst (λ e. BreaksFirst rules (past_at read log i) e a) same p.2) q'.2 in
     ap (λ k. Broken k a) at ∙ ap (λ r. Broken j r) rule
 
-broken_outside : (read : Reader) (log : List Body) (i j : ℕ) (a : Rule) (why : Why) → i ≡ j → ((e : Event) × IsReadAs read log i (Ok e) × BreaksFirst rules (past_at read log i) e a) →
+broken_outside : (read : Reader) (log : List Body) (i j : ℕ) (a : Rule) (why : Why) → i ≡ j → ((e : DecodedRecord) × IsReadAs read log i (Ok e) × BreaksFirst rules (past_at read log i) e a) →
     IsReadAs read log j (Err why) → ⊥
 broken_outside read log i j a why at p q = read_outside p.0 why (reads_one read log i (Ok p.0) (Err why) p.1 (subst (λ k. IsReadAs read log k (Err why)) (sym at) q))
 

@@ -6,12 +6,10 @@ pub mod OfResults
 pub mod OfPromises
 pub mod OfConnections
 pub mod Rules
-pub mod Told
+pub mod LogFacts
 pub mod Events
 pub mod Judged
 pub mod Telling
 pub mod First
 pub mod Audit
-pub mod Viewed
 pub mod Glue
-pub mod Compact

@@ -2,15 +2,15 @@
 use Rattle.std.specs.Prelude.{◌≡◌, ℕ, List, [], ◌∷◌, Bool, true, not, ◌&&◌, ◌||◌, Some, IsTrue, IsSomeAnd, ⊤}
 use Rattle.std.specs.List.{list_any}
 use Rattle.std.specs.Str.{bytes_eq as same_path}
-use Rattle.vat_rules.specs.Types.{Call, Event, Deliver, Answer, Fault, Wire, Object}
+use Rattle.vat_rules.specs.Types.{Call, DecodedRecord, Deliver, Answer, Fault, Wire, Object}
 use Rattle.vat_view.specs.Past.{Past}
 use Rattle.vat_view.specs.Views.{view_of_target}
-use Rattle.vat_view.specs.Calls.{asked, goal_of, is_at_vat, is_served, is_settled}
+use Rattle.vat_view.specs.Calls.{request_of, goal_of, is_at_vat, is_served, is_settled}
 use Rattle.vat_rules.specs.Ways.{LeadsTo}
 
 -- (this project's own: a call that was passed on or delivered has gone)
 -- HERE: a call that is delivered or sent on is at the vat
-abbrev pub IsHere : Past → Event → Type 0
+abbrev pub IsHere : Past → DecodedRecord → Type 0
 IsHere before (Deliver call object) = IsTrue (is_at_vat call before)
 IsHere before (Wire true k call references (Call q target interface method params)) = IsTrue (is_at_vat call before)
 IsHere before _ = ⊤
@@ -18,11 +18,11 @@ IsHere before _ = ⊤
 -- (rpc.capnp, Call.target, interfaceId and methodId)
 -- GOAL: DELIVER: the call's goal leads to that own object. SEND Call: it leads to what the target stands for, and
 -- interface and method are the call's
-abbrev pub GoesToGoal : Past → Event → Type 0
+abbrev pub GoesToGoal : Past → DecodedRecord → Type 0
 GoesToGoal before (Deliver call object) = LeadsTo before (goal_of call before) (Some (Object object))
 GoesToGoal before (Wire true k call references (Call q target interface method params)) =
     let there = view_of_target before (Wire true k call references (Call q target interface method params)) in
-    IsSomeAnd (asked call before) (λ a. LeadsTo before a.goal there × (interface ≡ a.interface) × (method ≡ a.method))
+    IsSomeAnd (request_of call before) (λ a. LeadsTo before a.goal there × (interface ≡ a.interface) × (method ≡ a.method))
 GoesToGoal before _ = ⊤
 
 -- no path twice
@@ -34,7 +34,7 @@ distinct_paths (a ∷ rest) = not (list_any (λ b. same_path a.1 b.1) rest) && d
 -- ANSWER: ANSWER: the call was delivered here or is that of a received Bootstrap, has no answer or fault, and paths are
 -- distinct. FAULT: the call is at the vat, was delivered here or is that of a received Bootstrap, and has no answer or
 -- fault
-abbrev pub MayAnswer : Past → Event → Type 0
+abbrev pub MayAnswer : Past → DecodedRecord → Type 0
 MayAnswer before (Answer call results) = IsTrue (is_served call before && not (is_settled call before) && distinct_paths results)
 MayAnswer before (Fault call) = IsTrue ((is_at_vat call before || is_served call before) && not (is_settled call before))
 MayAnswer before _ = ⊤

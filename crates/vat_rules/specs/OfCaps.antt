@@ -1,21 +1,21 @@
 -- The rules on capability tables: what is given away is what is noted, and what comes in is noted.
 use Rattle.std.specs.Prelude.{◌≡◌, ℕ, Bool, true, false, Option, Some, None, IsTrue, slice_get, option_and_then}
 use Rattle.std.specs.List.{AllByRecursion}
-use Rattle.vat_rules.specs.Types.{Descriptor, NoCap, SenderHosted, Event, Wire, View, Object, Import}
+use Rattle.vat_rules.specs.Types.{Descriptor, NoCap, SenderHosted, DecodedRecord, Wire, View, Object, Import}
 use Rattle.vat_view.specs.Past.{Past, record_at}
 use Rattle.vat_view.specs.Questions.{is_late}
 use Rattle.vat_view.specs.Lives.{descriptors, KeepsKinds}
-use Rattle.vat_view.specs.Views.{noted, view_of_reference, view_of_descriptor}
+use Rattle.vat_view.specs.Views.{placed_references, view_of_reference, view_of_descriptor}
 use Rattle.vat_view.specs.Bindings.{NotesEach}
 use Rattle.vat_rules.specs.Ways.{LeadsTo, EndsIn}
 
 -- a frame went out
-abbrev pub is_sent : Event → Bool
+abbrev pub is_sent : DecodedRecord → Bool
 is_sent (Wire sent k call references m) = sent
 is_sent _ = false
 
 -- a frame came in
-abbrev pub is_received : Event → Bool
+abbrev pub is_received : DecodedRecord → Bool
 is_received (Wire false k call references m) = true
 is_received _ = false
 
@@ -42,7 +42,7 @@ is_hosted_end past _ = false
 
 -- a noted reference leads to what the descriptor at its place stands for; if that is senderHosted, every end of its view
 -- is an own object or an import that came as senderHosted
-abbrev pub NotesView : Past → Event → ℕ × ℕ → Type 0
+abbrev pub NotesView : Past → DecodedRecord → ℕ × ℕ → Type 0
 NotesView before e (r, place) =
     LeadsTo before (view_of_reference before r) (view_of_descriptor before e place)
     × (is_hosted (slice_get (descriptors e) place) ≡ true → EndsIn before (view_of_reference before r) (λ end. IsTrue (is_hosted_end before end)))
@@ -51,12 +51,12 @@ NotesView before e (r, place) =
 -- DESC: SEND: one reference is noted for each descriptor that isn't none, and it leads to what the descriptor stands
 -- for, a senderHosted's to an own object or an import that came so. SEND and RECV: a number in life keeps its kind, and
 -- isn't introduced after its Resolve. A late Return notes no reference, and nothing more is asked of it
-pub record Describes (before : Past) (e : Event) : Type 0 where
+pub record Describes (before : Past) (e : DecodedRecord) : Type 0 where
   pub noted_each : is_sent e ≡ true → NotesEach before e
-  pub leads : is_sent e ≡ true → is_late before e ≡ false → AllByRecursion (NotesView before e) (noted e)
+  pub leads : is_sent e ≡ true → is_late before e ≡ false → AllByRecursion (NotesView before e) (placed_references e)
   pub kinds : is_late before e ≡ false → KeepsKinds before e
 
 -- (this project's own: what came in has references)
 -- RECVREF: RECV: one reference is noted for each descriptor that isn't none, and none beside a late Return
-abbrev pub BindsEach : Past → Event → Type 0
+abbrev pub BindsEach : Past → DecodedRecord → Type 0
 BindsEach before e = is_received e ≡ true → NotesEach before e

@@ -1,7 +1,7 @@
 -- The rules on promises: own ones, which are kept or broken once, and those sent or received, which are resolved once.
 use Rattle.std.specs.Prelude.{◌≡◌, Bool, true, false, not, ◌&&◌, ◌||◌, Option, Some, IsTrue, slice_get, option_map, unwrap_or, ⊤}
-use Rattle.vat_rules.specs.Types.{Resolve, Event, Fulfil, Break, Wire, View, Promise}
-use Rattle.vat_view.specs.declared.id.Id.{Id}
+use Rattle.vat_rules.specs.Types.{Resolve, DecodedRecord, Fulfil, Break, Wire, View, Promise}
+use Rattle.vat_view.specs.declared.record.table_key.TableKey.{TableKey}
 use Rattle.vat_view.specs.Past.{Past, id}
 use Rattle.vat_view.specs.Lives.{birth, began_promised, descriptors, is_in_life, is_resolved}
 use Rattle.vat_view.specs.Views.{view_of_reference, view_of_number, view_of_descriptor}
@@ -16,20 +16,20 @@ IsUnkept past _ = ⊥
 
 -- (this project's own: a promise is kept or broken once)
 -- VOW: FULFIL and BREAK: the first reference stands for an own promise that has had neither
-abbrev pub KeepsVow : Past → Event → Type 0
+abbrev pub KeepsVow : Past → DecodedRecord → Type 0
 KeepsVow before (Fulfil r to) = IsUnkept before (view_of_reference before r)
 KeepsVow before (Break r) = IsUnkept before (view_of_reference before r)
 KeepsVow before _ = ⊤
 
 -- a number is in life, began as a senderPromise and has had no Resolve
-abbrev pub is_unresolved : Id → Past → Bool
+abbrev pub is_unresolved : TableKey → Past → Bool
 is_unresolved i past = unwrap_or (option_map began_promised (birth i past)) false && not (is_resolved i past)
 
 -- (rpc.capnp, Resolve)
 -- RESOLVE: SEND Resolve: the number is a senderPromise in life without a Resolve, and with a cap other than none its
 -- view leads by 1 or more turns to what the descriptor stands for. RECV Resolve: the number is out of life, or is a
 -- senderPromise without a Resolve
-abbrev pub ResolvesPromise : Past → Event → Type 0
+abbrev pub ResolvesPromise : Past → DecodedRecord → Type 0
 ResolvesPromise before (Wire true k c rs (Resolve n resolution)) =
     let e = Wire true k c rs (Resolve n resolution) in
     IsTrue (is_unresolved (id k true n) before)

@@ -1,7 +1,7 @@
 -- The rule on Returns: what is sent back is what came back.
 use Rattle.std.specs.Prelude.{◌≡◌, ℕ, List, true, false, Some, IsTrue, IsSomeAnd, slice_get, ⊤}
 use Rattle.std.specs.List.{AllByRecursion}
-use Rattle.vat_rules.specs.Types.{Results, Canceled, Return, Event, Wire, FieldOf}
+use Rattle.vat_rules.specs.Types.{Results, Canceled, Return, DecodedRecord, Wire, FieldOf}
 use Rattle.vat_view.specs.Past.{Past, id}
 use Rattle.vat_view.specs.Questions.{is_finished, is_late, opening, call_at}
 use Rattle.vat_view.specs.Lives.{descriptors}
@@ -11,19 +11,19 @@ use Rattle.vat_rules.specs.Ways.{LeadsOnTo}
 use Rattle.vat_rules.specs.OfCaps.{is_cap_at}
 
 -- at a path whose index is a descriptor that isn't none, the call's result leads to what that stands for
-abbrev pub ReturnsField : Past → Event → ℕ → List ℕ × ℕ → Type 0
+abbrev pub ReturnsField : Past → DecodedRecord → ℕ → List ℕ × ℕ → Type 0
 ReturnsField before e call (path, place) =
     is_cap_at (slice_get (descriptors e) place) ≡ true → LeadsOnTo before (Some (FieldOf call path)) (view_of_descriptor before e place)
 
 -- a call's results are known, and lead to what is sent at each of these paths
-abbrev pub ReturnsFields : Past → Event → List (List ℕ × ℕ) → ℕ → Type 0
+abbrev pub ReturnsFields : Past → DecodedRecord → List (List ℕ × ℕ) → ℕ → Type 0
 ReturnsFields before e fields call = IsTrue (is_known call before) × AllByRecursion (ReturnsField before e call) fields
 
 -- (rpc.capnp, Return.results and Return.canceled)
 -- RESULT: SEND Return that isn't late: with results, the call's results are known, and at each path whose capability
 -- index is a descriptor that isn't none, the known result leads to what that descriptor stands for. With canceled, a
 -- Finish was received
-abbrev pub ReturnsKnown : Past → Event → Type 0
+abbrev pub ReturnsKnown : Past → DecodedRecord → Type 0
 ReturnsKnown before (Wire true k c rs (Return q release (Results payload))) =
     let e = Wire true k c rs (Return q release (Results payload)) in
     is_late before e ≡ false → IsSomeAnd (call_at (opening (id k false q) before)) (ReturnsFields before e payload.fields)

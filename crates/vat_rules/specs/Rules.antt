@@ -1,6 +1,6 @@
 -- The rules, each by its name, in the order in which they are tried.
 use Rattle.std.specs.Prelude.{List, [], ◌∷◌}
-use Rattle.vat_rules.specs.Types.{Event}
+use Rattle.vat_rules.specs.Types.{DecodedRecord}
 use Rattle.vat_view.specs.Past.{Past}
 use Rattle.vat_view.specs.Lives.{GivesBackHeld}
 use Rattle.vat_view.specs.Uses.{OpensFree, UsesQuestions, UsesNumbers}
@@ -14,7 +14,7 @@ use Rattle.vat_rules.specs.OfPromises.{KeepsVow, ResolvesPromise}
 use Rattle.vat_rules.specs.OfConnections.{IsOpen, KeepsEmbargo}
 
 -- what each rule says
-abbrev pub Meets : Rule → Past → Event → Type 0
+abbrev pub Meets : Rule → Past → DecodedRecord → Type 0
 Meets rule.Closed = IsOpen
 Meets rule.Ref = Refers
 Meets rule.Vow = KeepsVow

@@ -2,39 +2,39 @@
 use Rattle.std.specs.Prelude.{List, [], ◌∷◌, ◌++◌, map, reverse, length, count_by, Bool, true, false, not, Option, Some, None, option_and_then}
 use Rattle.std.specs.Option.{option_or}
 use Rattle.vat_log.specs.declared.body.Body.{Body}
-use Rattle.vat_rules.specs.Types.{Release, Event, Deliver, Wire, View}
-use Rattle.vat_view.specs.declared.id.Id.{Id}
+use Rattle.vat_rules.specs.Types.{Release, DecodedRecord, Deliver, Wire, View}
+use Rattle.vat_view.specs.declared.record.table_key.TableKey.{TableKey}
 use Rattle.vat_view.specs.Past.{Past, id}
-use Rattle.vat_view.specs.Questions.{returned, finished, is_late}
-use Rattle.vat_view.specs.Lives.{resolved}
+use Rattle.vat_view.specs.Questions.{question_returned, question_finished, is_late}
+use Rattle.vat_view.specs.Lives.{promise_resolved}
 use Rattle.vat_view.specs.Views.{field_view, view_of_reference, view_of_number, view_of_target, views_of_descriptors}
 use Rattle.vat_view.specs.Bindings.{new_references, named_references}
-use Rattle.vat_rules.specs.Told.{Sight, Entry, Told}
+use Rattle.vat_rules.specs.LogFacts.{Sight, Entry, Told}
 use Rattle.vat_rules.specs.Events.{Reader, events_before}
 
 -- what the references that a record binds or names stand for, the record counted
-abbrev pub seen_references : Past → Event → List (Option View)
+abbrev pub seen_references : Past → DecodedRecord → List (Option View)
 seen_references before e = map (view_of_reference (e ∷ before)) (new_references e ++ named_references e)
 
 -- what the question that a record returns or finishes stands for: its call, as the field at the empty path
-abbrev pub seen_question : Past → Event → Option View
-seen_question before e = option_and_then (λ q. field_view q [] before) (option_or (returned e) (finished e))
+abbrev pub seen_question : Past → DecodedRecord → Option View
+seen_question before e = option_and_then (λ q. field_view q [] before) (option_or (question_returned e) (question_finished e))
 
 -- what the promise that a record resolves stands for
-abbrev pub seen_promise : Past → Event → Option View
-seen_promise before e = option_and_then (λ i. view_of_number i before) (resolved e)
+abbrev pub seen_promise : Past → DecodedRecord → Option View
+seen_promise before e = option_and_then (λ i. view_of_number i before) (promise_resolved e)
 
 -- the number that a Release gives back: one of the receiver's exports
-abbrev pub released_number : Event → Option Id
+abbrev pub released_number : DecodedRecord → Option TableKey
 released_number (Wire sent k call references (Release n count)) = Some (id k (not sent) n)
 released_number _ = None
 
 -- what that stands for
-abbrev pub seen_released : Past → Event → Option View
+abbrev pub seen_released : Past → DecodedRecord → Option View
 seen_released before e = option_and_then (λ i. view_of_number i before) (released_number e)
 
 -- what is seen of a record
-abbrev pub seen_of : Past → Event → Sight
+abbrev pub seen_of : Past → DecodedRecord → Sight
 seen_of before e = record {
   references = seen_references before e;
   question = seen_question before e;
@@ -46,7 +46,7 @@ seen_of before e = record {
 }
 
 -- a record with what its numbers stand for
-abbrev pub entry_of : Past → Event → Entry
+abbrev pub entry_of : Past → DecodedRecord → Entry
 entry_of before e = record { event = e; seen = seen_of before e }
 
 -- the same for each record, the newest first
@@ -55,7 +55,7 @@ entries_back [] = []
 entries_back (e ∷ before) = entry_of before e ∷ entries_back before
 
 -- a record delivers a call
-unfoldable pub is_delivery : Event → Bool
+unfoldable pub is_delivery : DecodedRecord → Bool
 is_delivery (Deliver call object) = true
 is_delivery _ = false
 

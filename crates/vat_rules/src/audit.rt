@@ -8,33 +8,33 @@ ghost use Rattle.vat_rules.specs.Telling.{seen_of, is_delivery};
 ghost use Rattle.vat_rules.specs.Events.{past_at};
 ghost use Rattle.vat_rules.specs.First.{AllGood};
 ghost use Rattle.vat_rules.specs.Audit.{IsTrueOf, reads_within};
-ghost use Rattle.vat_rules.specs.Glue.{standing_of, seen_back, entries_with};
+ghost use Rattle.vat_rules.specs.Glue.Facts.{standing_of, seen_back, entries_with};
 
-use crate::compact::Seen;
+use crate::decode::event_of;
+use crate::facts::compact::RecordFacts;
+use crate::facts::lookup::{standing_of, views_of_references};
+use crate::facts::meanings::Meanings;
+use crate::facts::story::Story;
 use crate::finding::VatFinding;
-use crate::judge::broken;
+use crate::judge::rule_broken;
 use crate::outcome::Outcome;
-use crate::reading::event_of;
 use crate::rule::Rule;
-use crate::seeing::{standing_of, views_of_references};
-use crate::standing::Standing;
-use crate::story::Story;
 use rpc_view::Limits;
 use std::alloc::{AllocError, Global};
 use std::sync::Arc;
 use vat_log::VatLog;
-use vat_view::{Event, VatState};
+use vat_view::{DecodedRecord, VatState};
 
 /// Whether a record delivers a call.
 #[tactic(auto, unfolding(crate::specs::Telling::is_delivery))]
-fn is_delivery(event: &Event) -> bool
+fn is_delivery(event: &DecodedRecord) -> bool
     ensures { result ≡ is_delivery event.now }
 {
-    matches!(event, Event::Deliver { .. })
+    matches!(event, DecodedRecord::Deliver { .. })
 }
 
 /// How many records deliver a call.
-fn deliveries(events: &[Event]) -> u64
+fn deliveries(events: &[DecodedRecord]) -> u64
     ensures { result ≡ count_by is_delivery events.now }
 {
     let mut delivered = 0;
@@ -47,12 +47,12 @@ fn deliveries(events: &[Event]) -> u64
 }
 
 /// Applies a good record, and puts what its numbers stand for behind what was seen before.
-fn take_in(
+fn apply_good(
     alloc: Global,
     state: &mut VatState,
-    seen: &mut Vec<Seen>,
-    standing: Standing,
-    event: Event,
+    seen: &mut Vec<RecordFacts>,
+    standing: Meanings,
+    event: DecodedRecord,
 ) -> Result<(), AllocError>
     requires good { IsGood state.old event }
     requires standing { standing ≡ standing_of state.old event }
@@ -65,7 +65,7 @@ fn take_in(
         unreachable!()
     };
     let references = views_of_references(alloc, state, event)?;
-    seen.push(Seen::new(alloc, references, standing)?)?;
+    seen.push(RecordFacts::new(alloc, references, standing)?)?;
     Ok(())
 }
 
@@ -74,8 +74,8 @@ fn take_in(
 fn judge_next(
     alloc: Global,
     state: &mut VatState,
-    seen: &mut Vec<Seen>,
-    event: Event,
+    seen: &mut Vec<RecordFacts>,
+    event: DecodedRecord,
 ) -> Result<Option<Rule>, AllocError>
     requires { length state.old ≡ length seen.old.items }
     ensures { IfOk result (λ r. MatchOption r
@@ -84,17 +84,17 @@ fn judge_next(
         (λ rule. BreaksFirst rules state.old event rule)) }
 {
     let standing = standing_of(alloc, state, &event)?;
-    match broken(alloc, state, &event, &standing)? {
+    match rule_broken(alloc, state, &event, &standing)? {
         Some(rule) => Ok(Some(rule)),
         None => {
-            take_in(alloc, state, seen, standing, event)?;
+            apply_good(alloc, state, seen, standing, event)?;
             Ok(None)
         }
     }
 }
 
 /// What records tell that were applied, with what was seen of each.
-fn told(state: VatState, seen: Vec<Seen>) -> Story
+fn story_of(state: VatState, seen: Vec<RecordFacts>) -> Story
     requires { length state ≡ length seen.items }
     ensures { result ≡ record {
       entries = entries_with (reverse state) seen.items;
@@ -112,7 +112,7 @@ fn judge_each(
     log: &VatLog,
     limits: Limits,
     state: &mut VatState,
-    seen: &mut Vec<Seen>,
+    seen: &mut Vec<RecordFacts>,
 ) -> Result<Option<Outcome>, AllocError>
     requires applied { state.old ≡ [] }
     requires seen { seen.old.items ≡ [] }
@@ -142,14 +142,14 @@ fn judge_each(
 }
 
 /// What the rules say of a log whose frames are read within the limits.
-fn first(alloc: Global, log: &VatLog, limits: Limits) -> Result<Outcome, AllocError>
+fn outcome_of(alloc: Global, log: &VatLog, limits: Limits) -> Result<Outcome, AllocError>
     ensures { IfOk result (λ outcome. IsTrueOf log.now limits outcome) }
 {
     let mut state = VatState::new(alloc);
     let mut seen = Vec::with_capacity(alloc, log.len())?;
     match judge_each(alloc, log, limits, &mut state, &mut seen)? {
         Some(outcome) => Ok(outcome),
-        None => Ok(Outcome::Good(told(state, seen))),
+        None => Ok(Outcome::Good(story_of(state, seen))),
     }
 }
 
@@ -159,12 +159,12 @@ fn first(alloc: Global, log: &VatLog, limits: Limits) -> Result<Outcome, AllocEr
 ///
 /// # Errors
 ///
-/// Want of memory, and then nothing is kept.
+/// Out of memory, and then nothing is kept.
 pub fn audit_vat(alloc: Global, log: &Arc<VatLog>, limits: Limits) -> Result<VatFinding, AllocError>
     ensures log { IfOk result (λ finding. finding.log ≡ arc_value log.now) }
     ensures limits { IfOk result (λ finding. finding.limits ≡ limits) }
     ensures outcome { IfOk result (λ finding. IsTrueOf finding.log finding.limits finding.outcome) }
 {
-    let outcome = first(alloc, log, limits)?;
+    let outcome = outcome_of(alloc, log, limits)?;
     Ok(VatFinding::new(Arc::try_clone(log)?, limits, outcome))
 }

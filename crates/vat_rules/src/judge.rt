@@ -3,25 +3,25 @@
 ghost use Rattle.std.specs.Prelude.{◌≡◌, IfOk, MatchOption};
 ghost use Rattle.vat_rules.specs.Rules.{rules};
 ghost use Rattle.vat_rules.specs.Judged.{IsGood, BreaksFirst};
-ghost use Rattle.vat_rules.specs.Glue.{standing_of};
+ghost use Rattle.vat_rules.specs.Glue.Facts.{standing_of};
 
+use crate::facts::meanings::Meanings;
 use crate::of_calls::{goes_to_goal, is_here, may_answer};
 use crate::of_caps::{binds_each, describes};
 use crate::of_connections::{is_open, keeps_embargo};
 use crate::of_promises::{keeps_vow, resolves_promise};
 use crate::of_results::returns_known;
 use crate::rule::Rule;
-use crate::standing::Standing;
 use std::alloc::{AllocError, Global};
-use vat_view::{Event, VatState};
+use vat_view::{DecodedRecord, VatState};
 
 /// The first rule that a record breaks, if it breaks one, by the state of the records before it and by what its numbers
 /// stand for.
-pub(crate) fn broken(
+pub(crate) fn rule_broken(
     alloc: Global,
     state: &VatState,
-    event: &Event,
-    standing: &Standing,
+    event: &DecodedRecord,
+    standing: &Meanings,
 ) -> Result<Option<Rule>, AllocError>
     requires { standing.now ≡ standing_of state.now event.now }
     ensures { IfOk result (λ r.

@@ -3,8 +3,8 @@
 ghost use Rattle.std.specs.Prelude.{◌≤◌, ◌++◌, List};
 ghost use Rattle.vat_view.specs.Past.{Past, Each};
 ghost use Rattle.vat_view.specs.Questions.{opens, returns, finishes};
-ghost use Rattle.vat_view.specs.declared.id.Id.{Id};
-ghost use Rattle.vat_rules.specs.Types.{Event, View};
+ghost use Rattle.vat_view.specs.declared.record.table_key.TableKey.{TableKey};
+ghost use Rattle.vat_rules.specs.Types.{DecodedRecord, View};
 ghost use Rattle.vat_view.specs.Walks.{TurnsOnce, Leads};
 ghost use Rattle.vat_view.specs.Laws.{EachAfter, count_since};
 ghost use Rattle.vat_rules.specs.Judged.{IsGood};
@@ -13,19 +13,19 @@ ghost use Rattle.vat_rules.specs.Judged.{IsGood};
 /// once, and a call is answered once, by this vat or by the one that it was sent to. So in a good log what a view once
 /// led to it leads to for ever after (`leads`), and so it is with what it turned to (`vat_view::turns_only_grow`).
 pub fn good_records_turn_once()
-    ensures next { (before : Past) → Each IsGood before → (e : Event) → IsGood before e
+    ensures next { (before : Past) → Each IsGood before → (e : DecodedRecord) → IsGood before e
         → TurnsOnce before e }
-    ensures all { (later : List Event) (past : Past) → Each IsGood (later ++ past)
+    ensures all { (later : List DecodedRecord) (past : Past) → Each IsGood (later ++ past)
         → EachAfter TurnsOnce later past }
-    ensures leads { (later : List Event) (past : Past) → Each IsGood (later ++ past) → (a b : View)
-        → Leads past a b → Leads (later ++ past) a b }
+    ensures leads { (later : List DecodedRecord) (past : Past) → Each IsGood (later ++ past)
+        → (a b : View) → Leads past a b → Leads (later ++ past) a b }
 {}
 
 /// In a good log a question has one Return and one Finish at most since its last opening
 /// (`vat_view::openings_are_closed_once`).
 pub fn good_openings_are_closed_once()
-    ensures one_return { (past : Past) → Each IsGood past → (q : Id)
+    ensures one_return { (past : Past) → Each IsGood past → (q : TableKey)
         → count_since (opens q) (returns q) past ≤ 1 }
-    ensures one_finish { (past : Past) → Each IsGood past → (q : Id)
+    ensures one_finish { (past : Past) → Each IsGood past → (q : TableKey)
         → count_since (opens q) (finishes q) past ≤ 1 }
 {}

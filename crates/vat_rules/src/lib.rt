@@ -9,30 +9,25 @@
 //! opening of a question has at most one Return and one Finish ([`good_openings_are_closed_once`]).
 #![tactic(auto)]
 
-mod alike;
 mod audit;
-mod compact;
+mod decode;
+mod facts;
 mod finding;
 mod judge;
 mod laws;
+mod leads;
 mod of_calls;
 mod of_caps;
 mod of_connections;
 mod of_promises;
 mod of_results;
 mod outcome;
-mod reading;
 mod rule;
-mod seeing;
-mod standing;
-mod story;
-mod views;
-mod ways;
 
 pub use audit::audit_vat;
-pub use compact::Seen;
+pub use facts::compact::RecordFacts;
+pub use facts::story::Story;
 pub use finding::VatFinding;
 pub use laws::{good_openings_are_closed_once, good_records_turn_once};
 pub use outcome::{Outcome, Why};
 pub use rule::Rule;
-pub use story::Story;

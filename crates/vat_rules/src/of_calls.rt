@@ -6,23 +6,23 @@ ghost use Rattle.std.specs.Option.{option_copied};
 ghost use Rattle.std.specs.Str.{bytes_eq as same_path};
 ghost use Rattle.vat_rules.specs.Types.{Object};
 ghost use Rattle.vat_view.specs.Views.{view_of_target};
-ghost use Rattle.vat_view.specs.Calls.{asked, goal_of, is_at_vat, is_served, is_settled};
+ghost use Rattle.vat_view.specs.Calls.{request_of, goal_of, is_at_vat, is_served, is_settled};
 ghost use Rattle.vat_rules.specs.Ways.{LeadsTo};
 ghost use Rattle.vat_rules.specs.OfCalls.{IsHere, GoesToGoal, distinct_paths, MayAnswer};
 
-use crate::ways::leads_to;
+use crate::leads::leads_to;
 use cap_frame::Path;
 use rpc_view::RpcMessage;
 use std::alloc::AllocError;
-use vat_view::{Event, VatState, View};
+use vat_view::{DecodedRecord, VatState, View};
 
 /// Whether a call that is delivered or sent on is at the vat.
-pub(crate) fn is_here(state: &VatState, event: &Event) -> bool
+pub(crate) fn is_here(state: &VatState, event: &DecodedRecord) -> bool
     ensures { Decides result (IsHere state.now event.now) }
 {
     match event {
-        Event::Deliver { call, .. }
-        | Event::Wire {
+        DecodedRecord::Deliver { call, .. }
+        | DecodedRecord::Wire {
             sent: true,
             call,
             message: RpcMessage::Call { .. },
@@ -51,11 +51,11 @@ fn is_asked(
     method: u16,
 ) -> Result<bool, AllocError>
     ensures { IfOk result (λ b.
-        Decides b (IsSomeAnd (asked call state.now) (λ a.
+        Decides b (IsSomeAnd (request_of call state.now) (λ a.
         LeadsTo state.now a.goal (option_copied target.entry)
         × (interface ≡ a.interface) × (method ≡ a.method)))) }
 {
-    let Some(asked) = state.asked(call)? else {
+    let Some(asked) = state.request_of(call)? else {
         return Ok(false);
     };
     if interface != asked.interface || method != asked.method {
@@ -67,15 +67,15 @@ fn is_asked(
 /// Whether a call that is delivered or sent on goes where its goal leads, and by its own method.
 pub(crate) fn goes_to_goal(
     state: &VatState,
-    event: &Event,
+    event: &DecodedRecord,
     target: Option<&View>,
 ) -> Result<bool, AllocError>
     requires { option_copied target ≡ view_of_target state.now event.now }
     ensures { IfOk result (λ b. Decides b (GoesToGoal state.now event.now)) }
 {
     match event {
-        Event::Deliver { call, object } => reaches_object(state, *call, *object),
-        Event::Wire {
+        DecodedRecord::Deliver { call, object } => reaches_object(state, *call, *object),
+        DecodedRecord::Wire {
             sent: true,
             call,
             message: RpcMessage::Call {
@@ -126,14 +126,14 @@ fn was_here(state: &VatState, call: u64) -> bool
 }
 
 /// Whether a call that is answered or faulted may be.
-pub(crate) fn may_answer(state: &VatState, event: &Event) -> bool
+pub(crate) fn may_answer(state: &VatState, event: &DecodedRecord) -> bool
     ensures { Decides result (MayAnswer state.now event.now) }
 {
     match event {
-        Event::Answer { call, results } => {
+        DecodedRecord::Answer { call, results } => {
             awaits_answer(state, *call) && distinct_paths(results.as_slice())
         }
-        Event::Fault { call } => was_here(state, *call) && !state.is_settled(*call),
+        DecodedRecord::Fault { call } => was_here(state, *call) && !state.is_settled(*call),
         _ => true,
     }
 }

@@ -5,29 +5,29 @@ ghost use Rattle.std.specs.List.{AllByRecursion, zip};
 ghost use Rattle.std.specs.Option.{option_copied};
 ghost use Rattle.vat_view.specs.Questions.{is_late};
 ghost use Rattle.vat_view.specs.Lives.{descriptors};
-ghost use Rattle.vat_view.specs.Views.{places, noted, view_of_reference, view_of_descriptor, views_of_descriptors};
+ghost use Rattle.vat_view.specs.Views.{places, placed_references, view_of_reference, view_of_descriptor, views_of_descriptors};
 ghost use Rattle.vat_rules.specs.Ways.{EndsIn};
 ghost use Rattle.vat_rules.specs.OfCaps.{is_sent, is_received, is_cap_at, is_hosted, came_hosted, is_hosted_end, NotesView, Describes, BindsEach};
-ghost use Rattle.vat_rules.specs.Glue.{view_at, standing_of};
+ghost use Rattle.vat_rules.specs.Glue.Facts.{view_at, standing_of};
 
-use crate::standing::Standing;
-use crate::ways::leads_to;
+use crate::facts::meanings::Meanings;
+use crate::leads::leads_to;
 use rpc_view::Descriptor;
 use std::alloc::{AllocError, Global};
-use vat_view::{Event, VatState, View, ends_are_one};
+use vat_view::{DecodedRecord, VatState, View, ends_are_one};
 
 /// Whether a record sends a frame.
-fn is_sent(event: &Event) -> bool
+fn is_sent(event: &DecodedRecord) -> bool
     ensures { result ≡ is_sent event.now }
 {
-    matches!(event, Event::Wire { sent: true, .. })
+    matches!(event, DecodedRecord::Wire { sent: true, .. })
 }
 
 /// Whether a record receives a frame.
-fn is_received(event: &Event) -> bool
+fn is_received(event: &DecodedRecord) -> bool
     ensures { result ≡ is_received event.now }
 {
-    matches!(event, Event::Wire { sent: false, .. })
+    matches!(event, DecodedRecord::Wire { sent: false, .. })
 }
 
 /// Whether there is a descriptor and it isn't none.
@@ -97,7 +97,7 @@ pub(crate) fn view_at(views: &[Option<View>], place: usize) -> Option<&View>
 /// hosted where that says so.
 fn notes_view(
     state: &VatState,
-    event: &Event,
+    event: &DecodedRecord,
     caps: &[Option<View>],
     reference: u64,
     place: usize,
@@ -116,7 +116,7 @@ fn notes_view(
 }
 
 /// The places of a record's descriptors that aren't none.
-fn places(alloc: Global, event: &Event) -> Result<Vec<usize>, AllocError>
+fn places(alloc: Global, event: &DecodedRecord) -> Result<Vec<usize>, AllocError>
     ensures { IfOk result (λ v. v.items ≡ places event.now) }
 {
     let mut places = Vec::new(alloc);
@@ -130,7 +130,7 @@ fn places(alloc: Global, event: &Event) -> Result<Vec<usize>, AllocError>
 }
 
 /// Each reference with the place that stands as far on.
-fn paired(
+fn views_in_pairs(
     alloc: Global,
     references: &[u64],
     places: &[usize],
@@ -145,13 +145,13 @@ fn paired(
 }
 
 /// The references that a record notes, each with the place of its descriptor.
-fn noted(alloc: Global, event: &Event) -> Result<Vec<(u64, usize)>, AllocError>
-    ensures { IfOk result (λ v. v.items ≡ noted event.now) }
+fn placed_references(alloc: Global, event: &DecodedRecord) -> Result<Vec<(u64, usize)>, AllocError>
+    ensures { IfOk result (λ v. v.items ≡ placed_references event.now) }
 {
     match event {
-        Event::Wire { references, .. } => {
+        DecodedRecord::Wire { references, .. } => {
             let places = places(alloc, event)?;
-            paired(alloc, references.as_slice(), &places)
+            views_in_pairs(alloc, references.as_slice(), &places)
         }
         _ => Ok(Vec::new(alloc)),
     }
@@ -160,7 +160,7 @@ fn noted(alloc: Global, event: &Event) -> Result<Vec<(u64, usize)>, AllocError>
 /// Whether each of these references leads to what the descriptor at its place stands for.
 fn notes_views(
     state: &VatState,
-    event: &Event,
+    event: &DecodedRecord,
     caps: &[Option<View>],
     noted: &[(u64, usize)],
 ) -> Result<bool, AllocError>
@@ -177,10 +177,11 @@ fn notes_views(
 }
 
 /// The reference that a record notes for the one descriptor that it has, if it is so.
-fn only_noted(event: &Event) -> Option<u64>
-    ensures { MatchOption result ⊤ (λ reference. noted event.now ≡ (reference, 0) ∷ []) }
+fn only_noted(event: &DecodedRecord) -> Option<u64>
+    ensures { MatchOption result ⊤
+        (λ reference. placed_references event.now ≡ (reference, 0) ∷ []) }
 {
-    let Event::Wire { references, .. } = event else {
+    let DecodedRecord::Wire { references, .. } = event else {
         return None;
     };
     let ([reference], [descriptor]) = (references.as_slice(), event.descriptors()) else {
@@ -196,16 +197,16 @@ fn only_noted(event: &Event) -> Option<u64>
 fn notes_each_view(
     alloc: Global,
     state: &VatState,
-    event: &Event,
+    event: &DecodedRecord,
     caps: &[Option<View>],
 ) -> Result<bool, AllocError>
     requires { caps.now ≡ views_of_descriptors state.now event.now }
     ensures { IfOk result (λ b.
-        Decides b (AllByRecursion (NotesView state.now event.now) (noted event.now))) }
+        Decides b (AllByRecursion (NotesView state.now event.now) (placed_references event.now))) }
 {
     match only_noted(event) {
         Some(reference) => notes_view(state, event, caps, reference, 0),
-        None => notes_views(state, event, caps, &noted(alloc, event)?),
+        None => notes_views(state, event, caps, &placed_references(alloc, event)?),
     }
 }
 
@@ -214,8 +215,8 @@ fn notes_each_view(
 pub(crate) fn describes(
     alloc: Global,
     state: &VatState,
-    event: &Event,
-    standing: &Standing,
+    event: &DecodedRecord,
+    standing: &Meanings,
 ) -> Result<bool, AllocError>
     requires { standing.now ≡ standing_of state.now event.now }
     ensures { IfOk result (λ b. Decides b (Describes state.now event.now)) }
@@ -237,7 +238,7 @@ pub(crate) fn describes(
 }
 
 /// Whether a received record notes one reference for each descriptor that isn't none, and none beside a late Return.
-pub(crate) fn binds_each(state: &VatState, event: &Event) -> bool
+pub(crate) fn binds_each(state: &VatState, event: &DecodedRecord) -> bool
     ensures { Decides result (BindsEach state.now event.now) }
 {
     !is_received(event) || state.notes_each(event)

@@ -4,21 +4,21 @@ ghost use Rattle.std.specs.Prelude.{◌≡◌, true, false, not, is_some, Decide
 ghost use Rattle.std.specs.Option.{option_copied};
 ghost use Rattle.vat_view.specs.Past.{id};
 ghost use Rattle.vat_view.specs.Views.{view_of_target};
-ghost use Rattle.vat_view.specs.Loopbacks.{loopback_of, waiting, IsHeldUp};
+ghost use Rattle.vat_view.specs.Loopbacks.{loopback_of, embargoed_view, IsHeldUp};
 ghost use Rattle.vat_view.specs.Connections.{LeadsOver, LeadsElsewhere};
 ghost use Rattle.vat_rules.specs.Ways.{LeadsTo};
 ghost use Rattle.vat_rules.specs.OfConnections.{IsOpen, KeepsEmbargo};
 
-use crate::ways::leads_to;
+use crate::leads::leads_to;
 use rpc_view::{Loopback, RpcMessage};
-use vat_view::{Event, Id, VatState, View};
+use vat_view::{DecodedRecord, TableKey, VatState, View};
 
 /// Whether a record sends nothing on a connection that was aborted.
-pub(crate) fn is_open(state: &VatState, event: &Event) -> bool
+pub(crate) fn is_open(state: &VatState, event: &DecodedRecord) -> bool
     ensures { Decides result (IsOpen state.now event.now) }
 {
     match event {
-        Event::Wire {
+        DecodedRecord::Wire {
             sent: true,
             connection,
             ..
@@ -28,10 +28,10 @@ pub(crate) fn is_open(state: &VatState, event: &Event) -> bool
 }
 
 /// A loopback number of this vat's.
-fn ours(connection: u32, number: u32) -> Id
+fn ours(connection: u32, number: u32) -> TableKey
     ensures { result ≡ id connection true number }
 {
-    Id {
+    TableKey {
         connection,
         ours: true,
         number,
@@ -39,10 +39,10 @@ fn ours(connection: u32, number: u32) -> Id
 }
 
 /// A loopback number of the peer's.
-fn theirs(connection: u32, number: u32) -> Id
+fn theirs(connection: u32, number: u32) -> TableKey
     ensures { result ≡ id connection false number }
 {
-    Id {
+    TableKey {
         connection,
         ours: false,
         number,
@@ -84,19 +84,19 @@ fn is_asked_echo(state: &VatState, connection: u32, number: u32, target: Option<
 fn may_echo(state: &VatState, connection: u32, number: u32, target: Option<&View>) -> bool
     ensures { Decides result
         (LeadsTo state.now
-        (waiting (id connection false number) state.now) (option_copied target.entry)
+        (embargoed_view (id connection false number) state.now) (option_copied target.entry)
         × ¬ IsHeldUp (id connection false number) state.now) }
 {
     let loopback = theirs(connection, number);
-    leads_to(state, state.waiting(loopback), target) && !state.is_held_up(loopback)
+    leads_to(state, state.embargoed_view(loopback), target) && !state.is_held_up(loopback)
 }
 
 /// Whether a Disembargo asks for an echo, or echoes, as it may.
-pub(crate) fn keeps_embargo(state: &VatState, event: &Event, target: Option<&View>) -> bool
+pub(crate) fn keeps_embargo(state: &VatState, event: &DecodedRecord, target: Option<&View>) -> bool
     requires { option_copied target ≡ view_of_target state.now event.now }
     ensures { Decides result (KeepsEmbargo state.now event.now) }
 {
-    let Event::Wire {
+    let DecodedRecord::Wire {
         sent,
         connection,
         message: RpcMessage::Disembargo {

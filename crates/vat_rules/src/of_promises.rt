@@ -8,14 +8,14 @@ ghost use Rattle.vat_view.specs.Views.{view_of_reference, view_of_descriptor};
 ghost use Rattle.vat_rules.specs.Ways.{LeadsOnTo};
 ghost use Rattle.vat_rules.specs.OfCaps.{is_cap_at};
 ghost use Rattle.vat_rules.specs.OfPromises.{IsUnkept, KeepsVow, is_unresolved, ResolvesPromise};
-ghost use Rattle.vat_rules.specs.Glue.{standing_of};
+ghost use Rattle.vat_rules.specs.Glue.Facts.{standing_of};
 
+use crate::facts::meanings::Meanings;
+use crate::leads::leads_on_to;
 use crate::of_caps::{is_cap_at, view_at};
-use crate::standing::Standing;
-use crate::ways::leads_on_to;
 use rpc_view::RpcMessage;
 use std::alloc::AllocError;
-use vat_view::{Event, Number, VatState, View};
+use vat_view::{DecodedRecord, Number, VatState, View};
 
 /// Whether a reference stands for an own promise that was neither kept nor broken.
 fn is_unkept(state: &VatState, reference: u64) -> Result<bool, AllocError>
@@ -29,11 +29,11 @@ fn is_unkept(state: &VatState, reference: u64) -> Result<bool, AllocError>
 }
 
 /// Whether a promise that a record keeps or breaks has been neither kept nor broken.
-pub(crate) fn keeps_vow(state: &VatState, event: &Event) -> Result<bool, AllocError>
+pub(crate) fn keeps_vow(state: &VatState, event: &DecodedRecord) -> Result<bool, AllocError>
     ensures { IfOk result (λ b. Decides b (KeepsVow state.now event.now)) }
 {
     match event {
-        Event::Fulfil { reference, .. } | Event::Break { reference } => {
+        DecodedRecord::Fulfil { reference, .. } | DecodedRecord::Break { reference } => {
             is_unkept(state, *reference)
         }
         _ => Ok(true),
@@ -59,7 +59,7 @@ fn is_gone(state: &VatState, connection: u32, number: u32) -> bool
 }
 
 /// Whether the promise of a sent Resolve leads on to what its descriptor stands for, if it has one that isn't none.
-fn resolves_to(state: &VatState, event: &Event, standing: &Standing) -> bool
+fn resolves_to(state: &VatState, event: &DecodedRecord, standing: &Meanings) -> bool
     requires { standing.now ≡ standing_of state.now event.now }
     ensures { Decides result (is_cap_at (slice_get (descriptors event.now) 0) ≡ true
         → LeadsOnTo state.now standing.now.promise (view_of_descriptor state.now event.now 0)) }
@@ -77,11 +77,11 @@ fn resolves_to(state: &VatState, event: &Event, standing: &Standing) -> bool
 
 /// Whether a Resolve is the first of a promise that is in life, and where it is sent says what the promise led on to;
 /// or it is received for a number that is out of life.
-pub(crate) fn resolves_promise(state: &VatState, event: &Event, standing: &Standing) -> bool
+pub(crate) fn resolves_promise(state: &VatState, event: &DecodedRecord, standing: &Meanings) -> bool
     requires { standing.now ≡ standing_of state.now event.now }
     ensures { Decides result (ResolvesPromise state.now event.now) }
 {
-    let Event::Wire {
+    let DecodedRecord::Wire {
         sent,
         connection,
         message: RpcMessage::Resolve { promise, .. },

@@ -4,20 +4,20 @@ ghost use Rattle.std.specs.Prelude.{◌≡◌, Decides, IfOk};
 ghost use Rattle.std.specs.List.{AllByRecursion};
 ghost use Rattle.vat_view.specs.Views.{views_of_descriptors};
 ghost use Rattle.vat_rules.specs.OfResults.{ReturnsField, ReturnsFields, ReturnsKnown};
-ghost use Rattle.vat_rules.specs.Glue.{standing_of};
+ghost use Rattle.vat_rules.specs.Glue.Facts.{standing_of};
 
+use crate::facts::meanings::Meanings;
+use crate::leads::leads_on_to;
 use crate::of_caps::{is_cap_at, view_at};
-use crate::standing::Standing;
-use crate::ways::leads_on_to;
 use cap_frame::Path;
 use rpc_view::{Outcome, RpcMessage};
 use std::alloc::AllocError;
-use vat_view::{Event, Number, VatState, View};
+use vat_view::{DecodedRecord, Number, VatState, View};
 
 /// Whether a call's result at a path leads to what the descriptor at this place stands for, if that isn't none.
 fn returns_field(
     state: &VatState,
-    event: &Event,
+    event: &DecodedRecord,
     caps: &[Option<View>],
     call: u64,
     path: &Path,
@@ -37,7 +37,7 @@ fn returns_field(
 /// Whether a call's result leads to what is sent at each of these paths.
 fn returns_each(
     state: &VatState,
-    event: &Event,
+    event: &DecodedRecord,
     caps: &[Option<View>],
     call: u64,
     fields: &[(Path, u32)],
@@ -57,7 +57,7 @@ fn returns_each(
 /// Whether a call's results are known, and lead to what is sent at each of these paths.
 fn returns_fields(
     state: &VatState,
-    event: &Event,
+    event: &DecodedRecord,
     caps: &[Option<View>],
     fields: &[(Path, u32)],
     call: u64,
@@ -75,13 +75,13 @@ fn returns_fields(
 /// is canceled comes after a Finish.
 pub(crate) fn returns_known(
     state: &VatState,
-    event: &Event,
-    standing: &Standing,
+    event: &DecodedRecord,
+    standing: &Meanings,
 ) -> Result<bool, AllocError>
     requires { standing.now ≡ standing_of state.now event.now }
     ensures { IfOk result (λ b. Decides b (ReturnsKnown state.now event.now)) }
 {
-    let Event::Wire {
+    let DecodedRecord::Wire {
         sent: true,
         connection,
         message: RpcMessage::Return {

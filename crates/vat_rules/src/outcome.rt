@@ -1,7 +1,7 @@
 //! What the audit of one log finds.
 
+use crate::facts::story::Story;
 use crate::rule::Rule;
-use crate::story::Story;
 
 /// Why a record isn't judged. The first four are what rpc_view has as outside of what it reads.
 #[derive(Clone, Copy, Debug, PartialEq, Eq)]

@@ -8,7 +8,7 @@ use Rattle.std.proofs.lemmas.List.{length-set, get_or-set_same, get_or-set_other
 use Rattle.std.proofs.lemmas.List.Sums.{sum_by-set}
 use Rattle.std.proofs.Common.{length-append}
 use Rattle.vat_tap.specs.Tickets.{Ticketed, Ring, TakesOn, TakesAtMost}
-use Rattle.vat_tap.specs.Glue.{Goes, TakesUpTo}
+use Rattle.vat_tap.specs.Glue.Taps.{Goes, TakesUpTo}
 
 pub takes_nothing : (now : List (List Ticketed)) → TakesOn now now
 takes_nothing now = record { lanes = refl; each = λ lane lt. ([], append-nil _) }

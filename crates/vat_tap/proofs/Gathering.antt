@@ -6,7 +6,7 @@ use Rattle.std.proofs.lemmas.Bool.{cases_lt}
 use Rattle.std.proofs.lemmas.List.{length-take, get_or-take, take_more, append-nil, get_or_default, get_or_push, get_or_append_left}
 use Rattle.std.proofs.lemmas.Grind.{flat_map-append}
 use Rattle.vat_tap.specs.Tickets.{Ticketed, Ring, LaneView, AreDifferent}
-use Rattle.vat_tap.specs.Glue.{HaveRings, AreTaken}
+use Rattle.vat_tap.specs.Glue.Taps.{HaveRings, AreTaken}
 use Rattle.vat_tap.proofs.Placing.{get_set, get_set_else}
 
 pub on_ok_map : {A E : Type 0} {P Q : Type 0} (r : Result A E) → (P → Q) → OnOk r P → OnOk r Q

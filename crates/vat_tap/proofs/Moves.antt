@@ -9,9 +9,9 @@ use mathlib.Core.Option.{some, some-ne-none, some-injective}
 use lib.ListN.{get_elem?}
 use Rattle.atomic_table.specs.Table.{keeps, Allows, Splits, Joins, opening}
 use Rattle.atomic_table.proofs.Lists.{at_set, at_snoc, set_here}
-use Rattle.vat_tap.specs.declared.view.View.{View}
+use Rattle.vat_tap.specs.declared.ticket_word.SeatKnowledge.{SeatKnowledge}
 use Rattle.vat_tap.specs.Tickets.{times, once_below}
-use Rattle.vat_tap.specs.Rule.{view, apart, Counted, Kept, without_share, a_share, together, spent, Draws, Looks}
+use Rattle.vat_tap.specs.Glue.Rule.{view, apart, Counted, Kept, without_share, a_share, together, spent_seat, Draws, Looks}
 
 -- ---- sums over seats
 
@@ -85,7 +85,7 @@ once_is_below word ticket le =
     ]
 
 -- the rule says of a seat's tickets that they were drawn
-pub drawn_below : (limit word : ℕ) (views : List View) (seat : ℕ) (v : View) → Counted limit word views → get_elem? views seat ≡ some v → All (λ n. n < word) v.tickets
+pub drawn_below : (limit word : ℕ) (views : List SeatKnowledge) (seat : ℕ) (v : SeatKnowledge) → Counted limit word views → get_elem? views seat ≡ some v → All (λ n. n < word) v.tickets
 drawn_below limit word views seat v c at i d lt =
     let n = get_or v.tickets i d in
     once_is_below word n (omega (arith, times_has v.tickets i d lt, sum_has (λ u. times n u.tickets) views seat v at, c.once n))
@@ -95,19 +95,19 @@ drawn_below limit word views seat v c at i d lt =
 pub begins : (limit share : ℕ) → Kept {S = Unit {0}} limit (opening (replicate 31 0) [] (view limit share []))
 begins limit share = (0, refl, record { rooms = omega arith; drawn = refl; once = λ ticket. sym (none ticket); within = only })
   where
-    only : (seat : ℕ) (v : View) → get_elem? (view limit share [] ∷ []) seat ≡ some v → length v.tickets ≤ v.room
-    only zero v at = subst (λ (u : View). length u.tickets ≤ u.room) (some-injective _ _ at) (omega arith)
+    only : (seat : ℕ) (v : SeatKnowledge) → get_elem? (view limit share [] ∷ []) seat ≡ some v → length v.tickets ≤ v.room
+    only zero v at = subst (λ (u : SeatKnowledge). length u.tickets ≤ u.room) (some-injective _ _ at) (omega arith)
     only (suc seat) v at = absurd (some-ne-none v (sym at))
 
     none : (ticket : ℕ) → once_below 0 ticket ≡ 0
     none ticket = ap (λ (b : Bool). cond b 1 0) (le-ltb ticket 0 (omega arith))
 
-within_set : (views : List View) (seat : ℕ) (w : View) → ((j : ℕ) (u : View) → get_elem? views j ≡ some u → length u.tickets ≤ u.room) → length w.tickets ≤ w.room
-    → (j : ℕ) (u : View) → get_elem? (set views seat w) j ≡ some u → length u.tickets ≤ u.room
+within_set : (views : List SeatKnowledge) (seat : ℕ) (w : SeatKnowledge) → ((j : ℕ) (u : SeatKnowledge) → get_elem? views j ≡ some u → length u.tickets ≤ u.room) → length w.tickets ≤ w.room
+    → (j : ℕ) (u : SeatKnowledge) → get_elem? (set views seat w) j ≡ some u → length u.tickets ≤ u.room
 within_set views seat w others mine j u at =
-    ⊎_elim (λ (x : (j ≡ seat) × (w ≡ u)). subst (λ (y : View). length y.tickets ≤ y.room) x.1 mine) (λ (x : (j ≢ seat) × (get_elem? views j ≡ some u)). others j u x.1) (at_set views seat j w u at)
+    ⊎_elim (λ (x : (j ≡ seat) × (w ≡ u)). subst (λ (y : SeatKnowledge). length y.tickets ≤ y.room) x.1 mine) (λ (x : (j ≢ seat) × (get_elem? views j ≡ some u)). others j u x.1) (at_set views seat j w u at)
 
-counted_draw : (limit word : ℕ) (views : List View) (seat : ℕ) (v : View) → length v.tickets < v.room → Counted limit word views → get_elem? views seat ≡ some v
+counted_draw : (limit word : ℕ) (views : List SeatKnowledge) (seat : ℕ) (v : SeatKnowledge) → length v.tickets < v.room → Counted limit word views → get_elem? views seat ≡ some v
     → Counted limit ((word + 1)) (set views seat (view v.room v.share (v.tickets ++ word ∷ [])))
 counted_draw limit word views seat v more c at =
     let w = view v.room v.share (v.tickets ++ word ∷ []) in
@@ -120,10 +120,10 @@ counted_draw limit word views seat v more c at =
     }
 
 -- a word below its limit, where the seat has room left
-pub word_small : (limit word : ℕ) (views : List View) (seat : ℕ) (v : View) → length v.tickets < v.room → Counted limit word views → get_elem? views seat ≡ some v → word < limit
+pub word_small : (limit word : ℕ) (views : List SeatKnowledge) (seat : ℕ) (v : SeatKnowledge) → length v.tickets < v.room → Counted limit word views → get_elem? views seat ≡ some v → word < limit
 word_small limit word views seat v more c at = omega (arith, sum_gap (λ u. length u.tickets) (λ u. u.room) views seat v c.within at, c.rooms, c.drawn)
 
-pub draws : (limit slots seat : ℕ) (v : View) → length v.tickets < v.room → limit < 2 ^ 64
+pub draws : (limit slots seat : ℕ) (v : SeatKnowledge) → length v.tickets < v.room → limit < 2 ^ 64
     → Allows {S = Unit {0}} (Kept limit) slots seat (v, []) 15 (λ n. (n + 1) % 2 ^ 64) (Draws limit (v, []))
 draws limit slots seat v more small s h homes at fits =
     let word = h.0 in
@@ -140,7 +140,7 @@ draws limit slots seat v more small s h homes at fits =
       subst (λ (n : ℕ). Draws {S = Unit {0}} limit (v, []) n (w, [])) (sym found) (refl, drawn_below limit word s.views seat v c at, lt),
     )
 
-pub splits : (limit seat : ℕ) (v : View) → v.share + length v.tickets ≤ v.room → Splits {S = Unit {0}} (Kept limit) seat v (without_share v) (a_share v)
+pub splits : (limit seat : ℕ) (v : SeatKnowledge) → v.share + length v.tickets ≤ v.room → Splits {S = Unit {0}} (Kept limit) seat v (without_share v) (a_share v)
 splits limit seat v enough s h at =
     let word = h.0 in
     let c = h.2 in
@@ -150,17 +150,17 @@ splits limit seat v enough s h at =
       word,
       h.1,
       record {
-        rooms = omega (arith, sum_by_push (λ (u : View). u.room) views right, sum_set (λ u. u.room) s.views seat v left at, c.rooms);
-        drawn = omega (arith, sum_by_push (λ (u : View). length u.tickets) views right, sum_set (λ u. length u.tickets) s.views seat v left at, c.drawn);
-        once = λ ticket. omega (arith, sum_by_push (λ (u : View). times ticket u.tickets) views right, sum_set (λ u. times ticket u.tickets) s.views seat v left at, c.once ticket);
+        rooms = omega (arith, sum_by_push (λ (u : SeatKnowledge). u.room) views right, sum_set (λ u. u.room) s.views seat v left at, c.rooms);
+        drawn = omega (arith, sum_by_push (λ (u : SeatKnowledge). length u.tickets) views right, sum_set (λ u. length u.tickets) s.views seat v left at, c.drawn);
+        once = λ ticket. omega (arith, sum_by_push (λ (u : SeatKnowledge). times ticket u.tickets) views right, sum_set (λ u. times ticket u.tickets) s.views seat v left at, c.once ticket);
         within = λ j u e. ⊎_elim
             (λ was. within_set s.views seat left c.within (omega arith) j u was)
-            (λ (same : right ≡ u). subst (λ (y : View). length y.tickets ≤ y.room) same (omega arith))
+            (λ (same : right ≡ u). subst (λ (y : SeatKnowledge). length y.tickets ≤ y.room) same (omega arith))
             (at_snoc views right u j e);
       },
     )
 
-pub joins : (limit seat : ℕ) (v : View) (other : ℕ) (w : View) → Joins {S = Unit {0}} (Kept limit) seat v other w (together v w) spent
+pub joins : (limit seat : ℕ) (v : SeatKnowledge) (other : ℕ) (w : SeatKnowledge) → Joins {S = Unit {0}} (Kept limit) seat v other w (together v w) spent_seat
 joins limit seat v other w s h at apart there =
     let word = h.0 in
     let c = h.2 in
@@ -171,17 +171,17 @@ joins limit seat v other w s h at apart there =
       word,
       h.1,
       record {
-        rooms = omega (arith, sum_set (λ (u : View). u.room) views other w spent there, sum_set (λ u. u.room) s.views seat v both at, c.rooms);
-        drawn = omega (arith, sum_set (λ (u : View). length u.tickets) views other w spent there, sum_set (λ u. length u.tickets) s.views seat v both at, c.drawn, longer);
-        once = λ ticket. omega (arith, sum_set (λ (u : View). times ticket u.tickets) views other w spent there, sum_set (λ u. times ticket u.tickets) s.views seat v both at, c.once ticket, times_append ticket v.tickets w.tickets);
-        within = within_set views other spent (within_set s.views seat both c.within (omega (arith, longer, c.within seat v at, c.within other w theirs))) (omega arith);
+        rooms = omega (arith, sum_set (λ (u : SeatKnowledge). u.room) views other w spent_seat there, sum_set (λ u. u.room) s.views seat v both at, c.rooms);
+        drawn = omega (arith, sum_set (λ (u : SeatKnowledge). length u.tickets) views other w spent_seat there, sum_set (λ u. length u.tickets) s.views seat v both at, c.drawn, longer);
+        once = λ ticket. omega (arith, sum_set (λ (u : SeatKnowledge). times ticket u.tickets) views other w spent_seat there, sum_set (λ u. times ticket u.tickets) s.views seat v both at, c.once ticket, times_append ticket v.tickets w.tickets);
+        within = within_set views other spent_seat (within_set s.views seat both c.within (omega (arith, longer, c.within seat v at, c.within other w theirs))) (omega arith);
       },
     )
 
-few_of : (views : List View) → ((j : ℕ) (u : View) → get_elem? views j ≡ some u → length u.tickets ≤ u.room) → (ticket j : ℕ) (u : View) → get_elem? views j ≡ some u → times ticket u.tickets ≤ u.room
+few_of : (views : List SeatKnowledge) → ((j : ℕ) (u : SeatKnowledge) → get_elem? views j ≡ some u → length u.tickets ≤ u.room) → (ticket j : ℕ) (u : SeatKnowledge) → get_elem? views j ≡ some u → times ticket u.tickets ≤ u.room
 few_of views within ticket j u e = omega (arith, times_few ticket u.tickets, within j u e)
 
-pub looks : (limit slots seat : ℕ) (v : View) → v.room ≡ limit → Allows {S = Unit {0}} (Kept limit) slots seat (v, []) 15 (λ n. n) (Looks (v, []))
+pub looks : (limit slots seat : ℕ) (v : SeatKnowledge) → v.room ≡ limit → Allows {S = Unit {0}} (Kept limit) slots seat (v, []) 15 (λ n. n) (Looks (v, []))
 looks limit slots seat v all s h homes at fits =
     let word = h.0 in
     let c = h.2 in

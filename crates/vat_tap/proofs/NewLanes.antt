@@ -9,7 +9,7 @@ use Rattle.rtrb.specs.declared.producer.Producer.{Producer}
 use Rattle.rtrb.specs.declared.consumer.Consumer.{Consumer}
 use Rattle.atomic_table.specs.Seated.{TableId}
 use Rattle.vat_tap.specs.Tickets.{Ticketed, Ring, LaneView}
-use Rattle.vat_tap.specs.Glue.{AreNew, ring_of, sending}
+use Rattle.vat_tap.specs.Glue.Taps.{AreNew, ring_of, sending}
 use Rattle.vat_tap.proofs.Gathering.{more_times}
 
 -- there is room for one lane's share more

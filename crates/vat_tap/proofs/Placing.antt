@@ -5,7 +5,7 @@ use Rattle.std.proofs.lemmas.List.{length-map, get_or-map, take_more, length-set
 use Rattle.std.proofs.lemmas.List.Sums.{sum_by-cons}
 use Rattle.vat_log.specs.declared.body.Body.{Body}
 use Rattle.vat_tap.specs.Tickets.{Ticketed, tickets_of, times}
-use Rattle.vat_tap.specs.Glue.{put, arranged}
+use Rattle.vat_tap.specs.Glue.Taps.{put, in_ticket_order}
 
 module _ {X Y : Type 0} where
   -- what a function sees of a list after one place was set, and where there is no such place
@@ -71,5 +71,5 @@ length_put : (records : List Body) (items : List Ticketed) → length (put recor
 length_put records [] = refl
 length_put records (item ∷ items) = length_put (set records item.0 item.1) items ∙ length-set records item.0 item.1
 
-pub length_arranged : (items : List Ticketed) → length (arranged items) ≡ length items
+pub length_arranged : (items : List Ticketed) → length (in_ticket_order items) ≡ length items
 length_arranged items = length_put (map (λ item. item.1) items) items ∙ length-map items (λ item. item.1)

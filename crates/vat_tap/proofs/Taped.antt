@@ -7,7 +7,7 @@ use Rattle.std.proofs.lemmas.List.{length-map, get_or-map, map-append, get_or_ap
 use Rattle.std.proofs.lemmas.List.Sums.{sum_by-cons}
 use Rattle.vat_log.specs.Log.{Log}
 use Rattle.vat_tap.specs.Tickets.{Ticketed, LaneView, IsTaped, tickets_of, times, once_below}
-use Rattle.vat_tap.specs.Glue.{arranged}
+use Rattle.vat_tap.specs.Glue.Taps.{in_ticket_order}
 use Rattle.vat_tap.proofs.Moves.{times_append, times_has, once_is_below}
 use Rattle.vat_tap.proofs.Placing.{placed_among, length_arranged, All_cons}
 
@@ -40,7 +40,7 @@ one_most n ticket = small (ltb ticket n)
     small true = omega arith
     small false = omega arith
 
-pub taped : (number : ℕ) (lanes : List LaneView) (log : Log) → log ≡ record { vat = number; records = arranged (flat_map (λ lane. lane.recorded) lanes) }
+pub taped : (number : ℕ) (lanes : List LaneView) (log : Log) → log ≡ record { vat = number; records = in_ticket_order (flat_map (λ lane. lane.recorded) lanes) }
     → ((ticket : ℕ) → sum_by (λ lane. times ticket (tickets_of lane.recorded)) lanes ≡ once_below (sum_by (λ lane. length lane.recorded) lanes) ticket)
     → All (λ lane. IsStrictlyIncreasing (tickets_of lane.recorded)) lanes → IsTaped number lanes log
 taped number lanes log is once rising =

@@ -1,3 +1,2 @@
 pub mod Tickets
-pub mod Rule
 pub mod Glue

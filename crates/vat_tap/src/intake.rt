@@ -3,7 +3,7 @@
 ghost use Rattle.std.specs.Prelude.{◌≡◌, ◌+◌, ◌≤◌, ◌++◌, length, slice_get, Some, IfOk, OnOk, OnErr};
 ghost use mathlib.Core.List.{IsPrefix};
 ghost use Rattle.rtrb.specs.Ring.{received, known_items, consumer_capacity, SameConsumer};
-ghost use Rattle.vat_tap.specs.Glue.{ring_of, Goes};
+ghost use Rattle.vat_tap.specs.Glue.Taps.{ring_of, Goes};
 
 use crate::lane::Lane;
 use rtrb::Consumer;

@@ -5,7 +5,7 @@ ghost use Rattle.vat_tap.specs.Tickets.{SameLane};
 
 use crate::error::Full;
 use crate::ticket::Ticket;
-use crate::view::{Drawing, TICKET, TicketWord, View};
+use crate::ticket_word::{Drawing, SeatKnowledge, TICKET, TicketWord};
 use atomic_table::Seat;
 use rtrb::Producer;
 use std::marker::Model;
@@ -16,7 +16,7 @@ use vat_log::Record;
 #[derive(Drop)]
 pub struct Lane {
     pub(crate) word: Arc<TicketWord>,
-    pub(crate) seat: Seat<(), View>,
+    pub(crate) seat: Seat<(), SeatKnowledge>,
     pub(crate) ring: Producer<(u64, Record)>,
     pub(crate) number: usize,
     pub(crate) recorded: u64,
@@ -26,7 +26,7 @@ pub struct Lane {
 impl Model for Lane {
     ghost use Rattle.std.specs.Arc.{arc_value};
     ghost use Rattle.vat_tap.specs.Tickets.{LaneView};
-    ghost use Rattle.vat_tap.specs.Glue.{lane_view, IsLane};
+    ghost use Rattle.vat_tap.specs.Glue.Taps.{lane_view, IsLane};
 
     ghost Value = { LaneView };
 

@@ -6,16 +6,16 @@
 //! ticket.
 //!
 //! It stands on `vat_log`, on `rtrb` for the rings and on `atomic_table` for the ticket word. What a log that was recorded so
-//! is, says `specs/Tickets.antt`; what each seat at the word knows and what always holds of all, `specs/Rule.antt`.
+//! is, says `specs/Tickets.antt`; what each seat at the word knows and what always holds of all, `specs/Glue/Rule.antt`.
 #![tactic(auto)]
 
+mod by_ticket;
 mod error;
 mod intake;
 mod lane;
-mod order;
 mod tap;
 mod ticket;
-mod view;
+mod ticket_word;
 
 pub use error::{CloseError, Full};
 pub use lane::Lane;

@@ -4,14 +4,14 @@ ghost use Rattle.std.specs.Prelude.{◌≡◌, ◌≢◌, ℕ, ◌+◌, ◌≤�
 ghost use Rattle.std.specs.List.{flat_map, sum_by};
 ghost use Rattle.std.specs.List.Sorted.{IsStrictlyIncreasing};
 ghost use Rattle.std.specs.Arc.{arc_value};
-ghost use Rattle.vat_tap.specs.Glue.{ring_of, HaveRings, AreTaken, IsTap, arranged};
+ghost use Rattle.vat_tap.specs.Glue.Taps.{ring_of, HaveRings, AreTaken, IsTap, in_ticket_order};
 ghost use Rattle.vat_tap.specs.Tickets.{IsLaneOf, AreDifferent, IsOpened, IsTaped, SameTap, TakesOn, TakesAtMost, tickets_of, share_of, times, once_below};
 
+use crate::by_ticket::{in_order, lend};
 use crate::error::CloseError;
 use crate::intake::Intake;
 use crate::lane::Lane;
-use crate::order::{in_order, lend};
-use crate::view::{Closing, Looking, Opening, TICKET, TicketWord, View, WORDS};
+use crate::ticket_word::{Closing, Looking, Opening, SeatKnowledge, TICKET, TicketWord, WORDS};
 use atomic_table::Seat;
 use rtrb::RingBuffer;
 use std::alloc::{AllocError, Global};
@@ -27,7 +27,7 @@ const MOST: u64 = 1_048_576;
 pub struct Tap {
     vat: u32,
     word: Arc<TicketWord>,
-    seat: Seat<(), View>,
+    seat: Seat<(), SeatKnowledge>,
     intakes: Vec<Intake>,
 }
 
@@ -35,7 +35,7 @@ impl Model for Tap {
     ghost use Rattle.std.specs.Prelude.{map, length};
     ghost use Rattle.std.specs.Arc.{arc_value};
     ghost use Rattle.vat_tap.specs.Tickets.{TapView};
-    ghost use Rattle.vat_tap.specs.Glue.{ring_of, IsTap};
+    ghost use Rattle.vat_tap.specs.Glue.Taps.{ring_of, IsTap};
 
     ghost Value = { TapView };
 
@@ -204,7 +204,7 @@ fn log_of(alloc: Global, vat: u32, intakes: &[Intake], lanes: &[Lane]) -> Result
     requires { AreTaken (map (λ intake. intake.taken.items) intakes.now) lanes.now }
     ensures log { IfOk result (λ log. log ≡ record {
       vat = vat;
-      records = arranged (flat_map (λ lane. lane.recorded) lanes.now);
+      records = in_ticket_order (flat_map (λ lane. lane.recorded) lanes.now);
     }) }
     ensures rising { IfOk result (λ log.
         All (λ lane. IsStrictlyIncreasing (tickets_of lane.recorded)) lanes.now) }
@@ -234,7 +234,7 @@ fn taken_log(
         (map (λ intake. intake.taken.items) intakes.new.items) }
     ensures log { IfOk result (λ log. log ≡ record {
       vat = vat;
-      records = arranged (flat_map (λ lane. lane.recorded) lanes.old.items);
+      records = in_ticket_order (flat_map (λ lane. lane.recorded) lanes.old.items);
     }) }
     ensures rising { IfOk result (λ log.
         All (λ lane. IsStrictlyIncreasing (tickets_of lane.recorded)) lanes.old.items) }
@@ -266,7 +266,7 @@ fn drain_all(intakes: &mut Vec<Intake>) -> Result<u64, AllocError>
 
 /// Closes the ticket word: joins the seats of all lanes to the tap's, and then reads the word, which shows the proof that
 /// the tickets of these lanes are all that were drawn. The number that is read isn't used.
-fn close_ticket_word(word: &Arc<TicketWord>, seat: Seat<(), View>, lanes: Vec<Lane>)
+fn close_ticket_word(word: &Arc<TicketWord>, seat: Seat<(), SeatKnowledge>, lanes: Vec<Lane>)
     requires tap { IsTap (arc_value word.now).shared.table_id seat.table_id seat.me
         (length lanes.items) }
     requires mine { All (λ lane. (lane.word ≡ seat.table_id)

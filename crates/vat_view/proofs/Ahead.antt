@@ -3,21 +3,21 @@ use Rattle.std.proofs.Common.{◌≡◌, refl, sym, ◌∙◌, ap, ap₂, ℕ, i
 use Rattle.std.specs.Prelude.{slice_get, reverse, is_some}
 use Rattle.std.proofs.lemmas.List.{reverse-append}
 use Rattle.std.proofs.lemmas.Bool.{and_parts, cases_Bool, false≢true, eqb-true}
-use Rattle.vat_view.specs.declared.questions.Questions.{Questions}
-use Rattle.vat_view.specs.declared.lives.Lives.{Lives}
-use Rattle.vat_view.specs.declared.calls.Calls.{Calls}
-use Rattle.vat_view.specs.declared.turns.Turns.{Turns}
-use Rattle.vat_view.specs.declared.bound.Bound.{Bound}
-use Rattle.vat_view.specs.declared.bound.Leap.{Leap}
-use Rattle.vat_view.specs.declared.pending.Pending.{Pending}
-use Rattle.vat_view.specs.declared.pending.Pending.TheVariants.{Promise as PromiseToKeep, Results as ResultsOf, Import as ImportToResolve}
-use Rattle.vat_view.specs.Types.{Event, View}
+use Rattle.vat_view.specs.declared.tables.questions.Questions.{Questions}
+use Rattle.vat_view.specs.declared.tables.exports_imports.ExportsImports.{ExportsImports}
+use Rattle.vat_view.specs.declared.tables.calls.Calls.{Calls}
+use Rattle.vat_view.specs.declared.tables.settlements.Settlements.{Settlements}
+use Rattle.vat_view.specs.declared.tables.references.BoundReferences.{BoundReferences}
+use Rattle.vat_view.specs.declared.tables.references.Shortcut.{Shortcut}
+use Rattle.vat_view.specs.declared.record.unsettled.Unsettled.{Unsettled}
+use Rattle.vat_view.specs.declared.record.unsettled.Unsettled.TheVariants.{Promise as PromiseToKeep, Results as ResultsOf, Import as ImportToResolve}
+use Rattle.vat_view.specs.Types.{DecodedRecord, View}
 use Rattle.vat_view.specs.Past.{Past}
 use Rattle.vat_view.specs.Views.{view_of_reference}
 use Rattle.vat_view.specs.Bindings.{Refers}
-use Rattle.vat_view.specs.Tables.{bound_at, AreBound}
-use Rattle.vat_view.specs.TurnTables.{same_pending, is_this, awaited, path_of, landing, settler_at, settler_by, landed_by, turns_of, own_leap, ahead_at, IsOwnOrOld, HaveAhead}
-use Rattle.vat_view.specs.Kept.{AreKept}
+use Rattle.vat_view.specs.Glue.Tables.{bound_at, AreBound}
+use Rattle.vat_view.specs.Glue.TurnTables.{same_pending, is_this, awaited_by, field_path, turn_target, settler_at, settler_by, landed_by, turns_of, own_leap, ahead_at, IsOwnOrOld, HaveAhead}
+use Rattle.vat_view.specs.Glue.Kept.{AreKept}
 use Rattle.vat_view.proofs.Walking.{cases_option, none_some}
 use Rattle.vat_view.proofs.Lasting.{view_step}
 use Rattle.vat_view.proofs.Settled.{get_front}
@@ -25,7 +25,7 @@ use Rattle.vat_view.proofs.Binding.{none_ahead, then_ahead}
 use Rattle.vat_view.proofs.Hopping.{own_ahead, turns_more, ahead_carried}
 
 -- tables of references with the same views
-pub kept_views : (past : Past) (questions : Questions) (lives : Lives) (old new : Bound) (calls : Calls) → ((r : ℕ) → bound_at new r ≡ bound_at old r) →
+pub kept_views : (past : Past) (questions : Questions) (lives : ExportsImports) (old new : BoundReferences) (calls : Calls) → ((r : ℕ) → bound_at new r ≡ bound_at old r) →
     AreKept past questions lives old calls → AreKept past questions lives new calls
 kept_views past questions lives old new calls same kept = record {
   sound = kept.sound;
@@ -35,21 +35,21 @@ kept_views past questions lives old new calls same kept = record {
 
 -- ---- where a record is refused
 
-module _ (items other : List Event) (table room : Turns) (same : other ≡ items) (says : (p : Pending) → settler_at room p ≡ settler_at table p) where
-  settler_same : (o : Option Pending) → option_and_then (settler_at table) o ≡ option_and_then (settler_at room) o
+module _ (items other : List DecodedRecord) (table room : Settlements) (same : other ≡ items) (says : (p : Unsettled) → settler_at room p ≡ settler_at table p) where
+  settler_same : (o : Option Unsettled) → option_and_then (settler_at table) o ≡ option_and_then (settler_at room) o
   settler_same (Some p) = sym (says p)
   settler_same None = refl
 
   landed_same : (v : View) → landed_by items table v ≡ landed_by other room v
-  landed_same v = ap₂ (λ l o. option_and_then (landing (path_of v)) (option_and_then (slice_get l) o)) (sym same) (settler_same (awaited v))
+  landed_same v = ap₂ (λ l o. option_and_then (turn_target (field_path v)) (option_and_then (slice_get l) o)) (sym same) (settler_same (awaited_by v))
 
-  pub ahead_refused : (bound : Bound) → HaveAhead items table bound → HaveAhead other room bound
+  pub ahead_refused : (bound : BoundReferences) → HaveAhead items table bound → HaveAhead other room bound
   ahead_refused bound =
       let named : (r : ℕ) (w : View) → bound_at bound r ≡ Some w → bound_at bound r ≡ Some w = λ r w e. e in
       ahead_carried (turns_of items table bound) (turns_of other room bound) bound bound
       (turns_more items other table room bound bound named (λ v r e. sym (landed_same v) ∙ e)) named (none_ahead bound)
 
-  pub ahead_unlearned : (old new : Bound) → AreBound (reverse items) old → AreBound (reverse other) new → IsOwnOrOld old new → HaveAhead items table old → HaveAhead other room new
+  pub ahead_unlearned : (old new : BoundReferences) → AreBound (reverse items) old → AreBound (reverse other) new → IsOwnOrOld old new → HaveAhead items table old → HaveAhead other room new
   ahead_unlearned old new was is less =
       let named : (r : ℕ) (w : View) → bound_at old r ≡ Some w → bound_at new r ≡ Some w =
       λ r w e. is r ∙ ap (λ l. view_of_reference (reverse l) r) same ∙ sym (was r) ∙ e in
@@ -57,7 +57,7 @@ module _ (items other : List Event) (table room : Turns) (same : other ≡ items
 
 -- ---- after a record
 
-same_is : (p q : Pending) → same_pending p q ≡ true → p ≡ q
+same_is : (p q : Unsettled) → same_pending p q ≡ true → p ≡ q
 same_is (PromiseToKeep p) (PromiseToKeep q) h = ap (λ x. PromiseToKeep x) (sym (eqb-true q p h))
 same_is (ResultsOf c) (ResultsOf d) h = ap (λ x. ResultsOf x) (sym (eqb-true d c h))
 same_is (ImportToResolve i place) (ImportToResolve j other) h =
@@ -65,20 +65,20 @@ same_is (ImportToResolve i place) (ImportToResolve j other) h =
 same_is _ _ h = absurd (false≢true h)
 
 -- a record that settles nothing again leaves what is settled
-unsettled : (table : Turns) (s : Option Pending) (p : Pending) (k : ℕ) → is_some (option_and_then (settler_at table) s) ≡ false → settler_at table p ≡ Some k → is_this p s ≡ false
+unsettled : (table : Settlements) (s : Option Unsettled) (p : Unsettled) (k : ℕ) → is_some (option_and_then (settler_at table) s) ≡ false → settler_at table p ≡ Some k → is_this p s ≡ false
 unsettled table None p k h e = refl
 unsettled table (Some q) p k h e = elim (cases_Bool (same_pending p q)) [
   | inl same ↦ absurd (false≢true (sym h ∙ ap (λ o. is_some o) (sym (ap (λ x. settler_at table x) (same_is p q same)) ∙ e)))
   | inr apart ↦ apart
 ]
 
-module _ (items other pushed : List Event) (e : Event) (number : ℕ) (s : Option Pending) (table room more : Turns) (same : other ≡ items) (is_pushed : pushed ≡ other ++ e ∷ [])
-    (says : (p : Pending) → settler_at room p ≡ settler_at table p) (noted : (p : Pending) → settler_at more p ≡ (if is_this p s then Some number else settler_at room p)) where
-  still_settled : is_some (option_and_then (settler_at room) s) ≡ false → (p : Pending) (k : ℕ) → settler_at table p ≡ Some k → settler_at more p ≡ Some k
+module _ (items other pushed : List DecodedRecord) (e : DecodedRecord) (number : ℕ) (s : Option Unsettled) (table room more : Settlements) (same : other ≡ items) (is_pushed : pushed ≡ other ++ e ∷ [])
+    (says : (p : Unsettled) → settler_at room p ≡ settler_at table p) (noted : (p : Unsettled) → settler_at more p ≡ (if is_this p s then Some number else settler_at room p)) where
+  still_settled : is_some (option_and_then (settler_at room) s) ≡ false → (p : Unsettled) (k : ℕ) → settler_at table p ≡ Some k → settler_at more p ≡ Some k
   still_settled once p k at =
       noted p ∙ ap (λ b. if b then Some number else settler_at room p) (unsettled room s p k once (says p ∙ at)) ∙ says p ∙ at
 
-  still_there : is_some (option_and_then (settler_at room) s) ≡ false → (o : Option Pending) (x : Event) → option_and_then (slice_get items) (option_and_then (settler_at table) o) ≡ Some x →
+  still_there : is_some (option_and_then (settler_at room) s) ≡ false → (o : Option Unsettled) (x : DecodedRecord) → option_and_then (slice_get items) (option_and_then (settler_at table) o) ≡ Some x →
       option_and_then (slice_get pushed) (option_and_then (settler_at more) o) ≡ Some x
   still_there once None x h = absurd (none_some x h)
   still_there once (Some p) x h = elim (cases_option (settler_at table p)) [
@@ -91,15 +91,15 @@ module _ (items other pushed : List Event) (e : Event) (number : ℕ) (s : Optio
 
   still_lands : is_some (option_and_then (settler_at room) s) ≡ false → (v : View) (r : ℕ) → landed_by items table v ≡ Some r → landed_by pushed more v ≡ Some r
   still_lands once v r h = elim (cases_option (settler_by table items v)) [
-    | inl none ↦ absurd (none_some r (ap (λ o. option_and_then (landing (path_of v)) o) (sym none) ∙ h))
+    | inl none ↦ absurd (none_some r (ap (λ o. option_and_then (turn_target (field_path v)) o) (sym none) ∙ h))
     | inr x ↦
-        ap (λ o. option_and_then (landing (path_of v)) o) (still_there once (awaited v) x.0 x.1)
-        ∙ (ap (λ o. option_and_then (landing (path_of v)) o) (sym x.1) ∙ h)
+        ap (λ o. option_and_then (turn_target (field_path v)) o) (still_there once (awaited_by v) x.0 x.1)
+        ∙ (ap (λ o. option_and_then (turn_target (field_path v)) o) (sym x.1) ∙ h)
   ]
 
-  pub ahead_applied : (old mid new : Bound) (again : Bool) → again ≡ is_some (option_and_then (settler_at room) s) → Refers (reverse items) e → AreBound (reverse items) old →
+  pub ahead_applied : (old mid new : BoundReferences) (again : Bool) → again ≡ is_some (option_and_then (settler_at room) s) → Refers (reverse items) e → AreBound (reverse items) old →
       AreBound (reverse pushed) mid → ((r : ℕ) → bound_at new r ≡ bound_at mid r) → IsOwnOrOld old mid → IsOwnOrOld mid new →
-      (IsTrue again → (r : ℕ) (q : Leap) → ahead_at new r ≡ Some q → q ≡ own_leap r) → HaveAhead items table old → HaveAhead pushed more new
+      (IsTrue again → (r : ℕ) (q : Shortcut) → ahead_at new r ≡ Some q → q ≡ own_leap r) → HaveAhead items table old → HaveAhead pushed more new
   ahead_applied old mid new again is_again refers was is views first second own ahead = elim (cases_Bool again) [
     | inl so ↦ λ r q h. own_ahead (turns_of pushed more new) new r q h (own so r q h)
     | inr once ↦

@@ -3,22 +3,22 @@ use Rattle.std.proofs.Common.{◌≡◌, ◌+◌, ◌≤◌, inl, inr, refl, sym
 use Rattle.std.specs.Prelude.{is_some, Decides, slice_get, reverse, Result, Ok, Err, IfOk}
 use Rattle.std.proofs.lemmas.List.{length-reverse}
 use Rattle.std.proofs.lemmas.Bool.{cases_Bool, and_parts, false≢true}
-use Rattle.vat_view.specs.declared.questions.Questions.{Questions}
-use Rattle.vat_view.specs.declared.lives.Lives.{Lives}
-use Rattle.vat_view.specs.declared.begun.Begun.{Begun}
-use Rattle.vat_view.specs.declared.bound.Bound.{Bound}
-use Rattle.vat_view.specs.declared.calls.Calls.{Calls}
-use Rattle.vat_view.specs.Types.{Descriptor, Target, Imported, Promised, Return, Finish, Event, Wire, View, FieldOf, Id}
+use Rattle.vat_view.specs.declared.tables.questions.Questions.{Questions}
+use Rattle.vat_view.specs.declared.tables.exports_imports.ExportsImports.{ExportsImports}
+use Rattle.vat_view.specs.declared.record.introduced.Introduced.{Introduced}
+use Rattle.vat_view.specs.declared.tables.references.BoundReferences.{BoundReferences}
+use Rattle.vat_view.specs.declared.tables.calls.Calls.{Calls}
+use Rattle.vat_view.specs.Types.{Descriptor, Target, Imported, Promised, Return, Finish, DecodedRecord, Wire, View, FieldOf, TableKey}
 use Rattle.vat_view.specs.Past.{Past, Point, point, id, same_id, last_since, Each}
 use Rattle.vat_view.specs.Questions.{opens, returns, finishes, releases, opening, return_of, is_opened, is_returned, is_finished, is_released, is_free, is_unfinished, is_unreturned, is_late, closes, call_at}
 use Rattle.vat_view.specs.Lives.{introductions_at, gives_back, held, GivesBackHeld, descriptors}
-use Rattle.vat_view.specs.Views.{view_of_reference, targeted, target_of, view_of_target, described, view_of_descriptor, views_of_descriptors}
+use Rattle.vat_view.specs.Views.{view_of_reference, target_view, target_of, view_of_target, descriptor_view, view_of_descriptor, views_of_descriptors}
 use Rattle.vat_view.specs.Uses.{UsesQuestions}
 use Rattle.vat_view.specs.Bindings.{is_bound}
 use Rattle.vat_view.specs.Sound.{IsSound}
-use Rattle.vat_view.specs.Tables.{question_at, bound_at, late_by, closed_by, released_in, asked_in, brought_in, lets_go, call_by, origins_if, origins, first_in, AreBegun, view_by, count_at}
-use Rattle.vat_view.specs.Asking.{free_in, unfinished_in, finished_in, unreturned_in, opening_call_in, target_by, targeted_by, given_by}
-use Rattle.vat_view.specs.Kept.{AreKept}
+use Rattle.vat_view.specs.Glue.Tables.{question_at, bound_at, late_by, given_back_by, results_released_in, params_introduced_in, results_introduced_in, count_released, call_by, origins_if, origins, first_in, AreBegun, view_by, count_at}
+use Rattle.vat_view.specs.Glue.Asking.{free_in, unfinished_in, finished_in, unreturned_in, opening_call_in, target_by, targeted_by, given_by}
+use Rattle.vat_view.specs.Glue.Kept.{AreKept}
 use Rattle.vat_view.proofs.Naming.{same_id_is}
 use Rattle.vat_view.proofs.Knowing.{known_from, asked_at}
 use Rattle.vat_view.proofs.Stepping.{gives_parts}
@@ -34,40 +34,40 @@ if_ok (Err e) f p = p
 
 -- ---- questions
 
-free_at : (q : Id) (past : Past) (o : Option Point) → free_in (option_map (known_from q past) o) ≡ (not (is_some o) || (is_returned q past && is_finished q past))
+free_at : (q : TableKey) (past : Past) (o : Option Point) → free_in (option_map (known_from q past) o) ≡ (not (is_some o) || (is_returned q past && is_finished q past))
 free_at q past (Some p) = refl
 free_at q past None = refl
 
-unfinished_at : (q : Id) (past : Past) (o : Option Point) → unfinished_in (option_map (known_from q past) o) ≡ (is_some o && not (is_finished q past))
+unfinished_at : (q : TableKey) (past : Past) (o : Option Point) → unfinished_in (option_map (known_from q past) o) ≡ (is_some o && not (is_finished q past))
 unfinished_at q past (Some p) = refl
 unfinished_at q past None = refl
 
-unreturned_at : (q : Id) (past : Past) (o : Option Point) → unreturned_in (option_map (known_from q past) o) ≡ (is_some o && not (is_returned q past))
+unreturned_at : (q : TableKey) (past : Past) (o : Option Point) → unreturned_in (option_map (known_from q past) o) ≡ (is_some o && not (is_returned q past))
 unreturned_at q past (Some p) = refl
 unreturned_at q past None = refl
 
-call_of_opening : (q : Id) (past : Past) (o : Option Point) → opening_call_in (option_map (known_from q past) o) ≡ call_at o
+call_of_opening : (q : TableKey) (past : Past) (o : Option Point) → opening_call_in (option_map (known_from q past) o) ≡ call_at o
 call_of_opening q past (Some p) = refl
 call_of_opening q past None = refl
 
 -- ---- what was never opened was never returned or finished
 
-returns_opened : (q : Id) (before : Past) (e : Event) → UsesQuestions before e → returns q before e ≡ true → is_opened q before ≡ true
+returns_opened : (q : TableKey) (before : Past) (e : DecodedRecord) → UsesQuestions before e → returns q before e ≡ true → is_opened q before ≡ true
 returns_opened q before (Wire s k c rs (Return n release outcome)) uses h =
     (and_parts (is_opened q before) (not (is_returned q before)) (subst (λ x. is_unreturned x before ≡ true) (sym (same_id_is q (id k (not s) n) h)) uses.returned_once)).0
 returns_opened q before _ uses h = absurd (false≢true h)
 
-finishes_opened : (q : Id) (before : Past) (e : Event) → UsesQuestions before e → finishes q before e ≡ true → is_opened q before ≡ true
+finishes_opened : (q : TableKey) (before : Past) (e : DecodedRecord) → UsesQuestions before e → finishes q before e ≡ true → is_opened q before ≡ true
 finishes_opened q before (Wire s k c rs (Finish n release)) uses h =
     (and_parts (is_opened q before) (not (is_finished q before))
     (subst (λ x. is_unfinished x before ≡ true) (sym (same_id_is q (id k s n) h)) (and_parts (is_unfinished (id k s n) before) true uses.used).0)).0
 finishes_opened q before _ uses h = absurd (false≢true h)
 
-releases_opened : (q : Id) (before : Past) (e : Event) → UsesQuestions before e → releases q before e ≡ true → is_opened q before ≡ true
+releases_opened : (q : TableKey) (before : Past) (e : DecodedRecord) → UsesQuestions before e → releases q before e ≡ true → is_opened q before ≡ true
 releases_opened q before (Wire s k c rs (Finish n true)) uses h = finishes_opened q before (Wire s k c rs (Finish n true)) uses h
 releases_opened q before _ uses h = absurd (false≢true h)
 
-module _ (q : Id) (test : Past → Event → Bool) (opened : (before : Past) (e : Event) → UsesQuestions before e → test before e ≡ true → is_opened q before ≡ true) where
+module _ (q : TableKey) (test : Past → DecodedRecord → Bool) (opened : (before : Past) (e : DecodedRecord) → UsesQuestions before e → test before e ≡ true → is_opened q before ≡ true) where
   unopened : (past : Past) → Each IsSound past → is_opened q past ≡ false → last_since (opens q) test past ≡ None
   unopened [] sound h = refl
   unopened (e ∷ before) sound h = elim (cases_Bool (opens q before e)) [
@@ -81,15 +81,15 @@ module _ (q : Id) (test : Past → Event → Bool) (opened : (before : Past) (e 
         ]
   ]
 
-finished_at : (q : Id) (past : Past) (o : Option Point) → (is_some o ≡ false → is_finished q past ≡ false) → finished_in (option_map (known_from q past) o) ≡ is_finished q past
+finished_at : (q : TableKey) (past : Past) (o : Option Point) → (is_some o ≡ false → is_finished q past ≡ false) → finished_in (option_map (known_from q past) o) ≡ is_finished q past
 finished_at q past (Some p) h = refl
 finished_at q past None h = sym (h refl)
 
-released_at : (q : Id) (past : Past) (o : Option Point) → (is_some o ≡ false → is_released q past ≡ false) → released_in (option_map (known_from q past) o) ≡ is_released q past
+released_at : (q : TableKey) (past : Past) (o : Option Point) → (is_some o ≡ false → is_released q past ≡ false) → results_released_in (option_map (known_from q past) o) ≡ is_released q past
 released_at q past (Some p) h = refl
 released_at q past None h = sym (h refl)
 
-brought_at : (q : Id) (past : Past) (o : Option Point) → (is_some o ≡ false → return_of q past ≡ None) → brought_in (option_map (known_from q past) o) ≡ introductions_at (return_of q past)
+brought_at : (q : TableKey) (past : Past) (o : Option Point) → (is_some o ≡ false → return_of q past ≡ None) → results_introduced_in (option_map (known_from q past) o) ≡ introductions_at (return_of q past)
 brought_at q past (Some p) h = refl
 brought_at q past None h = sym (ap (λ o. introductions_at o) (h refl))
 
@@ -103,32 +103,32 @@ mapped : {A B : Type 0} (f g : A → B) → ((x : A) → f x ≡ g x) → (xs : 
 mapped f g same [] = refl
 mapped f g same (x ∷ xs) = ap (λ y. y ∷ map f xs) (same x) ∙ ap (λ ys. g x ∷ ys) (mapped f g same xs)
 
-module _ (past : Past) (questions : Questions) (lives : Lives) (bound : Bound) (calls : Calls) (kept : AreKept past questions lives bound calls) where
-  pub free_known : (q : Id) → free_in (question_at questions q) ≡ is_free q past
+module _ (past : Past) (questions : Questions) (lives : ExportsImports) (bound : BoundReferences) (calls : Calls) (kept : AreKept past questions lives bound calls) where
+  pub free_known : (q : TableKey) → free_in (question_at questions q) ≡ is_free q past
   free_known q = ap (λ o. free_in o) (kept.tabled.tabled.known q) ∙ free_at q past (opening q past)
 
-  pub unfinished_known : (q : Id) → unfinished_in (question_at questions q) ≡ is_unfinished q past
+  pub unfinished_known : (q : TableKey) → unfinished_in (question_at questions q) ≡ is_unfinished q past
   unfinished_known q = ap (λ o. unfinished_in o) (kept.tabled.tabled.known q) ∙ unfinished_at q past (opening q past)
 
-  pub finished_known : (q : Id) → finished_in (question_at questions q) ≡ is_finished q past
+  pub finished_known : (q : TableKey) → finished_in (question_at questions q) ≡ is_finished q past
   finished_known q = ap (λ o. finished_in o) (kept.tabled.tabled.known q)
       ∙ finished_at q past (opening q past) (λ h. ap (λ o. is_some o) (unopened q (finishes q) (finishes_opened q) past kept.sound h))
 
-  pub unreturned_known : (q : Id) → unreturned_in (question_at questions q) ≡ is_unreturned q past
+  pub unreturned_known : (q : TableKey) → unreturned_in (question_at questions q) ≡ is_unreturned q past
   unreturned_known q = ap (λ o. unreturned_in o) (kept.tabled.tabled.known q) ∙ unreturned_at q past (opening q past)
 
-  pub opening_call_known : (q : Id) → opening_call_in (question_at questions q) ≡ call_at (opening q past)
+  pub opening_call_known : (q : TableKey) → opening_call_in (question_at questions q) ≡ call_at (opening q past)
   opening_call_known q = ap (λ o. opening_call_in o) (kept.tabled.tabled.known q) ∙ call_of_opening q past (opening q past)
 
-  released_known : (q : Id) → released_in (question_at questions q) ≡ is_released q past
-  released_known q = ap (λ o. released_in o) (kept.tabled.tabled.known q)
+  released_known : (q : TableKey) → results_released_in (question_at questions q) ≡ is_released q past
+  released_known q = ap (λ o. results_released_in o) (kept.tabled.tabled.known q)
       ∙ released_at q past (opening q past) (λ h. ap (λ o. is_some o) (unopened q (releases q) (releases_opened q) past kept.sound h))
 
-  pub late_is : (e : Event) → late_by (question_at questions) e ≡ is_late past e
+  pub late_is : (e : DecodedRecord) → late_by (question_at questions) e ≡ is_late past e
   late_is (Wire s k c rs (Return q release outcome)) = released_known (id k (not s) q)
   late_is _ = refl
 
-  pub alive_known : (i : Id) (count : ℕ) → count ≡ count_at lives i → count ≡ held i past
+  pub alive_known : (i : TableKey) (count : ℕ) → count ≡ count_at lives i → count ≡ held i past
   alive_known i count is_count = is_count ∙ kept.tabled.tabled.counted i
 
   pub bound_known : (r : ℕ) → is_some (bound_at bound r) ≡ is_bound past r
@@ -143,44 +143,44 @@ module _ (past : Past) (questions : Questions) (lives : Lives) (bound : Bound) (
 
   -- ---- targets and descriptors
 
-  target_known : (k : ℕ) (s : Bool) (o : Option Target) → option_and_then (target_by (bound_at bound) lives (question_at questions) k s) o ≡ option_and_then (targeted past k s) o
+  target_known : (k : ℕ) (s : Bool) (o : Option Target) → option_and_then (target_by (bound_at bound) lives (question_at questions) k s) o ≡ option_and_then (target_view past k s) o
   target_known k s (Some (Imported n)) = number_is past questions lives bound kept.tabled.tabled kept.tabled.bounds (id k (not s) n)
   target_known k s (Some (Promised q path)) = ap (λ o. option_map (λ call. FieldOf call path) o) (ap (λ o. call_by o) (kept.tabled.tabled.known (id k s q)) ∙ call_known (id k s q) past)
   target_known k s None = refl
 
-  pub targeted_known : (e : Event) → targeted_by (bound_at bound) lives (question_at questions) e ≡ view_of_target past e
+  pub targeted_known : (e : DecodedRecord) → targeted_by (bound_at bound) lives (question_at questions) e ≡ view_of_target past e
   targeted_known (Wire s k c rs m) = target_known k s (target_of m)
   targeted_known _ = refl
 
   -- a table of what a record introduces that comes next
-  pub begun_next : (e : Event) (begun : Begun) (late : Bool) (number : ℕ) (items : List Event) → late ≡ late_by (question_at questions) e → number ≡ length items → reverse items ≡ past →
+  pub begun_next : (e : DecodedRecord) (begun : Introduced) (late : Bool) (number : ℕ) (items : List DecodedRecord) → late ≡ late_by (question_at questions) e → number ≡ length items → reverse items ≡ past →
       AreBegun (origins_if late number e) begun → AreBegun (origins past e) begun
   begun_next e begun late number items is_late place view_is starts i =
       starts i ∙ ap₂ (λ b n. first_in i (origins_if b n e)) (is_late ∙ late_is e) (place ∙ sym (length-reverse items) ∙ ap (λ l. length l) view_is)
 
-  module _ (e : Event) (begun : Begun) (starts : AreBegun (origins past e) begun) where
-    each_known : (d : Descriptor) → view_by (bound_at bound) lives begun (question_at questions) e d ≡ described (view_of_reference past) past e d
+  module _ (e : DecodedRecord) (begun : Introduced) (starts : AreBegun (origins past e) begun) where
+    each_known : (d : Descriptor) → view_by (bound_at bound) lives begun (question_at questions) e d ≡ descriptor_view (view_of_reference past) past e d
     each_known d = described_known past questions lives bound kept.tabled.tabled kept.tabled.bounds begun e starts d
 
     pub descriptors_known : map (view_by (bound_at bound) lives begun (question_at questions) e) (descriptors e) ≡ views_of_descriptors past e
-    descriptors_known = mapped (view_by (bound_at bound) lives begun (question_at questions) e) (described (view_of_reference past) past e) each_known (descriptors e)
+    descriptors_known = mapped (view_by (bound_at bound) lives begun (question_at questions) e) (descriptor_view (view_of_reference past) past e) each_known (descriptors e)
 
     pub descriptor_known : (place : ℕ) (d : Descriptor) → slice_get (descriptors e) place ≡ Some d →
         view_by (bound_at bound) lives begun (question_at questions) e d ≡ view_of_descriptor past e place
-    descriptor_known place d there = each_known d ∙ sym (ap (λ o. option_and_then (described (view_of_reference past) past e) o) there)
+    descriptor_known place d there = each_known d ∙ sym (ap (λ o. option_and_then (descriptor_view (view_of_reference past) past e) o) there)
 
   -- ---- what is given back
 
-  closed_is : (e : Event) → closed_by (question_at questions) e ≡ introductions_at (closes past e)
-  closed_is (Wire s k c rs (Return q true outcome)) = let i : Id = id k (not s) q in ap (λ o. asked_in o) (kept.tabled.tabled.known i) ∙ asked_at i past (opening i past)
-  closed_is (Wire s k c rs (Finish q true)) = let i : Id = id k s q in
-      ap (λ o. brought_in o) (kept.tabled.tabled.known i) ∙ brought_at i past (opening i past) (λ h. unopened i (returns i) (returns_opened i) past kept.sound h)
+  closed_is : (e : DecodedRecord) → given_back_by (question_at questions) e ≡ introductions_at (closes past e)
+  closed_is (Wire s k c rs (Return q true outcome)) = let i : TableKey = id k (not s) q in ap (λ o. params_introduced_in o) (kept.tabled.tabled.known i) ∙ asked_at i past (opening i past)
+  closed_is (Wire s k c rs (Finish q true)) = let i : TableKey = id k s q in
+      ap (λ o. results_introduced_in o) (kept.tabled.tabled.known i) ∙ brought_at i past (opening i past) (λ h. unopened i (returns i) (returns_opened i) past kept.sound h)
   closed_is _ = refl
 
-  given_known : (e : Event) (i : Id) → given_by (question_at questions) i e ≡ gives_back i past e
-  given_known e i = ap (λ ids. count_by (same_id i) ids + lets_go i e) (closed_is e) ∙ sym (gives_parts i past e)
+  given_known : (e : DecodedRecord) (i : TableKey) → given_by (question_at questions) i e ≡ gives_back i past e
+  given_known e i = ap (λ ids. count_by (same_id i) ids + count_released i e) (closed_is e) ∙ sym (gives_parts i past e)
 
-  pub gives_decided : (e : Event) (b : Bool) → Decides b ((i : Id) → given_by (question_at questions) i e ≤ count_at lives i) → Decides b (GivesBackHeld past e)
+  pub gives_decided : (e : DecodedRecord) (b : Bool) → Decides b ((i : TableKey) → given_by (question_at questions) i e ≤ count_at lives i) → Decides b (GivesBackHeld past e)
   gives_decided e b decides = (
     λ good i. (let all = decides.0 good i in let same = given_known e i in let count = kept.tabled.tabled.counted i in omega (arith, all, same, count)),
     λ held_so. decides.1 (λ i. let one = held_so i in let same = given_known e i in let count = kept.tabled.tabled.counted i in omega (arith, one, same, count)),

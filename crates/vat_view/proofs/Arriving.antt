@@ -5,17 +5,17 @@ use Rattle.std.specs.List.{zip, cons_option}
 use Rattle.std.specs.Option.{option_or, option_to_list}
 use Rattle.std.proofs.lemmas.List.Sums.{sum_by-cons}
 use Rattle.std.proofs.lemmas.Bool.{and_parts, cases_Bool, false≢true, not-true, eqb-true, or_parts}
-use Rattle.vat_view.specs.declared.question.Question.{Question}
-use Rattle.vat_view.specs.declared.questions.Questions.{Questions}
-use Rattle.vat_view.specs.declared.lives.Lives.{Lives}
-use Rattle.vat_view.specs.declared.begun.Begun.{Begun}
-use Rattle.vat_view.specs.declared.bound.Bound.{Bound}
-use Rattle.vat_view.specs.Types.{Descriptor, NoCap, SenderHosted, SenderPromise, ReceiverHosted, ReceiverAnswer, RpcMessage, Event, Host, Vow, Field, Wire, View, Object, Promise, FieldOf, Id}
+use Rattle.vat_view.specs.declared.tables.question.Question.{Question}
+use Rattle.vat_view.specs.declared.tables.questions.Questions.{Questions}
+use Rattle.vat_view.specs.declared.tables.exports_imports.ExportsImports.{ExportsImports}
+use Rattle.vat_view.specs.declared.record.introduced.Introduced.{Introduced}
+use Rattle.vat_view.specs.declared.tables.references.BoundReferences.{BoundReferences}
+use Rattle.vat_view.specs.Types.{Descriptor, NoCap, SenderHosted, SenderPromise, ReceiverHosted, ReceiverAnswer, RpcMessage, DecodedRecord, Host, Vow, Field, Wire, View, Object, Promise, FieldOf, TableKey}
 use Rattle.vat_view.specs.Past.{Past}
 use Rattle.vat_view.specs.Lives.{descriptors}
-use Rattle.vat_view.specs.Views.{view_of_reference, described, described_at, places_from, noted}
+use Rattle.vat_view.specs.Views.{view_of_reference, descriptor_view, described_at, places_from, placed_references}
 use Rattle.vat_view.specs.Bindings.{Refers, contains, is_distinct, is_bound, new_references}
-use Rattle.vat_view.specs.Tables.{question_at, is_cap, bound_at, bound_by, origins, AreBegun, view_by, reference_by, bound_one, bound_from, bindings, IsTabled, AreBound}
+use Rattle.vat_view.specs.Glue.Tables.{question_at, is_cap, bound_at, bound_by, origins, AreBegun, view_by, reference_by, bound_one, bound_from, bindings, IsTabled, AreBound}
 use Rattle.vat_view.proofs.Originating.{get_drop, cons_append}
 use Rattle.vat_view.proofs.Lasting.{view_bound, all_not}
 use Rattle.vat_view.proofs.Binding.{bound_apart}
@@ -183,17 +183,17 @@ module _ (f : Descriptor → Option View) where
         alone (Some x) = refl
     bound_one_more (x ∷ ds) b d =
         let counted = sum_by-cons (λ d. cond (is_cap d) 1 0) x ds in
-        let noted : b + cond (is_cap x) 1 0 + count_by is_cap ds ≡ b + count_by is_cap (x ∷ ds) = omega (arith, counted) in
+        let placed_references : b + cond (is_cap x) 1 0 + count_by is_cap ds ≡ b + count_by is_cap (x ∷ ds) = omega (arith, counted) in
         ap (λ xs. cons_option (bound_one f x (reference_by rs b x)) xs)
-        (bound_one_more ds (b + (if is_cap x then 1 else 0)) d ∙ ap (λ z. bound_from f rs (b + (if is_cap x then 1 else 0)) ds ++ option_to_list (bound_one f d (reference_by rs z d))) noted)
+        (bound_one_more ds (b + (if is_cap x then 1 else 0)) d ∙ ap (λ z. bound_from f rs (b + (if is_cap x then 1 else 0)) ds ++ option_to_list (bound_one f d (reference_by rs z d))) placed_references)
         ∙ cons_append (bound_one f x (reference_by rs b x)) (bound_from f rs (b + (if is_cap x then 1 else 0)) ds) (option_to_list (bound_one f d (reference_by rs (b + count_by is_cap (x ∷ ds)) d)))
 
 -- ---- what a record binds
 
-module _ (before : Past) (questions : Questions) (lives : Lives) (begun : Begun) (bound : Bound) (tabled : IsTabled before questions lives) (bounds : AreBound before bound) where
+module _ (before : Past) (questions : Questions) (lives : ExportsImports) (begun : Introduced) (bound : BoundReferences) (tabled : IsTabled before questions lives) (bounds : AreBound before bound) where
   module _ (k c : ℕ) (rs : List ℕ) (m : RpcMessage) (starts : AreBegun (origins before (Wire false k c rs m)) begun) where
     at_known : (o : Option Descriptor) → option_and_then (view_by (bound_at bound) lives begun (question_at questions) (Wire false k c rs m)) o
-        ≡ option_and_then (described (view_of_reference before) before (Wire false k c rs m)) o
+        ≡ option_and_then (descriptor_view (view_of_reference before) before (Wire false k c rs m)) o
     at_known (Some d) = described_known before questions lives bound tabled bounds begun (Wire false k c rs m) starts d
     at_known None = refl
 
@@ -206,12 +206,12 @@ module _ (before : Past) (questions : Questions) (lives : Lives) (begun : Begun)
     wire_bound : is_distinct rs ≡ true → (q : ℕ) →
         bound_by q (bindings (bound_at bound) lives begun (question_at questions) (Wire false k c rs m)) (view_of_reference before q) ≡ view_of_reference (Wire false k c rs m ∷ before) q
     wire_bound distinct q =
-        let e : Event = Wire false k c rs m in
+        let e : DecodedRecord = Wire false k c rs m in
         bound_found (view_by (bound_at bound) lives begun (question_at questions) e) rs q (view_of_reference before q) (λ j. slice_get (descriptors e) j) (descriptors e) 0 0
         (λ j. ap (λ x. slice_get (descriptors e) x) (zero-add j)) distinct
-        ∙ ap (λ o. option_or o (view_of_reference before q)) (found_known (find (λ n. n.0 == q) (noted e)))
+        ∙ ap (λ o. option_or o (view_of_reference before q)) (found_known (find (λ n. n.0 == q) (placed_references e)))
 
-  pub all_bound : (e : Event) → AreBegun (origins before e) begun → is_distinct (new_references e) ≡ true → (q : ℕ) →
+  pub all_bound : (e : DecodedRecord) → AreBegun (origins before e) begun → is_distinct (new_references e) ≡ true → (q : ℕ) →
       bound_by q (bindings (bound_at bound) lives begun (question_at questions) e) (view_of_reference before q) ≡ view_of_reference (e ∷ before) q
   all_bound (Host r object) starts distinct q = one_bound q r (Object object) (view_of_reference before q)
   all_bound (Vow r) starts distinct q = one_bound q r (Promise r) (view_of_reference before q)
@@ -222,7 +222,7 @@ module _ (before : Past) (questions : Questions) (lives : Lives) (begun : Begun)
 
 -- ---- references that a record binds are new
 
-pub keys_new : (named : ℕ → Option View) (lives : Lives) (begun : Begun) (known : Id → Option Question) (e : Event) (q : ℕ) → contains q (new_references e) ≡ false →
+pub keys_new : (named : ℕ → Option View) (lives : ExportsImports) (begun : Introduced) (known : TableKey → Option Question) (e : DecodedRecord) (q : ℕ) → contains q (new_references e) ≡ false →
     contains q (map (λ x. x.0) (bindings named lives begun known e)) ≡ false
 keys_new named lives begun known (Host r object) q h = h
 keys_new named lives begun known (Vow r) q h = h
@@ -235,7 +235,7 @@ append_nothing : {A : Type 0} (xs : List A) → xs ++ [] ≡ xs
 append_nothing [] = refl
 append_nothing (x ∷ xs) = ap (λ l. x ∷ l) (append_nothing xs)
 
-pub bindings_apart : (named : ℕ → Option View) (lives : Lives) (begun : Begun) (known : Id → Option Question) (e : Event) (q : ℕ) (v : Option View) → contains q (new_references e) ≡ false →
+pub bindings_apart : (named : ℕ → Option View) (lives : ExportsImports) (begun : Introduced) (known : TableKey → Option Question) (e : DecodedRecord) (q : ℕ) (v : Option View) → contains q (new_references e) ≡ false →
     bound_by q (bindings named lives begun known e) v ≡ v
 bindings_apart named lives begun known e q v h =
     bound_apart q (bindings named lives begun known e) [] v
@@ -246,7 +246,7 @@ no_view past q None e h = refl
 no_view past q (Some v) e h = absurd (false≢true (sym h ∙ view_bound past q v e))
 
 -- what was bound is unbound again
-pub restored : (before : Past) (e : Event) → Refers before e → (q : ℕ) (o : Option View) → (contains q (new_references e) ≡ false → o ≡ view_of_reference before q) →
+pub restored : (before : Past) (e : DecodedRecord) → Refers before e → (q : ℕ) (o : Option View) → (contains q (new_references e) ≡ false → o ≡ view_of_reference before q) →
     (if contains q (new_references e) then None else o) ≡ view_of_reference before q
 restored before e refers q o same = elim (cases_Bool (contains q (new_references e))) [
   | inl new ↦ ap (λ b. if b then None else o) new

@@ -4,9 +4,9 @@ use Rattle.std.specs.Prelude.{Result, Ok, Err, OnErr}
 use Rattle.std.proofs.lemmas.Bool.{or_parts}
 use Rattle.vat_view.specs.Types.{View}
 use Rattle.vat_view.specs.Bindings.{contains}
-use Rattle.vat_view.specs.Tables.{bound_by}
-use Rattle.vat_view.specs.TurnTables.{IsOwnOrOld}
-use Rattle.vat_view.specs.declared.bound.Bound.{Bound}
+use Rattle.vat_view.specs.Glue.Tables.{bound_by}
+use Rattle.vat_view.specs.Glue.TurnTables.{IsOwnOrOld}
+use Rattle.vat_view.specs.declared.tables.references.BoundReferences.{BoundReferences}
 
 pub bound_more : (q : ℕ) (xs : List (ℕ × View)) (x : ℕ × View) (v : Option View) → bound_by q (xs ++ x ∷ []) v ≡ (if x.0 == q then Some x.1 else bound_by q xs v)
 bound_more q [] x v = refl
@@ -34,10 +34,10 @@ any_err (Err e) p = p
 
 -- ---- references ahead, where bindings change in turn
 
-pub none_ahead : (table : Bound) → IsOwnOrOld table table
+pub none_ahead : (table : BoundReferences) → IsOwnOrOld table table
 none_ahead table r q e = inl e
 
-pub then_ahead : (a b c : Bound) → IsOwnOrOld a b → IsOwnOrOld b c → IsOwnOrOld a c
+pub then_ahead : (a b c : BoundReferences) → IsOwnOrOld a b → IsOwnOrOld b c → IsOwnOrOld a c
 then_ahead a b c first second r q e = elim (second r q e) [
   | inl old ↦ first r q old
   | inr own ↦ inr own

@@ -3,15 +3,15 @@ use Rattle.std.proofs.Common.{◌≡◌, refl, sym, ◌∙◌, ap, ap₂, subst,
 use Rattle.std.specs.Prelude.{◌||◌, is_some, reverse}
 use Rattle.std.specs.Option.{option_or}
 use Rattle.std.proofs.lemmas.List.{reverse-append}
-use Rattle.vat_view.specs.declared.connections.Connections.{Connections}
-use Rattle.vat_view.specs.Types.{Bootstrap, Call, Event, Wire}
+use Rattle.vat_view.specs.declared.tables.connections.Connections.{Connections}
+use Rattle.vat_view.specs.Types.{Bootstrap, Call, DecodedRecord, Wire}
 use Rattle.vat_view.specs.Past.{Past, Point, point, is}
 use Rattle.vat_view.specs.Connections.{aborted_by, aborts, asks}
-use Rattle.vat_view.specs.ConnectionTables.{asking, on_for, asked_at, aborted_at, AreConnected}
+use Rattle.vat_view.specs.Glue.ConnectionTables.{call_sent_on, on_for, asked_at, aborted_at, AreConnected}
 
 -- ---- one record
 
-asking_known : (c : ℕ) (e : Event) → on_for c (asking e) ≡ asks c e
+asking_known : (c : ℕ) (e : DecodedRecord) → on_for c (call_sent_on e) ≡ asks c e
 asking_known c (Wire true k d rs (Bootstrap q)) = refl
 asking_known c (Wire true k d rs (Call q target interface method params)) = refl
 asking_known c _ = refl
@@ -27,7 +27,7 @@ pub connected_same : (past : Past) (table other : Connections) → ((c : ℕ) �
     AreConnected past table → AreConnected past other
 connected_same past table other asked aborted kept = record { asked = λ c. asked c ∙ kept.asked c; aborted = λ k. aborted k ∙ kept.aborted k }
 
-pub connected_more : (before : Past) (e : Event) (table other : Connections) → ((c : ℕ) → asked_at other c ≡ option_or (on_for c (asking e)) (asked_at table c)) →
+pub connected_more : (before : Past) (e : DecodedRecord) (table other : Connections) → ((c : ℕ) → asked_at other c ≡ option_or (on_for c (call_sent_on e)) (asked_at table c)) →
     ((k : ℕ) → aborted_at other k ≡ (is k (aborted_by e) || aborted_at table k)) → AreConnected before table → AreConnected (e ∷ before) other
 connected_more before e table other asked aborted kept = record {
   asked = λ c. asked c ∙ ap₂ (λ x y. option_or x y) (asking_known c e) (kept.asked c);
@@ -36,14 +36,14 @@ connected_more before e table other asked aborted kept = record {
 
 -- ---- the state, whose records stand with the oldest first
 
-pub connected_refused : (items other : List Event) (table room : Connections) → other ≡ items → ((c : ℕ) → asked_at room c ≡ asked_at table c) →
+pub connected_refused : (items other : List DecodedRecord) (table room : Connections) → other ≡ items → ((c : ℕ) → asked_at room c ≡ asked_at table c) →
     ((k : ℕ) → aborted_at room k ≡ aborted_at table k) → AreConnected (reverse items) table → AreConnected (reverse other) room
 connected_refused items other table room same asked aborted kept =
     connected_same (reverse other) table room asked aborted (subst (λ l. AreConnected (reverse l) table) (sym same) kept)
 
-pub connected_applied : (items other pushed : List Event) (e : Event) (table room more : Connections) → other ≡ items → pushed ≡ other ++ e ∷ [] →
+pub connected_applied : (items other pushed : List DecodedRecord) (e : DecodedRecord) (table room more : Connections) → other ≡ items → pushed ≡ other ++ e ∷ [] →
     ((c : ℕ) → asked_at room c ≡ asked_at table c) → ((k : ℕ) → aborted_at room k ≡ aborted_at table k) →
-    ((c : ℕ) → asked_at more c ≡ option_or (on_for c (asking e)) (asked_at room c)) → ((k : ℕ) → aborted_at more k ≡ (is k (aborted_by e) || aborted_at room k)) →
+    ((c : ℕ) → asked_at more c ≡ option_or (on_for c (call_sent_on e)) (asked_at room c)) → ((k : ℕ) → aborted_at more k ≡ (is k (aborted_by e) || aborted_at room k)) →
     AreConnected (reverse items) table → AreConnected (reverse pushed) more
 connected_applied items other pushed e table room more same is_pushed asked aborted more_asked more_aborted kept =
     subst (λ l. AreConnected l more) (sym (ap (λ l. reverse l) (is_pushed ∙ ap (λ l. l ++ e ∷ []) same) ∙ reverse-append items (e ∷ [])))

@@ -6,7 +6,7 @@ use Rattle.std.proofs.lemmas.Bool.{false≢true, eqb-true, eq-eqb}
 use Rattle.std.proofs.lemmas.Bool.Decides.{eqb_tells}
 use Rattle.std.proofs.lemmas.List.{take-append-drop}
 use Rattle.std.proofs.lemmas.List.Folds.{list_any-append}
-use Rattle.vat_view.specs.Types.{Event}
+use Rattle.vat_view.specs.Types.{DecodedRecord}
 use Rattle.vat_view.specs.Past.{Past}
 use Rattle.vat_view.specs.Bindings.{Refers, contains, is_bound, is_bound_call, is_distinct, new_references, new_calls, named_references, named_calls, notes_call}
 
@@ -86,7 +86,7 @@ distinct_none xs k x more has_x =
     ap is_distinct (sym (take-append-drop (k + 1) xs) ∙ ap (λ l. l ++ drop (k + 1) xs) more) ∙ distinct_not x (take k xs) (drop (k + 1) xs) has_x
 
 -- REF from its parts
-pub refers_from : (before : Past) (e : Event) (distinct unused unused_call bound bound_call noted first second all : Bool) →
+pub refers_from : (before : Past) (e : DecodedRecord) (distinct unused unused_call bound bound_call noted first second all : Bool) →
     distinct ≡ is_distinct (new_references e) → unused ≡ list_all (λ r. not (is_bound before r)) (new_references e) →
     unused_call ≡ list_all (λ c. not (is_bound_call before c)) (new_calls e) → bound ≡ list_all (is_bound before) (named_references e) →
     bound_call ≡ list_all (is_bound_call before) (named_calls e) → noted ≡ notes_call e →

@@ -2,15 +2,15 @@
 use Rattle.std.proofs.Common.{◌≡◌, ◌↔◌, ◌≤◌, refl, sym, ◌∙◌, ap, ℕ, suc, List, Bool, false, Option, Some, None, if◌then◌else◌, option_map, option_and_then, IsTrue, MatchOption, arith}
 use Rattle.std.specs.Prelude.{is_none, reverse}
 use Rattle.std.proofs.lemmas.Bool.{false≢true}
-use Rattle.vat_view.specs.declared.turns.Turns.{Turns}
-use Rattle.vat_view.specs.declared.questions.Questions.{Questions}
-use Rattle.vat_view.specs.declared.lives.Lives.{Lives}
-use Rattle.vat_view.specs.declared.bound.Bound.{Bound}
-use Rattle.vat_view.specs.Types.{Event, View}
+use Rattle.vat_view.specs.declared.tables.settlements.Settlements.{Settlements}
+use Rattle.vat_view.specs.declared.tables.questions.Questions.{Questions}
+use Rattle.vat_view.specs.declared.tables.exports_imports.ExportsImports.{ExportsImports}
+use Rattle.vat_view.specs.declared.tables.references.BoundReferences.{BoundReferences}
+use Rattle.vat_view.specs.Types.{DecodedRecord, View}
 use Rattle.vat_view.specs.Past.{Past}
 use Rattle.vat_view.specs.Walks.{Next, stays, on_to, next, Leads, LeadsByTurns, IsEnd}
-use Rattle.vat_view.specs.Tables.{bound_at, AreTabled}
-use Rattle.vat_view.specs.TurnTables.{path_of, goes, landing, AreSettled, settler_by, goes_by, turned_to, turn_by, bound_len, reached, Reaches, ReachesByTurns, EndsBy}
+use Rattle.vat_view.specs.Glue.Tables.{bound_at, AreTabled}
+use Rattle.vat_view.specs.Glue.TurnTables.{field_path, goes, turn_target, AreSettled, settler_by, goes_by, turned_to, turn_by, bound_len, after_turns, Reaches, ReachesByTurns, EndsBy}
 use Rattle.vat_view.proofs.Walking.{some_same, none_some, reached_none, reached_more, reached_same, one_last, endless, step, leads_reach, reached_leads, by_turns_reach, reached_by_turns}
 use Rattle.vat_view.proofs.Settled.{few, place_of, view_there, goes_known}
 
@@ -18,14 +18,14 @@ use Rattle.vat_view.proofs.Settled.{few, place_of, view_there, goes_known}
 
 pub by_turns_some : (f : View → Option View) (a b c : View) (r : Bool) → Some b ≡ f a → (IsTrue r ↔ Reaches f b c) → IsTrue r ↔ ReachesByTurns f a c
 by_turns_some f a b c r e h = (
-  (λ x. let l = h.0 x in (l.0, ap (λ o. reached f l.0 o) (sym e) ∙ l.1)),
-  λ l. h.1 (l.0, ap (λ o. reached f l.0 o) e ∙ l.1),
+  (λ x. let l = h.0 x in (l.0, ap (λ o. after_turns f l.0 o) (sym e) ∙ l.1)),
+  λ l. h.1 (l.0, ap (λ o. after_turns f l.0 o) e ∙ l.1),
 )
 
 pub by_turns_none : (f : View → Option View) (a c : View) → None ≡ f a → IsTrue false ↔ ReachesByTurns f a c
 by_turns_none f a c e = (
   (λ h. absurd (false≢true h)),
-  λ l. absurd (none_some c (sym (reached_none f l.0) ∙ ap (λ o. reached f l.0 o) e ∙ l.1)),
+  λ l. absurd (none_some c (sym (reached_none f l.0) ∙ ap (λ o. after_turns f l.0 o) e ∙ l.1)),
 )
 
 -- ---- ends
@@ -34,7 +34,7 @@ on_to_moves : (o : Option View) → on_to o ≡ stays → ⊥
 on_to_moves (Some v) e = let no : ⊥ = cc in no
 on_to_moves None e = let no : ⊥ = cc in no
 
-module _ {R : Type 0} (now : R → View) (events : List Event) (table : Turns) (bound : Bound) where
+module _ {R : Type 0} (now : R → View) (events : List DecodedRecord) (table : Settlements) (bound : BoundReferences) where
   abbrev goings : View → Next
   goings v = goes_by events table (bound_at bound) v
 
@@ -42,25 +42,25 @@ module _ {R : Type 0} (now : R → View) (events : List Event) (table : Turns) (
   turnings v = turn_by events table (bound_at bound) v
 
   -- a view that turns no more is the end where nothing settled it, and else there is none
-  pub ends_at : (a v : View) (t : ℕ) (o : Option R) → reached turnings t (Some a) ≡ Some v → None ≡ turnings v →
+  pub ends_at : (a v : View) (t : ℕ) (o : Option R) → after_turns turnings t (Some a) ≡ Some v → None ≡ turnings v →
       option_map now o ≡ (if is_none (settler_by table events v) then Some v else None) → MatchOption o ((w : View) → EndsBy goings a w → ⊥) (λ r. EndsBy goings a (now r))
   ends_at a v t (Some r) there none rests = inner (settler_by table events v) refl rests
     where
-      inner : (s : Option Event) → settler_by table events v ≡ s → Some (now r) ≡ (if is_none s then Some v else None) → EndsBy goings a (now r)
+      inner : (s : Option DecodedRecord) → settler_by table events v ≡ s → Some (now r) ≡ (if is_none s then Some v else None) → EndsBy goings a (now r)
       inner None settled same =
           let it = some_same (now r) v same in
-          ((t, there ∙ ap (λ x. Some x) (sym it)), ap (λ x. goings x) it ∙ ap (λ s. goes (bound_at bound) (path_of v) s) settled)
+          ((t, there ∙ ap (λ x. Some x) (sym it)), ap (λ x. goings x) it ∙ ap (λ s. goes (bound_at bound) (field_path v) s) settled)
       inner (Some e) settled same = absurd (none_some (now r) (sym same))
   ends_at a v t None there none rests = λ w ends. inner w ends (settler_by table events v) refl rests
     where
-      inner : (w : View) → EndsBy goings a w → (s : Option Event) → settler_by table events v ≡ s → None ≡ (if is_none s then Some v else None) → ⊥
+      inner : (w : View) → EndsBy goings a w → (s : Option DecodedRecord) → settler_by table events v ≡ s → None ≡ (if is_none s then Some v else None) → ⊥
       inner w ends None settled same = none_some v same
       inner w ends (Some e) settled same =
           let it = one_last turnings a v w t ends.0.0 there (sym none) ends.0.1 (ap (λ x. turned_to x) ends.1) in
-          on_to_moves (option_and_then (bound_at bound) (landing (path_of v) e)) (sym (ap (λ s. goes (bound_at bound) (path_of v) s) settled) ∙ ap (λ x. goings x) it ∙ ends.1)
+          on_to_moves (option_and_then (bound_at bound) (turn_target (field_path v) e)) (sym (ap (λ s. goes (bound_at bound) (field_path v) s) settled) ∙ ap (λ x. goings x) it ∙ ends.1)
 
   -- a walk that goes on after as many turns as references are bound has no end
-  pub goes_for_ever : (a v u : View) (t : ℕ) → bound_len bound ≤ t → reached turnings t (Some a) ≡ Some v → Some u ≡ turnings v → (w : View) → EndsBy goings a w → ⊥
+  pub goes_for_ever : (a v u : View) (t : ℕ) → bound_len bound ≤ t → after_turns turnings t (Some a) ≡ Some v → Some u ≡ turnings v → (w : View) → EndsBy goings a w → ⊥
   goes_for_ever a v u t long there on w ends =
       endless turnings (place_of events table bound) (view_there bound.entries) (bound_len bound) (few events table bound) a u w (suc t) (omega (arith, long))
       (reached_more turnings t (Some a) ∙ ap (λ o. option_and_then turnings o) there ∙ sym on) ends.0.0 ends.0.1 (ap (λ x. turned_to x) ends.1)
@@ -80,8 +80,8 @@ module _ (going : View → Next) (past : Past) (same : (v : View) → going v �
     λ x. let l = leads_reach past a b x in h.1 (l.0, reached_same by_table (step past) same_step l.0 (Some a) ∙ l.1),
   )
 
-  turned_same : (n : ℕ) (a : View) → reached by_table n (by_table a) ≡ reached (step past) n (step past a)
-  turned_same n a = reached_same by_table (step past) same_step n (by_table a) ∙ ap (λ o. reached (step past) n o) (same_step a)
+  turned_same : (n : ℕ) (a : View) → after_turns by_table n (by_table a) ≡ after_turns (step past) n (step past a)
+  turned_same n a = reached_same by_table (step past) same_step n (by_table a) ∙ ap (λ o. after_turns (step past) n o) (same_step a)
 
   pub by_turns_known : (a b : View) (r : Bool) → (IsTrue r ↔ ReachesByTurns by_table a b) → IsTrue r ↔ LeadsByTurns past a b
   by_turns_known a b r h = (
@@ -104,22 +104,22 @@ module _ (going : View → Next) (past : Past) (same : (v : View) → going v �
   end_known now a None h = λ w e. h w (by_end a w e)
 
 -- a view that no record settled stays, and no other
-pub stays_known : (going : View → Next) (past : Past) → ((v : View) → going v ≡ next past v) → (events : List Event) (table : Turns) (named : ℕ → Option View) →
+pub stays_known : (going : View → Next) (past : Past) → ((v : View) → going v ≡ next past v) → (events : List DecodedRecord) (table : Settlements) (named : ℕ → Option View) →
     ((v : View) → going v ≡ goes_by events table named v) → (v : View) (r : Bool) → r ≡ is_none (settler_by table events v) → IsTrue r ↔ (next past v ≡ stays)
 stays_known going past same events table named is_going v r rests = inner (settler_by table events v) refl
   where
     now : next past v ≡ goes_by events table named v
     now = sym (same v) ∙ is_going v
 
-    inner : (s : Option Event) → settler_by table events v ≡ s → IsTrue r ↔ (next past v ≡ stays)
-    inner None settled = ((λ h. now ∙ ap (λ s. goes named (path_of v) s) settled), λ h. rests ∙ ap (λ s. is_none s) settled)
+    inner : (s : Option DecodedRecord) → settler_by table events v ≡ s → IsTrue r ↔ (next past v ≡ stays)
+    inner None settled = ((λ h. now ∙ ap (λ s. goes named (field_path v) s) settled), λ h. rests ∙ ap (λ s. is_none s) settled)
     inner (Some e) settled = (
       (λ h. absurd (false≢true (sym (rests ∙ ap (λ s. is_none s) settled) ∙ h))),
-      λ h. absurd (on_to_moves (option_and_then named (landing (path_of v) e)) (sym (now ∙ ap (λ s. goes named (path_of v) s) settled) ∙ h)),
+      λ h. absurd (on_to_moves (option_and_then named (turn_target (field_path v) e)) (sym (now ∙ ap (λ s. goes named (field_path v) s) settled) ∙ h)),
     )
 
 -- where views go by a state is where they go by the records that were applied
-pub goes_so : (items given : List Event) (past : Past) (questions : Questions) (lives : Lives) (bound : Bound) (table : Turns) → reverse items ≡ past → given ≡ items →
+pub goes_so : (items given : List DecodedRecord) (past : Past) (questions : Questions) (lives : ExportsImports) (bound : BoundReferences) (table : Settlements) → reverse items ≡ past → given ≡ items →
     AreTabled (reverse items) questions lives bound → AreSettled (reverse items) table → (v : View) → goes_by given table (bound_at bound) v ≡ next past v
 goes_so items given past questions lives bound table view_is same tabled kept v =
     ap (λ l. goes_by l table (bound_at bound) v) same ∙ goes_known items table kept bound tabled.bounds v ∙ ap (λ p. next p v) view_is

@@ -7,16 +7,16 @@ use Rattle.std.specs.BTreeMap.Range.{range_contains}
 use Rattle.std.proofs.lemmas.Bool.{and_parts, false≢true, eqb-true, eq-eqb, lt-ltb, ltb-true}
 use Rattle.std.proofs.lemmas.Slice.Eq.{bytes_eq-Decides}
 use Rattle.std.proofs.lemmas.List.Folds.{Any-from_list_any}
-use Rattle.vat_view.specs.declared.calls.Calls.{Calls}
-use Rattle.vat_view.specs.declared.heading.Heading.{Heading}
-use Rattle.vat_view.specs.declared.queued.Queued.{Queued}
-use Rattle.vat_view.specs.declared.inbox.Receipt.{Receipt}
-use Rattle.vat_view.specs.declared.inbox.Inbox.{Inbox}
-use Rattle.vat_view.specs.declared.loopbacks.Unechoed.{Unechoed}
+use Rattle.vat_view.specs.declared.tables.calls.Calls.{Calls}
+use Rattle.vat_view.specs.declared.tables.goal_key.GoalKey.{GoalKey}
+use Rattle.vat_view.specs.declared.tables.queued_call.QueuedCall.{QueuedCall}
+use Rattle.vat_view.specs.declared.tables.waiting_calls.Receipt.{Receipt}
+use Rattle.vat_view.specs.declared.tables.waiting_calls.WaitingCalls.{WaitingCalls}
+use Rattle.vat_view.specs.declared.tables.loopbacks.Unechoed.{Unechoed}
 use Rattle.vat_view.specs.Types.{View, Object, Promise, FieldOf, Import}
-use Rattle.vat_view.specs.CallTables.{progress_at, goal_in}
-use Rattle.vat_view.specs.Queues.{heading_of, queued_at, queued_cmp, is_queued, from_first, up_to}
-use Rattle.vat_view.specs.LoopTables.{receipt_at, same_view, same_target, held_by, AreQueued, Holding}
+use Rattle.vat_view.specs.Glue.CallTables.{call_state_at, goal_in}
+use Rattle.vat_view.specs.Glue.Queues.{goal_key_of, queued_at, queued_cmp, is_queued, from_first, up_to}
+use Rattle.vat_view.specs.Glue.LoopTables.{receipt_at, same_view, same_target, held_by, AreQueued, Holding}
 use Rattle.vat_view.proofs.Queueing.{found_within, tied_within, tied_call}
 
 join : (a b : Bool) → a ≡ true → b ≡ true → (a && b) ≡ true
@@ -49,30 +49,30 @@ target_self None = refl
 
 -- ---- what holds an echo up
 
-module _ (table : Inbox) (calls : Calls) (k : ℕ) (looped : Unechoed) where
+module _ (table : WaitingCalls) (calls : Calls) (k : ℕ) (looped : Unechoed) where
   one_holds : (call : ℕ) (o : Option Receipt) → receipt_at table call ≡ o → held_by calls k looped call o ≡ true → Holding table calls k looped
   one_holds call (Some r) there h =
-      let both = and_parts ((r.connection == k) && nat_lt r.number looped.number) (same_target (goal_in (progress_at calls call)) looped.target) h in
+      let both = and_parts ((r.connection == k) && nat_lt r.number looped.number) (same_target (goal_in (call_state_at calls call)) looped.target) h in
       let first = and_parts (r.connection == k) (nat_lt r.number looped.number) both.0 in (
         call,
         r,
         there,
         eqb-true r.connection k first.0,
         ltb-true r.number looped.number first.1,
-        target_is (goal_in (progress_at calls call)) looped.target both.1,
+        target_is (goal_in (call_state_at calls call)) looped.target both.1,
       )
   one_holds call None there h = absurd (false≢true h)
 
-  held_so : (call : ℕ) (r : Receipt) → r.connection ≡ k → r.number < looped.number → goal_in (progress_at calls call) ≡ looped.target → held_by calls k looped call (Some r) ≡ true
+  held_so : (call : ℕ) (r : Receipt) → r.connection ≡ k → r.number < looped.number → goal_in (call_state_at calls call) ≡ looped.target → held_by calls k looped call (Some r) ≡ true
   held_so call r on early goal =
-      join ((r.connection == k) && nat_lt r.number looped.number) (same_target (goal_in (progress_at calls call)) looped.target)
+      join ((r.connection == k) && nat_lt r.number looped.number) (same_target (goal_in (call_state_at calls call)) looped.target)
       (join (r.connection == k) (nat_lt r.number looped.number) (eq-eqb r.connection k on) (lt-ltb r.number looped.number early))
       (subst (λ t. same_target t looped.target ≡ true) (sym goal) (target_self looped.target))
 
   abbrev is_held : ℕ → Bool
   is_held call = held_by calls k looped call (receipt_at table call)
 
-  abbrev is_before : Queued → Bool
+  abbrev is_before : QueuedCall → Bool
   is_before q = range_contains queued_cmp (from_first k looped.target) (up_to k looped.target looped.number) q
 
   -- each that holds is found
@@ -80,9 +80,9 @@ module _ (table : Inbox) (calls : Calls) (k : ℕ) (looped : Unechoed) where
   all_found queued holds =
       let call : ℕ = holds.0 in
       let r : Receipt = holds.1 in
-      let h : Heading = heading_of looped.target in
-      let q : Queued = record { connection = k; heading = h; number = r.number; call = call } in
-      let is : queued_at call r (goal_in (progress_at calls call)) ≡ q = ap₂ (λ x g. record { connection = x; heading = heading_of g; number = r.number; call = call }) holds.3 holds.5 in
+      let h : GoalKey = goal_key_of looped.target in
+      let q : QueuedCall = record { connection = k; heading = h; number = r.number; call = call } in
+      let is : queued_at call r (goal_in (call_state_at calls call)) ≡ q = ap₂ (λ x g. record { connection = x; heading = goal_key_of g; number = r.number; call = call }) holds.3 holds.5 in
       let there : is_queued table q ≡ true = subst (λ x. is_queued table x ≡ true) is (queued call r holds.2) in
       let held : is_held call ≡ true = ap (λ o. held_by calls k looped call o) holds.2 ∙ held_so call r holds.3 holds.4 holds.5 in
       found_within (is_at (queued_cmp q)) is_before (λ x. is_held x.call)

@@ -2,19 +2,19 @@
 use Rattle.std.proofs.Common.{◌≡◌, ◌⊎◌, ◌<◌, ◌≤◌, refl, sym, ◌∙◌, ap, subst, ℕ, zero, suc, ◌+◌, ◌-◌, inl, inr, List, Option, Some, None, option_map, option_and_then, arith}
 use Rattle.std.proofs.lemmas.Bool.{cases_lt}
 use Rattle.rising_table.specs.Entries.{entry_at}
-use Rattle.vat_view.specs.declared.turns.Turns.{Turns}
-use Rattle.vat_view.specs.declared.bound.Bound.{Bound}
-use Rattle.vat_view.specs.declared.bound.Binding.{Binding}
-use Rattle.vat_view.specs.declared.bound.Leap.{Leap}
-use Rattle.vat_view.specs.Types.{Event, View}
-use Rattle.vat_view.specs.Tables.{bound_at}
-use Rattle.vat_view.specs.TurnTables.{path_of, landed_by, settler_by, turns_of, reached, Reaches, TurnsAndThen, TurnsOn, ReachesByTurns, own_leap, ahead_in, ahead_at, onward_by, IsOwnOrOld, IsAhead, AreAhead, HaveAhead}
+use Rattle.vat_view.specs.declared.tables.settlements.Settlements.{Settlements}
+use Rattle.vat_view.specs.declared.tables.references.BoundReferences.{BoundReferences}
+use Rattle.vat_view.specs.declared.tables.references.Binding.{Binding}
+use Rattle.vat_view.specs.declared.tables.references.Shortcut.{Shortcut}
+use Rattle.vat_view.specs.Types.{DecodedRecord, View}
+use Rattle.vat_view.specs.Glue.Tables.{bound_at}
+use Rattle.vat_view.specs.Glue.TurnTables.{field_path, landed_by, settler_by, turns_of, after_turns, Reaches, TurnsAndThen, TurnsOn, ReachesByTurns, own_leap, ahead_in, ahead_at, onward_by, IsOwnOrOld, IsAhead, AreAhead, HaveAhead}
 use Rattle.vat_view.proofs.Walking.{cases_option, none_some, some_same, dead, reached_more, reached_at, reached_none}
 use Rattle.vat_view.proofs.Settled.{turn_landing}
 
 -- ---- what is bound has a reference ahead, and no other
 
-pub ahead_bound : (table : Bound) (r : ℕ) (q : Leap) → ahead_at table r ≡ Some q → (a : View) × (bound_at table r ≡ Some a)
+pub ahead_bound : (table : BoundReferences) (r : ℕ) (q : Shortcut) → ahead_at table r ≡ Some q → (a : View) × (bound_at table r ≡ Some a)
 ahead_bound table r q some = inner (entry_at table.entries r) some
   where
     inner : (o : Option Binding) → option_map (λ binding. ahead_in table.dropped r binding) o ≡ Some q → (a : View) × (option_map (λ binding. binding.view) o ≡ Some a)
@@ -22,33 +22,33 @@ ahead_bound table r q some = inner (entry_at table.entries r) some
     inner (Some b) e = (b.view, refl)
 
 -- a reference is ahead of itself
-pub own_ahead : (turn : View → Option View) (table : Bound) (r : ℕ) (q : Leap) → ahead_at table r ≡ Some q → q ≡ own_leap r → IsAhead turn table r q
+pub own_ahead : (turn : View → Option View) (table : BoundReferences) (r : ℕ) (q : Shortcut) → ahead_at table r ≡ Some q → q ≡ own_leap r → IsAhead turn table r q
 own_ahead turn table r q some own =
     let it = ahead_bound table r q some in
     let here : IsAhead turn table r (own_leap r) = (it.0, it.0, it.1, it.1, refl) in subst (λ l. IsAhead turn table r l) (sym own) here
 
-pub none_is_ahead : (turn : View → Option View) (table : Bound) → ((r : ℕ) → bound_at table r ≡ None) → AreAhead turn table
+pub none_is_ahead : (turn : View → Option View) (table : BoundReferences) → ((r : ℕ) → bound_at table r ≡ None) → AreAhead turn table
 none_is_ahead turn table empty r q some = let it = ahead_bound table r q some in absurd (none_some it.0 (sym (empty r) ∙ it.1))
 
 -- ---- turns and landings
 
-module _ (events : List Event) (table : Turns) (bound : Bound) where
+module _ (events : List DecodedRecord) (table : Settlements) (bound : BoundReferences) where
   abbrev turnings : View → Option View
   turnings v = turns_of events table bound v
 
   pub lands_turn : (v : View) → turnings v ≡ option_and_then (bound_at bound) (landed_by events table v)
-  lands_turn v = turn_landing (bound_at bound) (path_of v) (settler_by table events v)
+  lands_turn v = turn_landing (bound_at bound) (field_path v) (settler_by table events v)
 
 -- ---- walks that hop
 
 module _ {A : Type 0} (f : A → Option A) where
   -- a walk goes on from what it reached
   pub on_from : (a b c : A) → Reaches f a b → Reaches f b c → Reaches f a c
-  on_from a b c first second = (first.0 + second.0, reached_at f first.0 second.0 (first.0 + second.0) (Some a) refl ∙ ap (λ o. reached f second.0 o) first.1 ∙ second.1)
+  on_from a b c first second = (first.0 + second.0, reached_at f first.0 second.0 (first.0 + second.0) (Some a) refl ∙ ap (λ o. after_turns f second.0 o) first.1 ∙ second.1)
 
   -- a walk of so many turns or more reached this view, and on its way, or at last, the marked one
   abbrev pub Walked : ℕ → A → A → A → Type 0
-  Walked n a at mark = (m : ℕ) × (k : ℕ) × (n ≤ m) × (k ≤ m) × (reached f m (Some a) ≡ Some at) × (reached f k (Some a) ≡ Some mark)
+  Walked n a at mark = (m : ℕ) × (k : ℕ) × (n ≤ m) × (k ≤ m) × (after_turns f m (Some a) ≡ Some at) × (after_turns f k (Some a) ≡ Some mark)
 
   pub walked_none : (a : A) → Walked 0 a a a
   walked_none a = (0, 0, omega arith, omega arith, refl, refl)
@@ -59,7 +59,7 @@ module _ {A : Type 0} (f : A → Option A) where
     k,
     omega (arith, low),
     omega (arith, behind),
-    reached_at f m (suc hop.0) (m + suc hop.0) (Some a) refl ∙ ap (λ o. reached f (suc hop.0) o) there ∙ hop.1,
+    reached_at f m (suc hop.0) (m + suc hop.0) (Some a) refl ∙ ap (λ o. after_turns f (suc hop.0) o) there ∙ hop.1,
     marked,
   )
 
@@ -67,16 +67,16 @@ module _ {A : Type 0} (f : A → Option A) where
   walked_marked n a at mark (m, k, low, behind, there, marked) = (m, m, low, omega arith, there, there)
 
   -- a walk that comes back has no end
-  comes_back : (fuel : ℕ) (a v w : A) (k d n : ℕ) → n ≤ fuel → reached f k (Some a) ≡ Some v → reached f (k + suc d) (Some a) ≡ Some v →
-      reached f n (Some a) ≡ Some w → f w ≡ None → ⊥
+  comes_back : (fuel : ℕ) (a v w : A) (k d n : ℕ) → n ≤ fuel → after_turns f k (Some a) ≡ Some v → after_turns f (k + suc d) (Some a) ≡ Some v →
+      after_turns f n (Some a) ≡ Some w → f w ≡ None → ⊥
   comes_back zero a v w k d n small there again e last =
       dead f (k + suc d) n (Some a) v again (omega (arith, small)) (reached_more f n (Some a) ∙ ap (λ o. option_and_then f o) e ∙ last)
   comes_back (suc fuel) a v w k d n small there again e last = elim (cases_lt n (k + suc d)) [
     | inl lt ↦ dead f (k + suc d) n (Some a) v again lt (reached_more f n (Some a) ∙ ap (λ o. option_and_then f o) e ∙ last)
     | inr le ↦
         let rest : ℕ = n - (k + suc d) in
-        let less : reached f (k + rest) (Some a) ≡ Some w =
-        reached_at f k rest (k + rest) (Some a) refl ∙ ap (λ o. reached f rest o) (there ∙ sym again)
+        let less : after_turns f (k + rest) (Some a) ≡ Some w =
+        reached_at f k rest (k + rest) (Some a) refl ∙ ap (λ o. after_turns f rest o) (there ∙ sym again)
         ∙ sym (reached_at f (k + suc d) rest n (Some a) (omega (arith, le))) ∙ e in
         comes_back fuel a v w k d (k + rest) (omega (arith, small, le)) there again less last
   ]
@@ -84,11 +84,11 @@ module _ {A : Type 0} (f : A → Option A) where
   pub meets_mark : (n : ℕ) (a at mark b : A) → Walked n a at mark → ReachesByTurns f at b → b ≡ mark → (w : A) → Reaches f a w → f w ≡ None → ⊥
   meets_mark n a at mark b (m, k, low, behind, there, marked) hop same w ends last =
       comes_back ends.0 a mark w k (m - k + hop.0) ends.0 (omega arith) marked
-      (reached_at f m (suc hop.0) (k + suc (m - k + hop.0)) (Some a) (omega (arith, behind)) ∙ ap (λ o. reached f (suc hop.0) o) there ∙ hop.1 ∙ ap (λ x. Some x) same)
+      (reached_at f m (suc hop.0) (k + suc (m - k + hop.0)) (Some a) (omega (arith, behind)) ∙ ap (λ o. after_turns f (suc hop.0) o) there ∙ hop.1 ∙ ap (λ x. Some x) same)
       ends.1 last
 
 -- what is ahead of the landing of the one ahead is further ahead, by the turns to it, the one of the landing and its own
-pub further_ahead : (events : List Event) (table : Turns) (bound : Bound) → HaveAhead events table bound → (r next count : ℕ) (near far : Leap) →
+pub further_ahead : (events : List DecodedRecord) (table : Settlements) (bound : BoundReferences) → HaveAhead events table bound → (r next count : ℕ) (near far : Shortcut) →
     onward_by events table bound r ≡ Some next → ahead_at bound r ≡ Some near → ahead_at bound next ≡ Some far → count ≡ near.turns + far.turns + 1 →
     IsAhead (turns_of events table bound) bound r (record { to = far.to; turns = count })
 further_ahead events table bound ahead r next count near far lands is_near is_far sum =
@@ -103,15 +103,15 @@ further_ahead events table bound ahead r next count near far lands is_near is_fa
       second.1,
       first.2,
       second.3,
-      reached_at f near.turns (suc far.turns) count (Some first.0) (omega (arith, sum)) ∙ ap (λ o. reached f (suc far.turns) o) first.4
-          ∙ ap (λ o. reached f far.turns o) turn ∙ second.4,
+      reached_at f near.turns (suc far.turns) count (Some first.0) (omega (arith, sum)) ∙ ap (λ o. after_turns f (suc far.turns) o) first.4
+          ∙ ap (λ o. after_turns f far.turns o) turn ∙ second.4,
     )
 
 -- ---- counted walks
 
 module _ {A : Type 0} (f : A → Option A) where
   -- walks to where it turns no more make one number of turns
-  one_count : (a v w : A) (t n : ℕ) → reached f t (Some a) ≡ Some v → f v ≡ None → reached f n (Some a) ≡ Some w → f w ≡ None → t ≡ n
+  one_count : (a v w : A) (t n : ℕ) → after_turns f t (Some a) ≡ Some v → f v ≡ None → after_turns f n (Some a) ≡ Some w → f w ≡ None → t ≡ n
   one_count a v w t n there none e last = elim (cases_lt n t) [
     | inl lt ↦ absurd (dead f t n (Some a) v there lt (reached_more f n (Some a) ∙ ap (λ o. option_and_then f o) e ∙ last))
     | inr le ↦ elim (cases_lt t n) [
@@ -121,46 +121,46 @@ module _ {A : Type 0} (f : A → Option A) where
   ]
 
   -- a walk goes on by one turn and then so many
-  pub steps_on : (a at next : A) (made more total : ℕ) → reached f made (Some a) ≡ Some at → TurnsAndThen f at more next → total ≡ made + more + 1 → reached f total (Some a) ≡ Some next
+  pub steps_on : (a at next : A) (made more total : ℕ) → after_turns f made (Some a) ≡ Some at → TurnsAndThen f at more next → total ≡ made + more + 1 → after_turns f total (Some a) ≡ Some next
   steps_on a at next made more total there on sum =
-      reached_at f made (suc more) total (Some a) (omega (arith, sum)) ∙ ap (λ o. reached f (suc more) o) there ∙ on
+      reached_at f made (suc more) total (Some a) (omega (arith, sum)) ∙ ap (λ o. after_turns f (suc more) o) there ∙ on
 
   -- so many turns are left from there, where it goes on by some of them
-  pub steps_left : (at next : A) (more left rest : ℕ) → TurnsAndThen f at more next → rest + (more + 1) ≡ left → reached f left (Some at) ≡ reached f rest (Some next)
-  steps_left at next more left rest on sum = reached_at f (suc more) rest left (Some at) (omega (arith, sum)) ∙ ap (λ o. reached f rest o) on
+  pub steps_left : (at next : A) (more left rest : ℕ) → TurnsAndThen f at more next → rest + (more + 1) ≡ left → after_turns f left (Some at) ≡ after_turns f rest (Some next)
+  steps_left at next more left rest on sum = reached_at f (suc more) rest left (Some at) (omega (arith, sum)) ∙ ap (λ o. after_turns f rest o) on
 
   -- where turns are left and none is made, nothing is reached
-  pub no_step : (at : A) (left : ℕ) → 0 < left → f at ≡ None → reached f left (Some at) ≡ None
+  pub no_step : (at : A) (left : ℕ) → 0 < left → f at ≡ None → after_turns f left (Some at) ≡ None
   no_step at zero some none = absurd (let no : ⊥ = omega (arith, some) in no)
-  no_step at (suc n) some none = ap (λ o. reached f n o) none ∙ reached_none f n
+  no_step at (suc n) some none = ap (λ o. after_turns f n o) none ∙ reached_none f n
 
   -- a view that turns on further leads to none that makes more turns
   pub too_far : (a b last end : A) (most whole rest : ℕ) → TurnsOn f a most last whole → whole ≤ most → TurnsOn f b whole end rest → whole < rest → Reaches f a b → ⊥
   too_far a b last end most whole rest first fits second far l =
-      dead f (l.0 + rest) whole (Some a) end (reached_at f l.0 rest (l.0 + rest) (Some a) refl ∙ ap (λ o. reached f rest o) l.1 ∙ second.0) (omega (arith, far))
+      dead f (l.0 + rest) whole (Some a) end (reached_at f l.0 rest (l.0 + rest) (Some a) refl ∙ ap (λ o. after_turns f rest o) l.1 ∙ second.0) (omega (arith, far))
       (reached_more f whole (Some a) ∙ ap (λ o. option_and_then f o) first.0 ∙ first.1 fits)
 
   -- one that leads to another does so by the turns that it makes more
-  pub at_place : (a b last end : A) (most whole rest : ℕ) → TurnsOn f a most last whole → whole ≤ most → TurnsOn f b whole end rest → rest ≤ whole → Reaches f a b → reached f (whole - rest) (Some a) ≡ Some b
+  pub at_place : (a b last end : A) (most whole rest : ℕ) → TurnsOn f a most last whole → whole ≤ most → TurnsOn f b whole end rest → rest ≤ whole → Reaches f a b → after_turns f (whole - rest) (Some a) ≡ Some b
   at_place a b last end most whole rest first fits second near l =
       let count : l.0 + rest ≡ whole =
-      one_count a end last (l.0 + rest) whole (reached_at f l.0 rest (l.0 + rest) (Some a) refl ∙ ap (λ o. reached f rest o) l.1 ∙ second.0) (second.1 near) first.0 (first.1 fits) in
+      one_count a end last (l.0 + rest) whole (reached_at f l.0 rest (l.0 + rest) (Some a) refl ∙ ap (λ o. after_turns f rest o) l.1 ∙ second.0) (second.1 near) first.0 (first.1 fits) in
       let place : whole - rest ≡ l.0 = omega (arith, count) in rw place l.1
 
   -- one that leads to another that makes no turn ends there
   pub at_end : (a b last end : A) (most whole rest : ℕ) → TurnsOn f a most last whole → whole ≤ most → TurnsOn f b whole end rest → rest ≡ 0 → Reaches f a b → last ≡ b
   at_end a b last end most whole rest first fits second none l =
       some_same last b
-      (sym first.0 ∙ ap (λ n. reached f n (Some a)) (let same : whole ≡ whole - rest = omega (arith, none) in same)
+      (sym first.0 ∙ ap (λ n. after_turns f n (Some a)) (let same : whole ≡ whole - rest = omega (arith, none) in same)
       ∙ at_place a b last end most whole rest first fits second (omega (arith, none)) l)
 
 -- ---- references ahead, where what they lead to is kept
 
-more_reached : {A : Type 0} (f g : A → Option A) → ((v w : A) → f v ≡ Some w → g v ≡ Some w) → (n : ℕ) (a b : A) → reached f n (Some a) ≡ Some b → reached g n (Some a) ≡ Some b
+more_reached : {A : Type 0} (f g : A → Option A) → ((v w : A) → f v ≡ Some w → g v ≡ Some w) → (n : ℕ) (a b : A) → after_turns f n (Some a) ≡ Some b → after_turns g n (Some a) ≡ Some b
 more_reached f g more zero a b e = e
 more_reached f g more (suc n) a b e = elim (cases_option (f a)) [
-  | inl none ↦ absurd (none_some b (sym (reached_none f n) ∙ ap (λ o. reached f n o) (sym none) ∙ e))
-  | inr x ↦ ap (λ o. reached g n o) (more a x.0 x.1) ∙ more_reached f g more n x.0 b (ap (λ o. reached f n o) (sym x.1) ∙ e)
+  | inl none ↦ absurd (none_some b (sym (reached_none f n) ∙ ap (λ o. after_turns f n o) (sym none) ∙ e))
+  | inr x ↦ ap (λ o. after_turns g n o) (more a x.0 x.1) ∙ more_reached f g more n x.0 b (ap (λ o. after_turns f n o) (sym x.1) ∙ e)
 ]
 
 named_more : (named other : ℕ → Option View) → ((r : ℕ) (w : View) → named r ≡ Some w → other r ≡ Some w) → (o : Option ℕ) (w : View) →
@@ -169,7 +169,7 @@ named_more named other more (Some r) w e = more r w e
 named_more named other more None w e = absurd (none_some w e)
 
 -- where turns land as before, and bound references keep their views, views turn as before
-pub turns_more : (events after : List Event) (table other : Turns) (old new : Bound) → ((r : ℕ) (w : View) → bound_at old r ≡ Some w → bound_at new r ≡ Some w) →
+pub turns_more : (events after : List DecodedRecord) (table other : Settlements) (old new : BoundReferences) → ((r : ℕ) (w : View) → bound_at old r ≡ Some w → bound_at new r ≡ Some w) →
     ((v : View) (r : ℕ) → landed_by events table v ≡ Some r → landed_by after other v ≡ Some r) →
     (v w : View) → turns_of events table old v ≡ Some w → turns_of after other new v ≡ Some w
 turns_more events after table other old new named lands v w e = elim (cases_option (landed_by events table v)) [
@@ -179,9 +179,9 @@ turns_more events after table other old new named lands v w e = elim (cases_opti
       ∙ named r.0 w (ap (λ o. option_and_then (bound_at old) o) (sym r.1) ∙ sym (lands_turn events table old v) ∙ e)
 ]
 
-module _ (f g : View → Option View) (old new : Bound) (more : (v w : View) → f v ≡ Some w → g v ≡ Some w)
+module _ (f g : View → Option View) (old new : BoundReferences) (more : (v w : View) → f v ≡ Some w → g v ≡ Some w)
     (named : (r : ℕ) (w : View) → bound_at old r ≡ Some w → bound_at new r ≡ Some w) where
-  carried : (r : ℕ) (q : Leap) → IsAhead f old r q → IsAhead g new r q
+  carried : (r : ℕ) (q : Shortcut) → IsAhead f old r q → IsAhead g new r q
   carried r q it = (it.0, it.1, named r it.0 it.2, named q.to it.1 it.3, more_reached f g more q.turns it.0 it.1 it.4)
 
   pub ahead_carried : IsOwnOrOld old new → AreAhead f old → AreAhead g new
@@ -190,7 +190,7 @@ module _ (f g : View → Option View) (old new : Bound) (more : (v w : View) →
     | inr own ↦ own_ahead g new r q e own
   ]
 
-  pub ahead_remembered : (reference : ℕ) (far : Leap) → ((r : ℕ) (q : Leap) → ahead_at new r ≡ Some q → (ahead_at old r ≡ Some q) ⊎ ((r ≡ reference) × (q ≡ far))) → IsAhead f old reference far → AreAhead f old → AreAhead g new
+  pub ahead_remembered : (reference : ℕ) (far : Shortcut) → ((r : ℕ) (q : Shortcut) → ahead_at new r ≡ Some q → (ahead_at old r ≡ Some q) ⊎ ((r ≡ reference) × (q ≡ far))) → IsAhead f old reference far → AreAhead f old → AreAhead g new
   ahead_remembered reference far less it ahead r q e = elim (less r q e) [
     | inl was ↦ carried r q (ahead r q was)
     | inr same ↦ rw same.0 (rw same.1 (carried reference far it))

@@ -5,9 +5,9 @@ use Rattle.std.specs.declared.cmp.Ordering.TheVariants.{Less, Equal, Greater}
 use Rattle.std.specs.Ordering.{nat_cmp, bool_cmp, ordering_then, is_eq}
 use Rattle.std.specs.Cmp.{unsigned_ties}
 use Rattle.std.specs.Bool.{beq}
-use Rattle.vat_view.specs.Types.{Id}
+use Rattle.vat_view.specs.Types.{TableKey}
 use Rattle.vat_view.specs.Past.{same_id}
-use Rattle.vat_view.specs.Tables.{id_cmp}
+use Rattle.vat_view.specs.Glue.Tables.{id_cmp}
 use Rattle.vat_view.proofs.Naming.{same_id_is}
 
 then_eq : (a b : Ordering) → is_eq (ordering_then a b) ≡ (is_eq a && is_eq b)
@@ -25,12 +25,12 @@ and_assoc : (a b c : Bool) → (a && (b && c)) ≡ (a && b && c)
 and_assoc true b c = refl
 and_assoc false b c = refl
 
-pub found_same : (a b : Id) → is_eq (id_cmp a b) ≡ same_id a b
+pub found_same : (a b : TableKey) → is_eq (id_cmp a b) ≡ same_id a b
 found_same a b =
     then_eq (nat_cmp a.connection b.connection) (ordering_then (bool_cmp a.ours b.ours) (nat_cmp a.number b.number))
     ∙ ap₂ (λ x y. x && y) (sym (unsigned_ties a.connection b.connection))
     (then_eq (bool_cmp a.ours b.ours) (nat_cmp a.number b.number) ∙ ap₂ (λ x y. x && y) (bool_ties a.ours b.ours) (sym (unsigned_ties a.number b.number)))
     ∙ and_assoc (a.connection == b.connection) (beq a.ours b.ours) (a.number == b.number)
 
-pub found_is : (a b : Id) → is_eq (id_cmp a b) ≡ true → a ≡ b
+pub found_is : (a b : TableKey) → is_eq (id_cmp a b) ≡ true → a ≡ b
 found_is a b e = same_id_is a b (sym (found_same a b) ∙ e)

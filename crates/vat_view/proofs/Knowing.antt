@@ -2,16 +2,16 @@
 use Rattle.std.proofs.Common.{◌≡◌, refl, ◌∙◌, ap, true, not, Option, Some, None, option_map}
 use Rattle.std.specs.Prelude.{is_some}
 use Rattle.std.proofs.lemmas.Bool.{and_parts, false≢true}
-use Rattle.vat_view.specs.declared.question.Question.{Question}
-use Rattle.vat_view.specs.Types.{Return, Finish, Event, Wire, Id}
+use Rattle.vat_view.specs.declared.tables.question.Question.{Question}
+use Rattle.vat_view.specs.Types.{Return, Finish, DecodedRecord, Wire, TableKey}
 use Rattle.vat_view.specs.Past.{Past, Point, id}
 use Rattle.vat_view.specs.Questions.{noted_call, opening, return_of, is_opened, is_returned, is_finished, is_released, is_unfinished, is_late, closes}
 use Rattle.vat_view.specs.Lives.{introductions, introductions_at}
 use Rattle.vat_view.specs.Uses.{UsesQuestions}
-use Rattle.vat_view.specs.Tables.{question_known, released_in, asked_in, brought_in, late_by, closed_by}
+use Rattle.vat_view.specs.Glue.Tables.{question_known, results_released_in, params_introduced_in, results_introduced_in, late_by, given_back_by}
 
 -- what is known of a question at an opening
-abbrev pub known_from : Id → Past → Point → Question
+abbrev pub known_from : TableKey → Past → Point → Question
 known_from q past p = record {
   call = noted_call p.event;
   returned = is_returned q past;
@@ -21,27 +21,27 @@ known_from q past p = record {
   brought = introductions_at (return_of q past);
 }
 
-released_at : (q : Id) (past : Past) (o : Option Point) → is_some o ≡ true → released_in (option_map (known_from q past) o) ≡ is_released q past
+released_at : (q : TableKey) (past : Past) (o : Option Point) → is_some o ≡ true → results_released_in (option_map (known_from q past) o) ≡ is_released q past
 released_at q past (Some p) e = refl
 released_at q past None e = absurd (false≢true e)
 
-brought_at : (q : Id) (past : Past) (o : Option Point) → is_some o ≡ true → brought_in (option_map (known_from q past) o) ≡ introductions_at (return_of q past)
+brought_at : (q : TableKey) (past : Past) (o : Option Point) → is_some o ≡ true → results_introduced_in (option_map (known_from q past) o) ≡ introductions_at (return_of q past)
 brought_at q past (Some p) e = refl
 brought_at q past None e = absurd (false≢true e)
 
-pub asked_at : (q : Id) (past : Past) (o : Option Point) → asked_in (option_map (known_from q past) o) ≡ introductions_at o
+pub asked_at : (q : TableKey) (past : Past) (o : Option Point) → params_introduced_in (option_map (known_from q past) o) ≡ introductions_at o
 asked_at q past (Some p) = refl
 asked_at q past None = refl
 
-module _ (known : Id → Option Question) (before : Past) (same : (q : Id) → known q ≡ question_known q before) where
-  pub late_known : (e : Event) → UsesQuestions before e → late_by known e ≡ is_late before e
-  late_known (Wire s k c rs (Return q release outcome)) h = let i : Id = id k (not s) q in
-      ap (λ o. released_in o) (same i) ∙ released_at i before (opening i before) (and_parts (is_opened i before) (not (is_returned i before)) h.returned_once).0
+module _ (known : TableKey → Option Question) (before : Past) (same : (q : TableKey) → known q ≡ question_known q before) where
+  pub late_known : (e : DecodedRecord) → UsesQuestions before e → late_by known e ≡ is_late before e
+  late_known (Wire s k c rs (Return q release outcome)) h = let i : TableKey = id k (not s) q in
+      ap (λ o. results_released_in o) (same i) ∙ released_at i before (opening i before) (and_parts (is_opened i before) (not (is_returned i before)) h.returned_once).0
   late_known _ h = refl
 
-  pub closed_known : (e : Event) → UsesQuestions before e → closed_by known e ≡ introductions_at (closes before e)
-  closed_known (Wire s k c rs (Return q true outcome)) h = let i : Id = id k (not s) q in ap (λ o. asked_in o) (same i) ∙ asked_at i before (opening i before)
-  closed_known (Wire s k c rs (Finish q true)) h = let i : Id = id k s q in
-      ap (λ o. brought_in o) (same i)
+  pub closed_known : (e : DecodedRecord) → UsesQuestions before e → given_back_by known e ≡ introductions_at (closes before e)
+  closed_known (Wire s k c rs (Return q true outcome)) h = let i : TableKey = id k (not s) q in ap (λ o. params_introduced_in o) (same i) ∙ asked_at i before (opening i before)
+  closed_known (Wire s k c rs (Finish q true)) h = let i : TableKey = id k s q in
+      ap (λ o. results_introduced_in o) (same i)
       ∙ brought_at i before (opening i before) (and_parts (is_opened i before) (not (is_finished i before)) (and_parts (is_unfinished i before) true h.used).0).0
   closed_known _ h = refl

@@ -7,18 +7,18 @@ use Rattle.std.specs.Str.{bytes_eq as same_path}
 use Rattle.std.proofs.lemmas.List.Sums.{sum_by-cons}
 use Rattle.std.proofs.lemmas.Option.{slice_get_past}
 use Rattle.std.proofs.lemmas.Bool.{and_parts, or_left, or_right, or_parts, cases_Bool, not-true, eqb-true, eq-eqb, ne_eqb, both_ways}
-use Rattle.vat_view.specs.Types.{Descriptor, NoCap, SenderHosted, SenderPromise, ReceiverHosted, ReceiverAnswer, RpcMessage, Outcome, Return, Resolve, Results, Exception, Canceled, Event, Fulfil, Break, Answer, Fault, Wire, View, Object, Promise, FieldOf, Import}
-use Rattle.vat_view.specs.Past.{Past, Point, id, point, is, number_of, last_answer, last_where, Each}
+use Rattle.vat_view.specs.Types.{Descriptor, NoCap, SenderHosted, SenderPromise, ReceiverHosted, ReceiverAnswer, RpcMessage, Outcome, Return, Resolve, Results, Exception, Canceled, DecodedRecord, Fulfil, Break, Answer, Fault, Wire, View, Object, Promise, FieldOf, Import}
+use Rattle.vat_view.specs.Past.{Past, Point, id, point, is, record_index, last_answer, last_where, Each}
 use Rattle.vat_view.specs.Questions.{is_late, call_at, opening}
 use Rattle.vat_view.specs.Lives.{Birth, birth, descriptors, descriptors_of}
-use Rattle.vat_view.specs.Views.{view_of_reference, view_of_descriptor, binds, described, described_at, noted, places, places_from, references}
+use Rattle.vat_view.specs.Views.{view_of_reference, view_of_descriptor, binds, descriptor_view, described_at, placed_references, places, places_from, references}
 use Rattle.vat_view.specs.Bindings.{Refers, NotesEach, contains, is_distinct, is_bound, new_references}
 use Rattle.vat_view.specs.Sound.{IsSound}
 use Rattle.vat_view.specs.Walks.{Next, turns, stops, stays, on_to, is_promise, keeps, began_at, resolves, result_at, answers, turn, next}
-use Rattle.vat_view.specs.Tables.{is_cap, reference_by}
-use Rattle.vat_view.specs.declared.pending.Pending.{Pending}
-use Rattle.vat_view.specs.declared.pending.Pending.TheVariants.{Promise as PromiseToKeep, Results as ResultsOf, Import as ImportToResolve}
-use Rattle.vat_view.specs.TurnTables.{is_this, path_of, promise_of, import_at, settled, reference_at, landing, goes, settler, settler_of, LandsBound}
+use Rattle.vat_view.specs.Glue.Tables.{is_cap, reference_by}
+use Rattle.vat_view.specs.declared.record.unsettled.Unsettled.{Unsettled}
+use Rattle.vat_view.specs.declared.record.unsettled.Unsettled.TheVariants.{Promise as PromiseToKeep, Results as ResultsOf, Import as ImportToResolve}
+use Rattle.vat_view.specs.Glue.TurnTables.{is_this, field_path, promise_of, import_at, settlement_of, reference_at, turn_target, goes, settler, settler_of, LandsBound}
 use Rattle.vat_view.proofs.Originating.{noted_at, get_drop, noted_first, tail_drop, places_cons}
 use Rattle.vat_view.proofs.Viewed.{places_above, cap_here, cap_later, zip_noted, all_at}
 use Rattle.vat_view.proofs.Lasting.{binds_new, all_not}
@@ -68,15 +68,15 @@ module _ (rs : List ℕ) where
       ∙ ap (λ x. if is_cap d then slice_get rs x else None) (sym (add-zero b))
   counted_reference (d ∷ ds) p b (suc j) =
       let counted = sum_by-cons (λ d. cond (is_cap d) 1 0) d (take j ds) in
-      let noted : b + cond (is_cap d) 1 0 + count_by is_cap (take j ds) ≡ b + count_by is_cap (d ∷ take j ds) = omega (arith, counted) in
+      let placed_references : b + cond (is_cap d) 1 0 + count_by is_cap (take j ds) ≡ b + count_by is_cap (d ∷ take j ds) = omega (arith, counted) in
       ap (λ ps. noted_at (drop b rs) ps (p + suc j)) (places_cons p d ds)
       ∙ later_place ds p b (p + suc j) (is_cap d) (omega arith)
       ∙ (let same : p + suc j ≡ p + 1 + j = omega arith in ap (λ q. noted_at (drop (b + (if is_cap d then 1 else 0)) rs) (places_from (p + 1) ds) q) same)
       ∙ counted_reference ds (p + 1) (b + (if is_cap d then 1 else 0)) j
-      ∙ ap (λ n. option_and_then (λ x. reference_by rs n x) (slice_get ds j)) noted
+      ∙ ap (λ n. option_and_then (λ x. reference_by rs n x) (slice_get ds j)) placed_references
 
 -- what the code counts is what is noted
-pub reference_counted : (e : Event) (place before : ℕ) → before ≡ count_by is_cap (take place (descriptors e)) →
+pub reference_counted : (e : DecodedRecord) (place before : ℕ) → before ≡ count_by is_cap (take place (descriptors e)) →
     reference_at e place ≡ option_and_then (λ d. reference_by (references e) before d) (slice_get (descriptors e) place)
 reference_counted e place before counted =
     ap (λ q. noted_at (references e) (places e) q) (sym (zero-add place))
@@ -148,14 +148,14 @@ module _ (before : Past) (k c : ℕ) (rs : List ℕ) (m : RpcMessage) (refers : 
     noted_all : length rs ≡ length (places (Wire false k c rs m))
     noted_all = notes ∙ ap (λ b. if b then 0 else length (places (Wire false k c rs m))) late
 
-    never : (place : ℕ) (d : Descriptor) → slice_get (descriptors (Wire false k c rs m)) place ≡ Some d → find (λ n. n.1 == place) (noted (Wire false k c rs m)) ≡ None → is_cap d ≡ true → ⊥
+    never : (place : ℕ) (d : Descriptor) → slice_get (descriptors (Wire false k c rs m)) place ≡ Some d → find (λ n. n.1 == place) (placed_references (Wire false k c rs m)) ≡ None → is_cap d ≡ true → ⊥
     never place d g none caps =
         let there : contains place (places (Wire false k c rs m)) ≡ true =
         subst (λ q. contains q (places (Wire false k c rs m)) ≡ true) (zero-add place) (cap_there (descriptors (Wire false k c rs m)) 0 place d g caps) in
         let n = zip_noted place rs (places (Wire false k c rs m)) there noted_all in none_some (sym none ∙ n.1)
 
-    nothing_described : (place : ℕ) (o : Option Descriptor) → slice_get (descriptors (Wire false k c rs m)) place ≡ o → find (λ n. n.1 == place) (noted (Wire false k c rs m)) ≡ None →
-        None ≡ option_and_then (described (view_of_reference before) before (Wire false k c rs m)) o
+    nothing_described : (place : ℕ) (o : Option Descriptor) → slice_get (descriptors (Wire false k c rs m)) place ≡ o → find (λ n. n.1 == place) (placed_references (Wire false k c rs m)) ≡ None →
+        None ≡ option_and_then (descriptor_view (view_of_reference before) before (Wire false k c rs m)) o
     nothing_described place None g none = refl
     nothing_described place (Some NoCap) g none = refl
     nothing_described place (Some (SenderHosted n)) g none = absurd (never place (SenderHosted n) g none refl)
@@ -163,24 +163,24 @@ module _ (before : Past) (k c : ℕ) (rs : List ℕ) (m : RpcMessage) (refers : 
     nothing_described place (Some (ReceiverHosted n)) g none = absurd (never place (ReceiverHosted n) g none refl)
     nothing_described place (Some (ReceiverAnswer n path)) g none = absurd (never place (ReceiverAnswer n path) g none refl)
 
-    some_described : (place : ℕ) (n : ℕ × ℕ) → find (λ n. n.1 == place) (noted (Wire false k c rs m)) ≡ Some n →
+    some_described : (place : ℕ) (n : ℕ × ℕ) → find (λ n. n.1 == place) (placed_references (Wire false k c rs m)) ≡ Some n →
         view_of_reference (Wire false k c rs m ∷ before) n.0 ≡ view_of_descriptor before (Wire false k c rs m) place
     some_described place n found =
-        let e : Event = Wire false k c rs m in
+        let e : DecodedRecord = Wire false k c rs m in
         let again = found_again rs (places e) place n refers.distinct found in
         or_nothing (binds (view_of_reference before) before e n.0) (view_of_reference before n.0)
         (no_view before n.0 (view_of_reference before n.0) refl (all_not before n.0 rs refers.unused again.2))
         ∙ ap (λ o. option_and_then (λ n. described_at (view_of_reference before) before e n.1) o) again.0
         ∙ ap (λ q. described_at (view_of_reference before) before e q) again.1
 
-    inner : (place : ℕ) (o : Option (ℕ × ℕ)) → find (λ n. n.1 == place) (noted (Wire false k c rs m)) ≡ o →
+    inner : (place : ℕ) (o : Option (ℕ × ℕ)) → find (λ n. n.1 == place) (placed_references (Wire false k c rs m)) ≡ o →
         option_and_then (view_of_reference (Wire false k c rs m ∷ before)) (option_map (λ n. n.0) o) ≡ view_of_descriptor before (Wire false k c rs m) place
     inner place (Some n) found = some_described place n found
     inner place None found = nothing_described place (slice_get (descriptors (Wire false k c rs m)) place) refl found
 
     -- what a descriptor stands for is the view of the reference noted for it
     pub noted_view : (place : ℕ) → option_and_then (view_of_reference (Wire false k c rs m ∷ before)) (reference_at (Wire false k c rs m) place) ≡ view_of_descriptor before (Wire false k c rs m) place
-    noted_view place = inner place (find (λ n. n.1 == place) (noted (Wire false k c rs m))) refl
+    noted_view place = inner place (find (λ n. n.1 == place) (placed_references (Wire false k c rs m))) refl
 
 -- ---- what one record turns, it settles
 
@@ -191,19 +191,19 @@ is_promise_this p (Some (FieldOf call path)) = refl
 is_promise_this p (Some (Import i place)) = refl
 is_promise_this p None = refl
 
-no_promise : (a : Pending) → ((p : ℕ) → is_this a (Some (PromiseToKeep p)) ≡ false) → (o : Option View) → is_this a (promise_of o) ≡ false
+no_promise : (a : Unsettled) → ((p : ℕ) → is_this a (Some (PromiseToKeep p)) ≡ false) → (o : Option View) → is_this a (promise_of o) ≡ false
 no_promise a h (Some (Object object)) = refl
 no_promise a h (Some (Promise q)) = h q
 no_promise a h (Some (FieldOf call path)) = refl
 no_promise a h (Some (Import i place)) = refl
 no_promise a h None = refl
 
-no_results : (a : Pending) → ((call : ℕ) → is_this a (Some (ResultsOf call)) ≡ false) → (o : Option ℕ) → is_this a (option_map ResultsOf o) ≡ false
+no_results : (a : Unsettled) → ((call : ℕ) → is_this a (Some (ResultsOf call)) ≡ false) → (o : Option ℕ) → is_this a (option_map ResultsOf o) ≡ false
 no_results a h (Some call) = h call
 no_results a h None = refl
 
-no_import : (a : Pending) → ((i place : ℕ) → is_this a (Some (ImportToResolve i place)) ≡ false) → (o : Option Birth) → is_this a (option_map import_at o) ≡ false
-no_import a h (Some b) = h (number_of b.from) b.place
+no_import : (a : Unsettled) → ((i place : ℕ) → is_this a (Some (ImportToResolve i place)) ≡ false) → (o : Option Birth) → is_this a (option_map import_at o) ≡ false
+no_import a h (Some b) = h (record_index b.from) b.place
 no_import a h None = refl
 
 is_results : (call : ℕ) (o : Option ℕ) → is call o ≡ is_this (ResultsOf call) (option_map ResultsOf o)
@@ -223,17 +223,17 @@ unsettled : {A : Type 0} (b : Bool) (x : A) → b ≡ false → None ≡ (if b t
 unsettled b x h = sym (ap (λ c. if c then Some x else None) h)
 
 -- whether a record settles a view
-abbrev pub settles_view : View → Past → Event → Bool
+abbrev pub settles_view : View → Past → DecodedRecord → Bool
 settles_view (Object object) before e = false
-settles_view (Promise p) before e = is_this (PromiseToKeep p) (settled before e)
-settles_view (FieldOf call path) before e = is_this (ResultsOf call) (settled before e)
-settles_view (Import i place) before e = is_this (ImportToResolve i place) (settled before e)
+settles_view (Promise p) before e = is_this (PromiseToKeep p) (settlement_of before e)
+settles_view (FieldOf call path) before e = is_this (ResultsOf call) (settlement_of before e)
+settles_view (Import i place) before e = is_this (ImportToResolve i place) (settlement_of before e)
 
 -- where it turns a view that it settles
-abbrev pub turn_there : List ℕ → Past → Event → Next
-turn_there path before e = on_to (option_and_then (view_of_reference (e ∷ before)) (landing path e))
+abbrev pub turn_there : List ℕ → Past → DecodedRecord → Next
+turn_there path before e = on_to (option_and_then (view_of_reference (e ∷ before)) (turn_target path e))
 
-promise_turns : (p : ℕ) (before : Past) (e : Event) → keeps p before e ≡ (if is_this (PromiseToKeep p) (settled before e) then Some (turn_there [] before e) else None)
+promise_turns : (p : ℕ) (before : Past) (e : DecodedRecord) → keeps p before e ≡ (if is_this (PromiseToKeep p) (settlement_of before e) then Some (turn_there [] before e) else None)
 promise_turns p before (Fulfil r to) = ap (λ b. if b then Some (on_to (view_of_reference before to)) else None) (is_promise_this p (view_of_reference before r))
 promise_turns p before (Break r) = ap (λ b. if b then Some stops else None) (is_promise_this p (view_of_reference before r))
 promise_turns p before (Wire false k c rs (Return q release outcome)) =
@@ -265,7 +265,7 @@ module _ (before : Past) (k c : ℕ) (rs : List ℕ) (q : ℕ) (release : Bool) 
   brought_late path Exception refers notes late = refl
   brought_late path Canceled refers notes late = refl
   brought_late path (Results payload) refers notes late =
-      let e : Event = Wire false k c rs (Return q release (Results payload)) in
+      let e : DecodedRecord = Wire false k c rs (Return q release (Results payload)) in
       ap (λ o. on_to (option_and_then (view_of_reference (e ∷ before)) o)) (sym (found (find (λ field. same_path field.0 path) payload.fields)))
     where
       found : (o : Option (List ℕ × ℕ)) → option_and_then (λ field. reference_at (Wire false k c rs (Return q release (Results payload))) field.1) o ≡ None
@@ -278,13 +278,13 @@ module _ (before : Past) (k c : ℕ) (rs : List ℕ) (q : ℕ) (release : Bool) 
   returned_turns path outcome refers notes true late = brought_late path outcome refers notes late
   returned_turns path outcome refers notes false late = brought path outcome refers notes late
 
-field_turns : (call : ℕ) (path : List ℕ) (before : Past) (e : Event) → Refers before e → NotesEach before e →
-    answers call path before e ≡ (if is_this (ResultsOf call) (settled before e) then Some (turn_there path before e) else None)
+field_turns : (call : ℕ) (path : List ℕ) (before : Past) (e : DecodedRecord) → Refers before e → NotesEach before e →
+    answers call path before e ≡ (if is_this (ResultsOf call) (settlement_of before e) then Some (turn_there path before e) else None)
 field_turns call path before (Answer c results) refers notes =
     ap (λ o. if c == call then Some (on_to o) else None) (answer_there (view_of_reference before) (find (λ answer. same_path answer.1 path) results))
 field_turns call path before (Fault c) refers notes = refl
 field_turns call path before (Wire false k c rs (Return q release outcome)) refers notes =
-    let e : Event = Wire false k c rs (Return q release outcome) in
+    let e : DecodedRecord = Wire false k c rs (Return q release outcome) in
     ap₂ (λ b x. if b then Some x else None) (is_results call (call_at (opening (id k true q) before))) (returned_turns before k c rs q release path outcome refers notes (is_late before e) refl)
 field_turns call path before (Wire false k c rs (Resolve n resolution)) refers notes =
     unsettled (is_this (ResultsOf call) (option_map import_at (birth (id k false n) before))) (turn_there path before (Wire false k c rs (Resolve n resolution)))
@@ -295,8 +295,8 @@ field_turns call path before (Break r) refers notes =
     unsettled (is_this (ResultsOf call) (promise_of (view_of_reference before r))) (turn_there path before (Break r)) (no_promise (ResultsOf call) (λ p. refl) (view_of_reference before r))
 field_turns call path before _ refers notes = refl
 
-import_turns : (i place : ℕ) (before : Past) (e : Event) → Refers before e → NotesEach before e →
-    resolves i place before e ≡ (if is_this (ImportToResolve i place) (settled before e) then Some (turn_there [] before e) else None)
+import_turns : (i place : ℕ) (before : Past) (e : DecodedRecord) → Refers before e → NotesEach before e →
+    resolves i place before e ≡ (if is_this (ImportToResolve i place) (settlement_of before e) then Some (turn_there [] before e) else None)
 import_turns i place before (Wire false k c rs (Resolve n resolution)) refers notes =
     ap₂ (λ b o. if b then Some (on_to o) else None) (is_import i place (birth (id k false n) before))
     (sym (noted_view before k c rs (Resolve n resolution) refers notes refl 0))
@@ -311,8 +311,8 @@ import_turns i place before (Break r) refers notes =
     (no_promise (ImportToResolve i place) (λ p. refl) (view_of_reference before r))
 import_turns i place before _ refers notes = refl
 
-pub turn_settles : (v : View) (before : Past) (e : Event) → Refers before e → NotesEach before e →
-    turn v before e ≡ (if settles_view v before e then Some (turn_there (path_of v) before e) else None)
+pub turn_settles : (v : View) (before : Past) (e : DecodedRecord) → Refers before e → NotesEach before e →
+    turn v before e ≡ (if settles_view v before e then Some (turn_there (field_path v) before e) else None)
 turn_settles (Object object) before e refers notes = refl
 turn_settles (Promise p) before e refers notes = promise_turns p before e
 turn_settles (FieldOf call path) before e refers notes = field_turns call path before e refers notes
@@ -325,7 +325,7 @@ wire_lands before true k c rs m refers x there = all_at (is_bound before) rs x r
 wire_lands before false k c rs m refers x there = or_left _ _ there
 
 -- a record lands at bound references
-pub lands_bound : (before : Past) (e : Event) → Refers before e → LandsBound before e
+pub lands_bound : (before : Past) (e : DecodedRecord) → Refers before e → LandsBound before e
 lands_bound before (Fulfil r to) refers path x h =
     subst (λ y. is_bound before y ≡ true) (some_same h) (and_parts (is_bound before to) true (and_parts (is_bound before r) (is_bound before to && true) refers.bound).1).0
 lands_bound before (Answer c results) refers path x h = all_at (is_bound before) (map (λ answer. answer.0) results) x refers.bound (named results h)
@@ -348,7 +348,7 @@ lands_bound before (Wire s k c rs (Return q release Canceled)) refers path x h =
 lands_bound before _ refers path x h = absurd (none_some h)
 
 -- a bound reference keeps its view, or that it has none
-pub view_same : (before : Past) (e : Event) (r : ℕ) → Refers before e → is_bound before r ≡ true → view_of_reference (e ∷ before) r ≡ view_of_reference before r
+pub view_same : (before : Past) (e : DecodedRecord) (r : ℕ) → Refers before e → is_bound before r ≡ true → view_of_reference (e ∷ before) r ≡ view_of_reference before r
 view_same before e r refers bound = inner (binds (view_of_reference before) before e r) refl
   where
     inner : (o : Option View) → binds (view_of_reference before) before e r ≡ o → option_or o (view_of_reference before r) ≡ view_of_reference before r
@@ -357,66 +357,66 @@ view_same before e r refers bound = inner (binds (view_of_reference before) befo
         absurd (both_ways (is_bound before r) (all_not before r (new_references e) refers.unused (binds_new (view_of_reference before) before e r w h)) bound)
 
 -- where a record landed that settled something is bound
-found_lands : (test : Past → Event → Bool) (past : Past) → Each LandsBound past → (x : Event) → option_map (λ p. p.event) (last_where test past) ≡ Some x →
-    (path : List ℕ) (r : ℕ) → landing path x ≡ Some r → is_bound past r ≡ true
+found_lands : (test : Past → DecodedRecord → Bool) (past : Past) → Each LandsBound past → (x : DecodedRecord) → option_map (λ p. p.event) (last_where test past) ≡ Some x →
+    (path : List ℕ) (r : ℕ) → turn_target path x ≡ Some r → is_bound past r ≡ true
 found_lands test [] all x h path r there = absurd (none_some h)
 found_lands test (e ∷ before) all x h path r there = elim (cases_Bool (test before e)) [
-  | inl here ↦ all.0 path r (ap (λ y. landing path y) (some_same (sym (ap (λ b. option_map (λ p. p.event) (if b then Some (point before e) else last_where test before)) here) ∙ h)) ∙ there)
+  | inl here ↦ all.0 path r (ap (λ y. turn_target path y) (some_same (sym (ap (λ b. option_map (λ p. p.event) (if b then Some (point before e) else last_where test before)) here) ∙ h)) ∙ there)
   | inr apart ↦ or_right _ _
       (found_lands test before all.1 x (sym (ap (λ b. option_map (λ p. p.event) (if b then Some (point before e) else last_where test before)) apart) ∙ h) path r there)
 ]
 
-settled_lands : (v : View) (past : Past) → Each LandsBound past → (x : Event) → settler_of v past ≡ Some x → (path : List ℕ) (r : ℕ) → landing path x ≡ Some r → is_bound past r ≡ true
+settled_lands : (v : View) (past : Past) → Each LandsBound past → (x : DecodedRecord) → settler_of v past ≡ Some x → (path : List ℕ) (r : ℕ) → turn_target path x ≡ Some r → is_bound past r ≡ true
 settled_lands (Object object) past all x h path r there = absurd (none_some h)
-settled_lands (Promise p) past all x h path r there = found_lands (λ before e. is_this (PromiseToKeep p) (settled before e)) past all x h path r there
-settled_lands (FieldOf call field) past all x h path r there = found_lands (λ before e. is_this (ResultsOf call) (settled before e)) past all x h path r there
-settled_lands (Import i place) past all x h path r there = found_lands (λ before e. is_this (ImportToResolve i place) (settled before e)) past all x h path r there
+settled_lands (Promise p) past all x h path r there = found_lands (λ before e. is_this (PromiseToKeep p) (settlement_of before e)) past all x h path r there
+settled_lands (FieldOf call field) past all x h path r there = found_lands (λ before e. is_this (ResultsOf call) (settlement_of before e)) past all x h path r there
+settled_lands (Import i place) past all x h path r there = found_lands (λ before e. is_this (ImportToResolve i place) (settlement_of before e)) past all x h path r there
 
 -- ---- where views go after a record
 
-point_if : (b : Bool) (before : Past) (e : Event) (o : Option Point) →
+point_if : (b : Bool) (before : Past) (e : DecodedRecord) (o : Option Point) →
     option_map (λ p. p.event) (if b then Some (point before e) else o) ≡ (if b then Some e else option_map (λ p. p.event) o)
 point_if true before e o = refl
 point_if false before e o = refl
 
-settler_more : (v : View) (before : Past) (e : Event) → settler_of v (e ∷ before) ≡ (if settles_view v before e then Some e else settler_of v before)
+settler_more : (v : View) (before : Past) (e : DecodedRecord) → settler_of v (e ∷ before) ≡ (if settles_view v before e then Some e else settler_of v before)
 settler_more (Object object) before e = refl
-settler_more (Promise p) before e = point_if (is_this (PromiseToKeep p) (settled before e)) before e (settler (PromiseToKeep p) before)
-settler_more (FieldOf call path) before e = point_if (is_this (ResultsOf call) (settled before e)) before e (settler (ResultsOf call) before)
-settler_more (Import i place) before e = point_if (is_this (ImportToResolve i place) (settled before e)) before e (settler (ImportToResolve i place) before)
+settler_more (Promise p) before e = point_if (is_this (PromiseToKeep p) (settlement_of before e)) before e (settler (PromiseToKeep p) before)
+settler_more (FieldOf call path) before e = point_if (is_this (ResultsOf call) (settlement_of before e)) before e (settler (ResultsOf call) before)
+settler_more (Import i place) before e = point_if (is_this (ImportToResolve i place) (settlement_of before e)) before e (settler (ImportToResolve i place) before)
 
-module _ (before : Past) (e : Event) (refers : Refers before e) (notes : NotesEach before e) (all : Each LandsBound before) where
-  goes_kept : (v : View) (o : Option Event) → settler_of v before ≡ o → goes (view_of_reference before) (path_of v) o ≡ goes (view_of_reference (e ∷ before)) (path_of v) o
+module _ (before : Past) (e : DecodedRecord) (refers : Refers before e) (notes : NotesEach before e) (all : Each LandsBound before) where
+  goes_kept : (v : View) (o : Option DecodedRecord) → settler_of v before ≡ o → goes (view_of_reference before) (field_path v) o ≡ goes (view_of_reference (e ∷ before)) (field_path v) o
   goes_kept v None h = refl
-  goes_kept v (Some x) h = inner (landing (path_of v) x) refl
+  goes_kept v (Some x) h = inner (turn_target (field_path v) x) refl
     where
-      inner : (o : Option ℕ) → landing (path_of v) x ≡ o → on_to (option_and_then (view_of_reference before) o) ≡ on_to (option_and_then (view_of_reference (e ∷ before)) o)
+      inner : (o : Option ℕ) → turn_target (field_path v) x ≡ o → on_to (option_and_then (view_of_reference before) o) ≡ on_to (option_and_then (view_of_reference (e ∷ before)) o)
       inner None there = refl
-      inner (Some r) there = ap (λ w. on_to w) (sym (view_same before e r refers (settled_lands v before all x h (path_of v) r there)))
+      inner (Some r) there = ap (λ w. on_to w) (sym (view_same before e r refers (settled_lands v before all x h (field_path v) r there)))
 
-  pub going_step : (v : View) → next before v ≡ goes (view_of_reference before) (path_of v) (settler_of v before) →
-      next (e ∷ before) v ≡ goes (view_of_reference (e ∷ before)) (path_of v) (settler_of v (e ∷ before))
+  pub going_step : (v : View) → next before v ≡ goes (view_of_reference before) (field_path v) (settler_of v before) →
+      next (e ∷ before) v ≡ goes (view_of_reference (e ∷ before)) (field_path v) (settler_of v (e ∷ before))
   going_step v known = elim (cases_Bool (settles_view v before e)) [
     | inl here ↦
         ap (λ o. unwrap_or (option_or o (last_answer (turn v) before)) stays)
-        (turn_settles v before e refers notes ∙ ap (λ b. if b then Some (turn_there (path_of v) before e) else None) here)
-        ∙ sym (ap (λ o. goes (view_of_reference (e ∷ before)) (path_of v) o) (settler_more v before e ∙ ap (λ b. if b then Some e else settler_of v before) here))
+        (turn_settles v before e refers notes ∙ ap (λ b. if b then Some (turn_there (field_path v) before e) else None) here)
+        ∙ sym (ap (λ o. goes (view_of_reference (e ∷ before)) (field_path v) o) (settler_more v before e ∙ ap (λ b. if b then Some e else settler_of v before) here))
     | inr apart ↦
         ap (λ o. unwrap_or (option_or o (last_answer (turn v) before)) stays)
-        (turn_settles v before e refers notes ∙ ap (λ b. if b then Some (turn_there (path_of v) before e) else None) apart)
+        (turn_settles v before e refers notes ∙ ap (λ b. if b then Some (turn_there (field_path v) before e) else None) apart)
         ∙ known ∙ goes_kept v (settler_of v before) refl
-        ∙ sym (ap (λ o. goes (view_of_reference (e ∷ before)) (path_of v) o) (settler_more v before e ∙ ap (λ b. if b then Some e else settler_of v before) apart))
+        ∙ sym (ap (λ o. goes (view_of_reference (e ∷ before)) (field_path v) o) (settler_more v before e ∙ ap (λ b. if b then Some e else settler_of v before) apart))
   ]
 
 -- ---- at every point of a log
 
-still : (v : View) → stays ≡ goes (view_of_reference []) (path_of v) (settler_of v [])
+still : (v : View) → stays ≡ goes (view_of_reference []) (field_path v) (settler_of v [])
 still (Object object) = refl
 still (Promise p) = refl
 still (FieldOf call path) = refl
 still (Import i place) = refl
 
-goings : (past : Past) → Each IsSound past → ((v : View) → next past v ≡ goes (view_of_reference past) (path_of v) (settler_of v past)) × Each LandsBound past
+goings : (past : Past) → Each IsSound past → ((v : View) → next past v ≡ goes (view_of_reference past) (field_path v) (settler_of v past)) × Each LandsBound past
 goings [] all = (still, tt)
 goings (e ∷ before) all =
     let rest = goings before all.1 in
@@ -440,27 +440,27 @@ abbrev IsOfReference : Past → View → Type 0
 IsOfReference past w = (r : ℕ) × (is_bound past r ≡ true) × (view_of_reference past r ≡ Some w)
 
 module _ (past : Past) (all : Each LandsBound past) (v w : View) where
-  by_landing : (x : Event) → settler_of v past ≡ Some x → (o : Option ℕ) → landing (path_of v) x ≡ o → option_and_then (view_of_reference past) o ≡ Some w → IsOfReference past w
+  by_landing : (x : DecodedRecord) → settler_of v past ≡ Some x → (o : Option ℕ) → turn_target (field_path v) x ≡ o → option_and_then (view_of_reference past) o ≡ Some w → IsOfReference past w
   by_landing x settled None there e = absurd (none_some e)
-  by_landing x settled (Some r) there e = (r, settled_lands v past all x settled (path_of v) r there, e)
+  by_landing x settled (Some r) there e = (r, settled_lands v past all x settled (field_path v) r there, e)
 
-  by_settler : (o : Option Event) → settler_of v past ≡ o → goes (view_of_reference past) (path_of v) o ≡ turns w → IsOfReference past w
+  by_settler : (o : Option DecodedRecord) → settler_of v past ≡ o → goes (view_of_reference past) (field_path v) o ≡ turns w → IsOfReference past w
   by_settler None settled e = absurd (stays_not_turns e)
-  by_settler (Some x) settled e = by_landing x settled (landing (path_of v) x) refl (on_to_turns (option_and_then (view_of_reference past) (landing (path_of v) x)) w e)
+  by_settler (Some x) settled e = by_landing x settled (turn_target (field_path v) x) refl (on_to_turns (option_and_then (view_of_reference past) (turn_target (field_path v) x)) w e)
 
 pub turned_to_reference : (past : Past) → Each IsSound past → (v w : View) → next past v ≡ turns w → (r : ℕ) × (is_bound past r ≡ true) × (view_of_reference past r ≡ Some w)
 turned_to_reference past all v w e = let facts = goings past all in by_settler past facts.1 v w (settler_of v past) refl (sym (facts.0 v) ∙ e)
 
 -- ---- as the code finds it
 
-pub reference_met : (e : Event) (ds : List Descriptor) (rs : List ℕ) (place index before : ℕ) (d : Descriptor) → ds ≡ descriptors e → rs ≡ references e → index ≡ place →
+pub reference_met : (e : DecodedRecord) (ds : List Descriptor) (rs : List ℕ) (place index before : ℕ) (d : Descriptor) → ds ≡ descriptors e → rs ≡ references e → index ≡ place →
     before ≡ count_by is_cap (take index ds) → slice_get ds index ≡ Some d → reference_by rs before d ≡ reference_at e place
 reference_met e ds rs place index before d all noted at counted got =
     ap (λ l. reference_by l before d) noted
     ∙ sym (reference_counted e place before (counted ∙ ap₂ (λ i l. count_by is_cap (take i l)) at all)
     ∙ ap (λ o. option_and_then (λ d. reference_by (references e) before d) o) (ap₂ (λ l i. slice_get l i) (sym all) (sym at) ∙ got))
 
-pub reference_unmet : (e : Event) (ds : List Descriptor) (place : ℕ) → ds ≡ descriptors e → length ds ≤ place → None ≡ reference_at e place
+pub reference_unmet : (e : DecodedRecord) (ds : List Descriptor) (place : ℕ) → ds ≡ descriptors e → length ds ≤ place → None ≡ reference_at e place
 reference_unmet e ds place all past =
     sym (reference_counted e place (count_by is_cap (take place (descriptors e))) refl
     ∙ ap (λ o. option_and_then (λ d. reference_by (references e) (count_by is_cap (take place (descriptors e))) d) o) (ap (λ l. slice_get l place) (sym all) ∙ slice_get_past ds place past))

@@ -4,15 +4,15 @@ use Rattle.std.specs.Prelude.{find}
 use Rattle.std.specs.List.{list_all, zip}
 use Rattle.std.specs.Option.{option_or}
 use Rattle.std.proofs.lemmas.Bool.{and_parts, or_left, or_right, cases_Bool, false≢true, not-true, eqb-true, both_ways}
-use Rattle.vat_view.specs.Types.{Event, Host, Vow, Field, Wire, View, Object, Promise, FieldOf, Id}
+use Rattle.vat_view.specs.Types.{DecodedRecord, Host, Vow, Field, Wire, View, Object, Promise, FieldOf, TableKey}
 use Rattle.vat_view.specs.Past.{Past, last_answer}
 use Rattle.vat_view.specs.Questions.{is_late}
 use Rattle.vat_view.specs.Lives.{Birth, birth, begins, is_in_life}
-use Rattle.vat_view.specs.Views.{view_of_reference, binds, view_given, view_of_number, noted, places, described_at}
+use Rattle.vat_view.specs.Views.{view_of_reference, binds, view_given, view_of_number, placed_references, places, described_at}
 use Rattle.vat_view.specs.Bindings.{Refers, contains, is_bound, new_references}
 use Rattle.vat_view.specs.Laws.{LivesOn, EachAfter}
 
-lives_last : (i : Id) (later : List Event) (past : Past) → LivesOn i later past → is_in_life i (later ++ past) ≡ true
+lives_last : (i : TableKey) (later : List DecodedRecord) (past : Past) → LivesOn i later past → is_in_life i (later ++ past) ≡ true
 lives_last i [] past h = h
 lives_last i (e ∷ later) past h = h.0
 
@@ -27,12 +27,12 @@ both_alive true true p e f = refl
 both_alive false a p e f = absurd (false≢true f)
 both_alive true false p e f = absurd (false≢true e)
 
-pub birth_kept : (i : Id) (e : Event) (past : Past) → is_in_life i past ≡ true → is_in_life i (e ∷ past) ≡ true → birth i (e ∷ past) ≡ birth i past
+pub birth_kept : (i : TableKey) (e : DecodedRecord) (past : Past) → is_in_life i past ≡ true → is_in_life i (e ∷ past) ≡ true → birth i (e ∷ past) ≡ birth i past
 birth_kept i e past h f =
     ap (λ y. if is_in_life i (e ∷ past) then option_or y (last_answer (begins i) past) else None) (begins_none (is_in_life i past) (is_late past e) _ h)
     ∙ both_alive (is_in_life i (e ∷ past)) (is_in_life i past) (last_answer (begins i) past) h f
 
-life_kept : (i : Id) (later : List Event) (past : Past) → LivesOn i later past → birth i (later ++ past) ≡ birth i past
+life_kept : (i : TableKey) (later : List DecodedRecord) (past : Past) → LivesOn i later past → birth i (later ++ past) ≡ birth i past
 life_kept i [] past h = refl
 life_kept i (e ∷ later) past h = birth_kept i e (later ++ past) (lives_last i later past h.1) h.0 ∙ life_kept i later past h.1
 
@@ -52,7 +52,7 @@ if_some true v w e = refl
 if_some false v w e = absurd (let no : ⊥ = cc in no)
 
 -- what a record binds is new in it
-pub binds_new : (named : ℕ → Option View) (before : Past) (e : Event) (r : ℕ) (v : View) → binds named before e r ≡ Some v → contains r (new_references e) ≡ true
+pub binds_new : (named : ℕ → Option View) (before : Past) (e : DecodedRecord) (r : ℕ) (v : View) → binds named before e r ≡ Some v → contains r (new_references e) ≡ true
 binds_new named before (Host q object) r v h = or_left _ _ (if_some (q == r) (Object object) v h)
 binds_new named before (Vow q) r v h = or_left _ _ (if_some (q == r) (Promise q) v h)
 binds_new named before (Field q call path) r v h = or_left _ _ (if_some (q == r) (FieldOf call path) v h)
@@ -83,11 +83,11 @@ view_there : (o p : Option View) (v : View) → ((w : View) → o ≡ Some w →
 view_there (Some w) p v never e = absurd (never w refl)
 view_there None p v never e = e
 
-pub view_step : (past : Past) (e : Event) (r : ℕ) (v : View) → Refers past e → view_of_reference past r ≡ Some v → view_of_reference (e ∷ past) r ≡ Some v
+pub view_step : (past : Past) (e : DecodedRecord) (r : ℕ) (v : View) → Refers past e → view_of_reference past r ≡ Some v → view_of_reference (e ∷ past) r ≡ Some v
 view_step past e r v h there = view_there (binds (view_of_reference past) past e r) (view_of_reference past r) v
     (λ w f. both_ways (is_bound past r) (all_not past r (new_references e) h.unused (binds_new (view_of_reference past) past e r w f)) (view_bound past r v there)) there
 
-pub view_kept : (later : List Event) (past : Past) (r : ℕ) (v : View) → EachAfter Refers later past → view_of_reference past r ≡ Some v → view_of_reference (later ++ past) r ≡ Some v
+pub view_kept : (later : List DecodedRecord) (past : Past) (r : ℕ) (v : View) → EachAfter Refers later past → view_of_reference past r ≡ Some v → view_of_reference (later ++ past) r ≡ Some v
 view_kept [] past r v h there = there
 view_kept (e ∷ later) past r v h there = view_step (later ++ past) e r v h.0 (view_kept later past r v h.1 there)
 
@@ -100,11 +100,11 @@ noted_kept named after f v None e = absurd (let no : ⊥ = cc in no)
 
 given_kept : (named after : ℕ → Option View) → ((r : ℕ) (v : View) → named r ≡ Some v → after r ≡ Some v) → (ours : Bool) (o : Option Birth) (v : View) →
     option_and_then (view_given named ours) o ≡ Some v → option_and_then (view_given after ours) o ≡ Some v
-given_kept named after f true (Some b) v e = noted_kept named after f v (find (λ n. n.1 == b.place) (noted b.from.event)) e
+given_kept named after f true (Some b) v e = noted_kept named after f v (find (λ n. n.1 == b.place) (placed_references b.from.event)) e
 given_kept named after f false (Some b) v e = e
 given_kept named after f ours None v e = absurd (let no : ⊥ = cc in no)
 
-pub number_keeps : (i : Id) (later : List Event) (past : Past) → LivesOn i later past → EachAfter Refers later past → (v : View) →
+pub number_keeps : (i : TableKey) (later : List DecodedRecord) (past : Past) → LivesOn i later past → EachAfter Refers later past → (v : View) →
     view_of_number i past ≡ Some v → view_of_number i (later ++ past) ≡ Some v
 number_keeps i later past lives refs v e =
     ap (λ o. option_and_then (view_given (view_of_reference (later ++ past)) i.ours) o) (life_kept i later past lives)

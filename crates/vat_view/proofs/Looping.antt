@@ -2,26 +2,26 @@
 use Rattle.std.proofs.Common.{◌≡◌, ◌==◌, ◌<◌, inl, inr, refl, sym, ◌∙◌, ap, ap₂, subst, ℕ, ◌∷◌, length, Bool, true, false, Option, Some, None, if◌then◌else◌, option_map, option_and_then}
 use Rattle.std.specs.Prelude.{Decides, is_some}
 use Rattle.std.proofs.lemmas.Bool.{cases_Bool, eqb-true, false≢true}
-use Rattle.vat_view.specs.declared.questions.Questions.{Questions}
-use Rattle.vat_view.specs.declared.lives.Lives.{Lives}
-use Rattle.vat_view.specs.declared.bound.Bound.{Bound}
-use Rattle.vat_view.specs.declared.calls.Calls.{Calls}
-use Rattle.vat_view.specs.declared.inbox.Receipt.{Receipt}
-use Rattle.vat_view.specs.declared.loopbacks.Unechoed.{Unechoed}
-use Rattle.vat_view.specs.declared.waits.Waits.{Waits}
-use Rattle.vat_view.specs.declared.waits.Change.{Change}
-use Rattle.vat_view.specs.Types.{Return, Exception, Canceled, Event, Wire, Id}
-use Rattle.vat_view.specs.Past.{Past, Point, point, id, is, names, number_of}
+use Rattle.vat_view.specs.declared.tables.questions.Questions.{Questions}
+use Rattle.vat_view.specs.declared.tables.exports_imports.ExportsImports.{ExportsImports}
+use Rattle.vat_view.specs.declared.tables.references.BoundReferences.{BoundReferences}
+use Rattle.vat_view.specs.declared.tables.calls.Calls.{Calls}
+use Rattle.vat_view.specs.declared.tables.waiting_calls.Receipt.{Receipt}
+use Rattle.vat_view.specs.declared.tables.loopbacks.Unechoed.{Unechoed}
+use Rattle.vat_view.specs.declared.tables.embargoes.Embargoes.{Embargoes}
+use Rattle.vat_view.specs.declared.tables.embargoes.Change.{Change}
+use Rattle.vat_view.specs.Types.{Return, Exception, Canceled, DecodedRecord, Wire, TableKey}
+use Rattle.vat_view.specs.Past.{Past, Point, point, id, is, names, record_index}
 use Rattle.vat_view.specs.Questions.{call_at, opening}
 use Rattle.vat_view.specs.Views.{view_of_target}
 use Rattle.vat_view.specs.Calls.{goal_of, has_passed, is_at_vat}
-use Rattle.vat_view.specs.Loopbacks.{looped, echoed, loopback_of, waiting, receives, IsHeldUp}
+use Rattle.vat_view.specs.Loopbacks.{sender_loopback, receiver_loopback, loopback_of, embargoed_view, receives_call, IsHeldUp}
 use Rattle.vat_view.specs.Bindings.{Refers}
-use Rattle.vat_view.specs.Tables.{bound_at, question_at}
-use Rattle.vat_view.specs.Asking.{opening_call_in, targeted_by}
-use Rattle.vat_view.specs.Kept.{AreKept}
-use Rattle.vat_view.specs.Queues.{queued_at, is_queued, has_joined}
-use Rattle.vat_view.specs.LoopTables.{loopback_at, target_in, looped_at, put_by, receipt_of, receipt_here, receipt_at, received_by, taken_by, put_call, queued_by, change_by, AreQueued, Holding, SaysSame, IsChangedBy, AreWaiting}
+use Rattle.vat_view.specs.Glue.Tables.{bound_at, question_at}
+use Rattle.vat_view.specs.Glue.Asking.{opening_call_in, targeted_by}
+use Rattle.vat_view.specs.Glue.Kept.{AreKept}
+use Rattle.vat_view.specs.Glue.Queues.{queued_at, is_queued, has_joined}
+use Rattle.vat_view.specs.Glue.LoopTables.{loopback_at, loopback_target_in, looped_at, put_by, receipt_of, receipt_here, receipt_at, call_received_by, call_taken_by, put_call, queued_by, change_by, AreQueued, Holding, SaysSame, IsChangedBy, AreWaiting}
 use Rattle.vat_view.proofs.Answering.{targeted_known, opening_call_known}
 use Rattle.vat_view.proofs.Called.{goal_known}
 use Rattle.vat_view.proofs.Receiving.{goal_stays, goal_received, received_step, received_since, passed_since}
@@ -41,7 +41,7 @@ here_parts c past r h = inner (is_at_vat c past) h
 
 -- ---- the table of loopbacks after a record
 
-put_step : (i : Id) (p : Point) (o : Option Id) (old : Option Unechoed) → put_by i (option_map (λ j. (j, looped_at p)) o) old ≡ (if names i o then Some (looped_at p) else old)
+put_step : (i : TableKey) (p : Point) (o : Option TableKey) (old : Option Unechoed) → put_by i (option_map (λ j. (j, looped_at p)) o) old ≡ (if names i o then Some (looped_at p) else old)
 put_step i p (Some j) old = refl
 put_step i p None old = refl
 
@@ -53,40 +53,40 @@ looped_step p false false o = refl
 
 -- ---- the table of received calls after a record
 
-taken_same : (opened other : Id → Option ℕ) → ((q : Id) → opened q ≡ other q) → (e : Event) → taken_by opened e ≡ taken_by other e
+taken_same : (opened other : TableKey → Option ℕ) → ((q : TableKey) → opened q ≡ other q) → (e : DecodedRecord) → call_taken_by opened e ≡ call_taken_by other e
 taken_same opened other same (Wire true k c rs (Return q release Exception)) = same (id k false q)
 taken_same opened other same (Wire true k c rs (Return q release Canceled)) = same (id k false q)
 taken_same opened other same _ = refl
 
 -- ---- both
 
-module _ (before : Past) (questions : Questions) (lives : Lives) (bound : Bound) (calls : Calls) (kept : AreKept before questions lives bound calls) (e : Event) (refers : Refers before e)
+module _ (before : Past) (questions : Questions) (lives : ExportsImports) (bound : BoundReferences) (calls : Calls) (kept : AreKept before questions lives bound calls) (e : DecodedRecord) (refers : Refers before e)
     (number : ℕ) (place : number ≡ length before) (change : Change) (is_change : change ≡ change_by (bound_at bound) lives (question_at questions) number e) where
-  looped_after : (i : Id) (old : Option Unechoed) → old ≡ option_map looped_at (loopback_of i before) →
+  looped_after : (i : TableKey) (old : Option Unechoed) → old ≡ option_map looped_at (loopback_of i before) →
       (if names i change.echoed then None else put_by i change.looped old) ≡ option_map looped_at (loopback_of i (e ∷ before))
   looped_after i old was =
       ap₂ (λ c o. if names i c.echoed then None else put_by i c.looped o) is_change was
-      ∙ ap₂ (λ n v. if names i (echoed e) then None else put_by i (option_map (λ j. (j, record { number = n; target = v })) (looped e)) (option_map looped_at (loopback_of i before)))
+      ∙ ap₂ (λ n v. if names i (receiver_loopback e) then None else put_by i (option_map (λ j. (j, record { number = n; target = v })) (sender_loopback e)) (option_map looped_at (loopback_of i before)))
       place (targeted_known before questions lives bound calls kept e)
-      ∙ ap (λ o. if names i (echoed e) then None else o) (put_step i (point before e) (looped e) (option_map looped_at (loopback_of i before)))
-      ∙ looped_step (point before e) (names i (echoed e)) (names i (looped e)) (loopback_of i before)
+      ∙ ap (λ o. if names i (receiver_loopback e) then None else o) (put_step i (point before e) (sender_loopback e) (option_map looped_at (loopback_of i before)))
+      ∙ looped_step (point before e) (names i (receiver_loopback e)) (names i (sender_loopback e)) (loopback_of i before)
 
   received_after : (c : ℕ) (old : Option Receipt) → old ≡ receipt_here c before → (if is c change.taken then None else put_call c change.received old) ≡ receipt_here c (e ∷ before)
   received_after c old was =
       ap₂ (λ x o. if is c x.taken then None else put_call c x.received o) is_change was
-      ∙ ap (λ n. if is c (taken_by (λ q. opening_call_in (question_at questions q)) e) then None else put_call c (received_by n e) (receipt_here c before)) place
-      ∙ ap (λ o. if is c o then None else put_call c (received_by (length before) e) (receipt_here c before))
+      ∙ ap (λ n. if is c (call_taken_by (λ q. opening_call_in (question_at questions q)) e) then None else put_call c (call_received_by n e) (receipt_here c before)) place
+      ∙ ap (λ o. if is c o then None else put_call c (call_received_by (length before) e) (receipt_here c before))
       (taken_same (λ q. opening_call_in (question_at questions q)) (λ q. call_at (opening q before)) (λ q. opening_call_known before questions lives bound calls kept q) e)
       ∙ received_step c before e refers
 
   -- each call that is at the vat then stands in the queue
-  module _ (old : Waits) (waits : AreWaiting before old) (joined : has_joined old.inbox (queued_by (bound_at bound) lives (question_at questions) number e) ≡ true) (c : ℕ) (r : Receipt) where
+  module _ (old : Embargoes) (waits : AreWaiting before old) (joined : has_joined old.inbox (queued_by (bound_at bound) lives (question_at questions) number e) ≡ true) (c : ℕ) (r : Receipt) where
     stood : receipt_at old.inbox c ≡ Some r → is_queued old.inbox (queued_at c r (goal_of c (e ∷ before))) ≡ true
     stood was =
         let here : receipt_here c before ≡ Some r = sym (waits.received c) ∙ was in
         subst (λ g. is_queued old.inbox (queued_at c r g) ≡ true) (sym (goal_stays c before e r refers (here_parts c before r here).1)) (waits.queued c r here)
 
-    stands : (o : Option (ℕ × Receipt)) → received_by number e ≡ o → put_call c o (receipt_at old.inbox c) ≡ Some r → is_queued old.inbox (queued_at c r (goal_of c (e ∷ before))) ≡ true
+    stands : (o : Option (ℕ × Receipt)) → call_received_by number e ≡ o → put_call c o (receipt_at old.inbox c) ≡ Some r → is_queued old.inbox (queued_at c r (goal_of c (e ∷ before))) ≡ true
     stands None is put = stood put
     stands (Some x) is put = elim (cases_Bool (x.0 == c)) [
       | inl same ↦
@@ -99,17 +99,17 @@ module _ (before : Past) (questions : Questions) (lives : Lives) (bound : Bound)
       | inr apart ↦ stood (sym (ap (λ b. if b then Some x.1 else receipt_at old.inbox c) apart) ∙ put)
     ]
 
-    queued_after : (new : Waits) → IsChangedBy change old new → receipt_here c (e ∷ before) ≡ Some r → is_queued new.inbox (queued_at c r (goal_of c (e ∷ before))) ≡ true
+    queued_after : (new : Embargoes) → IsChangedBy change old new → receipt_here c (e ∷ before) ≡ Some r → is_queued new.inbox (queued_at c r (goal_of c (e ∷ before))) ≡ true
     queued_after new changed h =
         let now : (if is c change.taken then None else put_call c change.received (receipt_at old.inbox c)) ≡ Some r = received_after c (receipt_at old.inbox c) (waits.received c) ∙ h in
         elim (cases_Bool (is c change.taken)) [
           | inl gone ↦ absurd (none_some (sym (ap (λ b. if b then None else put_call c change.received (receipt_at old.inbox c)) gone) ∙ now))
           | inr stays ↦ changed.queued (queued_at c r (goal_of c (e ∷ before))) stays
-              (stands (received_by number e) refl
+              (stands (call_received_by number e) refl
               (sym (ap (λ x. put_call c x.received (receipt_at old.inbox c)) is_change) ∙ sym (ap (λ b. if b then None else put_call c change.received (receipt_at old.inbox c)) stays) ∙ now))
         ]
 
-  pub waits_after : (old new : Waits) → AreWaiting before old → has_joined old.inbox (queued_by (bound_at bound) lives (question_at questions) number e) ≡ true → IsChangedBy change old new →
+  pub waits_after : (old new : Embargoes) → AreWaiting before old → has_joined old.inbox (queued_by (bound_at bound) lives (question_at questions) number e) ≡ true → IsChangedBy change old new →
       AreWaiting (e ∷ before) new
   waits_after old new waits joined changed = record {
     looped = λ i. changed.looped i ∙ looped_after i (loopback_at old.loopbacks i) (waits.looped i);
@@ -117,7 +117,7 @@ module _ (before : Past) (questions : Questions) (lives : Lives) (bound : Bound)
     queued = λ c r h. queued_after old waits joined c r new changed h;
   }
 
-pub waits_same : (past : Past) (old new : Waits) → SaysSame old new → AreWaiting past old → AreWaiting past new
+pub waits_same : (past : Past) (old new : Embargoes) → SaysSame old new → AreWaiting past old → AreWaiting past new
 waits_same past old new same waits = record {
   looped = λ i. same.looped i ∙ waits.looped i;
   received = λ c. same.received c ∙ waits.received c;
@@ -126,7 +126,7 @@ waits_same past old new same waits = record {
 
 -- ---- what is asked of a loopback
 
-module _ (past : Past) (waits : Waits) (kept : AreWaiting past waits) (i : Id) where
+module _ (past : Past) (waits : Embargoes) (kept : AreWaiting past waits) (i : TableKey) where
   pub has_known : is_some (loopback_at waits.loopbacks i) ≡ is_some (loopback_of i past)
   has_known = ap (λ o. is_some o) (kept.looped i) ∙ found (loopback_of i past)
     where
@@ -134,10 +134,10 @@ module _ (past : Past) (waits : Waits) (kept : AreWaiting past waits) (i : Id) w
       found (Some p) = refl
       found None = refl
 
-  pub waiting_known : target_in (loopback_at waits.loopbacks i) ≡ waiting i past
-  waiting_known = ap (λ o. target_in o) (kept.looped i) ∙ found (loopback_of i past)
+  pub waiting_known : loopback_target_in (loopback_at waits.loopbacks i) ≡ embargoed_view i past
+  waiting_known = ap (λ o. loopback_target_in o) (kept.looped i) ∙ found (loopback_of i past)
     where
-      found : (o : Option Point) → target_in (option_map looped_at o) ≡ option_and_then (λ p. view_of_target p.before p.event) o
+      found : (o : Option Point) → loopback_target_in (option_map looped_at o) ≡ option_and_then (λ p. view_of_target p.before p.event) o
       found (Some p) = refl
       found None = refl
 
@@ -147,36 +147,36 @@ looped_parts : (o : Option Point) (u : Unechoed) → option_map looped_at o ≡ 
 looped_parts (Some p) u h = (p, refl, some_same h)
 looped_parts None u h = absurd (none_some h)
 
-module _ (past : Past) (questions : Questions) (lives : Lives) (bound : Bound) (calls : Calls) (kept : AreKept past questions lives bound calls) (waits : Waits) (waiting : AreWaiting past waits)
-    (i : Id) where
+module _ (past : Past) (questions : Questions) (lives : ExportsImports) (bound : BoundReferences) (calls : Calls) (kept : AreKept past questions lives bound calls) (waits : Embargoes) (embargoed_view : AreWaiting past waits)
+    (i : TableKey) where
   -- by the goals that the table of calls has
   all_queued : AreQueued waits.inbox calls
-  all_queued c r h = subst (λ g. is_queued waits.inbox (queued_at c r g) ≡ true) (sym (goal_known past questions lives bound calls kept c)) (waiting.queued c r (sym (waiting.received c) ∙ h))
+  all_queued c r h = subst (λ g. is_queued waits.inbox (queued_at c r g) ≡ true) (sym (goal_known past questions lives bound calls kept c)) (embargoed_view.queued c r (sym (embargoed_view.received c) ∙ h))
 
   pub held_decided : (u : Unechoed) → loopback_at waits.loopbacks i ≡ Some u → (b : Bool) → (AreQueued waits.inbox calls → Decides b (Holding waits.inbox calls i.connection u)) → Decides b (IsHeldUp i past)
   held_decided u there b decides = (
     λ so. (let holds = (decides all_queued).0 so in
         let call : ℕ = holds.0 in
         let r : Receipt = holds.1 in
-        let known = looped_parts (loopback_of i past) u (sym (waiting.looped i) ∙ there) in
+        let known = looped_parts (loopback_of i past) u (sym (embargoed_view.looped i) ∙ there) in
         let p : Point = known.0 in
-        let here = here_parts call past r (sym (waiting.received call) ∙ holds.2) in
-        let early : r.number < number_of p = subst (λ x. r.number < x.number) (sym known.2) holds.4 in
-        let passed : has_passed (receives r.connection call) p.before ≡ true = passed_since (λ before e. names i (echoed e)) (λ before e. names i (looped e)) call past p r known.1 here.1 early in (
+        let here = here_parts call past r (sym (embargoed_view.received call) ∙ holds.2) in
+        let early : r.number < record_index p = subst (λ x. r.number < x.number) (sym known.2) holds.4 in
+        let passed : has_passed (receives_call r.connection call) p.before ≡ true = passed_since (λ before e. names i (receiver_loopback e)) (λ before e. names i (sender_loopback e)) call past p r known.1 here.1 early in (
           p,
           known.1,
           (
             call,
-            subst (λ k. has_passed (receives k call) p.before ≡ true) holds.3 passed,
+            subst (λ k. has_passed (receives_call k call) p.before ≡ true) holds.3 passed,
             sym (goal_known past questions lives bound calls kept call) ∙ holds.5 ∙ sym (ap (λ x. x.target) known.2),
             here.0,
           ),
         )),
     λ held. (let p : Point = held.0 in
         let call : ℕ = held.2.0 in
-        let same : looped_at p ≡ u = some_same (sym (ap (λ o. option_map looped_at o) held.1) ∙ sym (waiting.looped i) ∙ there) in
-        let got = received_since (λ before e. names i (echoed e)) (λ before e. names i (looped e)) i.connection call past kept.sound p held.1 held.2.1 in
-        let at : receipt_at waits.inbox call ≡ Some got.0 = waiting.received call ∙ ap (λ b. if b then receipt_of call past else None) held.2.3 ∙ got.1 in
+        let same : looped_at p ≡ u = some_same (sym (ap (λ o. option_map looped_at o) held.1) ∙ sym (embargoed_view.looped i) ∙ there) in
+        let got = received_since (λ before e. names i (receiver_loopback e)) (λ before e. names i (sender_loopback e)) i.connection call past kept.sound p held.1 held.2.1 in
+        let at : receipt_at waits.inbox call ≡ Some got.0 = embargoed_view.received call ∙ ap (λ b. if b then receipt_of call past else None) held.2.3 ∙ got.1 in
         (decides all_queued).1 (
           call,
           got.0,
@@ -190,5 +190,5 @@ module _ (past : Past) (questions : Questions) (lives : Lives) (bound : Bound) (
   pub held_by_none : loopback_at waits.loopbacks i ≡ None → Decides false (IsHeldUp i past)
   held_by_none nothing = (
     λ so. absurd (false≢true so),
-    λ held. absurd (none_some (sym nothing ∙ waiting.looped i ∙ ap (λ o. option_map looped_at o) held.1)),
+    λ held. absurd (none_some (sym nothing ∙ embargoed_view.looped i ∙ ap (λ o. option_map looped_at o) held.1)),
   )

@@ -5,12 +5,12 @@ use Rattle.std.specs.List.{zip, cons_option, position_from}
 use Rattle.std.specs.Option.{option_to_list}
 use Rattle.std.proofs.lemmas.Bool.{cases_Bool, false≢true, ne_eqb, eq-eqb}
 use Rattle.std.proofs.lemmas.List.Sums.{sum_by-cons}
-use Rattle.vat_view.specs.declared.origin.Origin.{Origin}
-use Rattle.vat_view.specs.Types.{Descriptor, NoCap, SenderHosted, SenderPromise, ReceiverHosted, ReceiverAnswer, Event, Wire, Id}
+use Rattle.vat_view.specs.declared.record.origin.Origin.{Origin}
+use Rattle.vat_view.specs.Types.{Descriptor, NoCap, SenderHosted, SenderPromise, ReceiverHosted, ReceiverAnswer, DecodedRecord, Wire, TableKey}
 use Rattle.vat_view.specs.Past.{same_id, names}
-use Rattle.vat_view.specs.Lives.{introduced}
+use Rattle.vat_view.specs.Lives.{number_introduced}
 use Rattle.vat_view.specs.Views.{places_from, references}
-use Rattle.vat_view.specs.Tables.{is_cap, origin_by, origins_from}
+use Rattle.vat_view.specs.Glue.Tables.{is_cap, origin_by, origins_from}
 
 pub cons_append : {A : Type 0} (o : Option A) (xs ys : List A) → cons_option o (xs ++ ys) ≡ cons_option o xs ++ ys
 cons_append None xs ys = refl
@@ -18,12 +18,12 @@ cons_append (Some x) xs ys = refl
 
 -- ---- as the code lists them
 
-module _ (n : ℕ) (e : Event) where
+module _ (n : ℕ) (e : DecodedRecord) where
   pub origins_more : (ds : List Descriptor) (p b : ℕ) (d : Descriptor) →
       origins_from n e p b (ds ++ d ∷ []) ≡ origins_from n e p b ds ++ option_to_list (origin_by n e (p + length ds) (b + count_by is_cap ds) d)
   origins_more [] p b d = alone (origin_by n e p b d) ∙ ap₂ (λ x y. option_to_list (origin_by n e x y d)) (sym (add-zero p)) (sym (add-zero b))
     where
-      alone : (o : Option (Id × Origin)) → cons_option o [] ≡ option_to_list o
+      alone : (o : Option (TableKey × Origin)) → cons_option o [] ≡ option_to_list o
       alone None = refl
       alone (Some x) = refl
   origins_more (x ∷ ds) p b d =
@@ -36,19 +36,19 @@ module _ (n : ℕ) (e : Event) where
 
   -- ---- how many
 
-  module _ (i : Id) where
-    counted_cons : (o : Option Id) (f : Origin) (xs : List (Id × Origin)) (ys : List Id) → count_by (λ x. same_id i x.0) xs ≡ count_by (same_id i) ys →
+  module _ (i : TableKey) where
+    counted_cons : (o : Option TableKey) (f : Origin) (xs : List (TableKey × Origin)) (ys : List TableKey) → count_by (λ x. same_id i x.0) xs ≡ count_by (same_id i) ys →
         count_by (λ x. same_id i x.0) (cons_option (option_map (λ j. (j, f)) o) xs) ≡ count_by (same_id i) (cons_option o ys)
     counted_cons None f xs ys h = h
     counted_cons (Some j) f xs ys h =
-        let one = sum_by-cons (λ (x : Id × Origin). cond (same_id i x.0) 1 0) (j, f) xs in
+        let one = sum_by-cons (λ (x : TableKey × Origin). cond (same_id i x.0) 1 0) (j, f) xs in
         let other = sum_by-cons (λ x. cond (same_id i x) 1 0) j ys in omega (arith, one, other, h)
 
-    pub origins_counted : (ds : List Descriptor) (p b : ℕ) → count_by (λ x. same_id i x.0) (origins_from n e p b ds) ≡ count_by (same_id i) (filter_map (introduced e) ds)
+    pub origins_counted : (ds : List Descriptor) (p b : ℕ) → count_by (λ x. same_id i x.0) (origins_from n e p b ds) ≡ count_by (same_id i) (filter_map (number_introduced e) ds)
     origins_counted [] p b = refl
     origins_counted (d ∷ ds) p b =
-        counted_cons (introduced e d) (record { number = n; place = p; reference = slice_get (references e) b }) (origins_from n e (p + 1) (b + (if is_cap d then 1 else 0)) ds)
-        (filter_map (introduced e) ds) (origins_counted ds (p + 1) (b + (if is_cap d then 1 else 0)))
+        counted_cons (number_introduced e d) (record { number = n; place = p; reference = slice_get (references e) b }) (origins_from n e (p + 1) (b + (if is_cap d then 1 else 0)) ds)
+        (filter_map (number_introduced e) ds) (origins_counted ds (p + 1) (b + (if is_cap d then 1 else 0)))
 
 -- ---- as looking back finds them
 
@@ -80,7 +80,7 @@ places_cons p (SenderPromise m) ds = refl
 places_cons p (ReceiverHosted m) ds = refl
 places_cons p (ReceiverAnswer m path) ds = refl
 
-pub none_introduces : (e : Event) (d : Descriptor) → is_cap d ≡ false → introduced e d ≡ None
+pub none_introduces : (e : DecodedRecord) (d : Descriptor) → is_cap d ≡ false → number_introduced e d ≡ None
 none_introduces (Wire s k c rs m) NoCap h = refl
 none_introduces _ NoCap h = refl
 none_introduces e (SenderHosted m) h = absurd (false≢true (sym h))
@@ -97,7 +97,7 @@ pub found_later : {A : Type 0} (test : A → Bool) (xs : List A) (p q : ℕ) →
 found_later test [] p q h = absurd (let no : ⊥ = cc in no)
 found_later test (x ∷ xs) p q h = later_if (test x) p q (position_from test (p + 1) xs) (found_later test xs (p + 1) q) h
 
-module _ (n : ℕ) (e : Event) (i : Id) where
+module _ (n : ℕ) (e : DecodedRecord) (i : TableKey) where
   -- the origin of a life that began at this place
   abbrev pub origin_there : ℕ → List ℕ → ℕ → Origin
   origin_there b ps q = record { number = n; place = q; reference = noted_at (drop b (references e)) ps q }
@@ -105,12 +105,12 @@ module _ (n : ℕ) (e : Event) (i : Id) where
   abbrev at_place : ℕ → Option ℕ → Origin
   at_place q r = record { number = n; place = q; reference = r }
 
-  skipped : (o : Option Id) (f : Origin) (xs : List (Id × Origin)) → names i o ≡ false →
+  skipped : (o : Option TableKey) (f : Origin) (xs : List (TableKey × Origin)) → names i o ≡ false →
       find (λ x. same_id i x.0) (cons_option (option_map (λ j. (j, f)) o) xs) ≡ find (λ x. same_id i x.0) xs
   skipped None f xs h = refl
   skipped (Some j) f xs h = ap (λ b. if b then Some (j, f) else find (λ x. same_id i x.0) xs) h
 
-  taken : (o : Option Id) (f : Origin) (xs : List (Id × Origin)) → names i o ≡ true →
+  taken : (o : Option TableKey) (f : Origin) (xs : List (TableKey × Origin)) → names i o ≡ true →
       option_map (λ x. x.1) (find (λ x. same_id i x.0) (cons_option (option_map (λ j. (j, f)) o) xs)) ≡ Some f
   taken None f xs h = absurd (false≢true h)
   taken (Some j) f xs h = ap (λ b. option_map (λ x. x.1) (if b then Some (j, f) else find (λ x. same_id i x.0) xs)) h
@@ -130,26 +130,26 @@ module _ (n : ℕ) (e : Event) (i : Id) where
   next_places false p b q ps le = ap (λ x. noted_at (drop x (references e)) ps q) (add-zero b)
 
   pub first_origin : (ds : List Descriptor) (p b : ℕ) → option_map (λ x. x.1) (find (λ x. same_id i x.0) (origins_from n e p b ds))
-      ≡ option_map (origin_there b (places_from p ds)) (position_from (λ d. names i (introduced e d)) p ds)
+      ≡ option_map (origin_there b (places_from p ds)) (position_from (λ d. names i (number_introduced e d)) p ds)
   first_origin [] p b = refl
-  first_origin (d ∷ ds) p b = elim (cases_Bool (names i (introduced e d))) [
+  first_origin (d ∷ ds) p b = elim (cases_Bool (names i (number_introduced e d))) [
     | inl here ↦
         let f : Origin = record { number = n; place = p; reference = slice_get (references e) b } in
         let cap : is_cap d ≡ true = must_be (cases_Bool (is_cap d)) here in
-        taken (introduced e d) f (origins_from n e (p + 1) (b + (if is_cap d then 1 else 0)) ds) here
+        taken (number_introduced e d) f (origins_from n e (p + 1) (b + (if is_cap d then 1 else 0)) ds) here
         ∙ ap (λ r. Some (at_place p r)) (get_drop (references e) b ∙ noted_first (drop b (references e)) (places_from (p + 1) ds) p
         ∙ ap (λ ps. noted_at (drop b (references e)) ps p) (sym (places_cons p d ds ∙ ap (λ c. if c then p ∷ places_from (p + 1) ds else places_from (p + 1) ds) cap)))
-        ∙ sym (ap (λ c. option_map (origin_there b (places_from p (d ∷ ds))) (if c then Some p else position_from (λ d. names i (introduced e d)) (p + 1) ds)) here)
+        ∙ sym (ap (λ c. option_map (origin_there b (places_from p (d ∷ ds))) (if c then Some p else position_from (λ d. names i (number_introduced e d)) (p + 1) ds)) here)
     | inr apart ↦
-        ap (λ o. option_map (λ x. x.1) o) (skipped (introduced e d) _ (origins_from n e (p + 1) (b + (if is_cap d then 1 else 0)) ds) apart)
+        ap (λ o. option_map (λ x. x.1) o) (skipped (number_introduced e d) _ (origins_from n e (p + 1) (b + (if is_cap d then 1 else 0)) ds) apart)
         ∙ first_origin ds (p + 1) (b + (if is_cap d then 1 else 0))
         ∙ map_found (origin_there (b + (if is_cap d then 1 else 0)) (places_from (p + 1) ds)) (origin_there b (places_from p (d ∷ ds)))
-        (position_from (λ d. names i (introduced e d)) (p + 1) ds)
-        (λ q found. ap (λ r. at_place q r) (next_places (is_cap d) p b q (places_from (p + 1) ds) (found_later (λ d. names i (introduced e d)) ds (p + 1) q found)
+        (position_from (λ d. names i (number_introduced e d)) (p + 1) ds)
+        (λ q found. ap (λ r. at_place q r) (next_places (is_cap d) p b q (places_from (p + 1) ds) (found_later (λ d. names i (number_introduced e d)) ds (p + 1) q found)
         ∙ ap (λ ps. noted_at (drop b (references e)) ps q) (sym (places_cons p d ds))))
-        ∙ sym (ap (λ c. option_map (origin_there b (places_from p (d ∷ ds))) (if c then Some p else position_from (λ d. names i (introduced e d)) (p + 1) ds)) apart)
+        ∙ sym (ap (λ c. option_map (origin_there b (places_from p (d ∷ ds))) (if c then Some p else position_from (λ d. names i (number_introduced e d)) (p + 1) ds)) apart)
   ]
     where
-      must_be : ((is_cap d ≡ true) ⊎ (is_cap d ≡ false)) → names i (introduced e d) ≡ true → is_cap d ≡ true
+      must_be : ((is_cap d ≡ true) ⊎ (is_cap d ≡ false)) → names i (number_introduced e d) ≡ true → is_cap d ≡ true
       must_be (inl yes0) h = yes0
       must_be (inr no0) h = absurd (false≢true (sym (ap (λ o. names i o) (none_introduces e d no0)) ∙ h))

@@ -4,15 +4,15 @@ use Rattle.std.specs.Prelude.{is_some, reverse, nat_lt, slice_get}
 use Rattle.std.specs.Option.{option_or}
 use Rattle.std.proofs.lemmas.Bool.{cases_Bool, lt-ltb, le-ltb}
 use Rattle.std.proofs.lemmas.List.{length-reverse, reverse-append, reverse-reverse}
-use Rattle.vat_view.specs.declared.origin.Origin.{Origin}
-use Rattle.vat_view.specs.declared.questions.Questions.{Questions}
-use Rattle.vat_view.specs.declared.lives.Lives.{Lives}
-use Rattle.vat_view.specs.declared.resolves.Resolves.{Resolves}
-use Rattle.vat_view.specs.Types.{Event, Id}
-use Rattle.vat_view.specs.Past.{Past, Point, point, names, number_of, last_answer, last_where, last_since}
-use Rattle.vat_view.specs.Lives.{Birth, birth, begins, resolved, is_resolved, is_in_life, is_promised, descriptors, began_promised}
-use Rattle.vat_view.specs.Tables.{held_origin, origin_of, IsTabled}
-use Rattle.vat_view.specs.KindTables.{resolve_at, last_resolve, AreResolved, promised_at, resolved_since}
+use Rattle.vat_view.specs.declared.record.origin.Origin.{Origin}
+use Rattle.vat_view.specs.declared.tables.questions.Questions.{Questions}
+use Rattle.vat_view.specs.declared.tables.exports_imports.ExportsImports.{ExportsImports}
+use Rattle.vat_view.specs.declared.tables.resolves.Resolves.{Resolves}
+use Rattle.vat_view.specs.Types.{DecodedRecord, TableKey}
+use Rattle.vat_view.specs.Past.{Past, Point, point, names, record_index, last_answer, last_where, last_since}
+use Rattle.vat_view.specs.Lives.{Birth, birth, begins, promise_resolved, is_resolved, is_in_life, is_promised, descriptors, began_promised}
+use Rattle.vat_view.specs.Glue.Tables.{held_origin, origin_of, IsTabled}
+use Rattle.vat_view.specs.Glue.KindTables.{resolve_at, last_resolve, AreResolved, promised_at, resolved_since}
 use Rattle.vat_view.proofs.Meaning.{held_known}
 use Rattle.vat_view.proofs.Viewed.{birth_of, begins_parts, cases_option}
 
@@ -25,23 +25,23 @@ none_some e = cc
 -- ---- the records of lives
 
 -- the record where a life begins now
-pub begins_number : (i : Id) (before : Past) (e : Event) (b : Birth) → begins i before e ≡ Some b → b.from ≡ point before e
+pub begins_number : (i : TableKey) (before : Past) (e : DecodedRecord) (b : Birth) → begins i before e ≡ Some b → b.from ≡ point before e
 begins_number i before e b h = let parts = begins_parts i before e b h in ap (λ x. x.from) parts.2
 
-pub birth_below : (i : Id) (past : Past) (b : Birth) → last_answer (begins i) past ≡ Some b → number_of b.from < length past
+pub birth_below : (i : TableKey) (past : Past) (b : Birth) → last_answer (begins i) past ≡ Some b → record_index b.from < length past
 birth_below i [] b h = absurd (none_some h)
 birth_below i (e ∷ before) b h = elim (cases_option (begins i before e)) [
   | inl some ↦
       let same : begins i before e ≡ Some b = some.1 ∙ sym (ap (λ o. option_or o (last_answer (begins i) before)) some.1) ∙ h in
-      let at : number_of b.from ≡ length before = ap (λ p. number_of p) (begins_number i before e b same) in omega (arith, at)
+      let at : record_index b.from ≡ length before = ap (λ p. record_index p) (begins_number i before e b same) in omega (arith, at)
   | inr none ↦ let rest = birth_below i before b (sym (ap (λ o. option_or o (last_answer (begins i) before)) none) ∙ h) in omega (arith, rest)
 ]
 
-where_below : (test : Past → Event → Bool) (past : Past) (p : Point) → last_where test past ≡ Some p → number_of p < length past
+where_below : (test : Past → DecodedRecord → Bool) (past : Past) (p : Point) → last_where test past ≡ Some p → record_index p < length past
 where_below test [] p h = absurd (none_some h)
 where_below test (e ∷ before) p h = elim (cases_Bool (test before e)) [
   | inl here ↦
-      let at : number_of p ≡ length before = ap (λ x. number_of x) (sym (some_same (sym (ap (λ b. if b then Some (point before e) else last_where test before) here) ∙ h))) in omega (arith, at)
+      let at : record_index p ≡ length before = ap (λ x. record_index x) (sym (some_same (sym (ap (λ b. if b then Some (point before e) else last_where test before) here) ∙ h))) in omega (arith, at)
   | inr apart ↦ let rest = where_below test before p (sym (ap (λ b. if b then Some (point before e) else last_where test before) apart) ∙ h) in omega (arith, rest)
 ]
 
@@ -57,25 +57,25 @@ get_front (z ∷ xs) ys zero x h = h
 get_front (z ∷ xs) ys (suc k) x h = get_front xs ys k x h
 
 -- the record where a life began stands at its number
-pub birth_stands : (i : Id) (past : Past) (b : Birth) → last_answer (begins i) past ≡ Some b → slice_get (reverse past) (number_of b.from) ≡ Some b.from.event
+pub birth_stands : (i : TableKey) (past : Past) (b : Birth) → last_answer (begins i) past ≡ Some b → slice_get (reverse past) (record_index b.from) ≡ Some b.from.event
 birth_stands i [] b h = absurd (none_some h)
-birth_stands i (e ∷ before) b h = ap (λ l. slice_get l (number_of b.from)) (reverse-append (e ∷ []) before) ∙ elim (cases_option (begins i before e)) [
+birth_stands i (e ∷ before) b h = ap (λ l. slice_get l (record_index b.from)) (reverse-append (e ∷ []) before) ∙ elim (cases_option (begins i before e)) [
   | inl some ↦
       let same : begins i before e ≡ Some b = some.1 ∙ sym (ap (λ o. option_or o (last_answer (begins i) before)) some.1) ∙ h in
       let from : b.from ≡ point before e = begins_number i before e b same in
-      ap (λ p. slice_get (reverse before ++ e ∷ []) (number_of p)) from ∙ ap (λ n. slice_get (reverse before ++ e ∷ []) n) (sym (length-reverse before))
+      ap (λ p. slice_get (reverse before ++ e ∷ []) (record_index p)) from ∙ ap (λ n. slice_get (reverse before ++ e ∷ []) n) (sym (length-reverse before))
       ∙ get_last (reverse before) e ∙ ap (λ p. Some p.event) (sym from)
-  | inr none ↦ get_front (reverse before) (e ∷ []) (number_of b.from) b.from.event
+  | inr none ↦ get_front (reverse before) (e ∷ []) (record_index b.from) b.from.event
       (birth_stands i before b (sym (ap (λ o. option_or o (last_answer (begins i) before)) none) ∙ h))
 ]
 
-module _ (past : Past) (items : List Event) (view_is : reverse items ≡ past) (questions : Questions) (lives : Lives) (tabled : IsTabled past questions lives) (i : Id) where
+module _ (past : Past) (items : List DecodedRecord) (view_is : reverse items ≡ past) (questions : Questions) (lives : ExportsImports) (tabled : IsTabled past questions lives) (i : TableKey) where
   pub promised_known : option_map (promised_at items) (held_origin lives i) ≡ option_map began_promised (birth i past)
   promised_known = ap (λ o. option_map (promised_at items) o) (held_known past questions lives tabled i) ∙ elim (cases_Bool (is_in_life i past)) [
     | inl alive ↦
         let b = birth_of i past alive in
-        let stands : slice_get items (number_of b.0.from) ≡ Some b.0.from.event =
-        ap (λ l. slice_get l (number_of b.0.from)) (sym (reverse-reverse items) ∙ ap (λ l. reverse l) view_is) ∙ birth_stands i past b.0 b.2 in
+        let stands : slice_get items (record_index b.0.from) ≡ Some b.0.from.event =
+        ap (λ l. slice_get l (record_index b.0.from)) (sym (reverse-reverse items) ∙ ap (λ l. reverse l) view_is) ∙ birth_stands i past b.0 b.2 in
         ap (λ o. option_map (promised_at items) (option_map origin_of o)) b.1
         ∙ ap (λ o. Some (is_promised (option_and_then (λ e. slice_get (descriptors e) b.0.place) o))) stands ∙ sym (ap (λ o. option_map began_promised o) b.1)
     | inr out ↦
@@ -89,31 +89,31 @@ abbrev later_than : ℕ → Option ℕ → Bool
 later_than n (Some m) = nat_lt n m
 later_than n None = false
 
-not_later : (n : ℕ) (o : Option Point) → ((p : Point) → o ≡ Some p → number_of p ≤ n) → later_than n (option_map number_of o) ≡ false
-not_later n (Some p) h = le-ltb n (number_of p) (h p refl)
+not_later : (n : ℕ) (o : Option Point) → ((p : Point) → o ≡ Some p → record_index p ≤ n) → later_than n (option_map record_index o) ≡ false
+not_later n (Some p) h = le-ltb n (record_index p) (h p refl)
 not_later n None h = refl
 
-since_birth : (i : Id) (past : Past) (b : Birth) → last_answer (begins i) past ≡ Some b →
-    is_some (last_since (λ before e. is_some (begins i before e)) (λ before e. names i (resolved e)) past) ≡ later_than (number_of b.from) (option_map number_of (last_resolve i past))
+since_birth : (i : TableKey) (past : Past) (b : Birth) → last_answer (begins i) past ≡ Some b →
+    is_some (last_since (λ before e. is_some (begins i before e)) (λ before e. names i (promise_resolved e)) past) ≡ later_than (record_index b.from) (option_map record_index (last_resolve i past))
 since_birth i [] b h = absurd (none_some h)
 since_birth i (e ∷ before) b h = elim (cases_option (begins i before e)) [
   | inl some ↦
       let same : begins i before e ≡ Some b = some.1 ∙ sym (ap (λ o. option_or o (last_answer (begins i) before)) some.1) ∙ h in
-      let at : number_of b.from ≡ length before = ap (λ p. number_of p) (begins_number i before e b same) in
-      ap (λ o. is_some (if is_some o then None else if names i (resolved e) then Some (point before e) else last_since (λ before e. is_some (begins i before e)) (λ before e. names i (resolved e)) before)) some.1
-      ∙ sym (not_later (number_of b.from) (last_resolve i (e ∷ before)) (λ p found. let below = where_below (λ before e. names i (resolved e)) (e ∷ before) p found in omega (arith, below, at)))
+      let at : record_index b.from ≡ length before = ap (λ p. record_index p) (begins_number i before e b same) in
+      ap (λ o. is_some (if is_some o then None else if names i (promise_resolved e) then Some (point before e) else last_since (λ before e. is_some (begins i before e)) (λ before e. names i (promise_resolved e)) before)) some.1
+      ∙ sym (not_later (record_index b.from) (last_resolve i (e ∷ before)) (λ p found. let below = where_below (λ before e. names i (promise_resolved e)) (e ∷ before) p found in omega (arith, below, at)))
   | inr none ↦
       let old : last_answer (begins i) before ≡ Some b = sym (ap (λ o. option_or o (last_answer (begins i) before)) none) ∙ h in
-      ap (λ o. is_some (if is_some o then None else if names i (resolved e) then Some (point before e) else last_since (λ before e. is_some (begins i before e)) (λ before e. names i (resolved e)) before)) none
-      ∙ elim (cases_Bool (names i (resolved e))) [
+      ap (λ o. is_some (if is_some o then None else if names i (promise_resolved e) then Some (point before e) else last_since (λ before e. is_some (begins i before e)) (λ before e. names i (promise_resolved e)) before)) none
+      ∙ elim (cases_Bool (names i (promise_resolved e))) [
         | inl here ↦
-            ap (λ x. is_some (if x then Some (point before e) else last_since (λ before e. is_some (begins i before e)) (λ before e. names i (resolved e)) before)) here
-            ∙ sym (lt-ltb (number_of b.from) (length before) (birth_below i before b old))
-            ∙ sym (ap (λ x. later_than (number_of b.from) (option_map number_of (if x then Some (point before e) else last_resolve i before))) here)
+            ap (λ x. is_some (if x then Some (point before e) else last_since (λ before e. is_some (begins i before e)) (λ before e. names i (promise_resolved e)) before)) here
+            ∙ sym (lt-ltb (record_index b.from) (length before) (birth_below i before b old))
+            ∙ sym (ap (λ x. later_than (record_index b.from) (option_map record_index (if x then Some (point before e) else last_resolve i before))) here)
         | inr apart ↦
-            ap (λ x. is_some (if x then Some (point before e) else last_since (λ before e. is_some (begins i before e)) (λ before e. names i (resolved e)) before)) apart
+            ap (λ x. is_some (if x then Some (point before e) else last_since (λ before e. is_some (begins i before e)) (λ before e. names i (promise_resolved e)) before)) apart
             ∙ since_birth i before b old
-            ∙ sym (ap (λ x. later_than (number_of b.from) (option_map number_of (if x then Some (point before e) else last_resolve i before))) apart)
+            ∙ sym (ap (λ x. later_than (record_index b.from) (option_map record_index (if x then Some (point before e) else last_resolve i before))) apart)
       ]
 ]
 
@@ -121,28 +121,28 @@ since_some : (origin : Origin) (o : Option ℕ) → resolved_since (Some origin)
 since_some origin (Some m) = refl
 since_some origin None = refl
 
-pub resolved_known : (past : Past) (questions : Questions) (lives : Lives) (resolves : Resolves) → IsTabled past questions lives → AreResolved past resolves → (i : Id) →
+pub resolved_known : (past : Past) (questions : Questions) (lives : ExportsImports) (resolves : Resolves) → IsTabled past questions lives → AreResolved past resolves → (i : TableKey) →
     resolved_since (held_origin lives i) (resolve_at resolves i) ≡ is_resolved i past
 resolved_known past questions lives resolves tabled table i =
     ap₂ (λ o n. resolved_since o n) (held_known past questions lives tabled i) (table i) ∙ elim (cases_Bool (is_in_life i past)) [
       | inl alive ↦
           let b = birth_of i past alive in
-          ap (λ o. resolved_since (option_map origin_of o) (option_map number_of (last_resolve i past))) b.1
-          ∙ since_some (origin_of b.0) (option_map number_of (last_resolve i past)) ∙ sym (since_birth i past b.0 b.2)
-          ∙ sym (ap (λ x. is_some (if x then last_since (λ before e. is_some (begins i before e)) (λ before e. names i (resolved e)) past else None)) alive)
+          ap (λ o. resolved_since (option_map origin_of o) (option_map record_index (last_resolve i past))) b.1
+          ∙ since_some (origin_of b.0) (option_map record_index (last_resolve i past)) ∙ sym (since_birth i past b.0 b.2)
+          ∙ sym (ap (λ x. is_some (if x then last_since (λ before e. is_some (begins i before e)) (λ before e. names i (promise_resolved e)) past else None)) alive)
       | inr out ↦
-          ap (λ x. resolved_since (option_map origin_of (if x then last_answer (begins i) past else None)) (option_map number_of (last_resolve i past))) out
-          ∙ sym (ap (λ x. is_some (if x then last_since (λ before e. is_some (begins i before e)) (λ before e. names i (resolved e)) past else None)) out)
+          ap (λ x. resolved_since (option_map origin_of (if x then last_answer (begins i) past else None)) (option_map record_index (last_resolve i past))) out
+          ∙ sym (ap (λ x. is_some (if x then last_since (λ before e. is_some (begins i before e)) (λ before e. names i (promise_resolved e)) past else None)) out)
     ]
 
 -- ---- the table after a record
 
-pub resolves_after : (before : Past) (e : Event) (table after : Resolves) → AreResolved before table → (o : Option Id) → o ≡ resolved e → (n : ℕ) → n ≡ length before →
-    ((i : Id) → resolve_at after i ≡ (if names i o then Some n else resolve_at table i)) → AreResolved (e ∷ before) after
+pub resolves_after : (before : Past) (e : DecodedRecord) (table after : Resolves) → AreResolved before table → (o : Option TableKey) → o ≡ promise_resolved e → (n : ℕ) → n ≡ length before →
+    ((i : TableKey) → resolve_at after i ≡ (if names i o then Some n else resolve_at table i)) → AreResolved (e ∷ before) after
 resolves_after before e table after kept o is_resolved n place changed i =
-    changed i ∙ ap₂ (λ x m. if names i x then Some m else resolve_at table i) is_resolved place ∙ ap (λ x. if names i (resolved e) then Some (length before) else x) (kept i)
-    ∙ either (names i (resolved e)) (last_resolve i before)
+    changed i ∙ ap₂ (λ x m. if names i x then Some m else resolve_at table i) is_resolved place ∙ ap (λ x. if names i (promise_resolved e) then Some (length before) else x) (kept i)
+    ∙ either (names i (promise_resolved e)) (last_resolve i before)
   where
-    either : (b : Bool) (p : Option Point) → (if b then Some (length before) else option_map number_of p) ≡ option_map number_of (if b then Some (point before e) else p)
+    either : (b : Bool) (p : Option Point) → (if b then Some (length before) else option_map record_index p) ≡ option_map record_index (if b then Some (point before e) else p)
     either true p = refl
     either false p = refl

@@ -11,18 +11,18 @@ use Rattle.std.specs.Cmp.{Equal-is, nat_cmp_total, tied_itself, alike_right, uns
 use Rattle.std.specs.BTreeMap.{get}
 use Rattle.std.specs.BTreeMap.Range.{range_contains}
 use Rattle.std.proofs.lemmas.Bool.{cases_Bool, or_left, or_right, false≢true, eqb-true, eq-eqb, lt-ltb}
-use Rattle.vat_view.specs.declared.heading.Heading.{Heading}
-use Rattle.vat_view.specs.declared.queued.Queued.{Queued}
-use Rattle.vat_view.specs.contracts.heading.HeadingOrd.TheImpl as heading_order
-use Rattle.vat_view.specs.contracts.heading.HeadingOrd.TheImpl.Laws as heading_laws
-use Rattle.vat_view.specs.contracts.queued.QueuedOrd.TheImpl.Laws as queued_laws
-use Rattle.vat_view.specs.declared.calls.Calls.{Calls}
-use Rattle.vat_view.specs.declared.inbox.Receipt.{Receipt}
-use Rattle.vat_view.specs.declared.inbox.Inbox.{Inbox}
+use Rattle.vat_view.specs.declared.tables.goal_key.GoalKey.{GoalKey}
+use Rattle.vat_view.specs.declared.tables.queued_call.QueuedCall.{QueuedCall}
+use Rattle.vat_view.specs.contracts.tables.goal_key.GoalKeyOrd.TheImpl as heading_order
+use Rattle.vat_view.specs.contracts.tables.goal_key.GoalKeyOrd.TheImpl.Laws as heading_laws
+use Rattle.vat_view.specs.contracts.tables.queued_call.QueuedCallOrd.TheImpl.Laws as queued_laws
+use Rattle.vat_view.specs.declared.tables.calls.Calls.{Calls}
+use Rattle.vat_view.specs.declared.tables.waiting_calls.Receipt.{Receipt}
+use Rattle.vat_view.specs.declared.tables.waiting_calls.WaitingCalls.{WaitingCalls}
 use Rattle.vat_view.specs.Past.{is as taken_is}
-use Rattle.vat_view.specs.CallTables.{progress_at, goal_in}
-use Rattle.vat_view.specs.Queues.{queued_at, queued_cmp, is_queued, ahead_of}
-use Rattle.vat_view.specs.LoopTables.{receipt_at, HasLeft}
+use Rattle.vat_view.specs.Glue.CallTables.{call_state_at, goal_in}
+use Rattle.vat_view.specs.Glue.Queues.{queued_at, queued_cmp, is_queued, ahead_of}
+use Rattle.vat_view.specs.Glue.LoopTables.{receipt_at, HasLeft}
 
 some_same : {A : Type 0} {x y : A} → Some x ≡ Some y → x ≡ y
 some_same e = cc
@@ -48,11 +48,11 @@ found_within test inside passes good (e ∷ es) h = elim (cases_Bool (test e.0))
 
 -- ---- the order
 
-abbrev heading_cmp : Heading → Heading → Ordering
+abbrev heading_cmp : GoalKey → GoalKey → Ordering
 heading_cmp = (heading_order.ghosts).cmp
 
 -- of two that stand under one connection and heading
-level : (k : ℕ) (h : Heading) (rest : Ordering) → ordering_then (nat_cmp k k) (ordering_then (heading_cmp h h) rest) ≡ rest
+level : (k : ℕ) (h : GoalKey) (rest : Ordering) → ordering_then (nat_cmp k k) (ordering_then (heading_cmp h h) rest) ≡ rest
 level k h rest = ap₂ (λ a b. ordering_then a (ordering_then b rest)) (tied_itself nat_cmp_total k) (tied_itself heading_laws.total-law h)
 
 below : (n m : ℕ) → n < m → nat_cmp n m ≡ Less
@@ -71,17 +71,17 @@ zero_first zero = refl
 zero_first (suc n) = ap is_le (below 0 (suc n) (let early : 0 < suc n = omega arith in early))
 
 -- a call that was received before a record lies in the part of its goal up to that record
-within : (k : ℕ) (h : Heading) (m n c : ℕ) → n < m →
+within : (k : ℕ) (h : GoalKey) (m n c : ℕ) → n < m →
     range_contains queued_cmp (Included (ahead_of k h 0)) (Excluded (ahead_of k h m)) (record { connection = k; heading = h; number = n; call = c }) ≡ true
 within k h m n c early =
     ap₂ (λ a b. is_le a && not (is_le b)) (level k h (ordering_then (nat_cmp 0 n) (nat_cmp 0 c))) (level k h (ordering_then (nat_cmp m n) (nat_cmp 0 c)) ∙ ap (λ o. ordering_then o (nat_cmp 0 c)) (above m n early))
     ∙ ap (λ b. b && true) (from_zero n (nat_cmp 0 c) (zero_first c))
 
 -- so does each that the order takes for it
-pub tied_within : (k : ℕ) (h : Heading) (m n c : ℕ) → n < m → (q : Queued) → is_eq (queued_cmp (record { connection = k; heading = h; number = n; call = c }) q) ≡ true →
+pub tied_within : (k : ℕ) (h : GoalKey) (m n c : ℕ) → n < m → (q : QueuedCall) → is_eq (queued_cmp (record { connection = k; heading = h; number = n; call = c }) q) ≡ true →
     range_contains queued_cmp (Included (ahead_of k h 0)) (Excluded (ahead_of k h m)) q ≡ true
 tied_within k h m n c early q tied =
-    let p : Queued = record { connection = k; heading = h; number = n; call = c } in
+    let p : QueuedCall = record { connection = k; heading = h; number = n; call = c } in
     let alike = alike_right queued_laws.total-law p q in
     let equal : queued_cmp p q ≡ Equal = (Equal-is (queued_cmp p q)).0 tied in
     ap₂ (λ a b. is_le a && not (is_le b)) (sym (alike (ahead_of k h 0) equal)) (sym (alike (ahead_of k h m) equal)) ∙ within k h m n c early
@@ -92,7 +92,7 @@ last Equal b h = h
 last Greater b h = absurd (false≢true h)
 
 -- and it has this call
-pub tied_call : (p q : Queued) → is_eq (queued_cmp p q) ≡ true → p.call ≡ q.call
+pub tied_call : (p q : QueuedCall) → is_eq (queued_cmp p q) ≡ true → p.call ≡ q.call
 tied_call p q tied =
     let numbers : Ordering = ordering_then (nat_cmp p.number q.number) (nat_cmp p.call q.call) in
     eqb-true p.call q.call
@@ -100,18 +100,18 @@ tied_call p q tied =
     (last (heading_cmp p.heading q.heading) numbers (last (nat_cmp p.connection q.connection) (ordering_then (heading_cmp p.heading q.heading) numbers) tied)))
 
 -- a place of another call isn't taken for it
-pub not_tied : (p q : Queued) (c : ℕ) → p.call ≡ c → (c == q.call) ≡ false → is_eq (queued_cmp p q) ≡ false
+pub not_tied : (p q : QueuedCall) (c : ℕ) → p.call ≡ c → (c == q.call) ≡ false → is_eq (queued_cmp p q) ≡ false
 not_tied p q c is apart = elim (cases_Bool (is_eq (queued_cmp p q))) [
   | inl tied ↦ absurd (false≢true (sym apart ∙ eq-eqb c q.call (sym is ∙ tied_call p q tied)))
   | inr other ↦ other
 ]
 
 -- a call that is taken out of both tables has left the queue
-pub has_left : (old : Inbox) (calls : Calls) (taken : Option ℕ) (c : ℕ) → taken ≡ Some c → (found : Receipt) → get nat_cmp old.entries c ≡ Some (Some found) →
-    (new : Inbox) (q : Queued) → q ≡ queued_at c found (goal_in (progress_at calls c)) → get queued_cmp new.queue q ≡ None → HasLeft taken old calls new
+pub has_left : (old : WaitingCalls) (calls : Calls) (taken : Option ℕ) (c : ℕ) → taken ≡ Some c → (found : Receipt) → get nat_cmp old.entries c ≡ Some (Some found) →
+    (new : WaitingCalls) (q : QueuedCall) → q ≡ queued_at c found (goal_in (call_state_at calls c)) → get queued_cmp new.queue q ≡ None → HasLeft taken old calls new
 has_left old calls taken c is found there new q named gone call r same was =
     let one : c ≡ call = eqb-true c call (sym (ap (λ o. taken_is call o) is) ∙ same) in
     let had : receipt_at old c ≡ Some r = subst (λ x. receipt_at old x ≡ Some r) (sym one) was in
     let first : found ≡ r = some_same (sym (ap (λ o. option_and_then (λ y. y) o) there) ∙ had) in
-    subst (λ x. is_queued new (queued_at x r (goal_in (progress_at calls x))) ≡ false) one
-    (subst (λ y. is_queued new (queued_at c y (goal_in (progress_at calls c))) ≡ false) first (subst (λ x. is_queued new x ≡ false) named (ap (λ o. is_some o) gone)))
+    subst (λ x. is_queued new (queued_at x r (goal_in (call_state_at calls x))) ≡ false) one
+    (subst (λ y. is_queued new (queued_at c y (goal_in (call_state_at calls c))) ≡ false) first (subst (λ x. is_queued new x ≡ false) named (ap (λ o. is_some o) gone)))

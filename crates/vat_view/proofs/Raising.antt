@@ -4,11 +4,11 @@ use Rattle.std.specs.Prelude.{unwrap_or, find, is_none, Result, Ok, Err, OnOk, i
 use Rattle.std.specs.Option.{option_or}
 use Rattle.std.proofs.lemmas.Bool.{cases_Bool, false≢true, ne_eqb, eqb-true, eqb-false}
 use Rattle.std.proofs.lemmas.List.Sums.{sum_by-cons}
-use Rattle.vat_view.specs.declared.origin.Life.{Life}
-use Rattle.vat_view.specs.declared.origin.Origin.{Origin}
-use Rattle.vat_view.specs.Types.{Id}
+use Rattle.vat_view.specs.declared.record.origin.Life.{Life}
+use Rattle.vat_view.specs.declared.record.origin.Origin.{Origin}
+use Rattle.vat_view.specs.Types.{TableKey}
 use Rattle.vat_view.specs.Past.{same_id}
-use Rattle.vat_view.specs.Tables.{begun_at, kept_origin, raised_origin}
+use Rattle.vat_view.specs.Glue.Tables.{begun_at, kept_origin, raised_origin}
 use Rattle.vat_view.proofs.Naming.{same_id_is, same_id_self}
 
 abbrev pub count_in : Option Life → ℕ
@@ -17,7 +17,7 @@ count_in o = unwrap_or (option_map (λ life. life.count) o) 0
 abbrev pub origin_in : Option Life → Option Origin
 origin_in o = option_map begun_at o
 
-pub apart_sym : (a b : Id) → same_id a b ≡ false → same_id b a ≡ false
+pub apart_sym : (a b : TableKey) → same_id a b ≡ false → same_id b a ≡ false
 apart_sym a b e = elim (cases_Bool (same_id b a)) [
   | inl same ↦ absurd (false≢true (sym e ∙ subst (λ x. same_id a x ≡ true) (sym (same_id_is b a same)) (same_id_self a)))
   | inr apart ↦ apart
@@ -31,22 +31,22 @@ kept_at : (old : Option Life) (origin : Origin) → Some (kept_origin old origin
 kept_at None origin = refl
 kept_at (Some life) origin = kept_if (life.count == 0) origin (begun_at life)
 
-module _ (old new : Id → Option Life) (n : Id) (w : Life) (origin : Origin)
-    (put : (i : Id) → new i ≡ (if same_id n i then Some w else old i)) (count_is : w.count ≡ count_in (old n) + 1) (origin_is : begun_at w ≡ kept_origin (old n) origin) where
+module _ (old new : TableKey → Option Life) (n : TableKey) (w : Life) (origin : Origin)
+    (put : (i : TableKey) → new i ≡ (if same_id n i then Some w else old i)) (count_is : w.count ≡ count_in (old n) + 1) (origin_is : begun_at w ≡ kept_origin (old n) origin) where
   at_it : new n ≡ Some w
   at_it = put n ∙ ap (λ b. if b then Some w else old n) (same_id_self n)
 
-  at_other : (i : Id) → same_id i n ≡ false → new i ≡ old i
+  at_other : (i : TableKey) → same_id i n ≡ false → new i ≡ old i
   at_other i apart = put i ∙ ap (λ b. if b then Some w else old i) (apart_sym i n apart)
 
-  pub raised_count : (i : Id) → count_in (new i) ≡ count_in (old i) + (if same_id i n then 1 else 0)
+  pub raised_count : (i : TableKey) → count_in (new i) ≡ count_in (old i) + (if same_id i n then 1 else 0)
   raised_count i = elim (cases_Bool (same_id i n)) [
     | inl same ↦ subst (λ x. count_in (new x) ≡ count_in (old x) + (if same_id x n then 1 else 0)) (sym (same_id_is i n same))
         (ap (λ o. count_in o) at_it ∙ count_is ∙ ap (λ b. count_in (old n) + (if b then 1 else 0)) (sym (same_id_self n)))
     | inr apart ↦ let here : count_in (new i) ≡ count_in (old i) = ap (λ o. count_in o) (at_other i apart) in rw apart (omega (arith, here))
   ]
 
-  pub raised_origin_is : (i : Id) → origin_in (new i) ≡ (if same_id i n && (count_in (old i) == 0) then Some origin else origin_in (old i))
+  pub raised_origin_is : (i : TableKey) → origin_in (new i) ≡ (if same_id i n && (count_in (old i) == 0) then Some origin else origin_in (old i))
   raised_origin_is i = elim (cases_Bool (same_id i n)) [
     | inl same ↦ subst (λ x. origin_in (new x) ≡ (if same_id x n && (count_in (old x) == 0) then Some origin else origin_in (old x))) (sym (same_id_is i n same))
         (ap (λ o. origin_in o) at_it ∙ ap (λ o. Some o) origin_is ∙ kept_at (old n) origin
@@ -76,15 +76,15 @@ none_counted test (y ∷ xs) = ap (λ n. n == 0) (sum_by-cons (λ x. cond (test 
     first true n e = positive (1 + n) (omega arith)
     first false n e = ap (λ m. m == 0) (zero-add n) ∙ e
 
-module _ (i : Id) (first : Option Origin) where
-  raised_zero : (o : Option (Id × Origin)) (x : Id × Origin) (b : Bool) →
+module _ (i : TableKey) (first : Option Origin) where
+  raised_zero : (o : Option (TableKey × Origin)) (x : TableKey × Origin) (b : Bool) →
       option_or (option_map (λ x. x.1) (option_or o (if b then Some x else None))) first ≡ (if b && is_none o then Some x.1 else option_or (option_map (λ x. x.1) o) first)
   raised_zero None x true = refl
   raised_zero None x false = refl
   raised_zero (Some y) x true = refl
   raised_zero (Some y) x false = refl
 
-  from_zero : (xs : List (Id × Origin)) (x : Id × Origin) → raised_origin 0 first i (xs ++ x ∷ [])
+  from_zero : (xs : List (TableKey × Origin)) (x : TableKey × Origin) → raised_origin 0 first i (xs ++ x ∷ [])
       ≡ (if same_id i x.0 && (0 + count_by (λ y. same_id i y.0) xs == 0) then Some x.1 else raised_origin 0 first i xs)
   from_zero xs x =
       ap (λ o. option_or (option_map (λ x. x.1) o) first) (find_more (λ y. same_id i y.0) xs x)
@@ -92,7 +92,7 @@ module _ (i : Id) (first : Option Origin) where
       ∙ ap (λ b. if same_id i x.0 && b then Some x.1 else option_or (option_map (λ x. x.1) (find (λ y. same_id i y.0) xs)) first)
       (sym (none_counted (λ y. same_id i y.0) xs) ∙ ap (λ n. n == 0) (sym (zero-add (count_by (λ y. same_id i y.0) xs))))
 
-  pub held_on : (count : ℕ) → (count == 0) ≡ false → (xs : List (Id × Origin)) → raised_origin count first i xs ≡ first
+  pub held_on : (count : ℕ) → (count == 0) ≡ false → (xs : List (TableKey × Origin)) → raised_origin count first i xs ≡ first
   held_on count e xs = ap (λ b. if b then option_or (option_map (λ x. x.1) (find (λ x. same_id i x.0) xs)) first else first) e
 
   never : (b c : Bool) (o : Option Origin) (x : Origin) → c ≡ false → o ≡ (if b && c then Some x else o)
@@ -100,7 +100,7 @@ module _ (i : Id) (first : Option Origin) where
   never false c o x e = refl
   never true true o x e = absurd (false≢true (sym e))
 
-  pub raised_more : (count : ℕ) (xs : List (Id × Origin)) (x : Id × Origin) → raised_origin count first i (xs ++ x ∷ [])
+  pub raised_more : (count : ℕ) (xs : List (TableKey × Origin)) (x : TableKey × Origin) → raised_origin count first i (xs ++ x ∷ [])
       ≡ (if same_id i x.0 && (count + count_by (λ y. same_id i y.0) xs == 0) then Some x.1 else raised_origin count first i xs)
   raised_more count xs x = elim (cases_Bool (count == 0)) [
     | inl none ↦ subst (λ n. raised_origin n first i (xs ++ x ∷ []) ≡ (if same_id i x.0 && (n + count_by (λ y. same_id i y.0) xs == 0) then Some x.1 else raised_origin n first i xs))

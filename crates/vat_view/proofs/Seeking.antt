@@ -3,14 +3,14 @@ use Rattle.std.proofs.Common.{◌≡◌, ◌↔◌, refl, sym, ◌∙◌, ap, su
 use Rattle.std.specs.Prelude.{Decides, ◌||◌, slice_get, option_and_then, reverse}
 use Rattle.std.proofs.lemmas.Bool.{false≢true, eqb-true, eq-eqb}
 use Rattle.std.proofs.lemmas.List.{reverse-reverse}
-use Rattle.vat_view.specs.declared.connections.Connections.{Connections}
-use Rattle.vat_view.specs.declared.sought.Sought.TheVariants.{Over, Elsewhere}
-use Rattle.vat_view.specs.Types.{Event, View, Object, Promise, FieldOf, Import}
+use Rattle.vat_view.specs.declared.tables.connections.Connections.{Connections}
+use Rattle.vat_view.specs.declared.walks.reachable.Sought.TheVariants.{Over, Elsewhere}
+use Rattle.vat_view.specs.Types.{DecodedRecord, View, Object, Promise, FieldOf, Import}
 use Rattle.vat_view.specs.Past.{Past, is}
 use Rattle.vat_view.specs.Walks.{Next, next, Leads}
 use Rattle.vat_view.specs.Connections.{connection_of, reached_over, is_own, is_another}
-use Rattle.vat_view.specs.TurnTables.{turned_to}
-use Rattle.vat_view.specs.ConnectionTables.{AreConnected, over_by, sought_by, ReachesOne}
+use Rattle.vat_view.specs.Glue.TurnTables.{turned_to}
+use Rattle.vat_view.specs.Glue.ConnectionTables.{AreConnected, over_by, sought_by, ReachesOne}
 use Rattle.vat_view.proofs.Walking.{none_some, some_same, step, reached_same, leads_reach, reached_leads}
 use Rattle.vat_view.proofs.Settled.{record_there}
 
@@ -36,7 +36,7 @@ module _ (going : View → Next) (past : Past) (same : (v : View) → going v �
 
 -- ---- the connections of views by a state are those by the records that were applied
 
-module _ (items given : List Event) (past : Past) (table : Connections) (view_is : reverse items ≡ past) (same : given ≡ items)
+module _ (items given : List DecodedRecord) (past : Past) (table : Connections) (view_is : reverse items ≡ past) (same : given ≡ items)
     (kept : AreConnected (reverse items) table) where
   over_there : (v : View) → over_by items table v ≡ reached_over (reverse items) v
   over_there (Object object) = refl

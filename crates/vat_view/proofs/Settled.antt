@@ -5,22 +5,22 @@ use Rattle.std.specs.Ordering.{nat_cmp, is_eq}
 use Rattle.std.specs.Map.{lookup}
 use Rattle.std.proofs.lemmas.List.{length-reverse, reverse-append, reverse-reverse}
 use Rattle.std.proofs.lemmas.Bool.{cases_Bool, false≢true, ltb-true, ltb-false, eqb-true, eq-eqb, ne_eqb}
-use Rattle.vat_view.specs.declared.questions.Questions.{Questions}
-use Rattle.vat_view.specs.declared.lives.Lives.{Lives}
-use Rattle.vat_view.specs.declared.bound.Bound.{Bound}
-use Rattle.vat_view.specs.declared.bound.Binding.{Binding}
-use Rattle.vat_view.specs.declared.turns.Turns.{Turns}
-use Rattle.vat_view.specs.declared.pending.Pending.{Pending}
-use Rattle.vat_view.specs.declared.pending.Pending.TheVariants.{Promise as PromiseToKeep, Results as ResultsOf, Import as ImportToResolve}
-use Rattle.vat_view.specs.Types.{Return, Resolve, Event, Fulfil, Break, Answer, Fault, Wire, View, Object, Promise, FieldOf, Import, Id}
+use Rattle.vat_view.specs.declared.tables.questions.Questions.{Questions}
+use Rattle.vat_view.specs.declared.tables.exports_imports.ExportsImports.{ExportsImports}
+use Rattle.vat_view.specs.declared.tables.references.BoundReferences.{BoundReferences}
+use Rattle.vat_view.specs.declared.tables.references.Binding.{Binding}
+use Rattle.vat_view.specs.declared.tables.settlements.Settlements.{Settlements}
+use Rattle.vat_view.specs.declared.record.unsettled.Unsettled.{Unsettled}
+use Rattle.vat_view.specs.declared.record.unsettled.Unsettled.TheVariants.{Promise as PromiseToKeep, Results as ResultsOf, Import as ImportToResolve}
+use Rattle.vat_view.specs.Types.{Return, Resolve, DecodedRecord, Fulfil, Break, Answer, Fault, Wire, View, Object, Promise, FieldOf, Import, TableKey}
 use Rattle.std.specs.Option.{option_or}
-use Rattle.vat_view.specs.Past.{Past, Point, id, point, number_of, record_at, last_answer, last_where}
+use Rattle.vat_view.specs.Past.{Past, Point, id, point, record_index, record_at, last_answer, last_where}
 use Rattle.vat_view.specs.Questions.{call_at, opening}
 use Rattle.vat_view.specs.Lives.{Birth, birth, begins, held, is_in_life}
 use Rattle.vat_view.specs.Views.{view_of_reference}
 use Rattle.vat_view.specs.Walks.{on_to, next}
-use Rattle.vat_view.specs.Tables.{question_at, count_at, origin_at, origin_of, held_origin, bound_at, AreTabled, IsFit}
-use Rattle.vat_view.specs.TurnTables.{is_this, path_of, promise_of, import_at, results_by, import_by, settled, settled_by, landing, goes, settler, settler_of, settler_at, AreSettled, settler_by, goes_by, turned_to, turn_by, bound_len}
+use Rattle.vat_view.specs.Glue.Tables.{question_at, count_at, origin_at, origin_of, held_origin, bound_at, AreTabled, IsFit}
+use Rattle.vat_view.specs.Glue.TurnTables.{is_this, field_path, promise_of, import_at, results_by, import_by, settlement_of, settled_by, turn_target, goes, settler, settler_of, settler_at, AreSettled, settler_by, goes_by, turned_to, turn_by, bound_len}
 use Rattle.vat_view.proofs.Knowing.{known_from}
 use Rattle.vat_view.proofs.Raising.{positive}
 use Rattle.vat_view.proofs.Landed.{going_step, lands_bound}
@@ -28,8 +28,8 @@ use Rattle.vat_view.proofs.Walking.{some_same, none_some, Lands}
 
 -- ---- what a record settles, by the tables before it
 
-module _ (before : Past) (questions : Questions) (lives : Lives) (bound : Bound) (kept : AreTabled before questions lives bound) where
-  results_from : (q : Id) (o : Option Point) → results_by (option_map (known_from q before) o) ≡ option_map ResultsOf (call_at o)
+module _ (before : Past) (questions : Questions) (lives : ExportsImports) (bound : BoundReferences) (kept : AreTabled before questions lives bound) where
+  results_from : (q : TableKey) (o : Option Point) → results_by (option_map (known_from q before) o) ≡ option_map ResultsOf (call_at o)
   results_from q (Some p) = refl
   results_from q None = refl
 
@@ -37,7 +37,7 @@ module _ (before : Past) (questions : Questions) (lives : Lives) (bound : Bound)
   import_from (Some b) = refl
   import_from None = refl
 
-  import_known : (i : Id) → import_by (held_origin lives i) ≡ option_map import_at (birth i before)
+  import_known : (i : TableKey) → import_by (held_origin lives i) ≡ option_map import_at (birth i before)
   import_known i = elim (cases_Bool (is_in_life i before)) [
     | inl alive ↦
         let some : (count_at lives i == 0) ≡ false =
@@ -53,47 +53,47 @@ module _ (before : Past) (questions : Questions) (lives : Lives) (bound : Bound)
         ∙ sym (ap (λ b. option_map import_at (if b then last_answer (begins i) before else None)) out)
   ]
 
-  pub settled_known : (e : Event) → settled_by (bound_at bound) lives (question_at questions) e ≡ settled before e
+  pub settled_known : (e : DecodedRecord) → settled_by (bound_at bound) lives (question_at questions) e ≡ settlement_of before e
   settled_known (Fulfil r to) = ap (λ o. promise_of o) (kept.bounds r)
   settled_known (Break r) = ap (λ o. promise_of o) (kept.bounds r)
   settled_known (Answer c results) = refl
   settled_known (Fault c) = refl
-  settled_known (Wire false k c rs (Return q release outcome)) = let i : Id = id k true q in ap (λ o. results_by o) (kept.tabled.known i) ∙ results_from i (opening i before)
+  settled_known (Wire false k c rs (Return q release outcome)) = let i : TableKey = id k true q in ap (λ o. results_by o) (kept.tabled.known i) ∙ results_from i (opening i before)
   settled_known (Wire false k c rs (Resolve n resolution)) = import_known (id k false n)
   settled_known _ = refl
 
 -- ---- the table after a record
 
-number_if : (b : Bool) (before : Past) (e : Event) (o : Option Point) →
-    (if b then Some (length before) else option_map number_of o) ≡ option_map number_of (if b then Some (point before e) else o)
+number_if : (b : Bool) (before : Past) (e : DecodedRecord) (o : Option Point) →
+    (if b then Some (length before) else option_map record_index o) ≡ option_map record_index (if b then Some (point before e) else o)
 number_if true before e o = refl
 number_if false before e o = refl
 
 -- a table that says the same
-pub settled_same : (past : Past) (table other : Turns) → ((p : Pending) → settler_at other p ≡ settler_at table p) → AreSettled past table → AreSettled past other
+pub settled_same : (past : Past) (table other : Settlements) → ((p : Unsettled) → settler_at other p ≡ settler_at table p) → AreSettled past table → AreSettled past other
 settled_same past table other same kept = record { settlers = λ p. same p ∙ kept.settlers p; going = kept.going; landed = kept.landed }
 
-pub settled_more : (before : Past) (e : Event) (table other : Turns) (number : ℕ) (s : Option Pending) → IsFit before e → number ≡ length before → s ≡ settled before e →
-    ((p : Pending) → settler_at other p ≡ (if is_this p s then Some number else settler_at table p)) → AreSettled before table → AreSettled (e ∷ before) other
+pub settled_more : (before : Past) (e : DecodedRecord) (table other : Settlements) (number : ℕ) (s : Option Unsettled) → IsFit before e → number ≡ length before → s ≡ settlement_of before e →
+    ((p : Unsettled) → settler_at other p ≡ (if is_this p s then Some number else settler_at table p)) → AreSettled before table → AreSettled (e ∷ before) other
 settled_more before e table other number s fit place settles noted kept = record {
   settlers = λ p.
       noted p ∙ ap₂ (λ x n. if is_this p x then Some n else settler_at table p) settles place
-      ∙ ap (λ o. if is_this p (settled before e) then Some (length before) else o) (kept.settlers p)
-      ∙ number_if (is_this p (settled before e)) before e (settler p before);
+      ∙ ap (λ o. if is_this p (settlement_of before e) then Some (length before) else o) (kept.settlers p)
+      ∙ number_if (is_this p (settlement_of before e)) before e (settler p before);
   going = λ v. going_step before e fit.refers fit.notes kept.landed v (kept.going v);
   landed = (lands_bound before e fit.refers, kept.landed);
 }
 
 -- the state, whose records stand with the oldest first
 
-pub turns_refused : (items other : List Event) (table room : Turns) → other ≡ items → ((p : Pending) → settler_at room p ≡ settler_at table p) →
+pub turns_refused : (items other : List DecodedRecord) (table room : Settlements) → other ≡ items → ((p : Unsettled) → settler_at room p ≡ settler_at table p) →
     AreSettled (reverse items) table → AreSettled (reverse other) room
 turns_refused items other table room same says kept = settled_same (reverse other) table room says (subst (λ l. AreSettled (reverse l) table) (sym same) kept)
 
-pub turns_applied : (items other pushed : List Event) (e : Event) (number : ℕ) (s : Option Pending) (questions : Questions) (lives : Lives) (bound : Bound) (table room more : Turns) →
+pub turns_applied : (items other pushed : List DecodedRecord) (e : DecodedRecord) (number : ℕ) (s : Option Unsettled) (questions : Questions) (lives : ExportsImports) (bound : BoundReferences) (table room more : Settlements) →
     other ≡ items → number ≡ length other → pushed ≡ other ++ e ∷ [] → IsFit (reverse items) e → AreTabled (reverse items) questions lives bound → AreSettled (reverse items) table →
-    s ≡ settled_by (bound_at bound) lives (question_at questions) e → ((p : Pending) → settler_at room p ≡ settler_at table p) →
-    ((p : Pending) → settler_at more p ≡ (if is_this p s then Some number else settler_at room p)) → AreSettled (reverse pushed) more
+    s ≡ settled_by (bound_at bound) lives (question_at questions) e → ((p : Unsettled) → settler_at room p ≡ settler_at table p) →
+    ((p : Unsettled) → settler_at more p ≡ (if is_this p s then Some number else settler_at room p)) → AreSettled (reverse pushed) more
 turns_applied items other pushed e number s questions lives bound table room more same place is_pushed fit tabled kept settles says noted =
     subst (λ l. AreSettled l more) (sym (ap (λ l. reverse l) (is_pushed ∙ ap (λ l. l ++ e ∷ []) same) ∙ reverse-append items (e ∷ [])))
     (settled_more (reverse items) e room more number s fit (place ∙ ap (λ l. length l) same ∙ sym (length-reverse items))
@@ -101,17 +101,17 @@ turns_applied items other pushed e number s questions lives bound table room mor
 
 -- ---- where views go, by the table
 
-pub get_front : (xs ys : List Event) (k : ℕ) (x : Event) → slice_get xs k ≡ Some x → slice_get (xs ++ ys) k ≡ Some x
+pub get_front : (xs ys : List DecodedRecord) (k : ℕ) (x : DecodedRecord) → slice_get xs k ≡ Some x → slice_get (xs ++ ys) k ≡ Some x
 get_front [] ys zero x h = absurd (none_some x h)
 get_front [] ys (suc k) x h = absurd (none_some x h)
 get_front (y ∷ xs) ys zero x h = h
 get_front (y ∷ xs) ys (suc k) x h = get_front xs ys k x h
 
-get_last : (xs : List Event) (y : Event) → slice_get (xs ++ y ∷ []) (length xs) ≡ Some y
+get_last : (xs : List DecodedRecord) (y : DecodedRecord) → slice_get (xs ++ y ∷ []) (length xs) ≡ Some y
 get_last [] y = refl
 get_last (x ∷ xs) y = get_last xs y
 
-get_apart : (xs : List Event) (y : Event) (k : ℕ) → (length xs == k) ≡ false → slice_get (xs ++ y ∷ []) k ≡ slice_get xs k
+get_apart : (xs : List DecodedRecord) (y : DecodedRecord) (k : ℕ) → (length xs == k) ≡ false → slice_get (xs ++ y ∷ []) k ≡ slice_get xs k
 get_apart [] y zero h = absurd (false≢true (sym h))
 get_apart [] y (suc zero) h = refl
 get_apart [] y (suc (suc k)) h = refl
@@ -135,26 +135,26 @@ record_there (e ∷ before) k = elim (cases_Bool (length before == k)) [
 ]
 
 -- the record of a point has its number
-at_point : (test : Past → Event → Bool) (past : Past) (p : Point) → last_where test past ≡ Some p → slice_get (reverse past) (number_of p) ≡ Some p.event
+at_point : (test : Past → DecodedRecord → Bool) (past : Past) (p : Point) → last_where test past ≡ Some p → slice_get (reverse past) (record_index p) ≡ Some p.event
 at_point test [] p h = absurd (none_some p h)
 at_point test (e ∷ before) p h = elim (cases_Bool (test before e)) [
   | inl here ↦
       let same : point before e ≡ p = some_same (point before e) p (sym (ap (λ b. if b then Some (point before e) else last_where test before) here) ∙ h) in
-      subst (λ q. slice_get (reverse (e ∷ before)) (number_of q) ≡ Some q.event) same
+      subst (λ q. slice_get (reverse (e ∷ before)) (record_index q) ≡ Some q.event) same
       (ap₂ (λ l n. slice_get l n) (reverse-append (e ∷ []) before) (sym (length-reverse before)) ∙ get_last (reverse before) e)
   | inr apart ↦
-      ap (λ l. slice_get l (number_of p)) (reverse-append (e ∷ []) before)
-      ∙ get_front (reverse before) (e ∷ []) (number_of p) p.event
+      ap (λ l. slice_get l (record_index p)) (reverse-append (e ∷ []) before)
+      ∙ get_front (reverse before) (e ∷ []) (record_index p) p.event
       (at_point test before p (sym (ap (λ b. if b then Some (point before e) else last_where test before) apart) ∙ h))
 ]
 
-module _ (items : List Event) (table : Turns) (kept : AreSettled (reverse items) table) where
-  settler_there : (p : Pending) → option_and_then (λ n. slice_get items n) (settler_at table p) ≡ option_map (λ q. q.event) (settler p (reverse items))
+module _ (items : List DecodedRecord) (table : Settlements) (kept : AreSettled (reverse items) table) where
+  settler_there : (p : Unsettled) → option_and_then (λ n. slice_get items n) (settler_at table p) ≡ option_map (λ q. q.event) (settler p (reverse items))
   settler_there p = ap (λ o. option_and_then (λ n. slice_get items n) o) (kept.settlers p) ∙ inner (settler p (reverse items)) refl
     where
-      inner : (o : Option Point) → settler p (reverse items) ≡ o → option_and_then (λ n. slice_get items n) (option_map number_of o) ≡ option_map (λ q. q.event) o
+      inner : (o : Option Point) → settler p (reverse items) ≡ o → option_and_then (λ n. slice_get items n) (option_map record_index o) ≡ option_map (λ q. q.event) o
       inner None h = refl
-      inner (Some q) h = ap (λ l. slice_get l (number_of q)) (sym (reverse-reverse items)) ∙ at_point (λ before e. is_this p (settled before e)) (reverse items) q h
+      inner (Some q) h = ap (λ l. slice_get l (record_index q)) (sym (reverse-reverse items)) ∙ at_point (λ before e. is_this p (settlement_of before e)) (reverse items) q h
 
   settler_known : (v : View) → settler_by table items v ≡ settler_of v (reverse items)
   settler_known (Object object) = refl
@@ -162,18 +162,18 @@ module _ (items : List Event) (table : Turns) (kept : AreSettled (reverse items)
   settler_known (FieldOf call path) = settler_there (ResultsOf call)
   settler_known (Import i place) = settler_there (ImportToResolve i place)
 
-  goes_named : (named other : ℕ → Option View) → ((r : ℕ) → named r ≡ other r) → (path : List ℕ) (o : Option Event) → goes named path o ≡ goes other path o
+  goes_named : (named other : ℕ → Option View) → ((r : ℕ) → named r ≡ other r) → (path : List ℕ) (o : Option DecodedRecord) → goes named path o ≡ goes other path o
   goes_named named other h path None = refl
-  goes_named named other h path (Some e) = inner (landing path e)
+  goes_named named other h path (Some e) = inner (turn_target path e)
     where
       inner : (o : Option ℕ) → on_to (option_and_then named o) ≡ on_to (option_and_then other o)
       inner None = refl
       inner (Some r) = ap (λ w. on_to w) (h r)
 
-  pub goes_known : (bound : Bound) → ((r : ℕ) → bound_at bound r ≡ view_of_reference (reverse items) r) → (v : View) → goes_by items table (bound_at bound) v ≡ next (reverse items) v
+  pub goes_known : (bound : BoundReferences) → ((r : ℕ) → bound_at bound r ≡ view_of_reference (reverse items) r) → (v : View) → goes_by items table (bound_at bound) v ≡ next (reverse items) v
   goes_known bound bounds v =
-      goes_named (bound_at bound) (view_of_reference (reverse items)) bounds (path_of v) (settler_by table items v)
-      ∙ ap (λ o. goes (view_of_reference (reverse items)) (path_of v) o) (settler_known v) ∙ sym (kept.going v)
+      goes_named (bound_at bound) (view_of_reference (reverse items)) bounds (field_path v) (settler_by table items v)
+      ∙ ap (λ o. goes (view_of_reference (reverse items)) (field_path v) o) (settler_known v) ∙ sym (kept.going v)
 
 -- ---- each turn lands on the view of a bound reference
 
@@ -204,17 +204,17 @@ turned_on_to (Some v) = refl
 turned_on_to None = refl
 
 -- a view turns to the view of the reference where it lands
-pub turn_landing : (named : ℕ → Option View) (path : List ℕ) (o : Option Event) → turned_to (goes named path o) ≡ option_and_then named (option_and_then (landing path) o)
-turn_landing named path (Some e) = turned_on_to (option_and_then named (landing path e))
+pub turn_landing : (named : ℕ → Option View) (path : List ℕ) (o : Option DecodedRecord) → turned_to (goes named path o) ≡ option_and_then named (option_and_then (turn_target path) o)
+turn_landing named path (Some e) = turned_on_to (option_and_then named (turn_target path e))
 turn_landing named path None = refl
 
-module _ (events : List Event) (table : Turns) (bound : Bound) where
+module _ (events : List DecodedRecord) (table : Settlements) (bound : BoundReferences) where
   -- the place in the table of references of the one where a view lands
   abbrev pub place_of : View → ℕ
-  place_of v = unwrap_or (option_map (λ r. spot r bound.entries) (option_and_then (landing (path_of v)) (settler_by table events v))) 0
+  place_of v = unwrap_or (option_map (λ r. spot r bound.entries) (option_and_then (turn_target (field_path v)) (settler_by table events v))) 0
 
   pub few : Lands (turn_by events table (bound_at bound)) place_of (view_there bound.entries) (bound_len bound)
-  few v w h = inner (option_and_then (landing (path_of v)) (settler_by table events v)) (sym (turn_landing (bound_at bound) (path_of v) (settler_by table events v)) ∙ h)
+  few v w h = inner (option_and_then (turn_target (field_path v)) (settler_by table events v)) (sym (turn_landing (bound_at bound) (field_path v) (settler_by table events v)) ∙ h)
     where
       inner : (o : Option ℕ) → option_and_then (bound_at bound) o ≡ Some w →
           (unwrap_or (option_map (λ r. spot r bound.entries) o) 0 < bound_len bound)

@@ -7,9 +7,9 @@ use Rattle.std.specs.Cmp.{unsigned_ties}
 use Rattle.std.proofs.lemmas.Bool.{cases_Bool, eqb-true}
 use Rattle.std.proofs.lemmas.Bool.Decides.{nat_tests}
 use Rattle.rising_table.specs.Entries.{entry_at}
-use Rattle.vat_view.specs.Types.{Id}
+use Rattle.vat_view.specs.Types.{TableKey}
 use Rattle.vat_view.specs.Past.{same_id}
-use Rattle.vat_view.specs.Sides.{side_of}
+use Rattle.vat_view.specs.Glue.Sides.{side_of}
 
 sides : (k j : ℕ) (s t : Bool) → (k * 2 + (if s then 1 else 0) == j * 2 + (if t then 1 else 0)) ≡ ((k == j) && beq s t)
 sides k j true true = grind (arith, nat_tests)
@@ -17,18 +17,18 @@ sides k j true false = grind (arith, nat_tests)
 sides k j false true = grind (arith, nat_tests)
 sides k j false false = grind (arith, nat_tests)
 
-one_number : (a b : Id) → ((side_of a == side_of b) && (a.number == b.number)) ≡ same_id a b
+one_number : (a b : TableKey) → ((side_of a == side_of b) && (a.number == b.number)) ≡ same_id a b
 one_number a b = ap (λ x. x && (a.number == b.number)) (sides a.connection b.connection a.ours b.ours)
 
 -- what a side's table, if there is one, has of a number
 abbrev pub look : {V : Type 0} → Option (List (ℕ × V)) → ℕ → Option V
 look table k = option_and_then (λ values. entry_at values k) table
 
-module _ {V : Type 0} (old new : ℕ → Option (List (ℕ × V))) (n : Id) (was now : List (ℕ × V)) (change : Option V → Option V)
+module _ {V : Type 0} (old new : ℕ → Option (List (ℕ × V))) (n : TableKey) (was now : List (ℕ × V)) (change : Option V → Option V)
     (side : (s : ℕ) → new s ≡ (if is_eq (nat_cmp (side_of n) s) then Some now else old s))
     (had : (k : ℕ) → look (old (side_of n)) k ≡ entry_at was k)
     (entries : (k : ℕ) → entry_at now k ≡ (if n.number == k then change (entry_at was k) else entry_at was k)) where
-  pub changed_value : (i : Id) → look (new (side_of i)) i.number ≡ (if same_id n i then change (look (old (side_of i)) i.number) else look (old (side_of i)) i.number)
+  pub changed_value : (i : TableKey) → look (new (side_of i)) i.number ≡ (if same_id n i then change (look (old (side_of i)) i.number) else look (old (side_of i)) i.number)
   changed_value i =
       let ties : is_eq (nat_cmp (side_of n) (side_of i)) ≡ (side_of n == side_of i) = sym (unsigned_ties (side_of n) (side_of i)) in
       elim (cases_Bool (side_of n == side_of i)) [

@@ -1,16 +1,16 @@
 -- What one record more does to what looking back finds.
 use Rattle.std.proofs.Common.{ap₂, ◌<◌, ◌≡◌, ◌≤◌, ◌+◌, ◌-◌, refl, sym, ◌∙◌, ap, ℕ, List, ◌∷◌, Bool, true, false, not, Option, Some, None, if◌then◌else◌, option_map, count_by, arith}
 use Rattle.std.specs.Prelude.{is_some, Result, Ok, Err, OnOk, OnErr}
-use Rattle.vat_view.specs.declared.question.Question.{Question}
-use Rattle.vat_view.specs.declared.questions.Questions.{Questions}
-use Rattle.vat_view.specs.declared.lives.Lives.{Lives}
-use Rattle.vat_view.specs.Types.{Bootstrap, Call, Return, Finish, Release, Event, Wire, Id}
+use Rattle.vat_view.specs.declared.tables.question.Question.{Question}
+use Rattle.vat_view.specs.declared.tables.questions.Questions.{Questions}
+use Rattle.vat_view.specs.declared.tables.exports_imports.ExportsImports.{ExportsImports}
+use Rattle.vat_view.specs.Types.{Bootstrap, Call, Return, Finish, Release, DecodedRecord, Wire, TableKey}
 use Rattle.vat_view.specs.Past.{Past, Point, point, id, same_id, names, last_answer, last_since}
-use Rattle.vat_view.specs.Questions.{opened, noted_call, opens, releases, opening, return_of, finish_of, is_returned, is_finished, is_released, closes}
-use Rattle.vat_view.specs.Lives.{begins, introductions, introductions_at, introduces, gives_back, came, went, held, is_in_life, GivesBackHeld}
+use Rattle.vat_view.specs.Questions.{question_opened, noted_call, opens, releases, opening, return_of, finish_of, is_returned, is_finished, is_released, closes}
+use Rattle.vat_view.specs.Lives.{begins, introductions, introductions_at, introduces, gives_back, introduced_count, released_count, held, is_in_life, GivesBackHeld}
 use Rattle.vat_view.specs.Uses.{UsesQuestions}
-use Rattle.vat_view.specs.Tables.{question_at, question_known, count_at, origin_at, origin_of, origins, raised_origin, lets_go, closed_by, just_opened, with_return, with_finish, with_release, changed_if, noted_by, IsPut, IsSame, IsTabled}
-use Rattle.vat_view.specs.declared.origin.Origin.{Origin}
+use Rattle.vat_view.specs.Glue.Tables.{question_at, question_known, count_at, origin_at, origin_of, origins, raised_origin, count_released, given_back_by, just_opened, with_return, with_finish, with_release, changed_if, noted_by, IsPut, IsSameQuestions, IsTabled}
+use Rattle.vat_view.specs.declared.record.origin.Origin.{Origin}
 use Rattle.vat_view.proofs.Beginning.{counted_origins, born_step}
 use Rattle.std.proofs.lemmas.Bool.{ltb-true}
 use Rattle.vat_view.proofs.Knowing.{known_from, closed_known}
@@ -18,7 +18,7 @@ use Rattle.vat_view.proofs.Knowing.{known_from, closed_known}
 -- ---- questions
 
 -- what is known at an opening, where b says whether the record now is one
-abbrev pub known_open : Id → Past → Bool → Point → Question
+abbrev pub known_open : TableKey → Past → Bool → Point → Question
 known_open q before b p = record {
   call = noted_call p.event;
   returned = is_some (if b then None else return_of q before);
@@ -28,13 +28,13 @@ known_open q before b p = record {
   brought = introductions_at (if b then None else return_of q before);
 }
 
-opens_step : (q : Id) (before : Past) (e : Event) (b : Bool) →
+opens_step : (q : TableKey) (before : Past) (e : DecodedRecord) (b : Bool) →
     option_map (known_open q before b) (if b then Some (point before e) else opening q before)
     ≡ (if b then Some (just_opened (noted_call e) (introductions before e)) else question_known q before)
 opens_step q before e true = refl
 opens_step q before e false = refl
 
-abbrev pub known_return : Id → Past → Event → Bool → Point → Question
+abbrev pub known_return : TableKey → Past → DecodedRecord → Bool → Point → Question
 known_return q before e b p = record {
   call = noted_call p.event;
   returned = is_some (if b then Some (point before e) else return_of q before);
@@ -44,13 +44,13 @@ known_return q before e b p = record {
   brought = introductions_at (if b then Some (point before e) else return_of q before);
 }
 
-returns_step : (q : Id) (before : Past) (e : Event) (b : Bool) (o : Option Point) →
+returns_step : (q : TableKey) (before : Past) (e : DecodedRecord) (b : Bool) (o : Option Point) →
     option_map (known_return q before e b) o ≡ changed_if b (with_return (introductions before e)) (option_map (known_from q before) o)
 returns_step q before e true (Some p) = refl
 returns_step q before e true None = refl
 returns_step q before e false o = refl
 
-abbrev pub known_finish : Id → Past → Event → Bool → Bool → Point → Question
+abbrev pub known_finish : TableKey → Past → DecodedRecord → Bool → Bool → Point → Question
 known_finish q before e b c p = record {
   call = noted_call p.event;
   returned = is_returned q before;
@@ -60,7 +60,7 @@ known_finish q before e b c p = record {
   brought = introductions_at (return_of q before);
 }
 
-finishes_step : (q : Id) (before : Past) (e : Event) (b c : Bool) (o : Option Point) →
+finishes_step : (q : TableKey) (before : Past) (e : DecodedRecord) (b c : Bool) (o : Option Point) →
     option_map (known_finish q before e b c) o ≡ changed_if c with_release (changed_if b with_finish (option_map (known_from q before) o))
 finishes_step q before e true true (Some p) = refl
 finishes_step q before e true true None = refl
@@ -71,8 +71,8 @@ finishes_step q before e false true None = refl
 finishes_step q before e false false o = refl
 
 -- what is known of a question after a record, by what was known before
-pub known_step : (q : Id) (before : Past) (e : Event) → question_known q (e ∷ before)
-    ≡ noted_by e (introductions before e) q (if names q (opened e) then Some (just_opened (noted_call e) (introductions before e)) else question_known q before)
+pub known_step : (q : TableKey) (before : Past) (e : DecodedRecord) → question_known q (e ∷ before)
+    ≡ noted_by e (introductions before e) q (if names q (question_opened e) then Some (just_opened (noted_call e) (introductions before e)) else question_known q before)
 known_step q before (Wire s k c rs (Bootstrap n)) = opens_step q before (Wire s k c rs (Bootstrap n)) (same_id q (id k s n))
 known_step q before (Wire s k c rs (Call n t f m p)) = opens_step q before (Wire s k c rs (Call n t f m p)) (same_id q (id k s n))
 known_step q before (Wire s k c rs (Return n release outcome)) =
@@ -86,12 +86,12 @@ none_some : {A : Type 0} {x : A} → None ≡ Some x → ⊥
 none_some e = cc
 
 -- a record that opens a question notes nothing of another, and gives nothing back
-opens_notes : (e : Event) (i : Id) → opened e ≡ Some i → (ids : List Id) (q : Id) (known : Option Question) → noted_by e ids q known ≡ known
+opens_notes : (e : DecodedRecord) (i : TableKey) → question_opened e ≡ Some i → (ids : List TableKey) (q : TableKey) (known : Option Question) → noted_by e ids q known ≡ known
 opens_notes (Wire s k c rs (Bootstrap n)) i h ids q known = refl
 opens_notes (Wire s k c rs (Call n t f m p)) i h ids q known = refl
 opens_notes _ i h ids q known = absurd (none_some h)
 
-opens_gives : (e : Event) (i : Id) → opened e ≡ Some i → (before : Past) (j : Id) → gives_back j before e ≡ 0
+opens_gives : (e : DecodedRecord) (i : TableKey) → question_opened e ≡ Some i → (before : Past) (j : TableKey) → gives_back j before e ≡ 0
 opens_gives (Wire s k c rs (Bootstrap n)) i h before j = refl
 opens_gives (Wire s k c rs (Call n t f m p)) i h before j = refl
 opens_gives _ i h before j = absurd (none_some h)
@@ -99,7 +99,7 @@ opens_gives _ i h before j = absurd (none_some h)
 -- ---- counts
 
 -- what a record gives back is what it closes and what it lets go
-pub gives_parts : (i : Id) (before : Past) (e : Event) → gives_back i before e ≡ count_by (same_id i) (introductions_at (closes before e)) + lets_go i e
+pub gives_parts : (i : TableKey) (before : Past) (e : DecodedRecord) → gives_back i before e ≡ count_by (same_id i) (introductions_at (closes before e)) + count_released i e
 gives_parts i before (Wire s k c rs (Release n count)) = omega arith
 gives_parts i before (Wire s k c rs (Return n release outcome)) = omega arith
 gives_parts i before (Wire s k c rs (Finish n release)) = omega arith
@@ -111,12 +111,12 @@ held_step a b c d le below = omega (arith, le, below)
 balance_step : (a b c d : ℕ) → d ≤ a - b → b ≤ a → d + b ≤ c + a
 balance_step a b c d le below = omega (arith, le, below)
 
-pub balanced_step : (before : Past) (e : Event) → ((i : Id) → went i before ≤ came i before) → GivesBackHeld before e → (i : Id) → went i (e ∷ before) ≤ came i (e ∷ before)
-balanced_step before e below held_so i = balance_step (came i before) (went i before) (introduces i before e) (gives_back i before e) (held_so i) (below i)
+pub balanced_step : (before : Past) (e : DecodedRecord) → ((i : TableKey) → released_count i before ≤ introduced_count i before) → GivesBackHeld before e → (i : TableKey) → released_count i (e ∷ before) ≤ introduced_count i (e ∷ before)
+balanced_step before e below held_so i = balance_step (introduced_count i before) (released_count i before) (introduces i before e) (gives_back i before e) (held_so i) (below i)
 
-pub counted_step : (before : Past) (e : Event) → ((i : Id) → went i before ≤ came i before) → GivesBackHeld before e → (i : Id) →
+pub counted_step : (before : Past) (e : DecodedRecord) → ((i : TableKey) → released_count i before ≤ introduced_count i before) → GivesBackHeld before e → (i : TableKey) →
     held i before + introduces i before e - gives_back i before e ≡ held i (e ∷ before)
-counted_step before e below held_so i = held_step (came i before) (went i before) (introduces i before e) (gives_back i before e) (held_so i) (below i)
+counted_step before e below held_so i = held_step (introduced_count i before) (released_count i before) (introduces i before e) (gives_back i before e) (held_so i) (below i)
 
 two_steps : (a b c d : ℕ) → d ≡ b + c → a - b - c ≡ a - d
 two_steps a b c d e = omega (arith, e)
@@ -132,8 +132,8 @@ three_err (Ok x) f p q s = p
 three_err (Err e) f p q s = f p q s
 
 -- tables that are as they were, but for the origins of numbers that aren't held
-pub tabled_same : (before : Past) (questions later : Questions) (lives after : Lives) → IsSame questions later → ((i : Id) → count_at after i ≡ count_at lives i) →
-    ((i : Id) → 0 < count_at lives i → origin_at after i ≡ origin_at lives i) → IsTabled before questions lives → IsTabled before later after
+pub tabled_same : (before : Past) (questions later : Questions) (lives after : ExportsImports) → IsSameQuestions questions later → ((i : TableKey) → count_at after i ≡ count_at lives i) →
+    ((i : TableKey) → 0 < count_at lives i → origin_at after i ≡ origin_at lives i) → IsTabled before questions lives → IsTabled before later after
 tabled_same before questions later lives after known counted born tabled = record {
   known = λ q. known q ∙ tabled.known q;
   counted = λ i. counted i ∙ tabled.counted i;
@@ -141,20 +141,20 @@ tabled_same before questions later lives after known counted born tabled = recor
   balanced = tabled.balanced;
 }
 
-module _ (before : Past) (e : Event) (questions later : Questions) (lives after : Lives) (tabled : IsTabled before questions lives)
-    (uses : UsesQuestions before e) (gives : GivesBackHeld before e) (ids : List Id) (introduced : ids ≡ introductions before e)
-    (os : List (Id × Origin)) (begun : os ≡ origins before e)
-    (births : (i : Id) → origin_at after i ≡ raised_origin (count_at lives i) (origin_at lives i) i os) where
-  intro_count : (i : Id) → count_by (λ x. same_id i x.0) os ≡ introduces i before e
+module _ (before : Past) (e : DecodedRecord) (questions later : Questions) (lives after : ExportsImports) (tabled : IsTabled before questions lives)
+    (uses : UsesQuestions before e) (gives : GivesBackHeld before e) (ids : List TableKey) (introduced : ids ≡ introductions before e)
+    (os : List (TableKey × Origin)) (begun : os ≡ origins before e)
+    (births : (i : TableKey) → origin_at after i ≡ raised_origin (count_at lives i) (origin_at lives i) i os) where
+  intro_count : (i : TableKey) → count_by (λ x. same_id i x.0) os ≡ introduces i before e
   intro_count i = ap (λ l. count_by (λ x. same_id i x.0) l) begun ∙ counted_origins i before e
 
-  births_step : (i : Id) → is_in_life i (e ∷ before) ≡ true → origin_at after i ≡ option_map origin_of (last_answer (begins i) (e ∷ before))
+  births_step : (i : TableKey) → is_in_life i (e ∷ before) ≡ true → origin_at after i ≡ option_map origin_of (last_answer (begins i) (e ∷ before))
   births_step i now =
       births i ∙ ap₂ (λ n l. raised_origin n (origin_at lives i) i l) (tabled.counted i) begun ∙ born_step i before e (origin_at lives i) (tabled.born i) now
 
   -- a record that opens a question
-  pub tabled_open : (q : Id) → opened e ≡ Some q → IsPut q (just_opened (noted_call e) ids) questions later →
-      ((i : Id) → count_at after i ≡ count_at lives i + count_by (λ x. same_id i x.0) os) → IsTabled (e ∷ before) later after
+  pub tabled_open : (q : TableKey) → question_opened e ≡ Some q → IsPut q (just_opened (noted_call e) ids) questions later →
+      ((i : TableKey) → count_at after i ≡ count_at lives i + count_by (λ x. same_id i x.0) os) → IsTabled (e ∷ before) later after
   tabled_open q o put counts = record {
     known = λ j. put j ∙ ap₃ j ∙ sym (opens_notes e q o (introductions before e) j _) ∙ sym (known_step j before e);
     counted = λ i. counts i ∙ sum i ∙ counted_step before e tabled.balanced gives i;
@@ -162,18 +162,18 @@ module _ (before : Past) (e : Event) (questions later : Questions) (lives after 
     balanced = balanced_step before e tabled.balanced gives;
   }
     where
-      ap₃ : (j : Id) → (if same_id j q then Some (just_opened (noted_call e) ids) else question_at questions j)
-          ≡ (if names j (opened e) then Some (just_opened (noted_call e) (introductions before e)) else question_known j before)
+      ap₃ : (j : TableKey) → (if same_id j q then Some (just_opened (noted_call e) ids) else question_at questions j)
+          ≡ (if names j (question_opened e) then Some (just_opened (noted_call e) (introductions before e)) else question_known j before)
       ap₃ j = ap (λ l. if same_id j q then Some (just_opened (noted_call e) l) else question_at questions j) introduced
           ∙ ap (λ k. if same_id j q then Some (just_opened (noted_call e) (introductions before e)) else k) (tabled.known j)
           ∙ ap (λ o. if names j o then Some (just_opened (noted_call e) (introductions before e)) else question_known j before) (sym o)
 
-      sum : (i : Id) → count_at lives i + count_by (λ x. same_id i x.0) os ≡ held i before + introduces i before e - gives_back i before e
+      sum : (i : TableKey) → count_at lives i + count_by (λ x. same_id i x.0) os ≡ held i before + introduces i before e - gives_back i before e
       sum i = let none = opens_gives e q o before i in let counted = tabled.counted i in let same = intro_count i in omega (arith, none, counted, same)
 
   -- a record that opens none
-  pub tabled_close : opened e ≡ None → ((j : Id) → question_at later j ≡ noted_by e ids j (question_at questions j)) →
-      ((i : Id) → count_at after i ≡ count_at lives i + count_by (λ x. same_id i x.0) os - count_by (same_id i) (closed_by (question_at questions) e) - lets_go i e) →
+  pub tabled_close : question_opened e ≡ None → ((j : TableKey) → question_at later j ≡ noted_by e ids j (question_at questions j)) →
+      ((i : TableKey) → count_at after i ≡ count_at lives i + count_by (λ x. same_id i x.0) os - count_by (same_id i) (given_back_by (question_at questions) e) - count_released i e) →
       IsTabled (e ∷ before) later after
   tabled_close o noted counts = record {
     known = λ j. noted j ∙ ap (λ l. noted_by e l j (question_at questions j)) introduced ∙ ap (λ k. noted_by e (introductions before e) j k) (tabled.known j ∙ unopened j)
@@ -183,13 +183,13 @@ module _ (before : Past) (e : Event) (questions later : Questions) (lives after 
     balanced = balanced_step before e tabled.balanced gives;
   }
     where
-      unopened : (j : Id) → question_known j before ≡ (if names j (opened e) then Some (just_opened (noted_call e) (introductions before e)) else question_known j before)
+      unopened : (j : TableKey) → question_known j before ≡ (if names j (question_opened e) then Some (just_opened (noted_call e) (introductions before e)) else question_known j before)
       unopened j = ap (λ o. if names j o then Some (just_opened (noted_call e) (introductions before e)) else question_known j before) (sym o)
 
-      sum : (i : Id) → count_at lives i + count_by (λ x. same_id i x.0) os - count_by (same_id i) (closed_by (question_at questions) e) - lets_go i e
+      sum : (i : TableKey) → count_at lives i + count_by (λ x. same_id i x.0) os - count_by (same_id i) (given_back_by (question_at questions) e) - count_released i e
           ≡ held i before + introduces i before e - gives_back i before e
       sum i =
           let parts = gives_parts i before e in
-          let closed : count_by (same_id i) (closed_by (question_at questions) e) ≡ count_by (same_id i) (introductions_at (closes before e)) =
+          let closed : count_by (same_id i) (given_back_by (question_at questions) e) ≡ count_by (same_id i) (introductions_at (closes before e)) =
           ap (λ l. count_by (same_id i) l) (closed_known (question_at questions) before tabled.known e uses) in
           let counted = tabled.counted i in let same = intro_count i in omega (arith, parts, closed, counted, same)

@@ -2,7 +2,7 @@
 use Rattle.std.proofs.Common.{◌≡◌, ℕ, refl, sym, ◌∙◌, subst, List, [], ◌∷◌, ◌++◌, Option, Some, None, ap, Bool, true, false, if◌then◌else◌}
 use Rattle.std.specs.Prelude.{unwrap_or, IsSome}
 use Rattle.std.specs.Option.{option_or}
-use Rattle.vat_view.specs.Types.{Event, Fulfil, Break, View, Object, Promise, FieldOf, Import}
+use Rattle.vat_view.specs.Types.{DecodedRecord, Fulfil, Break, View, Object, Promise, FieldOf, Import}
 use Rattle.vat_view.specs.Views.{view_of_reference}
 use Rattle.std.proofs.lemmas.Bool.{false≢true, eqb-true}
 use Rattle.vat_view.specs.Past.{Past, last_answer}
@@ -24,22 +24,22 @@ unturned : (now before : Option Next) (n : Next) → (IsSome now → unwrap_or b
 unturned None before n once e moved = e
 unturned (Some x) before n once e moved = absurd (moved (sym e ∙ once refl))
 
-pub goes_on : (later : List Event) (past : Past) (a : View) (n : Next) → EachAfter TurnsOnce later past → next past a ≡ n → (n ≡ stays → ⊥) → next (later ++ past) a ≡ n
+pub goes_on : (later : List DecodedRecord) (past : Past) (a : View) (n : Next) → EachAfter TurnsOnce later past → next past a ≡ n → (n ≡ stays → ⊥) → next (later ++ past) a ≡ n
 goes_on [] past a n once e moved = e
 goes_on (x ∷ later) past a n once e moved =
     unturned (turn a (later ++ past) x) (last_answer (turn a) (later ++ past)) n (once.0 a) (goes_on later past a n once.1 e moved) moved
 
-pub turned_on : (later : List Event) (past : Past) (a b : View) → EachAfter TurnsOnce later past → next past a ≡ turns b → next (later ++ past) a ≡ turns b
+pub turned_on : (later : List DecodedRecord) (past : Past) (a b : View) → EachAfter TurnsOnce later past → next past a ≡ turns b → next (later ++ past) a ≡ turns b
 turned_on later past a b once e = goes_on later past a (turns b) once e turns_not_stays
 
-pub stopped_on : (later : List Event) (past : Past) (a : View) → EachAfter TurnsOnce later past → next past a ≡ stops → next (later ++ past) a ≡ stops
+pub stopped_on : (later : List DecodedRecord) (past : Past) (a : View) → EachAfter TurnsOnce later past → next past a ≡ stops → next (later ++ past) a ≡ stops
 stopped_on later past a once e = goes_on later past a stops once e stops_not_stays
 
-pub leads_on : (later : List Event) (past : Past) (a b : View) → EachAfter TurnsOnce later past → Leads past a b → Leads (later ++ past) a b
+pub leads_on : (later : List DecodedRecord) (past : Past) (a b : View) → EachAfter TurnsOnce later past → Leads past a b → Leads (later ++ past) a b
 leads_on later past a b once here = here
 leads_on later past a c once (onward {b = b} e rest) = onward (turned_on later past a b once e) (leads_on later past b c once rest)
 
-pub by_turns_on : (later : List Event) (past : Past) (a b : View) → EachAfter TurnsOnce later past → LeadsByTurns past a b → LeadsByTurns (later ++ past) a b
+pub by_turns_on : (later : List DecodedRecord) (past : Past) (a b : View) → EachAfter TurnsOnce later past → LeadsByTurns past a b → LeadsByTurns (later ++ past) a b
 by_turns_on later past a c once (turned {b = b} e rest) = turned (turned_on later past a b once e) (leads_on later past b c once rest)
 
 pub object_stays : (past : Past) (object : ℕ) → next past (Object object) ≡ stays

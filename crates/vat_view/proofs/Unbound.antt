@@ -4,17 +4,17 @@ use Rattle.std.specs.Prelude.{is_some}
 use Rattle.std.specs.List.{list_all}
 use Rattle.std.specs.Option.{option_or}
 use Rattle.std.proofs.lemmas.Bool.{cases_Bool, and_parts, or_parts, or_left, or_right, false≢true, eqb-true}
-use Rattle.vat_view.specs.Types.{Bootstrap, Call, Return, Results, Exception, Canceled, Event, Make, Deliver, Answer, Fault, Wire, Asked, Id}
+use Rattle.vat_view.specs.Types.{Bootstrap, Call, Return, Results, Exception, Canceled, DecodedRecord, Make, Deliver, Answer, Fault, Wire, Asked, TableKey}
 use Rattle.vat_view.specs.Past.{Past, point, id, is, last_answer, last_where, Each}
 use Rattle.vat_view.specs.Questions.{opens, opening, call_at, is_late}
 use Rattle.vat_view.specs.Views.{view_of_reference, view_of_target}
-use Rattle.vat_view.specs.Calls.{brings, asked, takes, moves, delivers, boots, settles, knows, has_passed, is_settled, is_known}
+use Rattle.vat_view.specs.Calls.{brings, request_of, takes, moves, delivers, boots, settles, knows, has_passed, is_settled, is_known}
 use Rattle.vat_view.specs.Bindings.{Refers, new_calls, contains, is_bound_call}
 use Rattle.vat_view.specs.Sound.{IsSound}
 
 -- no record before says anything of a call
 pub record IsUnknown (c : ℕ) (past : Past) : Type 0 where
-  pub asked : asked c past ≡ None
+  pub asked : request_of c past ≡ None
   pub moved : last_answer (moves c) past ≡ None
   pub delivered : has_passed (delivers c) past ≡ false
   pub booted : has_passed (boots c) past ≡ false
@@ -22,7 +22,7 @@ pub record IsUnknown (c : ℕ) (past : Past) : Type 0 where
   pub known : is_known c past ≡ false
 
 -- a record says nothing of a call
-record IsApart (c : ℕ) (before : Past) (e : Event) : Type 0 where
+record IsApart (c : ℕ) (before : Past) (e : DecodedRecord) : Type 0 where
   pub brings : brings c before e ≡ None
   pub takes : takes c before e ≡ false
   pub delivers : delivers c before e ≡ false
@@ -38,13 +38,13 @@ is_there c d rest h = or_left ((d == c) || false) rest (or_left (d == c) false h
 named_bound : (before : Past) (c d : ℕ) → list_all (is_bound_call before) (d ∷ []) ≡ true → (d == c) ≡ true → is_bound_call before c ≡ true
 named_bound before c d h same = subst (λ x. is_bound_call before x ≡ true) (eqb-true d c same) (and_parts (is_bound_call before d) true h).0
 
-noted_bound : (before : Past) (e : Event) (q : Id) (c : ℕ) → Refers before e → opens q before e ≡ true → is c (call_at (Some (point before e))) ≡ true → is_bound_call (e ∷ before) c ≡ true
+noted_bound : (before : Past) (e : DecodedRecord) (q : TableKey) (c : ℕ) → Refers before e → opens q before e ≡ true → is c (call_at (Some (point before e))) ≡ true → is_bound_call (e ∷ before) c ≡ true
 noted_bound before (Wire s k d rs (Bootstrap n)) q c refers new same = is_there c d (is_bound_call before c) same
 noted_bound before (Wire false k d rs (Call n t f m p)) q c refers new same = is_there c d (is_bound_call before c) same
 noted_bound before (Wire true k d rs (Call n t f m p)) q c refers new same = named_bound before c d refers.bound_call same
 noted_bound before _ q c refers new same = absurd (false≢true new)
 
-opening_bound : (past : Past) → Each IsSound past → (q : Id) (c : ℕ) → is c (call_at (opening q past)) ≡ true → is_bound_call past c ≡ true
+opening_bound : (past : Past) → Each IsSound past → (q : TableKey) (c : ℕ) → is c (call_at (opening q past)) ≡ true → is_bound_call past c ≡ true
 opening_bound [] sound q c h = absurd (false≢true h)
 opening_bound (e ∷ before) sound q c h = elim (cases_Bool (opens q before e)) [
   | inl new ↦ noted_bound before e q c sound.0.refers new (sym (ap (λ b. is c (call_at (if b then Some (point before e) else opening q before))) new) ∙ h)
@@ -61,7 +61,7 @@ module _ (c : ℕ) (before : Past) (sound : Each IsSound before) (unbound : is_b
     | inr apart ↦ apart
   ]
 
-  not_opening : (q : Id) → is c (call_at (opening q before)) ≡ false
+  not_opening : (q : TableKey) → is c (call_at (opening q before)) ≡ false
   not_opening q = elim (cases_Bool (is c (call_at (opening q before)))) [
     | inl same ↦ absurd (false≢true (sym unbound ∙ opening_bound before sound q c same))
     | inr apart ↦ apart
@@ -70,7 +70,7 @@ module _ (c : ℕ) (before : Past) (sound : Each IsSound before) (unbound : is_b
   not_new : (d : ℕ) → contains c (d ∷ []) ≡ false → (d == c) ≡ false
   not_new d h = (or_parts (d == c) false h).0
 
-  nothing : (e : Event) → Refers before e → contains c (new_calls e) ≡ false → IsApart c before e
+  nothing : (e : DecodedRecord) → Refers before e → contains c (new_calls e) ≡ false → IsApart c before e
   nothing (Make d r f m) refers h = record {
     brings = (let a : Asked = record { goal = view_of_reference before r; interface = f; method = m } in ap (λ b. if b then Some a else None) (not_new d h));
     takes = refl;
@@ -104,7 +104,7 @@ module _ (c : ℕ) (before : Past) (sound : Each IsSound before) (unbound : is_b
   }
   nothing _ refers h = record { brings = refl; takes = refl; delivers = refl; boots = refl; settles = refl; knows = refl }
 
-passed_apart : (test : Past → Event → Bool) (before : Past) (e : Event) → test before e ≡ false → has_passed test before ≡ false → has_passed test (e ∷ before) ≡ false
+passed_apart : (test : Past → DecodedRecord → Bool) (before : Past) (e : DecodedRecord) → test before e ≡ false → has_passed test before ≡ false → has_passed test (e ∷ before) ≡ false
 passed_apart test before e apart rest = ap (λ b. is_some (if b then Some (point before e) else last_where test before)) apart ∙ rest
 
 moves_none : (o : Option Asked) (b : Bool) → o ≡ None → b ≡ false → (if is_some o then Some true else if b then Some false else None) ≡ None
@@ -116,7 +116,7 @@ unknown (e ∷ before) sound c h =
     let parts = or_parts (contains c (new_calls e)) (is_bound_call before c) h in
     let rest : IsUnknown c before = unknown before sound.1 c parts.1 in
     let apart : IsApart c before e = nothing c before sound.1 parts.1 e sound.0.refers parts.0 in record {
-      asked = ap (λ o. option_or o (asked c before)) apart.brings ∙ rest.asked;
+      asked = ap (λ o. option_or o (request_of c before)) apart.brings ∙ rest.asked;
       moved = ap (λ o. option_or o (last_answer (moves c) before)) (moves_none (brings c before e) (takes c before e) apart.brings apart.takes) ∙ rest.moved;
       delivered = passed_apart (delivers c) before e apart.delivers rest.delivered;
       booted = passed_apart (boots c) before e apart.boots rest.booted;

@@ -5,16 +5,16 @@ use Rattle.std.specs.List.{cons_option, list_all, filter_map}
 use Rattle.std.proofs.lemmas.List.Folds.{list_all-append}
 use Rattle.std.proofs.lemmas.List.Sums.{sum_by-cons}
 use Rattle.std.proofs.lemmas.Bool.{eqb-true, eq-eqb}
-use Rattle.vat_view.specs.Types.{Descriptor, NoCap, SenderHosted, SenderPromise, ReceiverHosted, ReceiverAnswer, Event, Id}
+use Rattle.vat_view.specs.Types.{Descriptor, NoCap, SenderHosted, SenderPromise, ReceiverHosted, ReceiverAnswer, DecodedRecord, TableKey}
 use Rattle.vat_view.specs.Past.{Past}
 use Rattle.vat_view.specs.Questions.{is_late}
 use Rattle.vat_view.specs.Bindings.{NotesEach}
 use Rattle.vat_view.specs.Views.{places_from, places, references}
-use Rattle.vat_view.specs.Tables.{is_cap}
-use Rattle.vat_view.specs.Asking.{passes_if}
+use Rattle.vat_view.specs.Glue.Tables.{is_cap}
+use Rattle.vat_view.specs.Glue.Asking.{passes_if}
 
 -- one number that may be there
-pub passes_one : (test : Id → Bool) (o : Option Id) → passes_if test o ≡ list_all test (option_to_list o)
+pub passes_one : (test : TableKey → Bool) (o : Option TableKey) → passes_if test o ≡ list_all test (option_to_list o)
 passes_one test (Some i) = and_true (test i)
   where
     and_true : (b : Bool) → b ≡ (b && true)
@@ -22,17 +22,17 @@ passes_one test (Some i) = and_true (test i)
     and_true false = refl
 passes_one test None = refl
 
-passes_next : (test : Id → Bool) (o : Option Id) (is : List Id) (b : Bool) → b ≡ list_all test is → (passes_if test o && b) ≡ list_all test (cons_option o is)
+passes_next : (test : TableKey → Bool) (o : Option TableKey) (is : List TableKey) (b : Bool) → b ≡ list_all test is → (passes_if test o && b) ≡ list_all test (cons_option o is)
 passes_next test (Some i) is b same = ap (λ b. test i && b) same
 passes_next test None is b same = same
 
 -- those that a list gives
-pub passes_each : {A : Type 0} (test : Id → Bool) (f : A → Option Id) (xs : List A) → list_all (λ x. passes_if test (f x)) xs ≡ list_all test (filter_map f xs)
+pub passes_each : {A : Type 0} (test : TableKey → Bool) (f : A → Option TableKey) (xs : List A) → list_all (λ x. passes_if test (f x)) xs ≡ list_all test (filter_map f xs)
 passes_each test f [] = refl
 passes_each test f (x ∷ xs) = passes_next test (f x) (filter_map f xs) (list_all (λ x. passes_if test (f x)) xs) (passes_each test f xs)
 
 -- one that may be there, those that a list gives, and one more that may be there
-passes_parts : {A : Type 0} (test : Id → Bool) (a c : Option Id) (f : A → Option Id) (xs : List A) →
+passes_parts : {A : Type 0} (test : TableKey → Bool) (a c : Option TableKey) (f : A → Option TableKey) (xs : List A) →
     ((passes_if test a && list_all (λ x. passes_if test (f x)) xs) && passes_if test c) ≡ list_all test ((option_to_list a ++ filter_map f xs) ++ option_to_list c)
 passes_parts test a c f xs =
     ap₂ (λ x y. x && y)
@@ -40,7 +40,7 @@ passes_parts test a c f xs =
     ∙ sym (list_all-append test (option_to_list a ++ filter_map f xs) (option_to_list c))
 
 -- the same of answers to each part
-pub joined : {A : Type 0} (test : Id → Bool) (a b c d : Option Id) (f : A → Option Id) (xs : List A) (r first second third : Bool) →
+pub joined : {A : Type 0} (test : TableKey → Bool) (a b c d : Option TableKey) (f : A → Option TableKey) (xs : List A) (r first second third : Bool) →
     r ≡ ((first && second) && third) → first ≡ passes_if test a → a ≡ b → second ≡ list_all (λ x. passes_if test (f x)) xs → third ≡ passes_if test c → c ≡ d →
     r ≡ list_all test ((option_to_list b ++ filter_map f xs) ++ option_to_list d)
 joined test a b c d f xs r first second third is_r is_first is_a is_second is_third is_c =
@@ -66,7 +66,7 @@ caps_placed k (d ∷ ds) = sum_by-cons (λ x. cond (is_cap x) 1 0) d ds ∙ plac
     placed (ReceiverAnswer q path) a b = more _ _ b
 
 -- a record that isn't late notes as many references as it has capabilities
-pub same_lengths : (before : Past) (e : Event) (noted caps : ℕ) → noted ≡ length (references e) → caps ≡ length (places e) → false ≡ is_late before e →
+pub same_lengths : (before : Past) (e : DecodedRecord) (noted caps : ℕ) → noted ≡ length (references e) → caps ≡ length (places e) → false ≡ is_late before e →
     Decides (noted == caps) (NotesEach before e)
 same_lengths before e noted caps is_noted are_caps on_time =
     let meant : (if is_late before e then 0 else length (places e)) ≡ length (places e) = ap (λ b. if b then 0 else length (places e)) (sym on_time) in

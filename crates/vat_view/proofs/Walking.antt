@@ -5,7 +5,7 @@ use Rattle.std.proofs.lemmas.Bool.{cases_eq, cases_lt}
 use Rattle.vat_view.specs.Types.{View}
 use Rattle.vat_view.specs.Past.{Past}
 use Rattle.vat_view.specs.Walks.{Next, turns, stops, stays, next, Leads, here, onward, LeadsByTurns, turned}
-use Rattle.vat_view.specs.TurnTables.{reached, turned_to, Reaches, ReachesByTurns}
+use Rattle.vat_view.specs.Glue.TurnTables.{after_turns, turned_to, Reaches, ReachesByTurns}
 
 pub some_same : {A : Type 0} (x y : A) → Some x ≡ Some y → x ≡ y
 some_same x y e = cc
@@ -13,19 +13,19 @@ some_same x y e = cc
 pub none_some : {A : Type 0} (x : A) → None ≡ Some x → ⊥
 none_some x e = cc
 
-pub reached_none : {A : Type 0} (f : A → Option A) (n : ℕ) → reached f n None ≡ None
+pub reached_none : {A : Type 0} (f : A → Option A) (n : ℕ) → after_turns f n None ≡ None
 reached_none f zero = refl
 reached_none f (suc n) = reached_none f n
 
-pub reached_more : {A : Type 0} (f : A → Option A) (n : ℕ) (a : Option A) → reached f (suc n) a ≡ option_and_then f (reached f n a)
+pub reached_more : {A : Type 0} (f : A → Option A) (n : ℕ) (a : Option A) → after_turns f (suc n) a ≡ option_and_then f (after_turns f n a)
 reached_more f zero a = refl
 reached_more f (suc n) a = reached_more f n (option_and_then f a)
 
-reached_plus : {A : Type 0} (f : A → Option A) (m n : ℕ) (a : Option A) → reached f (m + n) a ≡ reached f n (reached f m a)
+reached_plus : {A : Type 0} (f : A → Option A) (m n : ℕ) (a : Option A) → after_turns f (m + n) a ≡ after_turns f n (after_turns f m a)
 reached_plus f zero n a = let e : zero + n ≡ n = omega arith in rw e refl
 reached_plus f (suc m) n a = let e : suc m + n ≡ suc (m + n) = omega arith in rw e (reached_plus f m n (option_and_then f a))
 
-pub reached_at : {A : Type 0} (f : A → Option A) (m n k : ℕ) (a : Option A) → m + n ≡ k → reached f k a ≡ reached f n (reached f m a)
+pub reached_at : {A : Type 0} (f : A → Option A) (m n k : ℕ) (a : Option A) → m + n ≡ k → after_turns f k a ≡ after_turns f n (after_turns f m a)
 reached_at f m n k a e = rw (← e) (reached_plus f m n a)
 
 -- whether one of the first n numbers is this
@@ -70,15 +70,15 @@ cases_option None = inl refl
 cases_option (Some x) = inr (x, refl)
 
 -- what is reached by more turns was turned to
-pub dead : {A : Type 0} (f : A → Option A) (n k : ℕ) (a : Option A) (v : A) → reached f n a ≡ Some v → k < n → reached f (suc k) a ≡ None → ⊥
+pub dead : {A : Type 0} (f : A → Option A) (n k : ℕ) (a : Option A) (v : A) → after_turns f n a ≡ Some v → k < n → after_turns f (suc k) a ≡ None → ⊥
 dead f n k a v e lt gone =
-    none_some v (sym (reached_none f (n - suc k)) ∙ ap (λ o. reached f (n - suc k) o) (sym gone) ∙ sym (reached_at f (suc k) (n - suc k) n a (omega arith)) ∙ e)
+    none_some v (sym (reached_none f (n - suc k)) ∙ ap (λ o. after_turns f (n - suc k) o) (sym gone) ∙ sym (reached_at f (suc k) (n - suc k) n a (omega arith)) ∙ e)
 
 -- each value before one that is reached turns to the next
-before_reached : {A : Type 0} (f : A → Option A) (n k : ℕ) (a : Option A) (v : A) → reached f n a ≡ Some v → k < n →
-    (x : A) × (y : A) × (reached f k a ≡ Some x) × (f x ≡ Some y) × (reached f (suc k) a ≡ Some y)
+before_reached : {A : Type 0} (f : A → Option A) (n k : ℕ) (a : Option A) (v : A) → after_turns f n a ≡ Some v → k < n →
+    (x : A) × (y : A) × (after_turns f k a ≡ Some x) × (f x ≡ Some y) × (after_turns f (suc k) a ≡ Some y)
 before_reached f n k a v e lt =
-    elim (cases_option (reached f k a)) [
+    elim (cases_option (after_turns f k a)) [
       | inl none ↦ absurd (dead f n k a v e lt (reached_more f k a ∙ ap (λ o. option_and_then f o) none))
       | inr x ↦ elim (cases_option (f x.0)) [
         | inl none ↦ absurd (dead f n k a v e lt (reached_more f k a ∙ ap (λ o. option_and_then f o) x.1 ∙ none))
@@ -92,28 +92,28 @@ Lands {A} f index land r = (v w : A) → f v ≡ Some w → (index v < r) × (la
 
 -- then each value that is reached is reached by r turns at most
 within : {A : Type 0} (f : A → Option A) (index : A → ℕ) (land : ℕ → Option A) (r : ℕ) → Lands f index land r →
-    (a v : A) (fuel n : ℕ) → n ≤ fuel → reached f n (Some a) ≡ Some v → (m : ℕ) × (m ≤ r) × (reached f m (Some a) ≡ Some v)
+    (a v : A) (fuel n : ℕ) → n ≤ fuel → after_turns f n (Some a) ≡ Some v → (m : ℕ) × (m ≤ r) × (after_turns f m (Some a) ≡ Some v)
 within f index land r few a v zero n le e = (n, omega arith, e)
 within f index land r few a v (suc fuel) n le e = elim (cases_lt r n) [
   | inr short ↦ (n, short, e)
   | inl long ↦
-      let h : ℕ → ℕ = λ k. index_at index (reached f k (Some a)) in
+      let h : ℕ → ℕ = λ k. index_at index (after_turns f k (Some a)) in
       let p : (i : ℕ) × (j : ℕ) × (i < j) × (j ≤ r) × (h i ≡ h j) = pigeons r h (λ k below.
       let b = before_reached f n k (Some a) v e (omega arith) in rw b.2 (few b.0 b.1 b.3).0) in
       let b = before_reached f n p.0 (Some a) v e (omega (arith, p.2, p.3)) in
       let c = before_reached f n p.1 (Some a) v e (omega (arith, p.3)) in
       let same : index b.0 ≡ index c.0 = sym (ap (λ o. index_at index o) b.2) ∙ p.4 ∙ ap (λ o. index_at index o) c.2 in
       let meet : Some b.1 ≡ Some c.1 = sym (few b.0 b.1 b.3).1 ∙ ap land same ∙ (few c.0 c.1 c.3).1 in
-      let here : reached f (suc p.0) (Some a) ≡ reached f (suc p.1) (Some a) = b.4 ∙ meet ∙ sym c.4 in
-      let shorter : reached f (suc p.0 + (n - suc p.1)) (Some a) ≡ Some v =
-      reached_plus f (suc p.0) (n - suc p.1) (Some a) ∙ ap (λ o. reached f (n - suc p.1) o) here
+      let here : after_turns f (suc p.0) (Some a) ≡ after_turns f (suc p.1) (Some a) = b.4 ∙ meet ∙ sym c.4 in
+      let shorter : after_turns f (suc p.0 + (n - suc p.1)) (Some a) ≡ Some v =
+      reached_plus f (suc p.0) (n - suc p.1) (Some a) ∙ ap (λ o. after_turns f (n - suc p.1) o) here
       ∙ sym (reached_at f (suc p.1) (n - suc p.1) n (Some a) (omega (arith, p.3))) ∙ e in
       within f index land r few a v fuel (suc p.0 + (n - suc p.1)) (omega (arith, p.2, p.3)) shorter
 ]
 
 -- a walk that ended leads nowhere else
-pub ended : {A : Type 0} (f : A → Option A) (a v w : A) (t : ℕ) → reached f t (Some a) ≡ Some v → (v ≡ w → ⊥) → ((m : ℕ) → m < t → reached f m (Some a) ≡ Some w → ⊥) →
-    f v ≡ None → (n : ℕ) → reached f n (Some a) ≡ Some w → ⊥
+pub ended : {A : Type 0} (f : A → Option A) (a v w : A) (t : ℕ) → after_turns f t (Some a) ≡ Some v → (v ≡ w → ⊥) → ((m : ℕ) → m < t → after_turns f m (Some a) ≡ Some w → ⊥) →
+    f v ≡ None → (n : ℕ) → after_turns f n (Some a) ≡ Some w → ⊥
 ended f a v w t there apart before none n e = elim (cases_lt n t) [
   | inl lt ↦ before n lt e
   | inr le ↦ elim (cases_lt t n) [
@@ -124,17 +124,17 @@ ended f a v w t there apart before none n e = elim (cases_lt n t) [
 
 -- after r turns all has been met
 pub met : {A : Type 0} (f : A → Option A) (index : A → ℕ) (land : ℕ → Option A) (r : ℕ) → Lands f index land r →
-    (a v w : A) (t : ℕ) → r ≤ t → t ≤ r → reached f t (Some a) ≡ Some v → ((m : ℕ) → m < t → reached f m (Some a) ≡ Some w → ⊥) →
-    (n : ℕ) → reached f n (Some a) ≡ Some w → v ≡ w
+    (a v w : A) (t : ℕ) → r ≤ t → t ≤ r → after_turns f t (Some a) ≡ Some v → ((m : ℕ) → m < t → after_turns f m (Some a) ≡ Some w → ⊥) →
+    (n : ℕ) → after_turns f n (Some a) ≡ Some w → v ≡ w
 met f index land r few a v w t low high there before n e =
-    let m : (m : ℕ) × (m ≤ r) × (reached f m (Some a) ≡ Some w) = within f index land r few a w n n (omega arith) e in
+    let m : (m : ℕ) × (m ≤ r) × (after_turns f m (Some a) ≡ Some w) = within f index land r few a w n n (omega arith) e in
     elim (cases_lt m.0 t) [
       | inl lt ↦ absurd (before m.0 lt m.2)
       | inr le ↦ let same : m.0 ≡ t = omega (arith, m.1) in some_same v w (sym there ∙ (rw same at m.2))
     ]
 
 -- of two values that are reached and turn no more, one is the other
-pub one_last : {A : Type 0} (f : A → Option A) (a v w : A) (t n : ℕ) → reached f t (Some a) ≡ Some v → f v ≡ None → reached f n (Some a) ≡ Some w → f w ≡ None → v ≡ w
+pub one_last : {A : Type 0} (f : A → Option A) (a v w : A) (t n : ℕ) → after_turns f t (Some a) ≡ Some v → f v ≡ None → after_turns f n (Some a) ≡ Some w → f w ≡ None → v ≡ w
 one_last f a v w t n there none e last = elim (cases_lt n t) [
   | inl lt ↦ absurd (dead f t n (Some a) v there lt (reached_more f n (Some a) ∙ ap (λ o. option_and_then f o) e ∙ last))
   | inr le ↦ elim (cases_lt t n) [
@@ -145,9 +145,9 @@ one_last f a v w t n there none e last = elim (cases_lt n t) [
 
 -- a walk that goes on after r turns reaches nothing that turns no more
 pub endless : {A : Type 0} (f : A → Option A) (index : A → ℕ) (land : ℕ → Option A) (r : ℕ) → Lands f index land r →
-    (a v w : A) (t : ℕ) → r < t → reached f t (Some a) ≡ Some v → (n : ℕ) → reached f n (Some a) ≡ Some w → f w ≡ None → ⊥
+    (a v w : A) (t : ℕ) → r < t → after_turns f t (Some a) ≡ Some v → (n : ℕ) → after_turns f n (Some a) ≡ Some w → f w ≡ None → ⊥
 endless f index land r few a v w t long there n e last =
-    let m : (m : ℕ) × (m ≤ r) × (reached f m (Some a) ≡ Some w) = within f index land r few a w n n (omega arith) e in
+    let m : (m : ℕ) × (m ≤ r) × (after_turns f m (Some a) ≡ Some w) = within f index land r few a w n n (omega arith) e in
     let short = m.1 in
     dead f t m.0 (Some a) v there (omega (arith, short)) (reached_more f m.0 (Some a) ∙ ap (λ o. option_and_then f o) m.2 ∙ last)
 
@@ -157,9 +157,9 @@ and_then_same : {A : Type 0} (f g : A → Option A) → ((v : A) → f v ≡ g v
 and_then_same f g h (Some v) = h v
 and_then_same f g h None = refl
 
-pub reached_same : {A : Type 0} (f g : A → Option A) → ((v : A) → f v ≡ g v) → (n : ℕ) (o : Option A) → reached f n o ≡ reached g n o
+pub reached_same : {A : Type 0} (f g : A → Option A) → ((v : A) → f v ≡ g v) → (n : ℕ) (o : Option A) → after_turns f n o ≡ after_turns g n o
 reached_same f g h zero o = refl
-reached_same f g h (suc n) o = reached_same f g h n (option_and_then f o) ∙ ap (λ x. reached g n x) (and_then_same f g h o)
+reached_same f g h (suc n) o = reached_same f g h n (option_and_then f o) ∙ ap (λ x. after_turns g n x) (and_then_same f g h o)
 
 -- ---- leading is reaching
 
@@ -170,24 +170,24 @@ module _ (past : Past) where
 
   pub leads_reach : (a b : View) → Leads past a b → Reaches step a b
   leads_reach a b here = (0, refl)
-  leads_reach a c (onward {b = b} e rest) = let r = leads_reach b c rest in (suc r.0, ap (λ x. reached step r.0 (turned_to x)) e ∙ r.1)
+  leads_reach a c (onward {b = b} e rest) = let r = leads_reach b c rest in (suc r.0, ap (λ x. after_turns step r.0 (turned_to x)) e ∙ r.1)
 
-  after_step : (n : ℕ) (a b : View) (x : Next) → next past a ≡ x → ((m : View) → reached step n (Some m) ≡ Some b → Leads past m b) → reached step n (turned_to x) ≡ Some b → Leads past a b
+  after_step : (n : ℕ) (a b : View) (x : Next) → next past a ≡ x → ((m : View) → after_turns step n (Some m) ≡ Some b → Leads past m b) → after_turns step n (turned_to x) ≡ Some b → Leads past a b
   after_step n a b (turns m) same rest e = onward same (rest m e)
   after_step n a b stops same rest e = absurd (none_some b (sym (reached_none step n) ∙ e))
   after_step n a b stays same rest e = absurd (none_some b (sym (reached_none step n) ∙ e))
 
-  pub reached_leads : (n : ℕ) (a b : View) → reached step n (Some a) ≡ Some b → Leads past a b
+  pub reached_leads : (n : ℕ) (a b : View) → after_turns step n (Some a) ≡ Some b → Leads past a b
   reached_leads zero a b e = subst (λ x. Leads past a x) (some_same a b e) here
   reached_leads (suc n) a b e = after_step n a b (next past a) refl (λ m rest. reached_leads n m b rest) e
 
   pub by_turns_reach : (a b : View) → LeadsByTurns past a b → ReachesByTurns step a b
-  by_turns_reach a c (turned {b = b} e rest) = let r = leads_reach b c rest in (r.0, ap (λ x. reached step r.0 (turned_to x)) e ∙ r.1)
+  by_turns_reach a c (turned {b = b} e rest) = let r = leads_reach b c rest in (r.0, ap (λ x. after_turns step r.0 (turned_to x)) e ∙ r.1)
 
-  pub reached_by_turns : (n : ℕ) (a b : View) → reached step n (step a) ≡ Some b → LeadsByTurns past a b
+  pub reached_by_turns : (n : ℕ) (a b : View) → after_turns step n (step a) ≡ Some b → LeadsByTurns past a b
   reached_by_turns n a b e = inner (next past a) refl e
     where
-      inner : (x : Next) → next past a ≡ x → reached step n (turned_to x) ≡ Some b → LeadsByTurns past a b
+      inner : (x : Next) → next past a ≡ x → after_turns step n (turned_to x) ≡ Some b → LeadsByTurns past a b
       inner (turns m) same rest = turned same (reached_leads n m b rest)
       inner stops same rest = absurd (none_some b (sym (reached_none step n) ∙ rest))
       inner stays same rest = absurd (none_some b (sym (reached_none step n) ∙ rest))

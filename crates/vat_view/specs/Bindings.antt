@@ -2,13 +2,13 @@
 use Rattle.std.specs.Prelude.{◌≡◌, ℕ, ◌==◌, length, List, [], ◌∷◌, map, Bool, true, false, not, ◌&&◌, if◌then◌else◌, is_none, IsTrue}
 use Rattle.std.specs.Bool.{beq}
 use Rattle.std.specs.List.{list_any, list_all}
-use Rattle.vat_view.specs.Types.{Bootstrap, Call, Event, Host, Vow, Fulfil, Break, Make, Field, Deliver, Answer, Fault, Wire}
+use Rattle.vat_view.specs.Types.{Bootstrap, Call, DecodedRecord, Host, Vow, Fulfil, Break, Make, Field, Deliver, Answer, Fault, Wire}
 use Rattle.vat_view.specs.Past.{Past}
-use Rattle.vat_view.specs.Questions.{opened, is_late}
+use Rattle.vat_view.specs.Questions.{question_opened, is_late}
 use Rattle.vat_view.specs.Views.{places, references}
 
 -- the references that a record newly binds: of HOST, VOW, FIELD and RECV
-abbrev pub new_references : Event → List ℕ
+abbrev pub new_references : DecodedRecord → List ℕ
 new_references (Host r object) = r ∷ []
 new_references (Vow r) = r ∷ []
 new_references (Field r call path) = r ∷ []
@@ -16,7 +16,7 @@ new_references (Wire false k call noted m) = noted
 new_references _ = []
 
 -- the other references that it names
-abbrev pub named_references : Event → List ℕ
+abbrev pub named_references : DecodedRecord → List ℕ
 named_references (Fulfil r to) = r ∷ to ∷ []
 named_references (Break r) = r ∷ []
 named_references (Make call r interface method) = r ∷ []
@@ -25,14 +25,14 @@ named_references (Wire true k call noted m) = noted
 named_references _ = []
 
 -- the call that it newly binds: of MAKE, a sent or received Bootstrap, a received Call
-abbrev pub new_calls : Event → List ℕ
+abbrev pub new_calls : DecodedRecord → List ℕ
 new_calls (Make call r interface method) = call ∷ []
 new_calls (Wire sent k call noted (Bootstrap q)) = call ∷ []
 new_calls (Wire false k call noted (Call q target interface method params)) = call ∷ []
 new_calls _ = []
 
 -- the other calls that it names
-abbrev pub named_calls : Event → List ℕ
+abbrev pub named_calls : DecodedRecord → List ℕ
 named_calls (Field r call path) = call ∷ []
 named_calls (Deliver call object) = call ∷ []
 named_calls (Answer call results) = call ∷ []
@@ -58,14 +58,14 @@ is_distinct [] = true
 is_distinct (x ∷ xs) = not (contains x xs) && is_distinct xs
 
 -- a record notes a call exactly where its message opens a question
-abbrev pub notes_call : Event → Bool
-notes_call (Wire sent k call noted m) = beq (call == 0) (is_none (opened (Wire sent k call noted m)))
+abbrev pub notes_call : DecodedRecord → Bool
+notes_call (Wire sent k call noted m) = beq (call == 0) (is_none (question_opened (Wire sent k call noted m)))
 notes_call _ = true
 
 -- (this project's own: how a log names things)
 -- REF: newly bound numbers are unused and distinct; every other reference and call named is bound;
 -- the noted call is 0 exactly in messages other than Bootstrap and Call
-pub record Refers (before : Past) (e : Event) : Type 0 where
+pub record Refers (before : Past) (e : DecodedRecord) : Type 0 where
   pub distinct : IsTrue (is_distinct (new_references e))
   pub unused : IsTrue (list_all (λ r. not (is_bound before r)) (new_references e))
   pub unused_call : IsTrue (list_all (λ c. not (is_bound_call before c)) (new_calls e))
@@ -76,5 +76,5 @@ pub record Refers (before : Past) (e : Event) : Type 0 where
 -- (this project's own: what capability tables carry has references)
 -- one reference is noted for each descriptor that isn't none, and none beside a late Return: of DESC where a record
 -- is sent, RECVREF where it is received
-abbrev pub NotesEach : Past → Event → Type 0
+abbrev pub NotesEach : Past → DecodedRecord → Type 0
 NotesEach before e = length (references e) ≡ (if is_late before e then 0 else length (places e))

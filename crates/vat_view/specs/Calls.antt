@@ -1,14 +1,14 @@
 -- Calls at the vat, what they ask for, and what is known of their results (rpc.capnp, the comments of Call and
 -- Return).
 use Rattle.std.specs.Prelude.{ℕ, ◌==◌, Bool, true, false, not, ◌&&◌, ◌||◌, Option, Some, None, if◌then◌else◌, option_and_then, unwrap_or, is_some}
-use Rattle.vat_view.specs.Types.{Bootstrap, Call, Return, Results, Exception, Canceled, Event, Make, Deliver, Answer, Fault, Wire, View, Asked}
+use Rattle.vat_view.specs.Types.{Bootstrap, Call, Return, Results, Exception, Canceled, DecodedRecord, Make, Deliver, Answer, Fault, Wire, View, Asked}
 use Rattle.vat_view.specs.Past.{Past, id, is, last_answer, last_where}
 use Rattle.vat_view.specs.Questions.{call_at, opening, is_late}
 use Rattle.vat_view.specs.Views.{view_of_reference, view_of_target}
 
 -- MAKE brings a call to the vat, its goal the view of the reference; so does a received Call, its goal what the
 -- target stands for. A Bootstrap's call is never at a vat
-abbrev pub brings : ℕ → Past → Event → Option Asked
+abbrev pub brings : ℕ → Past → DecodedRecord → Option Asked
 brings call before (Make c r interface method) =
     if c == call then Some record { goal = view_of_reference before r; interface = interface; method = method } else None
 brings call before (Wire false k c rs (Call q target interface method params)) =
@@ -17,16 +17,16 @@ brings call before (Wire false k c rs (Call q target interface method params)) =
 brings call before _ = None
 
 -- what a call asked for when it came to the vat
-abbrev pub asked : ℕ → Past → Option Asked
-asked call past = last_answer (brings call) past
+abbrev pub request_of : ℕ → Past → Option Asked
+request_of call past = last_answer (brings call) past
 
 -- a call's goal
 abbrev pub goal_of : ℕ → Past → Option View
-goal_of call past = option_and_then (λ a. a.goal) (asked call past)
+goal_of call past = option_and_then (λ a. a.goal) (request_of call past)
 
 -- it leaves when delivered, faulted, sent on, or answered by a sent Return with exception or canceled, which names it
 -- by its question
-abbrev pub takes : ℕ → Past → Event → Bool
+abbrev pub takes : ℕ → Past → DecodedRecord → Bool
 takes call before (Deliver c object) = c == call
 takes call before (Fault c) = c == call
 takes call before (Wire true k c rs (Call q target interface method params)) = c == call
@@ -35,7 +35,7 @@ takes call before (Wire true k c rs (Return q release Canceled)) = is call (call
 takes call before _ = false
 
 -- a record brings a call to the vat, or takes it away
-abbrev pub moves : ℕ → Past → Event → Option Bool
+abbrev pub moves : ℕ → Past → DecodedRecord → Option Bool
 moves call before e = if is_some (brings call before e) then Some true else if takes call before e then Some false else None
 
 -- a call is at the vat from when it came until it leaves
@@ -43,23 +43,23 @@ abbrev pub is_at_vat : ℕ → Past → Bool
 is_at_vat call past = unwrap_or (last_answer (moves call) past) false
 
 -- a record delivers this call
-abbrev pub delivers : ℕ → Past → Event → Bool
+abbrev pub delivers : ℕ → Past → DecodedRecord → Bool
 delivers call before (Deliver c object) = c == call
 delivers call before _ = false
 
 -- a record receives a Bootstrap for this call
-abbrev pub boots : ℕ → Past → Event → Bool
+abbrev pub boots : ℕ → Past → DecodedRecord → Bool
 boots call before (Wire false k c rs (Bootstrap q)) = c == call
 boots call before _ = false
 
 -- a record answers or faults this call
-abbrev pub settles : ℕ → Past → Event → Bool
+abbrev pub settles : ℕ → Past → DecodedRecord → Bool
 settles call before (Answer c results) = c == call
 settles call before (Fault c) = c == call
 settles call before _ = false
 
 -- a record has passed this test
-abbrev pub has_passed : (Past → Event → Bool) → Past → Bool
+abbrev pub has_passed : (Past → DecodedRecord → Bool) → Past → Bool
 has_passed test past = is_some (last_where test past)
 
 -- a call was delivered here, or is that of a received Bootstrap
@@ -71,7 +71,7 @@ abbrev pub is_settled : ℕ → Past → Bool
 is_settled call past = has_passed (settles call) past
 
 -- a record makes a call's results known: ANSWER, or a received Return with results that isn't late
-abbrev pub knows : ℕ → Past → Event → Bool
+abbrev pub knows : ℕ → Past → DecodedRecord → Bool
 knows call before (Answer c results) = c == call
 knows call before (Wire false k c rs (Return q release (Results payload))) =
     is call (call_at (opening (id k true q) before)) && not (is_late before (Wire false k c rs (Return q release (Results payload))))

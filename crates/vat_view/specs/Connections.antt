@@ -1,7 +1,7 @@
 -- The connections over which views are reached, and those that were aborted (rpc.capnp, the comments of Disembargo and
 -- of Message.abort).
 use Rattle.std.specs.Prelude.{◌≡◌, ℕ, ◌==◌, Bool, true, false, not, ◌||◌, Option, Some, None, if◌then◌else◌, option_and_then, IsTrue}
-use Rattle.vat_view.specs.Types.{Bootstrap, Call, Abort, Event, Wire, View, Object, Promise, FieldOf, Import}
+use Rattle.vat_view.specs.Types.{Bootstrap, Call, Abort, DecodedRecord, Wire, View, Object, Promise, FieldOf, Import}
 use Rattle.vat_view.specs.Past.{Past, is, last_answer, record_at}
 use Rattle.vat_view.specs.Calls.{has_passed}
 use Rattle.vat_view.specs.Walks.{Leads}
@@ -9,12 +9,12 @@ use Rattle.vat_view.specs.Walks.{Leads}
 -- (rpc.capnp, Message.abort: sent when a connection is being aborted; the sender will completely close it shortly
 -- thereafter)
 -- the connection that a record aborts, sent or received
-abbrev pub aborted_by : Event → Option ℕ
+abbrev pub aborted_by : DecodedRecord → Option ℕ
 aborted_by (Wire sent k call references Abort) = Some k
 aborted_by _ = None
 
 -- a record aborts this connection
-abbrev pub aborts : ℕ → Event → Bool
+abbrev pub aborts : ℕ → DecodedRecord → Bool
 aborts connection e = is connection (aborted_by e)
 
 -- a connection was aborted, from either end
@@ -24,7 +24,7 @@ is_aborted connection past = has_passed (λ before e. aborts connection e) past
 -- (rpc.capnp, Disembargo: the message bounces along the path that calls to the promise took, and comes back to the vat
 -- that sent it)
 -- the connection on which a record asks a question of this vat's for this call: a sent Bootstrap or Call
-abbrev pub asks : ℕ → Event → Option ℕ
+abbrev pub asks : ℕ → DecodedRecord → Option ℕ
 asks call (Wire true k c rs (Bootstrap q)) = if c == call then Some k else None
 asks call (Wire true k c rs (Call q target interface method params)) = if c == call then Some k else None
 asks call _ = None
@@ -34,7 +34,7 @@ abbrev pub asked_on : ℕ → Past → Option ℕ
 asked_on call past = last_answer (λ before e. asks call e) past
 
 -- the connection on which a record's frame passed
-abbrev pub connection_of : Event → Option ℕ
+abbrev pub connection_of : DecodedRecord → Option ℕ
 connection_of (Wire sent k call references m) = Some k
 connection_of _ = None
 

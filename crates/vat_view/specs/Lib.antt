@@ -12,15 +12,4 @@ pub mod Bindings
 pub mod Sound
 pub mod Numbers
 pub mod Laws
-pub mod Ids
-pub mod Sides
-pub mod Tables
-pub mod Asking
-pub mod CallTables
-pub mod KindTables
-pub mod Queues
-pub mod LoopTables
-pub mod Kept
-pub mod TurnTables
-pub mod ConnectionTables
-pub mod Seen
+pub mod Glue

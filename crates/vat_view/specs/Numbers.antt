@@ -1,14 +1,14 @@
 -- What a vat's numbers on a connection stand for, and how often they are held.
 use Rattle.std.specs.Prelude.{ℕ, List, Option, true, false}
-use Rattle.vat_view.specs.declared.number.Number.{Number}
-use Rattle.vat_view.specs.declared.number.Number.TheVariants.{Export, Import, Question, Answer}
-use Rattle.vat_view.specs.Types.{View, Id}
+use Rattle.vat_view.specs.declared.record.number.Number.{Number}
+use Rattle.vat_view.specs.declared.record.number.Number.TheVariants.{Export, Import, Question, Answer}
+use Rattle.vat_view.specs.Types.{View, TableKey}
 use Rattle.vat_view.specs.Past.{Past, id}
 use Rattle.vat_view.specs.Lives.{held}
 use Rattle.vat_view.specs.Views.{view_of_number, field_view}
 
 -- the number with its connection, and whether this vat gave it out
-abbrev pub id_of : ℕ → Number → Id
+abbrev pub id_of : ℕ → Number → TableKey
 id_of connection (Export n) = id connection true n
 id_of connection (Import n) = id connection false n
 id_of connection (Question n) = id connection true n

@@ -1,12 +1,12 @@
 -- The rules that the laws rest on.
-use Rattle.vat_view.specs.Types.{Event}
+use Rattle.vat_view.specs.Types.{DecodedRecord}
 use Rattle.vat_view.specs.Past.{Past}
 use Rattle.vat_view.specs.Lives.{GivesBackHeld}
 use Rattle.vat_view.specs.Uses.{UsesQuestions, UsesNumbers}
 use Rattle.vat_view.specs.Bindings.{Refers, NotesEach}
 
 -- a record names, uses and gives back things as it should, and notes a reference for each capability
-pub record IsSound (before : Past) (e : Event) : Type 0 where
+pub record IsSound (before : Past) (e : DecodedRecord) : Type 0 where
   pub refers : Refers before e
   pub uses_questions : UsesQuestions before e
   pub uses_numbers : UsesNumbers before e

@@ -1,8 +1,8 @@
 -- Where views turn, and where that leads (rpc.capnp, the comments of PromisedAnswer, Payload and Resolve).
 use Rattle.std.specs.Prelude.{◌≡◌, ℕ, ◌==◌, List, Bool, true, false, ◌&&◌, Option, Some, None, if◌then◌else◌, unwrap_or, option_and_then, find, IsSome}
 use Rattle.std.specs.Str.{bytes_eq as same_path}
-use Rattle.vat_view.specs.Types.{Outcome, Results, Exception, Canceled, Bootstrap, Call, Return, Finish, Resolve, Release, Disembargo, Abort, Event, Host, Vow, Fulfil, Break, Make, Field, Deliver, Answer, Fault, Wire, View, Object, Promise, FieldOf, Import}
-use Rattle.vat_view.specs.Past.{Past, id, is, number_of, last_answer}
+use Rattle.vat_view.specs.Types.{Outcome, Results, Exception, Canceled, Bootstrap, Call, Return, Finish, Resolve, Release, Disembargo, Abort, DecodedRecord, Host, Vow, Fulfil, Break, Make, Field, Deliver, Answer, Fault, Wire, View, Object, Promise, FieldOf, Import}
+use Rattle.vat_view.specs.Past.{Past, id, is, record_index, last_answer}
 use Rattle.vat_view.specs.Questions.{call_at, opening, is_late}
 use Rattle.vat_view.specs.Lives.{Birth, birth}
 use Rattle.vat_view.specs.Views.{view_of_reference, view_of_descriptor}
@@ -24,28 +24,28 @@ is_promise p (Some (Promise q)) = q == p
 is_promise p _ = false
 
 -- a promise turns to the view of FULFIL's second reference, and stops where it is broken
-abbrev pub keeps : ℕ → Past → Event → Option Next
+abbrev pub keeps : ℕ → Past → DecodedRecord → Option Next
 keeps p before (Fulfil r to) = if is_promise p (view_of_reference before r) then Some (on_to (view_of_reference before to)) else None
 keeps p before (Break r) = if is_promise p (view_of_reference before r) then Some stops else None
 keeps p before _ = None
 
 -- a life began at this record and place
 abbrev pub began_at : ℕ → ℕ → Option Birth → Bool
-began_at record_number place (Some b) = (number_of b.from == record_number) && (b.place == place)
+began_at record_number place (Some b) = (record_index b.from == record_number) && (b.place == place)
 began_at record_number place None = false
 
 -- an import turns to what the Resolve received during its life brought, and stops at an exception or none
-abbrev pub resolves : ℕ → ℕ → Past → Event → Option Next
+abbrev pub resolves : ℕ → ℕ → Past → DecodedRecord → Option Next
 resolves i place before (Wire false k c rs (Resolve n resolution)) =
     if began_at i place (birth (id k false n) before) then Some (on_to (view_of_descriptor before (Wire false k c rs (Resolve n resolution)) 0)) else None
 resolves i place before _ = None
 
 -- the capability that ANSWER gives at a path
-abbrev pub answer_at : List ℕ → Past → List (ℕ × List ℕ) → Option View
-answer_at path before results = option_and_then (λ answer. view_of_reference before answer.0) (find (λ answer. same_path answer.1 path) results)
+abbrev pub answer_view_at : List ℕ → Past → List (ℕ × List ℕ) → Option View
+answer_view_at path before results = option_and_then (λ answer. view_of_reference before answer.0) (find (λ answer. same_path answer.1 path) results)
 
 -- the capability that a Return with this outcome has at a path
-abbrev pub result_at : List ℕ → Past → Event → Outcome → Option View
+abbrev pub result_at : List ℕ → Past → DecodedRecord → Outcome → Option View
 result_at path before e (Results payload) =
     option_and_then (λ field. view_of_descriptor before e field.1) (find (λ field. same_path field.0 path) payload.fields)
 result_at path before e Exception = None
@@ -54,8 +54,8 @@ result_at path before e Canceled = None
 -- a field turns to ANSWER's reference at its path, or to what a received Return that isn't late brought there;
 -- it stops where the call faulted, failed, came late or has nothing there. No other record turns it; each stands here
 -- by its name
-abbrev pub answers : ℕ → List ℕ → Past → Event → Option Next
-answers call path before (Answer c results) = if c == call then Some (on_to (answer_at path before results)) else None
+abbrev pub answers : ℕ → List ℕ → Past → DecodedRecord → Option Next
+answers call path before (Answer c results) = if c == call then Some (on_to (answer_view_at path before results)) else None
 answers call path before (Fault c) = if c == call then Some stops else None
 answers call path before (Wire false k c rs (Return q release outcome)) =
     let e = Wire false k c rs (Return q release outcome) in
@@ -77,7 +77,7 @@ answers call path before (Field r c at) = None
 answers call path before (Deliver c object) = None
 
 -- where a record turns a view, if it does: it keeps or breaks a promise, ends a call, or resolves an import
-abbrev pub turn : View → Past → Event → Option Next
+abbrev pub turn : View → Past → DecodedRecord → Option Next
 turn (Object object) before e = None
 turn (Promise p) before e = keeps p before e
 turn (FieldOf call path) before e = answers call path before e
@@ -89,7 +89,7 @@ next past v = unwrap_or (last_answer (turn v) past) stays
 
 -- (rpc.capnp, Resolve.promiseId and Return: a promise is resolved once, and a question has one Return)
 -- a record turns or stops only views that stay before it: the rules on promises, answers, Returns and Resolves together
-abbrev pub TurnsOnce : Past → Event → Type 0
+abbrev pub TurnsOnce : Past → DecodedRecord → Type 0
 TurnsOnce before e = (v : View) → IsSome (turn v before e) → next before v ≡ stays
 
 -- one view leads to another: by no turn, or by a turn to a view that leads there

@@ -1,10 +1,10 @@
 //! Laws of a log's records, which hold of every log and not of one call.
 
 ghost use Rattle.std.specs.Prelude.{◌≡◌, ◌≤◌, ◌++◌, ℕ, List, Some, true, false, IsSome};
-ghost use Rattle.vat_view.specs.Types.{Event, Fulfil, Break, Wire, Resolution, Resolve, View, Object, Promise, Id};
+ghost use Rattle.vat_view.specs.Types.{DecodedRecord, Fulfil, Break, Wire, Resolution, Resolve, View, Object, Promise, TableKey};
 ghost use Rattle.vat_view.specs.Past.{Past, Each, id};
 ghost use Rattle.vat_view.specs.Questions.{opens, returns, finishes};
-ghost use Rattle.vat_view.specs.Lives.{came, went, is_resolved, GivesBackHeld};
+ghost use Rattle.vat_view.specs.Lives.{introduced_count, released_count, is_resolved, GivesBackHeld};
 ghost use Rattle.vat_view.specs.Uses.{UsesQuestions};
 ghost use Rattle.vat_view.specs.Views.{view_of_reference, view_of_number};
 ghost use Rattle.vat_view.specs.Bindings.{Refers, is_bound};
@@ -16,26 +16,28 @@ ghost use Rattle.vat_view.specs.Laws.{count_since, LivesOn, EachAfter};
 /// they should.
 pub fn openings_are_closed_once()
     ensures one_return { (past : Past) → Each UsesQuestions past
-        → (q : Id) → count_since (opens q) (returns q) past ≤ 1 }
+        → (q : TableKey) → count_since (opens q) (returns q) past ≤ 1 }
     ensures one_finish { (past : Past) → Each UsesQuestions past
-        → (q : Id) → count_since (opens q) (finishes q) past ≤ 1 }
+        → (q : TableKey) → count_since (opens q) (finishes q) past ≤ 1 }
 {}
 
 /// No number goes more often than it came, where no record gives back more than is held. So what is held is the
 /// difference, and not cut off at 0.
 pub fn no_more_goes()
-    ensures { (past : Past) → Each GivesBackHeld past → (i : Id) → went i past ≤ came i past }
+    ensures { (past : Past) → Each GivesBackHeld past
+        → (i : TableKey) → released_count i past ≤ introduced_count i past }
 {}
 
 /// A reference keeps its view, where the records that follow bind references as they should.
 pub fn references_keep_views()
-    ensures { (later : List Event) (past : Past) → EachAfter Refers later past → (r : ℕ) (v : View)
-        → view_of_reference past r ≡ Some v → view_of_reference (later ++ past) r ≡ Some v }
+    ensures { (later : List DecodedRecord) (past : Past) → EachAfter Refers later past
+        → (r : ℕ) (v : View) → view_of_reference past r ≡ Some v
+        → view_of_reference (later ++ past) r ≡ Some v }
 {}
 
 /// A number keeps its view while it is in life, where the records that follow bind references as they should.
 pub fn numbers_keep_views()
-    ensures { (i : Id) (later : List Event) (past : Past) → LivesOn i later past
+    ensures { (i : TableKey) (later : List DecodedRecord) (past : Past) → LivesOn i later past
         → EachAfter Refers later past → (v : View) → view_of_number i past ≡ Some v
         → view_of_number i (later ++ past) ≡ Some v }
 {}
@@ -49,13 +51,13 @@ pub fn bound_references_have_views()
 /// Turns only grow: where the records that follow turn only views that stay, a view that turned or stopped does so for
 /// ever after, and what it leads to it leads to for ever after, by 1 or more turns too.
 pub fn turns_only_grow()
-    ensures turned { (later : List Event) (past : Past) → EachAfter TurnsOnce later past
+    ensures turned { (later : List DecodedRecord) (past : Past) → EachAfter TurnsOnce later past
         → (a b : View) → next past a ≡ turns b → next (later ++ past) a ≡ turns b }
-    ensures stopped { (later : List Event) (past : Past) → EachAfter TurnsOnce later past
+    ensures stopped { (later : List DecodedRecord) (past : Past) → EachAfter TurnsOnce later past
         → (a : View) → next past a ≡ stops → next (later ++ past) a ≡ stops }
-    ensures leads { (later : List Event) (past : Past) → EachAfter TurnsOnce later past
+    ensures leads { (later : List DecodedRecord) (past : Past) → EachAfter TurnsOnce later past
         → (a b : View) → Leads past a b → Leads (later ++ past) a b }
-    ensures by_turns { (later : List Event) (past : Past) → EachAfter TurnsOnce later past
+    ensures by_turns { (later : List DecodedRecord) (past : Past) → EachAfter TurnsOnce later past
         → (a b : View) → LeadsByTurns past a b → LeadsByTurns (later ++ past) a b }
 {}
 

@@ -11,59 +11,25 @@
 //! the functions of `src/laws.rt`, which do nothing.
 #![tactic(auto)]
 
-mod applying;
-mod arrivals;
+mod apply;
 mod asked;
-mod asking;
-mod begun;
-mod bound;
-mod calls;
-mod connections;
-mod event;
-mod heading;
-mod id;
-mod ids;
-mod inbox;
-mod kinds;
-mod landing;
 mod laws;
-mod lives;
-mod loopbacks;
-mod news;
-mod number;
-mod origin;
-mod parts;
-mod pending;
-mod progress;
-mod question;
-mod questions;
-mod queued;
-mod records;
-mod referring;
-mod resolves;
-mod rules;
-mod seen;
-mod settling;
-mod shortening;
-mod sides;
-mod sought;
-mod standing;
+mod lookups;
+mod preconditions;
+mod record;
 mod state;
-mod tally;
-mod telling;
-mod turns;
+mod tables;
 mod view;
-mod waits;
-mod walk;
+mod walks;
 
 pub use asked::Asked;
-pub use event::Event;
-pub use id::Id;
 pub use laws::{
     a_life_is_resolved_once, a_promise_is_kept_once, bound_references_have_views, ends_are_one,
     no_more_goes, numbers_keep_views, objects_stay, openings_are_closed_once,
     references_keep_views, turns_go_to_references, turns_only_grow,
 };
-pub use number::Number;
+pub use record::decoded::DecodedRecord;
+pub use record::number::Number;
+pub use record::table_key::TableKey;
 pub use state::VatState;
 pub use view::View;

@@ -12,29 +12,34 @@ ghost use Rattle.vat_view.specs.Views.{view_of_reference, view_of_target, views_
 ghost use Rattle.vat_view.specs.Walks.{next, stays, Leads, LeadsByTurns, IsEnd};
 ghost use Rattle.vat_view.specs.Bindings.{Refers, NotesEach, is_bound, is_bound_call};
 ghost use Rattle.vat_view.specs.Connections.{is_aborted, LeadsOver, LeadsElsewhere};
-ghost use Rattle.vat_view.specs.Calls.{asked, goal_of, is_at_vat, is_served, is_settled, is_known};
-ghost use Rattle.vat_view.specs.Loopbacks.{loopback_of, waiting, IsHeldUp};
+ghost use Rattle.vat_view.specs.Calls.{request_of, goal_of, is_at_vat, is_served, is_settled, is_known};
+ghost use Rattle.vat_view.specs.Loopbacks.{loopback_of, embargoed_view, IsHeldUp};
 
-use crate::applying::learn_all;
+use crate::apply::apply_record::apply_record;
+use crate::apply::tables;
 use crate::asked::Asked;
-use crate::bound::Bound;
-use crate::calls::Calls;
-use crate::connections::Connections;
-use crate::event::Event;
-use crate::id::Id;
-use crate::lives::Lives;
-use crate::number::Number;
-use crate::questions::Questions;
-use crate::resolves::Resolves;
-use crate::settling::settled;
-use crate::shortening::{
-    field_landed, field_lands, number_landed, number_lands, reference_landed, shorten,
-};
-use crate::sought::{Sought, leads_to};
-use crate::turns::Turns;
+use crate::lookups::settling::settled_by;
+use crate::lookups::{meaning, table_answers};
+use crate::preconditions::kinds;
+use crate::record::decoded::DecodedRecord;
+use crate::record::number::Number;
+use crate::record::table_key::TableKey;
+use crate::record::{bindings, effects};
+use crate::tables::calls::Calls;
+use crate::tables::connections::Connections;
+use crate::tables::embargoes::Embargoes;
+use crate::tables::exports_imports::ExportsImports;
+use crate::tables::questions::Questions;
+use crate::tables::references::BoundReferences;
+use crate::tables::resolves::Resolves;
+use crate::tables::settlements::Settlements;
 use crate::view::View;
-use crate::waits::Waits;
-use crate::{arrivals, asking, kinds, records, standing, telling, walk};
+use crate::walks::hops;
+use crate::walks::reachable::{Sought, leads_to};
+use crate::walks::shortcuts::{
+    first_turn_of_field, first_turn_of_number, second_turn_of_field, second_turn_of_number,
+    shorten, turn_of_reference,
+};
 use cap_frame::Path;
 use rpc_view::{Loopback, Outcome, RpcMessage, Target};
 use std::alloc::{AllocError, Global};
@@ -45,27 +50,27 @@ use std::marker::Model;
 /// first.
 #[derive(Drop)]
 pub struct VatState {
-    events: Vec<Event>,
+    events: Vec<DecodedRecord>,
     questions: Questions,
-    lives: Lives,
-    bound: Bound,
+    lives: ExportsImports,
+    bound: BoundReferences,
     calls: Calls,
     resolves: Resolves,
-    turns: Turns,
+    turns: Settlements,
     connections: Connections,
-    waits: Waits,
+    waits: Embargoes,
 }
 
 impl Model for VatState {
     ghost use Rattle.std.specs.Prelude.{List, reverse};
-    ghost use Rattle.vat_view.specs.declared.event.Event.{Event};
-    ghost use Rattle.vat_view.specs.KindTables.{AreResolved};
-    ghost use Rattle.vat_view.specs.Kept.{AreKept};
-    ghost use Rattle.vat_view.specs.TurnTables.{AreSettled, HaveAhead};
-    ghost use Rattle.vat_view.specs.ConnectionTables.{AreConnected};
-    ghost use Rattle.vat_view.specs.LoopTables.{AreWaiting};
+    ghost use Rattle.vat_view.specs.declared.record.decoded.DecodedRecord.{DecodedRecord};
+    ghost use Rattle.vat_view.specs.Glue.KindTables.{AreResolved};
+    ghost use Rattle.vat_view.specs.Glue.Kept.{AreKept};
+    ghost use Rattle.vat_view.specs.Glue.TurnTables.{AreSettled, HaveAhead};
+    ghost use Rattle.vat_view.specs.Glue.ConnectionTables.{AreConnected};
+    ghost use Rattle.vat_view.specs.Glue.LoopTables.{AreWaiting};
 
-    ghost Value = { List Event };
+    ghost Value = { List DecodedRecord };
 
     ghost view = { λ state. reverse state.events.items };
 
@@ -93,13 +98,13 @@ impl VatState {
         VatState {
             events: Vec::new(alloc),
             questions: Questions::new(alloc),
-            lives: Lives::new(alloc),
-            bound: Bound::new(alloc),
+            lives: ExportsImports::new(alloc),
+            bound: BoundReferences::new(alloc),
             calls: Calls::new(alloc),
             resolves: Resolves::new(alloc),
-            turns: Turns::new(alloc),
+            turns: Settlements::new(alloc),
             connections: Connections::new(alloc),
-            waits: Waits::new(alloc),
+            waits: Embargoes::new(alloc),
         }
     }
 
@@ -118,11 +123,11 @@ impl VatState {
     ///
     /// # Errors
     ///
-    /// Want of memory.
+    /// Out of memory.
     pub fn view_of_reference(&self, reference: u64) -> Result<Option<View>, AllocError>
         ensures { IfOk result (λ view. view ≡ view_of_reference self.now reference) }
     {
-        standing::view_of_reference(&self.bound, reference)
+        meaning::view_of_reference(&self.bound, reference)
     }
 
     /// What a number of a connection stands for: an export or import in life for the view with which its life began, a
@@ -130,7 +135,7 @@ impl VatState {
     ///
     /// # Errors
     ///
-    /// Want of memory.
+    /// Out of memory.
     pub fn stands_for(
         &self,
         connection: u32,
@@ -142,27 +147,27 @@ impl VatState {
         let id = number.on(connection);
         match number {
             Number::Export(_) | Number::Import(_) => {
-                standing::view_of_number(&self.bound, &self.lives, id)
+                meaning::view_of_number(&self.bound, &self.lives, id)
             }
             Number::Question(_) | Number::Answer(_) => {
-                standing::field_of(&self.questions, id, path)
+                meaning::field_of(&self.questions, id, path)
             }
         }
     }
 
     /// The record of this number among those applied, counted from 0, if there are so many. An import's view has the
     /// number of the record that brought it.
-    pub fn event_at(&self, number: usize) -> Option<&Event>
+    pub fn event_at(&self, number: usize) -> Option<&DecodedRecord>
         ensures { option_copied result ≡ record_at number self.now }
     {
-        walk::event_at(self.events.as_slice(), number)
+        hops::event_at(self.events.as_slice(), number)
     }
 
     /// Whether a view goes on nowhere: it has neither turned nor stopped. It takes no memory.
     pub fn stays(&self, view: &View) -> bool
         ensures { IsTrue result ↔ (next self.now view.now ≡ stays) }
     {
-        walk::stays(self.events.as_slice(), &self.turns, view)
+        hops::stays(self.events.as_slice(), &self.turns, view)
     }
 
     /// Whether a view leads to another, by 0 or more turns. Each of its walks, four at most, makes at most as many turns
@@ -170,14 +175,14 @@ impl VatState {
     pub fn leads(&self, from: &View, to: &View) -> bool
         ensures { IsTrue result ↔ Leads self.now from.now to.now }
     {
-        walk::leads(self.events.as_slice(), &self.turns, &self.bound, from, to)
+        hops::leads(self.events.as_slice(), &self.turns, &self.bound, from, to)
     }
 
     /// Whether a view leads to another by 1 or more turns; a view of a circle leads so to itself. It takes no memory.
     pub fn leads_by_turns(&self, from: &View, to: &View) -> bool
         ensures { IsTrue result ↔ LeadsByTurns self.now from.now to.now }
     {
-        walk::leads_by_turns(self.events.as_slice(), &self.turns, &self.bound, from, to)
+        hops::leads_by_turns(self.events.as_slice(), &self.turns, &self.bound, from, to)
     }
 
     /// The end of a view: the view to which it leads and which goes on nowhere. It has none where its walk stops or
@@ -186,15 +191,15 @@ impl VatState {
         ensures { MatchOption result ((end : View) → IsEnd self.now view.now end → ⊥)
             (λ end. IsEnd self.now view.now end.now) }
     {
-        walk::end(self.events.as_slice(), &self.turns, &self.bound, view)
+        hops::end(self.events.as_slice(), &self.turns, &self.bound, view)
     }
 
     /// Applies a record, which keeps the rules that are named after those applied.
     ///
     /// # Errors
     ///
-    /// Want of memory, and then the state is as it was.
-    pub fn apply(&mut self, event: Event) -> Result<(), AllocError>
+    /// Out of memory, and then the state is as it was.
+    pub fn apply(&mut self, event: DecodedRecord) -> Result<(), AllocError>
         requires refers { Refers self.old event }
         requires uses { UsesQuestions self.old event }
         requires numbers { UsesNumbers self.old event }
@@ -208,7 +213,7 @@ impl VatState {
     }
 
     /// The records that were applied, in their order, the oldest first. It takes no memory.
-    pub fn into_events(self) -> Vec<Event>
+    pub fn into_events(self) -> Vec<DecodedRecord>
         ensures { result.items ≡ reverse self }
     {
         let VatState { events, .. } = self;
@@ -219,7 +224,7 @@ impl VatState {
 /// How a record is applied.
 impl VatState {
     /// Puts a record behind those applied.
-    fn append(&mut self, event: Event) -> Result<(), AllocError>
+    fn append(&mut self, event: DecodedRecord) -> Result<(), AllocError>
         requires refers { Refers self.old event }
         requires uses { UsesQuestions self.old event }
         requires numbers { UsesNumbers self.old event }
@@ -230,15 +235,15 @@ impl VatState {
     {
         self.events.reserve(1)?;
         let number = self.events.len();
-        let pending = settled(&self.questions, &self.lives, &self.bound, &event);
+        let pending = settled_by(&self.questions, &self.lives, &self.bound, &event);
         self.turns.make_room(pending, number)?;
-        let promise = records::resolved(&event);
+        let promise = effects::promise_resolved(&event);
         self.resolves.room_for(promise)?;
         self.connections.grow_for(&event)?;
         let change = self
             .waits
             .prepare(&self.bound, &self.lives, &self.questions, number, &event)?;
-        learn_all(
+        apply_record(
             number,
             &mut self.questions,
             &mut self.lives,
@@ -264,11 +269,17 @@ impl VatState {
     }
 
     /// Makes the walk from what this number stands for shorter.
-    fn shorten_number(&mut self, number: Id)
+    fn shorten_number(&mut self, number: TableKey)
         ensures { self.new ≡ self.old }
     {
         let events = self.events.as_slice();
-        if let Some(first) = number_landed(events, &self.turns, &self.bound, &self.lives, number) {
+        if let Some(first) = second_turn_of_number(
+            events,
+            &self.turns,
+            &self.bound,
+            &self.lives,
+            number,
+        ) {
             self.shorten_from(first);
         }
     }
@@ -280,7 +291,7 @@ impl VatState {
         let Some(goal) = self.calls.goal(call) else {
             return;
         };
-        if let Some(first) = walk::landed(self.events.as_slice(), &self.turns, goal) {
+        if let Some(first) = hops::landed_by(self.events.as_slice(), &self.turns, goal) {
             self.shorten_from(first);
         }
     }
@@ -291,7 +302,7 @@ impl VatState {
     {
         for reference in references {
             let events = self.events.as_slice();
-            if let Some(first) = reference_landed(events, &self.turns, &self.bound, *reference) {
+            if let Some(first) = turn_of_reference(events, &self.turns, &self.bound, *reference) {
                 self.shorten_from(first);
             }
         }
@@ -303,7 +314,7 @@ impl VatState {
     {
         for (path, _) in fields {
             let events = self.events.as_slice();
-            if let Some(first) = field_landed(
+            if let Some(first) = second_turn_of_field(
                 events,
                 &self.turns,
                 &self.bound,
@@ -320,12 +331,12 @@ impl VatState {
         let events = self.events.as_slice();
         match target {
             Target::Imported(n) => {
-                let number = Id::of_receiver(sent, connection, *n);
-                number_lands(events, &self.turns, &self.bound, &self.lives, number)
+                let number = TableKey::of_receiver(sent, connection, *n);
+                first_turn_of_number(events, &self.turns, &self.bound, &self.lives, number)
             }
             Target::Promised(q, path) => {
-                let call = self.opening_call(Id::of_sender(sent, connection, *q))?;
-                field_lands(events, &self.turns, call, path.as_slice())
+                let call = self.opening_call(TableKey::of_sender(sent, connection, *q))?;
+                first_turn_of_field(events, &self.turns, call, path.as_slice())
             }
         }
     }
@@ -340,13 +351,13 @@ impl VatState {
     }
 
     /// Makes the walk shorter from what the target of the senderLoopback stood for that waits under this number.
-    fn shorten_waiting(&mut self, number: Id)
+    fn shorten_waiting(&mut self, number: TableKey)
         ensures { self.new ≡ self.old }
     {
-        let Some(view) = self.waits.loopbacks.waiting(number) else {
+        let Some(view) = self.waits.loopbacks.embargoed_view(number) else {
             return;
         };
-        if let Some(first) = walk::landed(self.events.as_slice(), &self.turns, view) {
+        if let Some(first) = hops::landed_by(self.events.as_slice(), &self.turns, view) {
             self.shorten_from(first);
         }
     }
@@ -366,7 +377,7 @@ impl VatState {
                 number,
                 loopback: Loopback::Receiver,
                 ..
-            } if sent => self.shorten_waiting(Id::of_receiver(sent, connection, *number)),
+            } if sent => self.shorten_waiting(TableKey::of_receiver(sent, connection, *number)),
             _ => {}
         }
     }
@@ -397,12 +408,12 @@ impl VatState {
     /// Makes the walks shorter that the rules ask for on a record: from the goal of its call, from the references noted
     /// beside a sent message, from what this message speaks of, and from the target of a Disembargo either way. It takes
     /// no memory.
-    fn shorten(&mut self, event: &Event)
+    fn shorten(&mut self, event: &DecodedRecord)
         ensures { self.new ≡ self.old }
     {
         match event {
-            Event::Deliver { call, .. } => self.shorten_goal(*call),
-            Event::Wire {
+            DecodedRecord::Deliver { call, .. } => self.shorten_goal(*call),
+            DecodedRecord::Wire {
                 sent: true,
                 connection,
                 call,
@@ -413,7 +424,7 @@ impl VatState {
                 self.shorten_message(*connection, *call, message);
                 self.shorten_embargo(true, *connection, message);
             }
-            Event::Wire {
+            DecodedRecord::Wire {
                 sent: false,
                 connection,
                 message,
@@ -435,57 +446,57 @@ impl VatState {
 impl VatState {
     /// Whether a question is free: it was never opened, or both its Return and its Finish have passed since its last
     /// opening (rpc.capnp, `Call.questionId`).
-    pub(crate) fn is_free(&self, question: Id) -> bool
+    pub(crate) fn is_free(&self, question: TableKey) -> bool
         ensures { result ≡ is_free question self.now }
     {
-        asking::is_free(&self.questions, question)
+        table_answers::is_free(&self.questions, question)
     }
 
     /// Whether a question is opened and no Finish has passed since (rpc.capnp, `Finish.questionId`).
-    pub(crate) fn is_unfinished(&self, question: Id) -> bool
+    pub(crate) fn is_unfinished(&self, question: TableKey) -> bool
         ensures { result ≡ is_unfinished question self.now }
     {
-        asking::is_unfinished(&self.questions, question)
+        table_answers::is_unfinished(&self.questions, question)
     }
 
     /// Whether a Finish of a question has passed since its last opening.
-    pub fn is_finished(&self, question: Id) -> bool
+    pub fn is_finished(&self, question: TableKey) -> bool
         ensures { result ≡ is_finished question self.now }
     {
-        asking::is_finished(&self.questions, question)
+        table_answers::is_finished(&self.questions, question)
     }
 
     /// Whether a question is opened and no Return has passed since (rpc.capnp, `Return.answerId`).
-    pub(crate) fn is_unreturned(&self, question: Id) -> bool
+    pub(crate) fn is_unreturned(&self, question: TableKey) -> bool
         ensures { result ≡ is_unreturned question self.now }
     {
-        asking::is_unreturned(&self.questions, question)
+        table_answers::is_unreturned(&self.questions, question)
     }
 
     /// The call of a question's last opening, free or not, if it was ever opened.
-    pub fn opening_call(&self, question: Id) -> Option<u64>
+    pub fn opening_call(&self, question: TableKey) -> Option<u64>
         ensures { result ≡ call_at (opening question self.now) }
     {
-        asking::opening_call(&self.questions, question)
+        table_answers::opening_call(&self.questions, question)
     }
 
     /// Whether a record is a late Return: a Finish with releaseResultCaps true has passed before it, for the same
     /// opening of its question.
-    pub fn is_late(&self, event: &Event) -> bool
+    pub fn is_late(&self, event: &DecodedRecord) -> bool
         ensures { result ≡ is_late self.now event.now }
     {
-        telling::is_late(&self.questions, event)
+        tables::is_late(&self.questions, event)
     }
 
     /// Whether an export or import number is in life: whether it is held (rpc.capnp, the comment of `Release`).
-    pub(crate) fn is_in_life(&self, number: Id) -> bool
+    pub(crate) fn is_in_life(&self, number: TableKey) -> bool
         ensures { result ≡ is_in_life number self.now }
     {
         self.lives.count_of(number) > 0
     }
 
     /// Whether the present life of an export or import number began with a senderPromise, where it is in life.
-    pub fn began_promised(&self, number: Id) -> Option<bool>
+    pub fn began_promised(&self, number: TableKey) -> Option<bool>
         ensures { result ≡ option_map began_promised (birth number self.now) }
     {
         match self.lives.origin_of(number) {
@@ -495,7 +506,7 @@ impl VatState {
     }
 
     /// Whether a Resolve passed in the present life of an export or import number.
-    pub fn is_resolved(&self, number: Id) -> bool
+    pub fn is_resolved(&self, number: TableKey) -> bool
         ensures { result ≡ is_resolved number self.now }
     {
         kinds::resolved_since(self.lives.origin_of(number), self.resolves.of(number))
@@ -512,25 +523,28 @@ impl VatState {
     ///
     /// # Errors
     ///
-    /// Want of memory.
-    pub fn view_of_target(&self, event: &Event) -> Result<Option<View>, AllocError>
+    /// Out of memory.
+    pub fn view_of_target(&self, event: &DecodedRecord) -> Result<Option<View>, AllocError>
         ensures { IfOk result (λ view. view ≡ view_of_target self.now event.now) }
     {
-        asking::view_of_target(&self.bound, &self.lives, &self.questions, event)
+        table_answers::view_of_target(&self.bound, &self.lives, &self.questions, event)
     }
 
     /// What the descriptors of a record stand for that may be applied next, by place.
     ///
     /// # Errors
     ///
-    /// Want of memory.
-    pub fn views_of_descriptors(&self, event: &Event) -> Result<Vec<Option<View>>, AllocError>
+    /// Out of memory.
+    pub fn views_of_descriptors(
+        &self,
+        event: &DecodedRecord,
+    ) -> Result<Vec<Option<View>>, AllocError>
         ensures { IfOk result (λ views. views.items ≡ views_of_descriptors self.now event.now) }
     {
         let alloc = *self.events.allocator();
-        let late = telling::is_late(&self.questions, event);
-        let begun = arrivals::begun(alloc, late, self.events.len(), event)?;
-        asking::views_of_descriptors(
+        let late = tables::is_late(&self.questions, event);
+        let begun = bindings::introduced_by(alloc, late, self.events.len(), event)?;
+        table_answers::views_of_descriptors(
             alloc,
             &self.bound,
             &self.lives,
@@ -544,12 +558,12 @@ impl VatState {
     ///
     /// # Errors
     ///
-    /// Want of memory.
-    pub fn gives_back_held(&self, event: &Event) -> Result<bool, AllocError>
+    /// Out of memory.
+    pub fn gives_back_held(&self, event: &DecodedRecord) -> Result<bool, AllocError>
         ensures { IfOk result (λ held. Decides held (GivesBackHeld self.now event.now)) }
     {
         let alloc = *self.events.allocator();
-        asking::gives_back_held(alloc, &self.questions, &self.lives, event)
+        table_answers::gives_back_held(alloc, &self.questions, &self.lives, event)
     }
 
     /// Whether each number that a record introduces has the kind of its life's first descriptor, with the record itself
@@ -558,13 +572,13 @@ impl VatState {
     ///
     /// # Errors
     ///
-    /// Want of memory.
-    pub fn keeps_kinds(&self, event: &Event) -> Result<bool, AllocError>
+    /// Out of memory.
+    pub fn keeps_kinds(&self, event: &DecodedRecord) -> Result<bool, AllocError>
         ensures { IfOk result (λ keeps. Decides keeps (KeepsKinds self.now event.now)) }
     {
         let alloc = *self.events.allocator();
-        let late = telling::is_late(&self.questions, event);
-        let begun = arrivals::begun(alloc, late, self.events.len(), event)?;
+        let late = tables::is_late(&self.questions, event);
+        let begun = bindings::introduced_by(alloc, late, self.events.len(), event)?;
         Ok(kinds::keeps_kinds(&self.events, &self.lives, &begun, &self.resolves, event))
     }
 }
@@ -582,11 +596,11 @@ impl VatState {
     ///
     /// # Errors
     ///
-    /// Want of memory.
-    pub fn asked(&self, call: u64) -> Result<Option<Asked>, AllocError>
-        ensures { IfOk result (λ asks. asks ≡ asked call self.now) }
+    /// Out of memory.
+    pub fn request_of(&self, call: u64) -> Result<Option<Asked>, AllocError>
+        ensures { IfOk result (λ asks. asks ≡ request_of call self.now) }
     {
-        self.calls.asked(call)
+        self.calls.request_of(call)
     }
 
     /// A call's goal, if it came to the vat with one: what the reference of its MAKE, or the target of its received
@@ -594,7 +608,7 @@ impl VatState {
     ///
     /// # Errors
     ///
-    /// Want of memory.
+    /// Out of memory.
     pub fn goal_of(&self, call: u64) -> Result<Option<View>, AllocError>
         ensures { IfOk result (λ goal. goal ≡ goal_of call self.now) }
     {
@@ -679,7 +693,7 @@ impl VatState {
 impl VatState {
     /// Whether a senderLoopback went under a number and its echo hasn't passed since: of a number of ours it is
     /// outstanding, of the peer's it is pending.
-    pub fn awaits_echo(&self, number: Id) -> bool
+    pub fn awaits_echo(&self, number: TableKey) -> bool
         ensures { result ≡ is_some (loopback_of number self.now) }
     {
         self.waits.loopbacks.has(number)
@@ -687,17 +701,17 @@ impl VatState {
 
     /// What the target of the senderLoopback that waits for its echo under a number stood for then, if one waits and
     /// its target stood for something.
-    pub fn waiting(&self, number: Id) -> Option<&View>
-        ensures { option_copied result ≡ waiting number self.now }
+    pub fn embargoed_view(&self, number: TableKey) -> Option<&View>
+        ensures { option_copied result ≡ embargoed_view number self.now }
     {
-        self.waits.loopbacks.waiting(number)
+        self.waits.loopbacks.embargoed_view(number)
     }
 
     /// Whether the echo is held up of the senderLoopback that waits under a number: whether a call that was received on
     /// its connection before it, and whose goal is what its target stood for then, is still at the vat. It looks only at
     /// calls of the connection that came before and whose goal differs from that target in a long path at most; the
     /// first with that goal decides. It takes no memory.
-    pub fn is_held_up(&self, number: Id) -> bool
+    pub fn is_held_up(&self, number: TableKey) -> bool
         ensures { Decides result (IsHeldUp number self.now) }
     {
         match self.waits.loopbacks.of(number) {

@@ -42,7 +42,7 @@ impl View {
         }
     }
 
-    /// A second view that is the same. The only error is want of memory.
+    /// A second view that is the same. The only error is that memory ran out.
     pub(crate) fn copy(&self) -> Result<View, AllocError>
         ensures { IfOk result (λ copied. copied ≡ self.now) }
     {

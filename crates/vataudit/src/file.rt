@@ -17,7 +17,8 @@ fn within_limit(bytes: Vec<u8>, why: &mut Option<io::Error>) -> Result<Bytes, So
     ensures limit { IfOk result (λ kept. length kept ≤ LIMIT) }
     ensures whole { IfOk result (λ kept. kept ≡ bytes.items) }
     // What is at most the limit isn't refused as too long.
-    ensures long { IfErr result (λ fault. fault ≡ SourceError.CannotRead → LIMIT < length bytes.items) }
+    ensures long { IfErr result
+        (λ fault. fault ≡ SourceError.CannotRead → LIMIT < length bytes.items) }
 {
     if bytes.len() > LIMIT {
         *why = Some(io::Error::other("it has over 1073741824 bytes"));

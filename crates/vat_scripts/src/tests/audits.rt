@@ -223,7 +223,7 @@ fn order_of(alloc: Global, order: Option<&[u32]>) -> Result<Option<Order>, Refus
     }
 }
 
-/// What is answered of a case and an order, or why it isn't audited. Want of memory is a failure.
+/// What is answered of a case and an order, or why it isn't audited. Running out of memory is a failure.
 fn audited<R: Threads + Wait + Sync>(
     rt: &R,
     alloc: Global,

@@ -71,7 +71,7 @@ fn logs(alloc: Global, vats: u32) -> Result<Vec<Arc<VatLog>>, Refused> {
     Ok(logs)
 }
 
-/// The case of so many logs and links, with vat numbers and connections from 0 on. Want of memory is a failure.
+/// The case of so many logs and links, with vat numbers and connections from 0 on. Running out of memory is a failure.
 fn case_of(alloc: Global, vats: u32, links: u32) -> Result<Option<CaseError>, Refused> {
     let mut ends = Vec::new(alloc);
     for conn in 0..links {

@@ -5,7 +5,7 @@ use super::states::state_of;
 use std::alloc::Global;
 use std::fmt::Write;
 use std::process::Abort;
-use vat_view::{Id, VatState};
+use vat_view::{TableKey, VatState};
 
 /// Records, and what is known after them of the loopbacks of the peer's number 3 and of our number 3: whether it waits for
 /// its echo, what its target stood for, and whether its echo is held up.
@@ -40,12 +40,12 @@ const ROWS: [(&str, &str); 6] = [
 
 /// The loopback of number 3 of connection 0, given out by this vat or by its peer.
 fn put_loopback(out: &mut String, state: &VatState, ours: bool) -> Result<(), Refused> {
-    let number = Id {
+    let number = TableKey {
         connection: 0,
         ours,
         number: 3,
     };
-    let waiting = state.waiting(number);
+    let waiting = state.embargoed_view(number);
     write!(
         out,
         "{} {waiting:?} {}",

@@ -33,7 +33,7 @@ const ROWS: [(&str, u64, u8, &str); 8] = [
     (TABLE, 9, 64, "bad read TooMuch"),
 ];
 
-/// What is shown of a frame that was read. Want of memory is a failure, and no answer.
+/// What is shown of a frame that was read. Running out of memory is a failure, and no answer.
 fn shown(alloc: Global, read: Result<RpcMessage, ViewError>) -> Result<String, Refused> {
     let answer = match read {
         Ok(message) => Answer::Message(message),

@@ -109,7 +109,7 @@ const REFUSED: [(&str, OrderError); 4] = [
     ("5641544f52443031 01000000 02", OrderError::Short(12)),
 ];
 
-/// Whether bytes are refused for this. Want of memory is a failure, and no answer.
+/// Whether bytes are refused for this. Running out of memory is a failure, and no answer.
 fn is_refused(alloc: Global, digits: &str, fault: OrderError) -> Result<bool, Refused> {
     let bytes = bytes_of_digits(alloc, digits)?;
     match read_order(alloc, Bytes::from_vec(bytes)?) {

@@ -293,7 +293,7 @@ impl Walk {
         Ok(())
     }
 
-    /// Tells why a visit was refused. Want of memory is a failure, and no answer.
+    /// Tells why a visit was refused. Running out of memory is a failure, and no answer.
     fn tell_fault(&mut self, fault: ReadError) -> Result<(), Refused> {
         if fault == ReadError::OutOfMemory {
             return Err(Refused);

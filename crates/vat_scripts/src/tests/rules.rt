@@ -3,8 +3,8 @@
 use super::given::{Refused, log};
 use cap_reader::Limits;
 use std::alloc::Global;
-use vat_rules::{Outcome, Seen, Story, VatFinding, Why, audit_vat};
-use vat_view::{Event, View};
+use vat_rules::{Outcome, RecordFacts, Story, VatFinding, Why, audit_vat};
+use vat_view::{DecodedRecord, View};
 
 /// Vat 2's log of pipelined_call.
 const PIPELINED_CALL: &str =
@@ -25,13 +25,13 @@ fn found(
 /// Whether the record of this place tells what its numbers stand for. The call's target is the field of the bootstrap, what
 /// the first Return gives is the object, and the two Returns answer calls 1 and 2. HOST binds the reference that ANSWER and
 /// the first Return name.
-fn is_told_at(at: usize, event: &Event, seen: &Seen) -> bool {
+fn is_told_at(at: usize, event: &DecodedRecord, seen: &RecordFacts) -> bool {
     let answers_1 = matches!(seen.question(), Some(View::Field(1, _)));
     let answers_2 = matches!(seen.question(), Some(View::Field(2, _)));
     let goes_to_1 = matches!(seen.target(), Some(View::Field(1, _)));
     let given = matches!(seen.caps(), [Some(View::Object(7))]);
     let named = matches!(seen.references(), [Some(View::Object(7))]);
-    let delivers = matches!(event, Event::Deliver { call: 2, object: 7 });
+    let delivers = matches!(event, DecodedRecord::Deliver { call: 2, object: 7 });
     (answers_1, answers_2, goes_to_1) == (at == 5, at == 7, at == 2)
         && (given, named, delivers) == (at == 5, at == 0 || at == 3 || at == 5, at == 4)
 }

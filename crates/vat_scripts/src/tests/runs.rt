@@ -283,7 +283,7 @@ const WORDS: [(&[&str], Result<Command<'static>, ErrorKind>); 11] = [
     ),
 ];
 
-/// Whether words spell this. Want of memory is a failure.
+/// Whether words spell this. Running out of memory is a failure.
 fn is_meant(
     alloc: Global,
     words: &[&str],
@@ -329,7 +329,7 @@ const HELP: [(&str, &str); 9] = [
     ("--help", "good vat 2 records 8 delivered 1"),
 ];
 
-/// The help of a command. Want of memory is a failure.
+/// The help of a command. Running out of memory is a failure.
 fn help_of(alloc: Global, command: &str) -> Result<String, Refused> {
     let words = ["vataudit", command, "--help"];
     match command_of(alloc, &words) {

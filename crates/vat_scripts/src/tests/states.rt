@@ -10,7 +10,7 @@ use std::fmt::Write;
 use std::process::Abort;
 use std::sync::Arc;
 use vat_log::{Body, References, VatLog};
-use vat_view::{Event, Id, Number, VatState, View};
+use vat_view::{DecodedRecord, Number, TableKey, VatState, View};
 
 /// Records, and what is known after them.
 const ROWS: [(&str, &str); 3] = [
@@ -144,9 +144,9 @@ fn wire(
     call: u64,
     references: &References,
     message: RpcMessage,
-) -> Result<Event, Refused> {
+) -> Result<DecodedRecord, Refused> {
     let references = references.copy()?;
-    Ok(Event::Wire {
+    Ok(DecodedRecord::Wire {
         sent,
         connection,
         call,
@@ -156,9 +156,9 @@ fn wire(
 }
 
 /// A stored record with its message read, of the kinds of these rows.
-fn event_of(alloc: Global, body: &Body) -> Result<Event, Refused> {
+fn event_of(alloc: Global, body: &Body) -> Result<DecodedRecord, Refused> {
     match body {
-        Body::Host { reference, object } => Ok(Event::Host {
+        Body::Host { reference, object } => Ok(DecodedRecord::Host {
             reference: *reference,
             object: *object,
         }),
@@ -166,7 +166,7 @@ fn event_of(alloc: Global, body: &Body) -> Result<Event, Refused> {
             reference,
             call,
             path,
-        } => Ok(Event::Field {
+        } => Ok(DecodedRecord::Field {
             reference: *reference,
             call: *call,
             path: path.copy()?,
@@ -176,17 +176,17 @@ fn event_of(alloc: Global, body: &Body) -> Result<Event, Refused> {
             reference,
             interface,
             method,
-        } => Ok(Event::Make {
+        } => Ok(DecodedRecord::Make {
             call: *call,
             reference: *reference,
             interface: *interface,
             method: *method,
         }),
-        Body::Deliver { call, object } => Ok(Event::Deliver {
+        Body::Deliver { call, object } => Ok(DecodedRecord::Deliver {
             call: *call,
             object: *object,
         }),
-        Body::Answer { call, results } => Ok(Event::Answer {
+        Body::Answer { call, results } => Ok(DecodedRecord::Answer {
             call: *call,
             results: results.copy()?,
         }),
@@ -213,7 +213,7 @@ fn event_of(alloc: Global, body: &Body) -> Result<Event, Refused> {
 }
 
 /// Applies a record that is as it should be.
-fn apply(state: &mut VatState, event: Event) -> Result<(), Refused> {
+fn apply(state: &mut VatState, event: DecodedRecord) -> Result<(), Refused> {
     match (state.refers(&event), state.gives_back_held(&event)) {
         (Ok(true), Ok(true))
             if state.opens_free(&event)
@@ -279,7 +279,7 @@ fn put_numbers(out: &mut String, state: &VatState, path: &Path) -> Result<(), Re
 
 /// What call 2 asked for.
 fn put_asked(out: &mut String, state: &VatState) -> Result<(), Refused> {
-    let asked = state.asked(2)?;
+    let asked = state.request_of(2)?;
     write!(out, "call {asked:?} ")?;
     Ok(())
 }
@@ -309,7 +309,7 @@ fn put_call(out: &mut String, state: &VatState) -> Result<(), Refused> {
 /// The question and the life of answer 0 and export 0, and record 3.
 fn put_lives(out: &mut String, state: &VatState) -> Result<(), Refused> {
     let answer = Number::Answer(0).on(0);
-    let export = Id {
+    let export = TableKey {
         connection: 0,
         ours: true,
         number: 0,
@@ -430,19 +430,19 @@ fn asking(rt: HostRuntime) {
 }
 
 /// The first record of a log.
-fn first_of(alloc: Global, log: &Arc<VatLog>) -> Result<Event, Refused> {
+fn first_of(alloc: Global, log: &Arc<VatLog>) -> Result<DecodedRecord, Refused> {
     let record = log.get(0).ok_or(Refused)?;
     event_of(alloc, record.body())
 }
 
 /// The first of these records.
-fn first_event(alloc: Global, records: &str) -> Result<Event, Refused> {
+fn first_event(alloc: Global, records: &str) -> Result<DecodedRecord, Refused> {
     let log = log(alloc, "2", records)?;
     first_of(alloc, &log)
 }
 
 /// The descriptors of a record, and the references that it newly binds.
-fn put_parts(out: &mut String, event: &Event) -> Result<(), Refused> {
+fn put_parts(out: &mut String, event: &DecodedRecord) -> Result<(), Refused> {
     let descriptors = event.descriptors();
     let new = event.new_references();
     write!(out, "descriptors {descriptors:?}; new {new:?}; ")?;
@@ -450,7 +450,7 @@ fn put_parts(out: &mut String, event: &Event) -> Result<(), Refused> {
 }
 
 /// What is said of a record where it comes next.
-fn put_event(out: &mut String, state: &VatState, event: &Event) -> Result<(), Refused> {
+fn put_event(out: &mut String, state: &VatState, event: &DecodedRecord) -> Result<(), Refused> {
     let keeps = state.keeps_kinds(event)?;
     write!(out, "keeps {keeps}; ")?;
     put_parts(out, event)
@@ -463,7 +463,7 @@ fn put_next(alloc: Global, out: &mut String, state: &VatState, next: &str) -> Re
 }
 
 /// How many records there are, and the first.
-fn put_count(out: &mut String, events: &[Event]) -> Result<(), Refused> {
+fn put_count(out: &mut String, events: &[DecodedRecord]) -> Result<(), Refused> {
     let (count, first) = (events.len(), events.first());
     write!(out, "{count} {first:?}")?;
     Ok(())

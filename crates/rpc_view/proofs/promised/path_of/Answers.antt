@@ -3,7 +3,7 @@ use Rattle.std.proofs.lemmas.List.{append-nil}
 use Rattle.std.proofs.lemmas.Result.{err_from_is_err_and}
 use Rattle.cap_reader.specs.Places.{element_at, elements_at}
 use Rattle.rpc_view.specs.Reading.{run}
-use Rattle.rpc_view.specs.Glue.{numbers_of}
+use Rattle.rpc_view.specs.Glue.{optional_number}
 use Rattle.rpc_view.specs.Message.{operation_in, operations_in}
 use Rattle.rpc_view.proofs.Loops.{goes_on, ends, is_done}
 use Rattle.rpc_view.proofs.promised.path_of.Goals as goal
@@ -18,7 +18,7 @@ returns-in_err-number c =
 pub loop-i-preserved : goal.loop-i-preserved
 loop-i-preserved c =
     let lt : c.loop-i.i < c.args.operations.now.count = omega arith in
-    let more = goes_on (λ i. operation_in (element_at c.args.frame.now c.args.operations.now i)) c.loop-i.numbers.items (numbers_of c.in_ok-number.field-0) c.args.operations.now.count c.loop-i.i c.loop-i.limits.words c.operation.new.limits.words _ lt c.in_ok-number.ensures c.loop-i.invariant in
+    let more = goes_on (λ i. operation_in (element_at c.args.frame.now c.args.operations.now i)) c.loop-i.numbers.items (optional_number c.in_ok-number.field-0) c.args.operations.now.count c.loop-i.i c.loop-i.limits.words c.operation.new.limits.words _ lt c.in_ok-number.ensures c.loop-i.invariant in
     elim c.match-branch-2.branch [
       | in-Some+in_ok-push w ↦ rw (w.numbers-is, w.in_ok-push.ensures.items) (rw w.in-Some.is at more)
       | in_default w ↦ rw w.numbers-is (rw (w.in_default.is, append-nil) at more)

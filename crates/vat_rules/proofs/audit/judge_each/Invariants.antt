@@ -3,7 +3,7 @@ use Rattle.std.specs.Prelude.{reverse}
 use Rattle.vat_rules.specs.Events.{past_at}
 use Rattle.vat_rules.specs.First.{IsGoodAt}
 use Rattle.vat_rules.specs.Audit.{reads_within}
-use Rattle.vat_rules.specs.Glue.{seen_back}
+use Rattle.vat_rules.specs.Glue.Facts.{seen_back}
 use Rattle.vat_rules.proofs.audit.judge_each.Given as goal
 
 abbrev pub invariant-loop-at : goal.invariant-loop-at

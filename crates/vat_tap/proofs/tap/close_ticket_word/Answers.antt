@@ -3,8 +3,8 @@ use Rattle.std.specs.List.{sum_by}
 use Rattle.std.proofs.lemmas.List.{length-map}
 use Rattle.std.proofs.lemmas.List.Sums.{sum_by_push}
 use Rattle.rtrb.specs.Ring.{sent}
-use Rattle.vat_tap.specs.declared.view.View.{View}
-use Rattle.vat_tap.specs.Rule.{view, together}
+use Rattle.vat_tap.specs.declared.ticket_word.SeatKnowledge.{SeatKnowledge}
+use Rattle.vat_tap.specs.Glue.Rule.{view, together}
 use Rattle.vat_tap.specs.Tickets.{LaneView, tickets_of, share_of, times}
 use Rattle.vat_tap.proofs.Moves.{joins, times_append}
 use Rattle.vat_tap.proofs.Lanes.{looks_as}
@@ -38,10 +38,10 @@ loop-lane-preserved c =
     let mine = All_last P rest lane all in
     let tickets = tickets_of (sent c.lane.inside.ring) in
     let full : c.join_seat.new.seat.me.0 ≡ together c.loop-lane.seat.me.0 (view c.lane.inside.share c.lane.inside.share tickets) =
-    ap (λ m. m.0) j.2 ∙ ap (λ (m : View). together c.loop-lane.seat.me.0 m) (ap (λ m. m.0) c.lane.invariant.seat) in
+    ap (λ m. m.0) j.2 ∙ ap (λ (m : SeatKnowledge). together c.loop-lane.seat.me.0 m) (ap (λ m. m.0) c.lane.invariant.seat) in
     let share : c.lane.inside.share ≡ s = ap (λ (l : LaneView). l.share) c.lane.view_is ∙ mine.1 in
-    let room : c.join_seat.new.seat.me.0.room ≡ c.loop-lane.seat.me.0.room + c.lane.inside.share = ap (λ (v : View). v.room) full in
-    let drawn : c.join_seat.new.seat.me.0.tickets ≡ c.loop-lane.seat.me.0.tickets ++ tickets = ap (λ (v : View). v.tickets) full in
+    let room : c.join_seat.new.seat.me.0.room ≡ c.loop-lane.seat.me.0.room + c.lane.inside.share = ap (λ (v : SeatKnowledge). v.room) full in
+    let drawn : c.join_seat.new.seat.me.0.tickets ≡ c.loop-lane.seat.me.0.tickets ++ tickets = ap (λ (v : SeatKnowledge). v.tickets) full in
     let said : tickets ≡ tickets_of lane.recorded = ap (λ (l : LaneView). tickets_of l.recorded) c.lane.view_is in
     let long : length tickets ≡ length lane.recorded = ap length said ∙ length-map lane.recorded (λ item. item.0) in
     let once : (ticket : ℕ) → times ticket c.join_seat.new.seat.me.0.tickets + sum_by (λ (l : LaneView). times ticket (tickets_of l.recorded)) rest ≡ sum_by (λ (l : LaneView). times ticket (tickets_of l.recorded)) c.args.lanes.items =

@@ -3,7 +3,7 @@ use Rattle.std.proofs.Common.{◌≡◌, ◌+◌, ◌<◌, Some, List, [], map, 
 use Rattle.std.specs.List.{sum_by}
 use Rattle.std.proofs.lemmas.List.{length-map, length-set, get_or-map, map-set}
 use Rattle.std.proofs.Math.Seq.{map-set_same}
-use Rattle.vat_tap.specs.Glue.{ring_of, Goes, TakesUpTo}
+use Rattle.vat_tap.specs.Glue.Taps.{ring_of, Goes, TakesUpTo}
 use Rattle.vat_tap.specs.Tickets.{Ticketed, Ring, TakesOn, TakesAtMost}
 use Rattle.vat_tap.proofs.Draining.{takes_more, counts_more, up_to_more, at_most}
 use Rattle.vat_tap.proofs.Gathering.{get_of_map}

@@ -1,6 +1,6 @@
 use Rattle.std.proofs.Common.{◌≡◌, ◌+◌, ◌*◌, ◌≤◌, length, map}
 use Rattle.std.specs.List.{sum_by}
-use Rattle.vat_tap.specs.Glue.{ring_of, TakesUpTo}
+use Rattle.vat_tap.specs.Glue.Taps.{ring_of, TakesUpTo}
 use Rattle.vat_tap.specs.Tickets.{TakesOn}
 use Rattle.vat_tap.proofs.tap.drain_all.Given as goal
 

@@ -1,6 +1,6 @@
 use Rattle.std.proofs.Common.{◌≡◌, ◌+◌, List, map, take, set, length, get_or, arith, sym, ap, ◌∙◌, subst}
 use Rattle.std.proofs.lemmas.List.{length-map, set-get_or, take_all}
-use Rattle.vat_tap.specs.Glue.{ring_of, AreTaken}
+use Rattle.vat_tap.specs.Glue.Taps.{ring_of, AreTaken}
 use Rattle.vat_tap.specs.Tickets.{Ticketed, LaneView}
 use Rattle.vat_tap.proofs.Draining.{takes_on}
 use Rattle.vat_tap.proofs.Gathering.{gather_more}

@@ -1,5 +1,5 @@
 use Rattle.std.proofs.Common.{◌≡◌, take, map}
-use Rattle.vat_tap.specs.Glue.{ring_of, AreTaken}
+use Rattle.vat_tap.specs.Glue.Taps.{ring_of, AreTaken}
 use Rattle.vat_tap.specs.Tickets.{TakesOn}
 use Rattle.vat_tap.proofs.tap.gather.Given as goal
 

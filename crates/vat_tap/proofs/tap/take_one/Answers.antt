@@ -2,7 +2,7 @@ use Rattle.std.proofs.Common.{◌≡◌, ◌<◌, List, [], map, set, length, ge
 use mathlib.Core.List.{IsPrefix}
 use Rattle.std.proofs.lemmas.List.{length-map, get_or-map, map-set}
 use Rattle.std.proofs.Math.Seq.{map-set_same}
-use Rattle.vat_tap.specs.Glue.{ring_of}
+use Rattle.vat_tap.specs.Glue.Taps.{ring_of}
 use Rattle.vat_tap.specs.Tickets.{Ticketed, TakesOn}
 use Rattle.vat_tap.proofs.Draining.{takes_nothing, takes_longer}
 use Rattle.vat_tap.proofs.Gathering.{on_ok_map, get_within}

@@ -1,6 +1,6 @@
 use Rattle.std.proofs.Common.{◌≡◌, ◌++◌, map}
 use Rattle.authority.specs.Shown.{edge_of}
-use Rattle.authority.specs.Places.{place_edge}
+use Rattle.authority.specs.Glue.EdgePlaces.{place_edge}
 use Rattle.authority.proofs.edges.Graph.new.Given as goal
 
 abbrev pub invariant-loop-vat : goal.invariant-loop-vat

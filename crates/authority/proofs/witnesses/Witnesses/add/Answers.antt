@@ -1,8 +1,8 @@
 use Rattle.std.proofs.Common.{◌∙◌, inl, sym, subst, map, refl, List}
 use Rattle.indexmap.proofs.CallerLemmas.{insert_entry-new}
 use Rattle.run_model.specs.Edges.{Edge}
-use Rattle.authority.specs.Keys.{key_eq, entry_edge}
-use Rattle.authority.specs.Tables.{AddsFirst, edge_at}
+use Rattle.authority.specs.Glue.Keys.{key_eq, entry_edge}
+use Rattle.authority.specs.Glue.EdgeTables.{AddsFirst, edge_at}
 use Rattle.authority.proofs.Keeping.{added, looked, none_from}
 use Rattle.authority.proofs.witnesses.Witnesses.add.Goals as goal
 use Rattle.authority.proofs.witnesses.Witnesses.add.Goals.{then-not-contains_key+in_ok-insert, else-not-contains_key}

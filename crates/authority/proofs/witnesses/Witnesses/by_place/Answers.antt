@@ -1,8 +1,8 @@
 use Rattle.std.proofs.Common.{◌≡◌, ◌∙◌, ap, subst, List, map}
 use Rattle.std.proofs.lemmas.Map.Iter.{rest_all}
 use Rattle.run_model.specs.Edges.{Edge}
-use Rattle.authority.specs.Keys.{entry_edge}
-use Rattle.authority.specs.Places.{IsByPlace}
+use Rattle.authority.specs.Glue.Keys.{entry_edge}
+use Rattle.authority.specs.Glue.EdgePlaces.{IsByPlace}
 use Rattle.authority.proofs.Placing.{Found, IsPlaced, placed_none, placed_turn, placed_all}
 use Rattle.authority.proofs.witnesses.Witnesses.by_place.Goals as goal
 

@@ -1,6 +1,6 @@
 use Rattle.std.proofs.Common.{subst, ◌<◌}
 use Rattle.std.specs.BTreeMap.{get}
-use Rattle.call_trace.specs.Overtaking.{key_cmp}
+use Rattle.call_trace.specs.Glue.Overtaking.{key_cmp}
 use Rattle.call_trace.proofs.Noting.{raised}
 use Rattle.call_trace.proofs.latest.Latest.raise.Goals as goal
 

@@ -1,5 +1,5 @@
 use Rattle.std.proofs.Common.{ap, sym, ◌∙◌, arith}
-use Rattle.cap_frame.specs.Segments.{count_of}
+use Rattle.cap_frame.specs.Segments.{segment_count}
 use Rattle.cap_frame.proofs.Frames.{IsFrame-of_kept, length-content}
 use Rattle.cap_frame.proofs.Spelling.{sized}
 use Rattle.cap_frame.proofs.frame.Frame.segments.Goals as goal
@@ -12,7 +12,7 @@ overflow_cast-result c =
     omega (arith, (IsFrame-of_kept _ c.self.inside.bytes c.as_slice.ensures c.self.invariant).few, c.count_in.ensures.count)
 
 pub returns-clause-count : goal.returns-clause-count
-returns-clause-count c = rw (← c.self.view_is) (c.count_in.ensures.count ∙ ap count_of c.as_slice.ensures ∙ sym (length-content c.self.inside.bytes))
+returns-clause-count c = rw (← c.self.view_is) (c.count_in.ensures.count ∙ ap segment_count c.as_slice.ensures ∙ sym (length-content c.self.inside.bytes))
 
 pub returns-clause-bound : goal.returns-clause-bound
 returns-clause-bound c =

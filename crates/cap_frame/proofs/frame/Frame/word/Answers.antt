@@ -1,7 +1,7 @@
 use Rattle.std.proofs.Common.{◌+◌, ◌*◌, ◌≤◌, length, ap, sym, ◌∙◌, arith}
 use Rattle.std.proofs.lemmas.List.{length-drop}
 use Rattle.byteorder.specs.Endian.{little_number}
-use Rattle.cap_frame.specs.Segments.{count_of, table_len}
+use Rattle.cap_frame.specs.Segments.{segment_count, table_len}
 use Rattle.cap_frame.proofs.Frames.{IsFrame-of_kept, no_segment, no_word_at, word_read, word_fits}
 use Rattle.cap_frame.proofs.frame.Frame.word.Goals as goal
 use Rattle.cap_frame.proofs.frame.Frame.word.Goals.{then-segment-count-via-then-segment-count, then-segment-count-via-else-segment-count+then-index-size_in}
@@ -40,7 +40,7 @@ read_u64-requires c =
 pub returns-then-segment-count : goal.returns-then-segment-count
 returns-then-segment-count c =
     elim c.then-segment-count.branch [
-      | then-segment-count-via-then-segment-count w ↦ rw (← c.self.view_is) (sym (no_segment c.self.inside.bytes c.args.segment c.args.index (omega (arith, ap count_of c.as_slice-bytes.ensures))))
+      | then-segment-count-via-then-segment-count w ↦ rw (← c.self.view_is) (sym (no_segment c.self.inside.bytes c.args.segment c.args.index (omega (arith, ap segment_count c.as_slice-bytes.ensures))))
       | then-segment-count-via-else-segment-count+then-index-size_in w ↦ rw (← c.self.view_is) (no_word_at c.as_slice-bytes.result.now c.self.inside.bytes c.args.segment c.from-segment.result c.args.index c.as_slice-bytes.ensures c.from-segment.ensures (omega arith) (omega (arith, w.size_in.ensures.size)))
     ]
 

@@ -1,7 +1,7 @@
 use Rattle.std.proofs.Common.{◌≡◌, ◌+◌, ◌≤◌, ◌++◌, length}
 use Rattle.std.specs.Prelude.{vec_len, vec_capacity}
 use Rattle.rtrb.specs.Ring.{received, known_items, consumer_capacity}
-use Rattle.vat_tap.specs.Glue.{ring_of}
+use Rattle.vat_tap.specs.Glue.Taps.{ring_of}
 use Rattle.vat_tap.proofs.intake.Intake.take_known.Given as goal
 
 abbrev pub invariant-loop : goal.invariant-loop

@@ -1,7 +1,7 @@
 use Rattle.std.proofs.Common.{◌<◌, length, arith, sym, ap, ◌∙◌, ◌++◌, ◌∷◌, []}
 use Rattle.rtrb.specs.Ring.{sent}
 use Rattle.std.proofs.lemmas.List.{length-map}
-use Rattle.vat_tap.specs.Rule.{view}
+use Rattle.vat_tap.specs.Glue.Rule.{view}
 use Rattle.vat_tap.specs.Tickets.{tickets_of}
 use Rattle.vat_tap.proofs.Lanes.{draws_as, lane_after}
 use Rattle.vat_tap.proofs.lane.Lane.record.Goals as goal

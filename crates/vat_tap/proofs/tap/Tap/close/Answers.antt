@@ -1,7 +1,7 @@
 use Rattle.std.proofs.Common.{◌≡◌, ℕ, List, length, map, arith, ap, subst}
 use Rattle.std.specs.List.{sum_by}
 use Rattle.std.proofs.lemmas.List.{length-map}
-use Rattle.vat_tap.specs.Glue.{ring_of}
+use Rattle.vat_tap.specs.Glue.Taps.{ring_of}
 use Rattle.vat_tap.specs.Tickets.{LaneView, TapView, IsTaped, tickets_of, times, once_below}
 use Rattle.vat_tap.proofs.Taped.{taped}
 use Rattle.vat_tap.proofs.tap.Tap.close.Goals as goal

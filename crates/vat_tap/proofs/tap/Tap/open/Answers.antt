@@ -2,7 +2,7 @@ use Rattle.std.proofs.Common.{All, ◌≡◌, ◌-◌, ◌/◌, List, [], ◌∷
 use Rattle.std.proofs.lemmas.List.{map-append, length-map}
 use Rattle.std.proofs.lemmas.List.Elements.{All-push}
 use Rattle.vat_tap.specs.Tickets.{Ticketed, Ring, LaneView}
-use Rattle.vat_tap.specs.Glue.{ring_of, lane_view, AreNew}
+use Rattle.vat_tap.specs.Glue.Taps.{ring_of, lane_view, AreNew}
 use Rattle.vat_tap.proofs.Moves.{splits}
 use Rattle.vat_tap.proofs.Gathering.{more_times}
 use Rattle.vat_tap.proofs.NewLanes.{enough, same_ring, new_more}

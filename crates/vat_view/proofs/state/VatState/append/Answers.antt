@@ -2,10 +2,10 @@ use Rattle.std.proofs.Common.{◌≡◌, ◌∙◌, refl, sym, subst, length, ar
 use Rattle.std.specs.Prelude.{reverse}
 use Rattle.std.proofs.lemmas.Grind.{common_steps}
 use Rattle.vat_view.specs.Sound.{IsSound}
-use Rattle.vat_view.specs.Tables.{IsFit}
-use Rattle.vat_view.specs.KindTables.{AreResolved}
-use Rattle.vat_view.specs.LoopTables.{AreWaiting}
-use Rattle.vat_view.specs.Kept.{AreKept}
+use Rattle.vat_view.specs.Glue.Tables.{IsFit}
+use Rattle.vat_view.specs.Glue.KindTables.{AreResolved}
+use Rattle.vat_view.specs.Glue.LoopTables.{AreWaiting}
+use Rattle.vat_view.specs.Glue.Kept.{AreKept}
 use Rattle.vat_view.proofs.Keeping.{fits, state_refused, state_applied}
 use Rattle.vat_view.proofs.Settled.{turns_refused, turns_applied}
 use Rattle.vat_view.proofs.Promising.{resolves_after}
@@ -55,8 +55,8 @@ invariant_of-self-in_err-change c = (
   ahead_refused c.self.inside.events.items c.reserve.new.self.items c.self.inside.turns c.make_room.new.self c.in_ok-reserve.ensures.items c.make_room.ensures.same c.self.inside.bound c.self.invariant.5,
 )
 
-pub invariant_of-self-in_err-learn_all : goal.invariant_of-self-in_err-learn_all
-invariant_of-self-in_err-learn_all c =
+pub invariant_of-self-in_err-apply_record : goal.invariant_of-self-in_err-apply_record
+invariant_of-self-in_err-apply_record c =
     let place : c.len-number.result ≡ length c.reserve.new.self.items = grind (arith, common_steps) in
     let sound : IsSound c.args.self.now c.args.event = record {
       refers = c.requires.refers;
@@ -65,10 +65,10 @@ invariant_of-self-in_err-learn_all c =
       gives_back_held = c.requires.gives;
       notes_each = c.requires.notes;
     } in
-    let kept : AreKept (reverse c.reserve.new.self.items) c.learn_all.new.questions c.learn_all.new.lives c.learn_all.new.bound c.learn_all.new.calls =
+    let kept : AreKept (reverse c.reserve.new.self.items) c.apply_record.new.questions c.apply_record.new.lives c.apply_record.new.bound c.apply_record.new.calls =
     state_refused c.self.inside.events.items c.reserve.new.self.items c.args.self.now c.args.event c.len-number.result
-    (λ p. AreKept p c.self.inside.questions c.self.inside.lives c.self.inside.bound c.self.inside.calls) (λ p. AreKept p c.learn_all.new.questions c.learn_all.new.lives c.learn_all.new.bound c.learn_all.new.calls)
-    c.self.view_is c.in_ok-reserve.ensures.items place c.self.invariant.0 sound c.in_err-learn_all.ensures.err in (
+    (λ p. AreKept p c.self.inside.questions c.self.inside.lives c.self.inside.bound c.self.inside.calls) (λ p. AreKept p c.apply_record.new.questions c.apply_record.new.lives c.apply_record.new.bound c.apply_record.new.calls)
+    c.self.view_is c.in_ok-reserve.ensures.items place c.self.invariant.0 sound c.in_err-apply_record.ensures.err in (
       kept,
       (λ i. c.room_for.ensures.same i ∙ (subst (λ l. AreResolved (reverse l) c.self.inside.resolves) (sym c.in_ok-reserve.ensures.items) c.self.invariant.1) i),
       turns_refused c.self.inside.events.items c.reserve.new.self.items c.self.inside.turns c.make_room.new.self c.in_ok-reserve.ensures.items c.make_room.ensures.same c.self.invariant.2,
@@ -76,7 +76,7 @@ invariant_of-self-in_err-learn_all c =
       waits_same (reverse c.reserve.new.self.items) c.self.inside.waits c.prepare.new.self c.prepare.ensures.same
           (subst (λ l. AreWaiting (reverse l) c.self.inside.waits) (sym c.in_ok-reserve.ensures.items) c.self.invariant.4),
       ahead_unlearned c.self.inside.events.items c.reserve.new.self.items c.self.inside.turns c.make_room.new.self c.in_ok-reserve.ensures.items c.make_room.ensures.same c.self.inside.bound
-          c.learn_all.new.bound c.self.invariant.0.tabled.bounds kept.tabled.bounds c.learn_all.ensures.ahead c.self.invariant.5,
+          c.apply_record.new.bound c.self.invariant.0.tabled.bounds kept.tabled.bounds c.apply_record.ensures.ahead c.self.invariant.5,
     )
 
 pub invariant_of-self-2 : goal.invariant_of-self-2
@@ -90,19 +90,19 @@ invariant_of-self-2 c =
       notes_each = c.requires.notes;
     } in
     let fit : IsFit c.args.self.now c.args.event = fits c.args.self.now c.args.event sound in
-    let kept : AreKept (reverse c.push_reserved.new.self.items) c.learn_all.new.questions c.learn_all.new.lives c.learn_all.new.bound c.learn_all.new.calls =
+    let kept : AreKept (reverse c.push_reserved.new.self.items) c.apply_record.new.questions c.apply_record.new.lives c.apply_record.new.bound c.apply_record.new.calls =
     state_applied c.self.inside.events.items c.reserve.new.self.items c.args.self.now c.args.event c.len-number.result
-    (λ p. AreKept p c.self.inside.questions c.self.inside.lives c.self.inside.bound c.self.inside.calls) (λ p. AreKept p c.learn_all.new.questions c.learn_all.new.lives c.learn_all.new.bound c.learn_all.new.calls)
-    c.self.view_is c.in_ok-reserve.ensures.items place c.self.invariant.0 sound c.push_reserved.new.self.items c.push_reserved.ensures.items c.in_ok-learn_all.ensures.ok in (
-      kept_views (reverse c.push_reserved.new.self.items) c.learn_all.new.questions c.learn_all.new.lives c.learn_all.new.bound c.drop_ahead.new.self c.learn_all.new.calls c.drop_ahead.ensures.views kept,
+    (λ p. AreKept p c.self.inside.questions c.self.inside.lives c.self.inside.bound c.self.inside.calls) (λ p. AreKept p c.apply_record.new.questions c.apply_record.new.lives c.apply_record.new.bound c.apply_record.new.calls)
+    c.self.view_is c.in_ok-reserve.ensures.items place c.self.invariant.0 sound c.push_reserved.new.self.items c.push_reserved.ensures.items c.in_ok-apply_record.ensures.ok in (
+      kept_views (reverse c.push_reserved.new.self.items) c.apply_record.new.questions c.apply_record.new.lives c.apply_record.new.bound c.drop_ahead.new.self c.apply_record.new.calls c.drop_ahead.ensures.views kept,
       state_applied c.self.inside.events.items c.reserve.new.self.items c.args.self.now c.args.event c.len-number.result
           (λ p. AreResolved p c.self.inside.resolves) (λ p. AreResolved p c.note_resolve.new.self) c.self.view_is c.in_ok-reserve.ensures.items place c.self.invariant.1 sound
           c.push_reserved.new.self.items c.push_reserved.ensures.items
-          (λ before at kept good. resolves_after before c.args.event c.room_for.new.self c.note_resolve.new.self (λ i. c.room_for.ensures.same i ∙ kept i) c.resolved-promise.result
-          c.resolved-promise.ensures c.len-number.result at c.note_resolve.ensures),
-      turns_applied c.self.inside.events.items c.reserve.new.self.items c.push_reserved.new.self.items c.args.event c.len-number.result c.settled-pending.result c.self.inside.questions c.self.inside.lives
+          (λ before at kept good. resolves_after before c.args.event c.room_for.new.self c.note_resolve.new.self (λ i. c.room_for.ensures.same i ∙ kept i) c.promise_resolved-promise.result
+          c.promise_resolved-promise.ensures c.len-number.result at c.note_resolve.ensures),
+      turns_applied c.self.inside.events.items c.reserve.new.self.items c.push_reserved.new.self.items c.args.event c.len-number.result c.settled_by-pending.result c.self.inside.questions c.self.inside.lives
           c.self.inside.bound c.self.inside.turns c.make_room.new.self c.note.new.self c.in_ok-reserve.ensures.items place c.push_reserved.ensures.items
-          (subst (λ p. IsFit p c.args.event) (sym c.self.view_is) fit) c.self.invariant.0.tabled c.self.invariant.2 c.settled-pending.ensures c.make_room.ensures.same c.note.ensures,
+          (subst (λ p. IsFit p c.args.event) (sym c.self.view_is) fit) c.self.invariant.0.tabled c.self.invariant.2 c.settled_by-pending.ensures c.make_room.ensures.same c.note.ensures,
       connected_applied c.self.inside.events.items c.reserve.new.self.items c.push_reserved.new.self.items c.args.event c.self.inside.connections c.grow_for.new.self c.note_event.new.self
           c.in_ok-reserve.ensures.items c.push_reserved.ensures.items c.grow_for.ensures.asked c.grow_for.ensures.aborted c.note_event.ensures.asked c.note_event.ensures.aborted c.self.invariant.3,
       state_applied c.self.inside.events.items c.reserve.new.self.items c.args.self.now c.args.event c.len-number.result
@@ -111,8 +111,8 @@ invariant_of-self-2 c =
           (λ before at kept good. waits_after before c.self.inside.questions c.self.inside.lives c.self.inside.bound c.self.inside.calls kept.0 c.args.event good.refers c.len-number.result at
           c.in_ok-change.change c.in_ok-change.ensures.change c.prepare.new.self c.change-2.new.self
           (waits_same before c.self.inside.waits c.prepare.new.self c.prepare.ensures.same kept.1) c.in_ok-change.ensures.joins c.change-2.ensures),
-      ahead_applied c.self.inside.events.items c.reserve.new.self.items c.push_reserved.new.self.items c.args.event c.len-number.result c.settled-pending.result c.self.inside.turns c.make_room.new.self
-          c.note.new.self c.in_ok-reserve.ensures.items c.push_reserved.ensures.items c.make_room.ensures.same c.note.ensures c.self.inside.bound c.learn_all.new.bound c.drop_ahead.new.self c.has.result
-          c.has.ensures (subst (λ p. IsFit p c.args.event) (sym c.self.view_is) fit).refers c.self.invariant.0.tabled.bounds kept.tabled.bounds c.drop_ahead.ensures.views c.learn_all.ensures.ahead
+      ahead_applied c.self.inside.events.items c.reserve.new.self.items c.push_reserved.new.self.items c.args.event c.len-number.result c.settled_by-pending.result c.self.inside.turns c.make_room.new.self
+          c.note.new.self c.in_ok-reserve.ensures.items c.push_reserved.ensures.items c.make_room.ensures.same c.note.ensures c.self.inside.bound c.apply_record.new.bound c.drop_ahead.new.self c.has.result
+          c.has.ensures (subst (λ p. IsFit p c.args.event) (sym c.self.view_is) fit).refers c.self.invariant.0.tabled.bounds kept.tabled.bounds c.drop_ahead.ensures.views c.apply_record.ensures.ahead
           c.drop_ahead.ensures.ahead c.drop_ahead.ensures.own c.self.invariant.5,
     )

@@ -1,5 +1,5 @@
 use Rattle.std.proofs.Common.{subst, ◌∙◌}
-use Rattle.vat_view.specs.LoopTables.{AreWaiting}
+use Rattle.vat_view.specs.Glue.LoopTables.{AreWaiting}
 use Rattle.vat_view.proofs.Looping.{has_known}
 use Rattle.vat_view.proofs.state.VatState.awaits_echo.Goals as goal
 

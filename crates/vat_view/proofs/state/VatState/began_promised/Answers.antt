@@ -1,6 +1,6 @@
 use Rattle.std.proofs.Common.{subst, ◌∙◌, ap, Some, option_map}
-use Rattle.vat_view.specs.Kept.{AreKept}
-use Rattle.vat_view.specs.KindTables.{promised_at}
+use Rattle.vat_view.specs.Glue.Kept.{AreKept}
+use Rattle.vat_view.specs.Glue.KindTables.{promised_at}
 use Rattle.vat_view.proofs.Promising.{promised_known}
 use Rattle.vat_view.proofs.state.VatState.began_promised.Goals as goal
 

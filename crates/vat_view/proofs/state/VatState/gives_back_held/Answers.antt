@@ -1,5 +1,5 @@
 use Rattle.std.proofs.Common.{subst}
-use Rattle.vat_view.specs.Kept.{AreKept}
+use Rattle.vat_view.specs.Glue.Kept.{AreKept}
 use Rattle.vat_view.proofs.Answering.{if_ok, gives_decided}
 use Rattle.vat_view.proofs.state.VatState.gives_back_held.Goals as goal
 

@@ -1,5 +1,5 @@
 use Rattle.std.proofs.Common.{subst, ◌∙◌}
-use Rattle.vat_view.specs.ConnectionTables.{AreConnected}
+use Rattle.vat_view.specs.Glue.ConnectionTables.{AreConnected}
 use Rattle.vat_view.proofs.state.VatState.is_aborted.Goals as goal
 
 pub returns : goal.returns

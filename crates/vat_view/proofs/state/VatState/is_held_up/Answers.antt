@@ -1,7 +1,7 @@
 use Rattle.std.proofs.Common.{subst, sym, ◌∙◌, ap}
 use Rattle.std.specs.Option.{option_copied}
-use Rattle.vat_view.specs.Kept.{AreKept}
-use Rattle.vat_view.specs.LoopTables.{AreWaiting}
+use Rattle.vat_view.specs.Glue.Kept.{AreKept}
+use Rattle.vat_view.specs.Glue.LoopTables.{AreWaiting}
 use Rattle.vat_view.proofs.Looping.{held_decided, held_by_none}
 use Rattle.vat_view.proofs.state.VatState.is_held_up.Goals as goal
 

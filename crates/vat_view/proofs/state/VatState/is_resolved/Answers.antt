@@ -1,6 +1,6 @@
 use Rattle.std.proofs.Common.{subst, ◌∙◌, ap₂}
-use Rattle.vat_view.specs.Kept.{AreKept}
-use Rattle.vat_view.specs.KindTables.{AreResolved, resolved_since}
+use Rattle.vat_view.specs.Glue.Kept.{AreKept}
+use Rattle.vat_view.specs.Glue.KindTables.{AreResolved, resolved_since}
 use Rattle.vat_view.proofs.Promising.{resolved_known}
 use Rattle.vat_view.proofs.state.VatState.is_resolved.Goals as goal
 

@@ -1,9 +1,9 @@
 use Rattle.std.proofs.Common.{◌≡◌, length, arith, subst, ap, ◌∙◌}
 use Rattle.std.specs.List.{list_all}
 use Rattle.std.proofs.lemmas.Grind.{common_steps}
-use Rattle.vat_view.specs.KindTables.{AreResolved, keeps_by}
+use Rattle.vat_view.specs.Glue.KindTables.{AreResolved, keeps_by}
 use Rattle.vat_view.specs.Lives.{descriptors}
-use Rattle.vat_view.specs.Kept.{AreKept}
+use Rattle.vat_view.specs.Glue.Kept.{AreKept}
 use Rattle.vat_view.proofs.Answering.{begun_next}
 use Rattle.vat_view.proofs.Alike.{keeps_decided}
 use Rattle.vat_view.proofs.state.VatState.keeps_kinds.Goals as goal

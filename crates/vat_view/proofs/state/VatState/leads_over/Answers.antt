@@ -1,12 +1,12 @@
 use Rattle.std.proofs.Common.{◌≡◌}
 use Rattle.std.specs.Prelude.{Some}
-use Rattle.vat_view.specs.declared.sought.Sought.TheVariants.{Over}
+use Rattle.vat_view.specs.declared.walks.reachable.Sought.TheVariants.{Over}
 use Rattle.vat_view.specs.Types.{View}
 use Rattle.vat_view.specs.Connections.{reached_over}
 use Rattle.vat_view.specs.Walks.{Next, next}
-use Rattle.vat_view.specs.Tables.{bound_at}
-use Rattle.vat_view.specs.TurnTables.{goes_by}
-use Rattle.vat_view.specs.ConnectionTables.{sought_by}
+use Rattle.vat_view.specs.Glue.Tables.{bound_at}
+use Rattle.vat_view.specs.Glue.TurnTables.{goes_by}
+use Rattle.vat_view.specs.Glue.ConnectionTables.{sought_by}
 use Rattle.vat_view.proofs.Ending.{goes_so}
 use Rattle.vat_view.proofs.Seeking.{one_known, over_decides}
 use Rattle.vat_view.proofs.state.VatState.leads_over.Goals as goal

@@ -1,8 +1,8 @@
 use Rattle.std.proofs.Common.{◌≡◌, refl}
 use Rattle.vat_view.specs.Types.{View}
 use Rattle.vat_view.specs.Walks.{Next, next}
-use Rattle.vat_view.specs.Tables.{bound_at}
-use Rattle.vat_view.specs.TurnTables.{goes_by}
+use Rattle.vat_view.specs.Glue.Tables.{bound_at}
+use Rattle.vat_view.specs.Glue.TurnTables.{goes_by}
 use Rattle.vat_view.proofs.Ending.{stays_known, goes_so}
 use Rattle.vat_view.proofs.state.VatState.stays.Goals as goal
 

@@ -1,6 +1,0 @@
-use Rattle.authority.specs.Tables.{IsFoundBefore}
-use Rattle.run_model.proofs.Numbers.{IsNumbered}
-use Rattle.authority.proofs.finding.find.Given as goal
-
-abbrev pub invariant-loop-index : goal.invariant-loop-index
-invariant-loop-index l = IsNumbered l.steps l.index l.numbers × IsFoundBefore l.steps l.index l.found

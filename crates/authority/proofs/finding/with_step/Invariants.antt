@@ -1,7 +1,0 @@
-use Rattle.std.proofs.Common.{reverse, take}
-use Rattle.authority.specs.Tables.{IsFound}
-use Rattle.authority.proofs.Stepping.{IsPartly}
-use Rattle.authority.proofs.finding.with_step.Given as goal
-
-abbrev pub invariant-loop-place : goal.invariant-loop-place
-invariant-loop-place l = IsFound (IsPartly (reverse (take l.index l.steps)) l.vat l.number l.cap-items l.place) l.found

@@ -1,7 +1,0 @@
-use Rattle.std.specs.Prelude.{reverse, take}
-use Rattle.call_trace.specs.Turns.{IsReached}
-use Rattle.call_trace.proofs.runs.name_run.Given as goal
-
--- the turns so far were taken
-abbrev pub invariant-loop-vat : goal.invariant-loop-vat
-invariant-loop-vat l = IsReached l.findings (reverse (take l.vat-index l.vats)) l.turns

@@ -1,7 +1,0 @@
-use Rattle.std.proofs.Common.{◌≡◌, drop, map, option_and_then}
-use Rattle.call_trace.specs.Glue.{names_in, named_said, gathered}
-use Rattle.call_trace.proofs.saying.named_said.Given as goal
-
-abbrev pub invariant-loop-view : goal.invariant-loop-view
-invariant-loop-view l =
-    gathered l.caps.items (map (option_and_then (names_in l.steps l.ledger).cap) (drop l.view-index l.views)) ≡ named_said (names_in l.steps l.ledger) l.views

@@ -1,9 +1,0 @@
-use Rattle.std.proofs.Common.{◌≡◌, drop, length}
-use Rattle.call_trace.specs.Glue.{names_in, results_from, results_said, gathered}
-use Rattle.call_trace.proofs.saying.results_said.Given as goal
-
-abbrev pub invariant-loop-path : goal.invariant-loop-path
-invariant-loop-path l = record {
-  at : length l.said.items ≡ l.path-index;
-  rest : gathered l.said.items (results_from (names_in l.steps l.ledger) l.seen.references (length l.said.items) (drop l.path-index l.results)) ≡ results_said (names_in l.steps l.ledger) l.seen.references l.results;
-}

@@ -1,0 +1,227 @@
+-- For the code's contracts, and no part of the meaning: the tables that are kept of each vat and of all connections, and
+-- how its calls and views are named by them.
+use Rattle.std.specs.Prelude.{◌≡◌, ◌==◌, ◌+◌, ◌++◌, ◌∷◌, ℕ, List, [], Bool, true, false, not, Option, Some, None, if◌then◌else◌, is_some, map, reverse, option_and_then, option_map, slice_get}
+use Rattle.std.specs.BTreeMap.{get}
+use Rattle.std.specs.Ordering.{nat_cmp}
+use Rattle.call_trace.specs.declared.records.call_names.CallNames.{CallNames}
+use Rattle.call_trace.specs.declared.records.vat_ledger.VatLedger.{VatLedger}
+use Rattle.call_trace.specs.declared.records.released.Released.{Released}
+use Rattle.call_trace.specs.Naming.{Naming, message_of_step, call_named, cap_at}
+use Rattle.call_trace.specs.Part.{promise_in}
+use Rattle.call_trace.specs.Running.{step_received}
+use Rattle.call_trace.specs.Said.{all_there, say_call, say_return, say_resolve}
+use Rattle.call_trace.specs.Types.{Descriptor, NoCap, Results, Exception, Canceled, RpcMessage, Bootstrap, Call, Return, Finish, Resolve, Release, Disembargo, Abort, DecodedRecord, Host, Vow, Fulfil, Break, Make, Field, Deliver, Answer, Fault, Wire, View, Object, Promise, FieldOf, Import, Name, Cap, Message, Step}
+use Rattle.run_model.specs.Has.{call_in_message}
+use Rattle.run_model.specs.Legal.{caps_brought}
+use Rattle.run_model.specs.Steps.{call}
+use Rattle.vat_rules.specs.LogFacts.{Sight, Told}
+use Rattle.vat_rules.specs.declared.outcome.Outcome.{Outcome}
+use Rattle.vat_rules.specs.declared.outcome.Outcome.TheVariants as outcome
+use Rattle.vat_view.specs.Lives.{descriptors_of}
+use Rattle.vat_view.specs.Past.{Past, id, names}
+use Rattle.vat_view.specs.Questions.{question_opened, question_released, is_released}
+use Rattle.vat_view.specs.Glue.Tables.{id_cmp}
+use Rattle.vat_view.specs.declared.record.table_key.TableKey.{TableKey}
+use Rattle.run_model.specs.declared.cap.Cap.TheVariants as cap
+use Rattle.run_model.specs.declared.message.Message.TheVariants as message
+use Rattle.run_model.specs.declared.plain.Plain.TheVariants as plain
+use Rattle.run_model.specs.declared.step.Step.TheVariants as step
+
+-- the name that the table has of a call
+abbrev pub name_at : CallNames → ℕ → Option Name
+name_at table c = get nat_cmp table.entries c
+
+-- whether the table has a question
+abbrev pub released_at : Released → TableKey → Bool
+released_at table q = is_some (get id_cmp table.entries q)
+
+-- whether a question's results are given back after a record, where it is known whether they were before
+abbrev pub released_after : DecodedRecord → TableKey → Bool → Bool
+released_after e q before = if names q (question_released e) then true else if names q (question_opened e) then false else before
+
+-- the step of the record of this number, by the numbers of the steps
+abbrev pub step_in : List Step → List ℕ → ℕ → Option Step
+step_in steps numbers i = option_and_then (slice_get steps) (slice_get numbers i)
+
+-- its message
+abbrev pub step_message_in : List Step → List ℕ → ℕ → Option Message
+step_message_in steps numbers i = option_and_then message_of_step (step_in steps numbers i)
+
+-- the name of a call by the tables
+abbrev pub call_name_in : VatLedger → ℕ → Option Name
+call_name_in ledger c = name_at ledger.calls c
+
+-- the name of a view by the tables
+abbrev pub cap_in : List Step → VatLedger → View → Option Cap
+cap_in steps ledger (Object object) = Some (cap.Object ledger.vat object)
+cap_in steps ledger (Promise r) = Some (cap.Promise ledger.vat r)
+cap_in steps ledger (FieldOf c path) = option_map (λ name. cap.Field name path) (call_name_in ledger c)
+cap_in steps ledger (Import i place) = option_and_then (λ m. cap_at place (caps_brought m)) (step_message_in steps ledger.numbers.items i)
+
+-- the name of a view, where there is one
+abbrev pub view_in : List Step → VatLedger → Option View → Option Cap
+view_in steps ledger view = option_and_then (cap_in steps ledger) view
+
+-- how a vat names its calls and views by the tables
+abbrev pub names_in : List Step → VatLedger → Naming
+names_in steps ledger = record { vat = ledger.vat; call = call_name_in ledger; cap = cap_in steps ledger }
+
+-- the cap for which a descriptor stands that has this view; Nothing where it is none
+abbrev pub cap_said : Naming → Descriptor → Option View → Option Cap
+cap_said names NoCap view = Some cap.Nothing
+cap_said names d view = option_and_then names.cap view
+
+-- the view of these at a place, if one is there
+abbrev pub seen_at : List (Option View) → ℕ → Option View
+seen_at views i = option_and_then (λ view. view) (slice_get views i)
+
+-- the caps for which descriptors stand that have the views of these from a place on
+abbrev pub caps_from : Naming → List (Option View) → ℕ → List Descriptor → List (Option Cap)
+caps_from names views place [] = []
+caps_from names views place (d ∷ ds) = cap_said names d (seen_at views place) ∷ caps_from names views (place + 1) ds
+
+-- all of them
+abbrev pub caps_said : Naming → List (Option View) → List Descriptor → Option (List Cap)
+caps_said names views ds = all_there (caps_from names views 0 ds)
+
+-- the call that a question stands for, by its view
+abbrev pub call_of_question : Option View → Option ℕ
+call_of_question (Some (FieldOf c path)) = Some c
+call_of_question _ = None
+
+-- these, and behind them all of those, where each of those is there
+abbrev pub gathered_behind : {A : Type 0} → List A → List (Option A) → Option (List A)
+gathered_behind xs os = option_map (λ ys. xs ++ ys) (all_there os)
+
+-- the name of the call that a question stands for, by its view
+abbrev pub answered_in : (ℕ → Option Name) → Option View → Option Name
+answered_in call view = option_and_then call (call_of_question view)
+
+-- a Resolve that is sent, by what its promise and its descriptor stand for
+abbrev pub resolve_said : Option Cap → Option (List Cap) → Option Message
+resolve_said promise caps = option_and_then (λ promise. option_map (say_resolve promise) caps) promise
+
+-- the message that a record sends, by what its numbers stand for, its descriptors for these caps
+abbrev pub message_said : Naming → Bool → Sight → ℕ → Option (List Cap) → RpcMessage → Option Message
+message_said names late seen c caps (Bootstrap q) = option_map message.Boot (names.call c)
+message_said names late seen c caps (Call q target interface method params) =
+    say_call interface method caps (names.call c) (option_and_then names.cap seen.target)
+message_said names late seen c caps (Return q release (Results payload)) =
+    option_and_then (λ name. say_return late payload.fields name caps) (answered_in names.call seen.question)
+message_said names late seen c caps (Return q release Exception) = option_map message.Failed (answered_in names.call seen.question)
+message_said names late seen c caps (Return q release Canceled) = option_map message.Failed (answered_in names.call seen.question)
+message_said names late seen c caps (Resolve n resolution) = resolve_said (option_and_then names.cap seen.promise) caps
+message_said names late seen c caps (Finish q release) = Some (message.Plain plain.Finish)
+message_said names late seen c caps (Release n count) = Some (message.Plain plain.Release)
+message_said names late seen c caps (Disembargo n loopback target) = Some (message.Plain plain.Disembargo)
+message_said names late seen c caps Abort = Some (message.Plain plain.Abort)
+
+-- the same, with what its descriptors stand for looked up
+abbrev pub sent_said : Naming → Bool → Sight → ℕ → RpcMessage → Option Message
+sent_said names late seen c m = message_said names late seen c (caps_said names seen.caps (descriptors_of m)) m
+
+-- the results of a call, by what the references from a place on stand for
+abbrev pub results_from : Naming → List (Option View) → ℕ → List (ℕ × List ℕ) → List (Option (List ℕ × Cap))
+results_from names views place [] = []
+results_from names views place (result ∷ rest) =
+    option_map (λ c. (result.1, c)) (option_and_then names.cap (seen_at views place)) ∷ results_from names views (place + 1) rest
+
+-- all of them
+abbrev pub results_said : Naming → List (Option View) → List (ℕ × List ℕ) → Option (List (List ℕ × Cap))
+results_said names views results = all_there (results_from names views 0 results)
+
+-- the caps that have these views
+abbrev pub named_said : Naming → List (Option View) → Option (List Cap)
+named_said names views = all_there (map (option_and_then names.cap) views)
+
+-- the step that keeps a promise, by what both references stand for
+abbrev pub fulfil_said : Naming → Sight → Option Step
+fulfil_said names seen =
+    option_and_then (λ p. option_map (λ c. step.Fulfil names.vat p c) (option_and_then names.cap (seen_at seen.references 1))) (promise_in (seen_at seen.references 0))
+
+-- the step of a record that names a call and no other cap
+abbrev pub of_call_said : ℕ → (ℕ → Option Name) → DecodedRecord → Option Step
+of_call_said v call (Field r c path) = option_map (λ name. step.Name v (cap.Field name path)) (call c)
+of_call_said v call (Deliver c object) = option_map (λ name. step.Deliver v name object) (call c)
+of_call_said v call (Fault c) = option_map (λ name. step.Fault v name) (call c)
+of_call_said v call _ = None
+
+-- the step of another record of what the vat makes by itself
+abbrev pub own_said : Naming → Sight → DecodedRecord → Option Step
+own_said names seen (Host r object) = Some (step.Host names.vat object)
+own_said names seen (Vow r) = Some (step.Vow names.vat r)
+own_said names seen (Fulfil r to) = fulfil_said names seen
+own_said names seen (Break r) = option_map (λ p. step.Break names.vat p) (promise_in (seen_at seen.references 0))
+own_said names seen (Make c r interface method) =
+    option_map (λ to. step.Make names.vat c to r interface method) (option_and_then names.cap (seen_at seen.references 0))
+own_said names seen (Answer c results) =
+    option_and_then (λ name. option_map (λ caps. step.Answer names.vat name caps) (results_said names seen.references results)) (names.call c)
+own_said names seen _ = None
+
+-- the step that a record says, by what its numbers stand for
+abbrev pub step_by : Naming → Bool → Sight → DecodedRecord → Option Step
+step_by names late seen (Field r c path) = of_call_said names.vat names.call (Field r c path)
+step_by names late seen (Deliver c object) = of_call_said names.vat names.call (Deliver c object)
+step_by names late seen (Fault c) = of_call_said names.vat names.call (Fault c)
+step_by names late seen (Wire sent k c references m) = option_map (λ sent_message. step.Send names.vat k sent_message) (sent_said names late seen c m)
+step_by names late seen e = own_said names seen e
+
+-- the call to which a record gives a name, and the name: a call that the vat makes or boots is its own, one that it receives
+-- has the name that the message has
+abbrev pub call_bound_by : ℕ → DecodedRecord → Option Message → Option (ℕ × Name)
+call_bound_by v (Make d r interface method) m = Some (d, call v d)
+call_bound_by v (Wire true k d references (Bootstrap q)) m = Some (d, call v d)
+call_bound_by v (Wire false k d references (Bootstrap q)) m = option_map (λ name. (d, name)) (option_and_then call_in_message m)
+call_bound_by v (Wire false k d references (Call q target interface method params)) m = option_map (λ name. (d, name)) (option_and_then call_in_message m)
+call_bound_by v _ m = None
+
+-- the name of a call, where it is this one that is given a name, and else the one that it had
+abbrev pub bound_call : Option (ℕ × Name) → ℕ → Option Name → Option Name
+bound_call (Some named) c before = if named.0 == c then Some named.1 else before
+bound_call None c before = before
+
+-- of what is kept of a vat only the names of calls are changed, by this one
+pub record IsBound (named : Option (ℕ × Name)) (old new : VatLedger) : Type 0 where
+  pub vat : new.vat ≡ old.vat
+  pub numbers : new.numbers.items ≡ old.numbers.items
+  pub calls : (c : ℕ) → call_name_in new c ≡ bound_call named c (call_name_in old c)
+  pub released : (q : TableKey) → released_at new.released q ≡ released_at old.released q
+
+-- what is kept of a vat goes on by a record whose step has this number; the names of its calls stay
+pub record IsNoted (number : ℕ) (e : DecodedRecord) (old new : VatLedger) : Type 0 where
+  pub vat : new.vat ≡ old.vat
+  pub numbers : new.numbers.items ≡ old.numbers.items ++ number ∷ []
+  pub calls : (c : ℕ) → call_name_in new c ≡ call_name_in old c
+  pub released : (q : TableKey) → released_at new.released q ≡ released_after e q (released_at old.released q)
+
+-- what is kept of a vat is that of its records and their steps, where these are the steps of all vats, the oldest first
+pub record IsKept (v : ℕ) (es : Past) (own run : List Step) (ledger : VatLedger) : Type 0 where
+  pub vat : ledger.vat ≡ v
+  pub numbers : map (slice_get run) ledger.numbers.items ≡ map Some (reverse own)
+  pub calls : (c : ℕ) → call_name_in ledger c ≡ call_named v es own c
+  pub released : (q : TableKey) → released_at ledger.released q ≡ is_released q es
+
+-- a record took this step, if there is one: it stands behind those before, and what is kept of its vat goes on by it
+abbrev pub IsTaken : ℕ → Past → DecodedRecord → List Step → Option Step → List Step → List Step → VatLedger → Bool → Type 0
+IsTaken v es e own step old new ledger true = (s : Step) × (step ≡ Some s) × (new ≡ old ++ s ∷ []) × IsKept v (e ∷ es) (s ∷ own) new ledger
+IsTaken v es e own step old new ledger false = step ≡ None
+
+-- a record is a Return that is late, by the table of questions whose results were given back
+abbrev pub late_in : VatLedger → DecodedRecord → Bool
+late_in ledger (Wire sent k c references (Return q release outcome)) = released_at ledger.released (id k (not sent) q)
+late_in ledger _ = false
+
+-- the step of a received record, by this message
+abbrev pub received_step : ℕ → Past → List Step → DecodedRecord → Message → Option Step
+received_step v es own (Wire false k c references m) message = step_received v es own (Wire false k c references m) k references message
+received_step v es own e message = None
+
+-- a step that receives, with these bound
+abbrev pub with_bound : List Cap → Step → Step
+with_bound bound (step.Receive v k m old) = step.Receive v k m bound
+with_bound bound s = s
+
+-- what a good log tells
+abbrev pub story_in : Outcome → Option Told
+story_in (outcome.Good story) = Some story
+story_in _ = None

@@ -1,0 +1,450 @@
+//! What the records say that a vat makes by itself, and the messages that it sends: by what is kept of the vat, and by what
+//! was seen of each record.
+
+ghost use Rattle.std.specs.Prelude.{◌≡◌, List, Option, IfOk, slice_get, option_map};
+ghost use Rattle.std.specs.Option.{option_copied};
+ghost use Rattle.call_trace.specs.Naming.{cap_at};
+ghost use Rattle.call_trace.specs.Part.{promise_in};
+ghost use Rattle.call_trace.specs.Said.{all_there, caps_at_paths, say_call, say_return, say_resolve};
+ghost use Rattle.call_trace.specs.Glue.Ledgers.{names_in, view_in, call_name_in, cap_said, caps_said, call_of_question, seen_at, answered_in, resolve_said, message_said, sent_said, results_said, named_said, fulfil_said, of_call_said, own_said, step_by};
+ghost use Rattle.vat_view.specs.Lives.{descriptors_of};
+
+use crate::records::vat_ledger::VatLedger;
+use cap_frame::Path;
+use rpc_view::{Descriptor, Outcome, Payload, Resolution, RpcMessage};
+use run_model::{Cap, Caps, Message, Name, Plain, Results, Step};
+use std::alloc::{AllocError, Global};
+use vat_rules::RecordFacts;
+use vat_view::{DecodedRecord, View};
+
+/// The view of these at a place, if one is there.
+fn seen_at(views: &[Option<View>], place: usize) -> Option<&View>
+    ensures { option_copied result ≡ seen_at views.now place }
+{
+    views.get(place)?.as_ref()
+}
+
+/// The capability for which a descriptor stands that has this view.
+fn cap_said(
+    ledger: &VatLedger,
+    steps: &[Step],
+    descriptor: &Descriptor,
+    view: Option<&View>,
+) -> Result<Option<Cap>, AllocError>
+    ensures { IfOk result
+        (λ cap. cap ≡ cap_said (names_in steps.now ledger.now) descriptor.now
+        (option_copied view.entry)) }
+{
+    match descriptor {
+        Descriptor::NoCap => Ok(Some(Cap::Nothing)),
+        _ => ledger.name_of_view(steps, view),
+    }
+}
+
+/// The capabilities for which descriptors stand that have these views, where each has a name.
+fn caps_said(
+    alloc: Global,
+    ledger: &VatLedger,
+    steps: &[Step],
+    descriptors: &[Descriptor],
+    views: &[Option<View>],
+) -> Result<Option<Caps>, AllocError>
+    ensures { IfOk result
+        (λ caps. caps ≡ caps_said (names_in steps.now ledger.now) views.now descriptors.now) }
+{
+    let mut caps = Vec::with_capacity(alloc, descriptors.len())?;
+    for descriptor in descriptors {
+        let view = seen_at(views, caps.len());
+        match cap_said(ledger, steps, descriptor, view)? {
+            Some(cap) => caps.push(cap)?,
+            None => return Ok(None),
+        }
+    }
+    Ok(Some(Caps::new(caps)))
+}
+
+/// The capability at a place of these, if there is one, with its path.
+fn given_at(caps: &[Cap], path: &Path, index: u32) -> Result<Option<(Path, Cap)>, AllocError>
+    ensures { IfOk result
+        (λ found. found ≡ option_map (λ c. (path.now, c)) (cap_at index caps.now)) }
+{
+    match caps.get(index as usize) {
+        None | Some(Cap::Nothing) => Ok(None),
+        Some(cap) => Ok(Some((path.copy()?, cap.copy()?))),
+    }
+}
+
+/// The capabilities that stand at paths, each with its path: where there is one in the table.
+fn caps_at_paths(alloc: Global, caps: &[Cap], fields: &[(Path, u32)]) -> Result<Results, AllocError>
+    ensures { IfOk result (λ results. results ≡ caps_at_paths caps.now fields.now) }
+{
+    let mut results = Vec::new(alloc);
+    for (path, index) in fields {
+        if let Some(found) = given_at(caps, path, *index)? {
+            results.push(found)?;
+        }
+    }
+    Ok(Results::new(results))
+}
+
+/// The call that a question stands for, by its view.
+fn call_seen(view: Option<&View>) -> Option<u64>
+    ensures { result ≡ call_of_question (option_copied view.entry) }
+{
+    match view {
+        Some(View::Field(call, _)) => Some(*call),
+        _ => None,
+    }
+}
+
+/// A Return with results that is sent, late or not.
+fn say_results(
+    alloc: Global,
+    late: bool,
+    payload: &Payload,
+    call: Name,
+    caps: Option<Caps>,
+) -> Result<Option<Message>, AllocError>
+    ensures { IfOk result (λ message. message ≡ say_return late payload.now.fields call caps) }
+{
+    if late {
+        return Ok(Some(Message::Late(call)));
+    }
+    let Some(caps) = caps else {
+        return Ok(None);
+    };
+    let results = caps_at_paths(alloc, caps.as_slice(), payload.fields.as_slice())?;
+    Ok(Some(Message::Return {
+        call,
+        results,
+        caps,
+    }))
+}
+
+/// A Resolve of a promise that is sent.
+fn say_resolve(promise: Cap, caps: &Caps) -> Result<Message, AllocError>
+    ensures { IfOk result (λ message. message ≡ say_resolve promise caps.now) }
+{
+    match caps.as_slice().first() {
+        None | Some(Cap::Nothing) => Ok(Message::Broken(promise)),
+        Some(cap) => Ok(Message::Resolve(promise, cap.copy()?)),
+    }
+}
+
+/// The descriptors of a message.
+fn descriptors_of(message: &RpcMessage) -> &[Descriptor]
+    ensures { result.now ≡ descriptors_of message.now }
+{
+    match message {
+        RpcMessage::Call { params, .. } => params.descriptors.as_slice(),
+        RpcMessage::Return {
+            outcome: Outcome::Results(payload),
+            ..
+        } => payload.descriptors.as_slice(),
+        RpcMessage::Resolve {
+            resolution: Resolution::Cap(descriptor),
+            ..
+        } => std::slice::from_ref(descriptor),
+        _ => &[],
+    }
+}
+
+/// The name of the call that a question stands for, by its view.
+fn call_answered(ledger: &VatLedger, view: Option<&View>) -> Option<Name>
+    ensures { result ≡ answered_in (call_name_in ledger.now) (option_copied view.entry) }
+{
+    ledger.call(call_seen(view)?)
+}
+
+/// A Call that is sent, where all that it names has a name.
+fn call_said(
+    ledger: &VatLedger,
+    steps: &[Step],
+    seen: &RecordFacts,
+    call: u64,
+    asked: (u64, u16),
+    caps: Option<Caps>,
+) -> Result<Option<Message>, AllocError>
+    ensures { IfOk result
+        (λ sent. sent ≡ say_call asked.0 asked.1 caps (call_name_in ledger.now call)
+        (view_in steps.now ledger.now seen.now.target)) }
+{
+    let target = ledger.name_of_view(steps, seen.target())?;
+    match (caps, ledger.call(call), target) {
+        (Some(caps), Some(call), Some(target)) => {
+            let (interface, method) = asked;
+            Ok(Some(Message::Call {
+                call,
+                target,
+                interface,
+                method,
+                caps,
+            }))
+        }
+        _ => Ok(None),
+    }
+}
+
+/// A Resolve that is sent, where all that it names has a name.
+fn resolve_said(
+    ledger: &VatLedger,
+    steps: &[Step],
+    seen: &RecordFacts,
+    caps: Option<Caps>,
+) -> Result<Option<Message>, AllocError>
+    ensures { IfOk result
+        (λ sent. sent ≡ resolve_said (view_in steps.now ledger.now seen.now.promise) caps) }
+{
+    let promise = ledger.name_of_view(steps, seen.promise())?;
+    match (promise, caps) {
+        (Some(promise), Some(caps)) => Ok(Some(say_resolve(promise, &caps)?)),
+        _ => Ok(None),
+    }
+}
+
+/// The message that a record sends, beside which this call is noted, where all that it names has a name. `caps` is what its
+/// descriptors stand for, `late` says whether it is a Return that is late.
+fn message_said(
+    alloc: Global,
+    ledger: &VatLedger,
+    steps: &[Step],
+    late: bool,
+    seen: &RecordFacts,
+    call: u64,
+    caps: Option<Caps>,
+    message: &RpcMessage,
+) -> Result<Option<Message>, AllocError>
+    ensures { IfOk result
+        (λ sent. sent ≡ message_said
+        (names_in steps.now ledger.now) late seen.now call caps message.now) }
+{
+    match message {
+        RpcMessage::Bootstrap { .. } => Ok(ledger.call(call).map(|name| Message::Boot(name))),
+        RpcMessage::Call {
+            interface,
+            method,
+            ..
+        } => call_said(ledger, steps, seen, call, (*interface, *method), caps),
+        RpcMessage::Return { outcome, .. } => match (
+            call_answered(ledger, seen.question()),
+            outcome,
+        ) {
+            (None, _) => Ok(None),
+            (Some(name), Outcome::Results(payload)) => say_results(
+                alloc, late, payload, name, caps,
+            ),
+            (Some(name), _) => Ok(Some(Message::Failed(name))),
+        },
+        RpcMessage::Resolve { .. } => resolve_said(ledger, steps, seen, caps),
+        RpcMessage::Finish { .. } => Ok(Some(Message::Plain(Plain::Finish))),
+        RpcMessage::Release { .. } => Ok(Some(Message::Plain(Plain::Release))),
+        RpcMessage::Disembargo { .. } => Ok(Some(Message::Plain(Plain::Disembargo))),
+        RpcMessage::Abort => Ok(Some(Message::Plain(Plain::Abort))),
+    }
+}
+
+/// The same, with what the descriptors of the message stand for looked up.
+fn sent_said(
+    alloc: Global,
+    ledger: &VatLedger,
+    steps: &[Step],
+    late: bool,
+    seen: &RecordFacts,
+    call: u64,
+    message: &RpcMessage,
+) -> Result<Option<Message>, AllocError>
+    ensures { IfOk result
+        (λ sent. sent ≡ sent_said (names_in steps.now ledger.now) late seen.now call message.now) }
+{
+    let caps = caps_said(alloc, ledger, steps, descriptors_of(message), seen.caps())?;
+    message_said(alloc, ledger, steps, late, seen, call, caps, message)
+}
+
+/// The results of a call, where each has a name.
+fn results_said(
+    alloc: Global,
+    ledger: &VatLedger,
+    steps: &[Step],
+    seen: &RecordFacts,
+    results: &[(u64, Path)],
+) -> Result<Option<Results>, AllocError>
+    ensures { IfOk result
+        (λ said. said ≡ results_said
+        (names_in steps.now ledger.now) seen.now.references results.now) }
+{
+    let mut said = Vec::with_capacity(alloc, results.len())?;
+    for (_, path) in results {
+        let view = seen_at(seen.references(), said.len());
+        match ledger.name_of_view(steps, view)? {
+            Some(cap) => said.push((path.copy()?, cap))?,
+            None => return Ok(None),
+        }
+    }
+    Ok(Some(Results::new(said)))
+}
+
+/// The capabilities that have these views, where each has a name.
+pub(crate) fn named_said(
+    alloc: Global,
+    ledger: &VatLedger,
+    steps: &[Step],
+    views: &[Option<View>],
+) -> Result<Option<Caps>, AllocError>
+    ensures { IfOk result (λ caps. caps ≡ named_said (names_in steps.now ledger.now) views.now) }
+{
+    let mut caps = Vec::with_capacity(alloc, views.len())?;
+    for view in views {
+        match ledger.name_of_view(steps, view.as_ref())? {
+            Some(cap) => caps.push(cap)?,
+            None => return Ok(None),
+        }
+    }
+    Ok(Some(Caps::new(caps)))
+}
+
+/// The own promise that a view is.
+fn promise_in(view: Option<&View>) -> Option<u64>
+    ensures { result ≡ promise_in (option_copied view.entry) }
+{
+    match view {
+        Some(View::Promise(reference)) => Some(*reference),
+        _ => None,
+    }
+}
+
+/// The step that keeps a promise, where both have names.
+fn fulfil_said(
+    ledger: &VatLedger,
+    steps: &[Step],
+    seen: &RecordFacts,
+) -> Result<Option<Step>, AllocError>
+    ensures { IfOk result (λ step. step ≡ fulfil_said (names_in steps.now ledger.now) seen.now) }
+{
+    let vat = ledger.vat;
+    let promise = promise_in(seen_at(seen.references(), 0));
+    let to = ledger.name_of_view(steps, seen_at(seen.references(), 1))?;
+    match (promise, to) {
+        (Some(promise), Some(to)) => Ok(Some(Step::Fulfil { vat, promise, to })),
+        _ => Ok(None),
+    }
+}
+
+/// The step of a record that names a call and no other capability, where the call has a name.
+fn of_call_said(ledger: &VatLedger, event: &DecodedRecord) -> Result<Option<Step>, AllocError>
+    ensures { IfOk result
+        (λ step. step ≡ of_call_said ledger.now.vat (call_name_in ledger.now) event.now) }
+{
+    let vat = ledger.vat;
+    let (DecodedRecord::Field { call, .. }
+    | DecodedRecord::Deliver { call, .. }
+    | DecodedRecord::Fault { call }) = event
+    else {
+        return Ok(None);
+    };
+    let Some(call) = ledger.call(*call) else {
+        return Ok(None);
+    };
+    Ok(Some(match event {
+        DecodedRecord::Field { path, .. } => Step::Name {
+            vat,
+            cap: Cap::Field(call, path.copy()?),
+        },
+        DecodedRecord::Deliver { object, .. } => Step::Deliver {
+            vat,
+            call,
+            object: *object,
+        },
+        _ => Step::Fault { vat, call },
+    }))
+}
+
+/// The step that a record of what the vat makes by itself says, where all that it names has a name.
+fn own_said(
+    alloc: Global,
+    ledger: &VatLedger,
+    steps: &[Step],
+    seen: &RecordFacts,
+    event: &DecodedRecord,
+) -> Result<Option<Step>, AllocError>
+    ensures { IfOk result
+        (λ step. step ≡ own_said (names_in steps.now ledger.now) seen.now event.now) }
+{
+    let vat = ledger.vat;
+    Ok(match event {
+        DecodedRecord::Host { object, .. } => Some(Step::Host {
+            vat,
+            object: *object,
+        }),
+        DecodedRecord::Vow { reference } => Some(Step::Vow {
+            vat,
+            promise: *reference,
+        }),
+        DecodedRecord::Fulfil { .. } => fulfil_said(ledger, steps, seen)?,
+        DecodedRecord::Break { .. } => match promise_in(seen_at(seen.references(), 0)) {
+            Some(promise) => Some(Step::Break { vat, promise }),
+            None => None,
+        },
+        DecodedRecord::Make {
+            call,
+            reference,
+            interface,
+            method,
+        } => match ledger.name_of_view(steps, seen_at(seen.references(), 0))? {
+            Some(cap) => Some(Step::Make {
+                vat,
+                number: *call,
+                cap,
+                reference: *reference,
+                interface: *interface,
+                method: *method,
+            }),
+            None => None,
+        },
+        DecodedRecord::Answer { call, results } => {
+            match (
+                ledger.call(*call),
+                results_said(alloc, ledger, steps, seen, results.as_slice())?,
+            ) {
+                (Some(call), Some(results)) => Some(Step::Answer { vat, call, results }),
+                _ => None,
+            }
+        }
+        _ => None,
+    })
+}
+
+/// The step that a record says that isn't received, where all that it names has a name. `late` says whether it is a Return
+/// that is late.
+pub(crate) fn step_said(
+    alloc: Global,
+    ledger: &VatLedger,
+    steps: &[Step],
+    late: bool,
+    seen: &RecordFacts,
+    event: &DecodedRecord,
+) -> Result<Option<Step>, AllocError>
+    ensures { IfOk result
+        (λ step. step ≡ step_by (names_in steps.now ledger.now) late seen.now event.now) }
+{
+    match event {
+        DecodedRecord::Wire {
+            connection,
+            call,
+            message,
+            ..
+        } => {
+            let sent = sent_said(alloc, ledger, steps, late, seen, *call, message)?;
+            Ok(match sent {
+                Some(message) => Some(Step::Send {
+                    vat: ledger.vat,
+                    connection: *connection,
+                    message,
+                }),
+                None => None,
+            })
+        }
+        DecodedRecord::Field { .. } | DecodedRecord::Deliver { .. } | DecodedRecord::Fault { .. } =>
+            { of_call_said(ledger, event) }
+        _ => own_said(alloc, ledger, steps, seen, event),
+    }
+}

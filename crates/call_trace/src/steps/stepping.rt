@@ -1,0 +1,202 @@
+//! The step that one record takes.
+
+ghost use Rattle.std.specs.Prelude.{◌≡◌, ℕ, List, None, true, false, IfOk, OnOk};
+ghost use Rattle.std.specs.Option.{option_copied};
+ghost use Rattle.call_trace.specs.Glue.Ledgers.{call_bound_by, late_in, received_step, with_bound, names_in, step_by, IsBound, IsNoted, IsKept, IsTaken};
+ghost use Rattle.call_trace.specs.Running.{step_of};
+ghost use Rattle.call_trace.specs.Types.{Step as Steps};
+ghost use Rattle.vat_rules.specs.OfCaps.{is_received};
+ghost use Rattle.vat_rules.specs.Telling.{seen_of};
+ghost use Rattle.vat_view.specs.Past.{Past};
+ghost use Rattle.run_model.specs.Has.{call_in_message};
+
+use crate::records::saying::{named_said, step_said};
+use crate::records::vat_ledger::VatLedger;
+use rpc_view::RpcMessage;
+use run_model::{Caps, Message, Name, Step};
+use std::alloc::{AllocError, Global};
+use vat_rules::RecordFacts;
+use vat_view::{DecodedRecord, TableKey};
+
+/// The name of the call that a message is, if it is one.
+fn call_named_in(message: &Message) -> Option<Name>
+    ensures { result ≡ call_in_message message.now }
+{
+    match message {
+        Message::Boot(call) | Message::Call { call, .. } => Some(*call),
+        _ => None,
+    }
+}
+
+/// The call to which a record gives a name, and the name: what it receives says this.
+fn call_bound_by(vat: u32, event: &DecodedRecord, message: Option<&Message>) -> Option<(u64, Name)>
+    ensures { result ≡ call_bound_by vat event.now (option_copied message.entry) }
+{
+    match event {
+        DecodedRecord::Make { call, .. }
+        | DecodedRecord::Wire {
+            sent: true,
+            call,
+            message: RpcMessage::Bootstrap { .. },
+            ..
+        } => Some((
+            *call,
+            Name {
+                maker: vat,
+                number: *call,
+            },
+        )),
+        DecodedRecord::Wire {
+            sent: false,
+            call,
+            message: RpcMessage::Bootstrap { .. } | RpcMessage::Call { .. },
+            ..
+        } => Some((*call, call_named_in(message?)?)),
+        _ => None,
+    }
+}
+
+/// Whether a record is a Return that is late, by the table of questions whose results were given back.
+fn is_late(ledger: &VatLedger, event: &DecodedRecord) -> bool
+    ensures { result ≡ late_in ledger.now event.now }
+{
+    match event {
+        DecodedRecord::Wire {
+            sent,
+            connection,
+            message: RpcMessage::Return { answer, .. },
+            ..
+        } => ledger.released.has(TableKey {
+            connection: *connection,
+            ours: !*sent,
+            number: *answer,
+        }),
+        _ => false,
+    }
+}
+
+impl VatLedger {
+    /// This call has this name.
+    fn bind(&mut self, named: Option<(u64, Name)>) -> Result<(), AllocError>
+        ensures { OnOk result (IsBound named self.old self.new) }
+    {
+        if let Some((call, name)) = named {
+            self.calls.bind(call, name)?;
+        }
+        Ok(())
+    }
+
+    /// A record comes whose step has this number.
+    fn note(&mut self, number: usize, event: &DecodedRecord) -> Result<(), AllocError>
+        ensures { OnOk result (IsNoted number event.now self.old self.new) }
+    {
+        self.released.note(event)?;
+        self.numbers.push(number)?;
+        Ok(())
+    }
+}
+
+/// The step of a record that isn't received, by what is kept of its vat, with the call named that the record binds.
+fn own_step(
+    alloc: Global,
+    steps: &[Step],
+    ledger: &mut VatLedger,
+    event: &DecodedRecord,
+    seen: &RecordFacts,
+) -> Result<Option<Step>, AllocError>
+    ensures step { IfOk result
+        (λ step. step ≡ step_by (names_in steps.now ledger.new)
+        (late_in ledger.new event.now) seen.now event.now) }
+    ensures named { OnOk result
+        (IsBound (call_bound_by ledger.old.vat event.now None) ledger.old ledger.new) }
+{
+    ledger.bind(call_bound_by(ledger.vat, event, None))?;
+    let late = is_late(ledger, event);
+    step_said(alloc, ledger, steps, late, seen, event)
+}
+
+/// A record that isn't received takes its step, if it has one.
+pub(crate) fn take_own(
+    alloc: Global,
+    steps: &mut Vec<Step>,
+    ledger: &mut VatLedger,
+    event: &DecodedRecord,
+    seen: &RecordFacts,
+) -> Result<bool, AllocError>
+    requires { is_received event.now ≡ false }
+    ensures { IfOk result
+        (λ taken. (v : ℕ) (es : Past) (own before : List Steps)
+        → IsKept v es own steps.old.items ledger.old → seen.now ≡ seen_of es event.now
+        → IsTaken v es event.now own
+        (step_of v es own before event.now) steps.old.items steps.new.items ledger.new taken) }
+{
+    match own_step(alloc, steps, ledger, event, seen)? {
+        Some(step) => {
+            ledger.note(steps.len(), event)?;
+            steps.push(step)?;
+            Ok(true)
+        }
+        None => Ok(false),
+    }
+}
+
+/// A step that receives, with these bound.
+fn with_bound(step: Step, bound: Caps) -> Step
+    ensures { result ≡ with_bound bound step }
+{
+    match step {
+        Step::Receive {
+            vat,
+            connection,
+            message,
+            ..
+        } => Step::Receive {
+            vat,
+            connection,
+            message,
+            bound,
+        },
+        step => step,
+    }
+}
+
+/// A record that is received takes its step, if all that it names has a name: it receives this message.
+pub(crate) fn take_received(
+    alloc: Global,
+    steps: &mut Vec<Step>,
+    ledger: &mut VatLedger,
+    event: &DecodedRecord,
+    seen: &RecordFacts,
+    message: Message,
+) -> Result<bool, AllocError>
+    requires { is_received event.now ≡ true }
+    ensures { IfOk result
+        (λ taken. (v : ℕ) (es : Past) (own : List Steps)
+        → IsKept v es own steps.old.items ledger.old → seen.now ≡ seen_of es event.now
+        → IsTaken v es event.now own
+        (received_step v es own event.now message) steps.old.items steps.new.items ledger.new
+        taken) }
+{
+    let DecodedRecord::Wire { connection, .. } = event else {
+        unreachable!()
+    };
+    let number = steps.len();
+    ledger.bind(call_bound_by(ledger.vat, event, Some(&message)))?;
+    ledger.note(number, event)?;
+    steps.push(Step::Receive {
+        vat: ledger.vat,
+        connection: *connection,
+        message,
+        bound: Caps::new(Vec::new(alloc)),
+    })?;
+    match named_said(alloc, ledger, steps, seen.references())? {
+        Some(bound) => {
+            let Some(step) = steps.pop() else {
+                unreachable!()
+            };
+            steps.push(with_bound(step, bound))?;
+            Ok(true)
+        }
+        None => Ok(false),
+    }
+}

@@ -1,0 +1,79 @@
+//! The edges of a run, line by line.
+
+ghost use Rattle.std.specs.Prelude.{◌⊎◌, OnOk};
+ghost use Rattle.command_run.specs.CommandAnswers.{AnswersReportOf, IsOutOfMemory};
+ghost use Rattle.command_run.specs.Glue.{Prints};
+ghost use Rattle.command_run.specs.ReportAnswers.{AnswersGraph, ShowsEdges, edge_lines};
+ghost use Rattle.command_run.specs.Runs.{Adds, Wrote};
+
+use crate::answering::say;
+use crate::commands::check::report_of;
+use crate::notes::cause::Heard;
+use crate::output::Output;
+use audit_core::Report;
+use authority::{Graph, graph};
+use case_files::Source;
+use report_lines::{Answer, Fault, ShownEdge};
+use run_model::Run;
+use std::alloc::Global;
+use std::sync::Wait;
+use std::thread::Threads;
+
+/// Writes the lines of edges. More may follow.
+fn put_edges<O: Output>(graph: &Graph, out: &mut O) -> Result<(), O::Error>
+    requires { O.can_write out.old }
+    ensures lines { OnOk result (Adds O.contents out.old (edge_lines graph.now) out.new) }
+    ensures more { OnOk result (O.can_write out.new) }
+{
+    for edge in graph.edges() {
+        out.write_line(ShownEdge(edge))?;
+    }
+    Ok(())
+}
+
+/// Says the edges of a run, or that memory ran out.
+fn say_edges<O: Output>(
+    alloc: Global,
+    run: &Run,
+    heard: &mut Heard,
+    out: &mut O,
+) -> Result<u8, O::Error>
+    requires { O.can_write out.old }
+    ensures { Prints (λ text status. ShowsEdges run.now text status ⊎ IsOutOfMemory text status)
+        (Wrote O.contents O.is_finished) out.old out.new result }
+{
+    let Ok(graph) = graph(alloc, run) else {
+        return say(Answer::Fault(Fault::OutOfMemory), heard, out);
+    };
+    put_edges(&graph, out)?;
+    out.finish()?;
+    Ok(0)
+}
+
+/// Audits the case that a source has under a name, and says which vat came to have which capability of another, where the
+/// report is yes, a line each; else it says the report.
+///
+/// # Errors
+///
+/// That of a write; nothing is written after it.
+pub fn say_graph<R: Threads + Wait + Sync, S: Source, O: Output>(
+    rt: &R,
+    alloc: Global,
+    name: &str,
+    source: &mut S,
+    heard: &mut Heard,
+    out: &mut O,
+) -> Result<u8, O::Error>
+    requires { O.can_write out.old }
+    ensures { Prints (AnswersReportOf AnswersGraph S.read_gives source.old name.now source.new)
+        (Wrote O.contents O.is_finished) out.old out.new result }
+{
+    let report = match report_of(rt, alloc, name, 1, source) {
+        Ok(report) => report,
+        Err(fault) => return say(Answer::Fault(fault), heard, out),
+    };
+    match report {
+        Report::Yes { run, .. } => say_edges(alloc, &run, heard, out),
+        report => say(Answer::Report(report), heard, out),
+    }
+}

@@ -1,0 +1,71 @@
+//! The answer to a frame.
+
+ghost use Rattle.std.specs.Prelude.{◌≡◌, IfOk};
+ghost use Rattle.cap_reader.specs.Defaults.{default_limits};
+ghost use Rattle.rpc_view.specs.Message.{message_of_bytes};
+ghost use Rattle.report_lines.specs.Lines.{answer_status, answer_text, line};
+ghost use Rattle.command_run.specs.Answers.{AnswersHex, AnswersView, view_answer};
+ghost use Rattle.command_run.specs.CommandAnswers.{AnswersFrame};
+ghost use Rattle.command_run.specs.Glue.{Prints};
+ghost use Rattle.command_run.specs.Runs.{Wrote};
+
+use crate::answering::say;
+use crate::notes::cause::Heard;
+use crate::output::Output;
+use bytes::Bytes;
+use hex::FromHexError;
+use report_lines::{Answer, Fault};
+use rpc_view::{Limits, ViewError, read_bytes};
+use std::alloc::{AllocError, Global};
+
+/// The answer to the bytes of a frame, read within the default limits.
+///
+/// # Errors
+///
+/// Out of memory.
+pub fn answer_of_bytes(alloc: Global, bytes: Bytes) -> Result<Answer, AllocError>
+    ensures view { IfOk result
+        (λ answer. AnswersView (message_of_bytes bytes default_limits) (line (answer_text answer))
+        (answer_status answer)) }
+    ensures answer { IfOk result
+        (λ answer. answer ≡ view_answer (message_of_bytes bytes default_limits)) }
+{
+    match read_bytes(alloc, bytes, Limits::default()) {
+        Ok(message) => Ok(Answer::Message(message)),
+        Err(ViewError::OutOfMemory) => Err(AllocError),
+        Err(fault) => Ok(Answer::Fault(Fault::from(fault))),
+    }
+}
+
+/// The answer to a frame in hexadecimal, two digits a byte in either case.
+fn answer_of_hex(alloc: Global, hex: &str) -> Result<Answer, AllocError>
+    ensures { IfOk result
+        (λ answer. AnswersHex hex.now (line (answer_text answer)) (answer_status answer)) }
+{
+    match hex::decode(alloc, hex) {
+        Ok(bytes) => answer_of_bytes(alloc, Bytes::from_vec(bytes)?),
+        Err(FromHexError::OutOfMemory) => Err(AllocError),
+        Err(_) => Ok(Answer::Fault(Fault::BadHex)),
+    }
+}
+
+/// Says the message of a frame in hexadecimal.
+///
+/// # Errors
+///
+/// That of a write; nothing is written after it.
+pub fn say_frame<O: Output>(
+    alloc: Global,
+    hex: &str,
+    heard: &mut Heard,
+    out: &mut O,
+) -> Result<u8, O::Error>
+    requires { O.can_write out.old }
+    ensures { Prints (AnswersFrame hex.now)
+        (Wrote O.contents O.is_finished) out.old out.new result }
+{
+    match answer_of_hex(alloc, hex) {
+        Ok(answer) => say(answer, heard, out),
+        Err(AllocError) => say(Answer::Fault(Fault::OutOfMemory), heard, out),
+    }
+}

@@ -1,0 +1,127 @@
+//! The records of a log, line by line.
+
+ghost use Rattle.std.specs.Prelude.{◌≡◌, ◌≤◌, IfOk, OnOk};
+ghost use Rattle.case_files.specs.CaseReading.{Read};
+ghost use Rattle.report_lines.specs.Lines.{line};
+ghost use Rattle.report_lines.specs.RecordText.{record_text};
+ghost use Rattle.command_run.specs.CommandAnswers.{AnswersLogRecords};
+ghost use Rattle.command_run.specs.Glue.{CameOf, Ends, Prints};
+ghost use Rattle.command_run.specs.RecordAnswers.{AnswersListing, record_line};
+ghost use Rattle.command_run.specs.Runs.{Adds, Wrote};
+
+use crate::answering::say;
+use crate::commands::hex_frame::answer_of_bytes;
+use crate::notes::cause::Heard;
+use crate::output::Output;
+use case_files::Source;
+use report_lines::{Answer, Fault, NumberedRecord};
+use std::alloc::{AllocError, Global};
+use vat_log::{Body, Record, VatLog, parse_log};
+
+/// A record to be shown with its number, its frame read as `frame` reads it.
+pub fn numbered<'a>(
+    alloc: Global,
+    at: usize,
+    event: &'a Record,
+) -> Result<NumberedRecord<'a>, AllocError>
+    ensures { IfOk result
+        (λ shown. line (record_text shown.at shown.body.now shown.message)
+        ≡ record_line at event.now) }
+{
+    let body = event.body();
+    let message = match body {
+        Body::Send { frame, .. } | Body::Receive { frame, .. } => {
+            Some(answer_of_bytes(alloc, frame.clone()?)?)
+        }
+        _ => None,
+    };
+    Ok(NumberedRecord { at, body, message })
+}
+
+/// Writes the line of a record. More may follow.
+fn put_numbered<O: Output>(shown: NumberedRecord<'_>, out: &mut O) -> Result<(), O::Error>
+    requires { O.can_write out.old }
+    ensures line { OnOk result
+        (Adds O.contents out.old
+        (line (record_text shown.entry.at shown.entry.body.now shown.entry.message)) out.new) }
+    ensures more { OnOk result (O.can_write out.new) }
+{
+    out.write_line(&shown)
+}
+
+/// The number behind that of the last record that is asked for, in a log of this many.
+fn end_of(first: usize, count: Option<u64>, len: usize) -> usize
+    ensures within { result ≤ len }
+    ensures wanted { Ends first count len result }
+{
+    match count {
+        None => len,
+        Some(count) => first.saturating_add(count as usize).min(len),
+    }
+}
+
+/// Says the records of a log from this one on, as many as are wanted.
+fn say_log<O: Output>(
+    alloc: Global,
+    log: &VatLog,
+    from: Option<u64>,
+    count: Option<u64>,
+    heard: &mut Heard,
+    out: &mut O,
+) -> Result<u8, O::Error>
+    requires { O.can_write out.old }
+    ensures { Prints (AnswersListing from count log.now.records)
+        (Wrote O.contents O.is_finished) out.old out.new result }
+{
+    let first = from.unwrap_or(0) as usize;
+    let end = end_of(first, count, log.len());
+    let mut at = first;
+    while at < end {
+        let Some(event) = log.get(at) else {
+            unreachable!()
+        };
+        let Ok(shown) = numbered(alloc, at, event) else {
+            return say(Answer::Fault(Fault::OutOfMemory), heard, out);
+        };
+        put_numbered(shown, out)?;
+        at += 1;
+    }
+    out.finish()?;
+    Ok(0)
+}
+
+/// The log that a source has under a name.
+fn log_of<S: Source>(alloc: Global, source: &mut S, name: &str) -> Result<VatLog, Fault>
+    ensures { (read : Read) × S.read_gives source.old name.now read source.new
+        × CameOf read result }
+{
+    let bytes = source.read(name)?;
+    Ok(parse_log(alloc, bytes)?)
+}
+
+/// Says the records of the log that a source has under a name, from this one on or from the first, and as many as are
+/// wanted or all. The exit status is 0 where there is a log, whatever its frames are; where there is none its fault is
+/// said. Where memory runs out that is said in a last line.
+///
+/// # Errors
+///
+/// That of a write; nothing is written after it.
+pub fn say_records<S: Source, O: Output>(
+    alloc: Global,
+    name: &str,
+    from: Option<u64>,
+    count: Option<u64>,
+    source: &mut S,
+    heard: &mut Heard,
+    out: &mut O,
+) -> Result<u8, O::Error>
+    requires { O.can_write out.old }
+    ensures { (read : Read) × S.read_gives source.old name.now read source.new
+        × Prints (AnswersLogRecords from count read)
+        (Wrote O.contents O.is_finished) out.old out.new result }
+{
+    match log_of(alloc, source, name) {
+        Ok(log) => say_log(alloc, &log, from, count, heard, out),
+        Err(fault) => say(Answer::Fault(fault), heard, out),
+    }
+}

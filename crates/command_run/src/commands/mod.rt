@@ -1,0 +1,11 @@
+//! The commands, one a file, with what they ask of their source and what they say.
+
+pub(crate) mod check;
+pub(crate) mod frame_list;
+pub(crate) mod graph;
+pub(crate) mod hex_frame;
+pub(crate) mod log_records;
+pub(crate) mod make_order;
+pub(crate) mod next_frame;
+pub(crate) mod run_steps;
+pub(crate) mod vat_audit;

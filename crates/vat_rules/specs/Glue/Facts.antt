@@ -1,0 +1,55 @@
+-- For the code's contracts, and no part of the meaning: what a record's numbers stand for
+-- before it is applied, looked up at once.
+use Rattle.std.specs.Prelude.{ℕ, List, [], ◌∷◌, map, Bool, true, false, Option, Some, None, slice_get, unwrap_or}
+use Rattle.std.specs.List.{zip}
+use Rattle.vat_log.specs.declared.body.Body.{Body}
+use Rattle.vat_log.specs.declared.body.Body.TheVariants as body
+use Rattle.vat_rules.specs.Types.{DecodedRecord, View}
+use Rattle.vat_view.specs.Past.{Past}
+use Rattle.vat_view.specs.Views.{view_of_target, views_of_descriptors}
+use Rattle.vat_view.specs.Questions.{is_late}
+use Rattle.vat_rules.specs.Telling.{seen_question, seen_promise, seen_released, seen_of}
+use Rattle.vat_rules.specs.declared.facts.meanings.Meanings.{Meanings}
+use Rattle.vat_rules.specs.LogFacts.{Sight, Entry}
+
+-- what the numbers of a record stand for, apart from its references
+abbrev pub standing_of : Past → DecodedRecord → Meanings
+standing_of before e = record {
+  question = seen_question before e;
+  promise = seen_promise before e;
+  target = view_of_target before e;
+  released = seen_released before e;
+  caps = views_of_descriptors before e;
+  late = is_late before e;
+}
+
+-- the view of these at a place, if one is there
+abbrev pub view_at : ℕ → List (Option View) → Option View
+view_at place views = unwrap_or (slice_get views place) None
+
+-- what is seen of each record, the newest first
+abbrev pub seen_back : Past → List Sight
+seen_back [] = []
+seen_back (e ∷ before) = seen_of before e ∷ seen_back before
+
+-- records, each with what is seen of it
+abbrev pub entries_with : List DecodedRecord → List Sight → List Entry
+entries_with events seen = map (λ p. record { event = p.0; seen = p.1 }) (zip events seen)
+
+-- what the references of a record and its other numbers stand for
+abbrev pub sight_with : List (Option View) → Meanings → Sight
+sight_with references standing = record {
+  references = references;
+  question = standing.question;
+  promise = standing.promise;
+  target = standing.target;
+  released = standing.released;
+  caps = standing.caps;
+  late = standing.late;
+}
+
+-- a stored record has a frame
+abbrev pub has_frame : Body → Bool
+has_frame (body.Send connection call references frame) = true
+has_frame (body.Receive connection call references frame) = true
+has_frame _ = false

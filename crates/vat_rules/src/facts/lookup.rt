@@ -1,0 +1,180 @@
+//! What the numbers of a record stand for.
+
+ghost use Rattle.std.specs.Prelude.{◌≡◌, ◌++◌, map, IfOk};
+ghost use Rattle.vat_view.specs.Bindings.{new_references, named_references};
+ghost use Rattle.vat_view.specs.Views.{view_of_reference, views_of_descriptors};
+ghost use Rattle.vat_rules.specs.Telling.{seen_question, seen_promise, seen_released};
+ghost use Rattle.vat_rules.specs.Glue.Facts.{standing_of};
+
+use crate::facts::meanings::Meanings;
+use crate::facts::view_list::ViewList;
+use cap_frame::Path;
+use rpc_view::RpcMessage;
+use std::alloc::{AllocError, Global};
+use vat_view::{DecodedRecord, Number, VatState, View};
+
+/// What the question stands for that a record returns or finishes.
+fn seen_question(
+    alloc: Global,
+    state: &VatState,
+    event: &DecodedRecord,
+) -> Result<Option<View>, AllocError>
+    ensures { IfOk result (λ v. v ≡ seen_question state.now event.now) }
+{
+    let DecodedRecord::Wire {
+        sent,
+        connection,
+        message,
+        ..
+    } = event
+    else {
+        return Ok(None);
+    };
+    let number = match message {
+        RpcMessage::Return { answer, .. } if *sent => Number::Answer(*answer),
+        RpcMessage::Return { answer, .. } => Number::Question(*answer),
+        RpcMessage::Finish { question, .. } if *sent => Number::Question(*question),
+        RpcMessage::Finish { question, .. } => Number::Answer(*question),
+        _ => return Ok(None),
+    };
+    state.stands_for(*connection, number, &Path::new(Vec::new(alloc))?)
+}
+
+/// What the promise stands for that a record resolves.
+fn seen_promise(
+    alloc: Global,
+    state: &VatState,
+    event: &DecodedRecord,
+) -> Result<Option<View>, AllocError>
+    ensures { IfOk result (λ v. v ≡ seen_promise state.now event.now) }
+{
+    let DecodedRecord::Wire {
+        sent,
+        connection,
+        message: RpcMessage::Resolve { promise, .. },
+        ..
+    } = event
+    else {
+        return Ok(None);
+    };
+    let number = if *sent {
+        Number::Export(*promise)
+    } else {
+        Number::Import(*promise)
+    };
+    state.stands_for(*connection, number, &Path::new(Vec::new(alloc))?)
+}
+
+/// What the number stands for that a Release gives back.
+fn seen_released(
+    alloc: Global,
+    state: &VatState,
+    event: &DecodedRecord,
+) -> Result<Option<View>, AllocError>
+    ensures { IfOk result (λ v. v ≡ seen_released state.now event.now) }
+{
+    let DecodedRecord::Wire {
+        sent,
+        connection,
+        message: RpcMessage::Release { id, .. },
+        ..
+    } = event
+    else {
+        return Ok(None);
+    };
+    let number = if *sent {
+        Number::Import(*id)
+    } else {
+        Number::Export(*id)
+    };
+    state.stands_for(*connection, number, &Path::new(Vec::new(alloc))?)
+}
+
+/// What the descriptors of a record stand for that may be applied next. Most records have none.
+fn views_of_descriptors(
+    alloc: Global,
+    state: &VatState,
+    event: &DecodedRecord,
+) -> Result<ViewList, AllocError>
+    ensures { IfOk result (λ views. views ≡ views_of_descriptors state.now event.now) }
+{
+    if event.descriptors().is_empty() {
+        return Ok(ViewList::new(Vec::new(alloc)));
+    }
+    Ok(ViewList::new(state.views_of_descriptors(event)?))
+}
+
+/// What the numbers of a record stand for that may be applied next, apart from its references.
+pub(crate) fn standing_of(
+    alloc: Global,
+    state: &VatState,
+    event: &DecodedRecord,
+) -> Result<Meanings, AllocError>
+    ensures { IfOk result (λ standing. standing ≡ standing_of state.now event.now) }
+{
+    Ok(Meanings {
+        question: seen_question(alloc, state, event)?,
+        promise: seen_promise(alloc, state, event)?,
+        target: state.view_of_target(event)?,
+        released: seen_released(alloc, state, event)?,
+        caps: views_of_descriptors(alloc, state, event)?,
+        late: state.is_late(event),
+    })
+}
+
+/// What references stand for.
+fn views_of(alloc: Global, state: &VatState, references: &[u64]) -> Result<ViewList, AllocError>
+    ensures { IfOk result (λ views. views ≡ map (view_of_reference state.now) references.now) }
+{
+    if let [reference] = references {
+        return Ok(ViewList::one(state.view_of_reference(*reference)?));
+    }
+    let mut views = Vec::with_capacity(alloc, references.len())?;
+    for reference in references {
+        views.push(state.view_of_reference(*reference)?)?;
+    }
+    Ok(ViewList::new(views))
+}
+
+/// What the references of a call's results stand for.
+fn views_of_results(
+    alloc: Global,
+    state: &VatState,
+    results: &[(u64, Path)],
+) -> Result<ViewList, AllocError>
+    ensures { IfOk result (λ views.
+        views ≡ map (view_of_reference state.now) (map (λ answer. answer.0) results.now)) }
+{
+    if let [answer] = results {
+        return Ok(ViewList::one(state.view_of_reference(answer.0)?));
+    }
+    let mut views = Vec::with_capacity(alloc, results.len())?;
+    for answer in results {
+        views.push(state.view_of_reference(answer.0)?)?;
+    }
+    Ok(ViewList::new(views))
+}
+
+/// What the references stand for that a record binds or names, in its order.
+pub(crate) fn views_of_references(
+    alloc: Global,
+    state: &VatState,
+    event: &DecodedRecord,
+) -> Result<ViewList, AllocError>
+    ensures { IfOk result (λ views. views ≡ map
+        (view_of_reference state.now) (new_references event.now ++ named_references event.now)) }
+{
+    match event {
+        DecodedRecord::Answer { results, .. } => views_of_results(alloc, state, results.as_slice()),
+        DecodedRecord::Fulfil { reference, to } => views_of(alloc, state, &[*reference, *to]),
+        DecodedRecord::Break { reference } | DecodedRecord::Make { reference, .. } => {
+            Ok(ViewList::one(state.view_of_reference(*reference)?))
+        }
+        DecodedRecord::Wire {
+            sent: true,
+            references,
+            ..
+        } => views_of(alloc, state, references.as_slice()),
+        _ => views_of(alloc, state, event.new_references()),
+    }
+}

@@ -1,6 +1,0 @@
-use Rattle.std.proofs.Common.{◌≡◌, take, map}
-use Rattle.vat_tap.specs.Glue.{put}
-use Rattle.vat_tap.proofs.order.put_each.Given as goal
-
-abbrev pub invariant-loop-item : goal.invariant-loop-item
-invariant-loop-item l = map (λ entry. entry.now) l.records.items ≡ put (map (λ entry. entry.now) l.initial.records.items) (take l.item-index (map (λ item. item.now) l.all))

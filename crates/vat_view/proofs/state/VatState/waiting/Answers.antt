@@ -1,7 +1,0 @@
-use Rattle.std.proofs.Common.{subst, ◌∙◌}
-use Rattle.vat_view.specs.LoopTables.{AreWaiting}
-use Rattle.vat_view.proofs.Looping.{waiting_known}
-use Rattle.vat_view.proofs.state.VatState.waiting.Goals as goal
-
-pub returns : goal.returns
-returns c = c.waiting.ensures ∙ waiting_known c.args.self.now c.self.inside.waits (subst (λ p. AreWaiting p c.self.inside.waits) c.self.view_is c.self.invariant.4) c.args.number

@@ -1,6 +1,0 @@
-use Rattle.vat_view.specs.TurnTables.{turns_of}
-use Rattle.vat_view.proofs.Hopping.{Walked}
-use Rattle.vat_view.proofs.walk.end.Given as goal
-
-abbrev pub invariant-loop-hop : goal.invariant-loop-hop
-invariant-loop-hop l = Walked (turns_of l.events l.turns l.bound) l.hop l.fn.view l.at l.mark

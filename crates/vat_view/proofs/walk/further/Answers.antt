@@ -1,5 +1,0 @@
-use Rattle.std.proofs.Common.{suc}
-use Rattle.vat_view.proofs.walk.further.Goals as goal
-
-pub returns-in-Some : goal.returns-in-Some
-returns-in-Some c = (suc c.in-Some.ensures.0, c.in-Some.ensures.1)

@@ -1,0 +1,13 @@
+-- For the code's contracts, and no part of the meaning: the tables, and what looking back finds for them.
+pub mod Asking
+pub mod CallTables
+pub mod ConnectionTables
+pub mod Ids
+pub mod Kept
+pub mod KindTables
+pub mod LoopTables
+pub mod Queues
+pub mod Seen
+pub mod Sides
+pub mod Tables
+pub mod TurnTables

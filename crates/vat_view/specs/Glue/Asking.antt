@@ -1,0 +1,58 @@
+-- For the code's contracts, and no part of the meaning: what the tables answer.
+use Rattle.std.specs.Prelude.{ℕ, ◌+◌, ◌&&◌, Bool, true, false, not, Option, Some, None, option_map, option_and_then, unwrap_or, count_by}
+use Rattle.std.specs.BTreeMap.{get}
+use Rattle.vat_view.specs.declared.tables.question.Question.{Question}
+use Rattle.vat_view.specs.declared.tables.exports_imports.ExportsImports.{ExportsImports}
+use Rattle.vat_view.specs.declared.preconditions.key_counts.KeyCounts.{KeyCounts}
+use Rattle.vat_view.specs.Types.{Target, Imported, Promised, Release, DecodedRecord, Wire, View, FieldOf, TableKey}
+use Rattle.vat_view.specs.Past.{id, same_id}
+use Rattle.vat_view.specs.Views.{target_of}
+use Rattle.vat_view.specs.Glue.Tables.{id_cmp, number_by, call_by, count_released, given_back_by}
+
+-- what a question's entry says of it
+abbrev pub free_in : Option Question → Bool
+free_in (Some known) = known.returned && known.finished
+free_in None = true
+
+abbrev pub unfinished_in : Option Question → Bool
+unfinished_in (Some known) = not known.finished
+unfinished_in None = false
+
+abbrev pub finished_in : Option Question → Bool
+finished_in (Some known) = known.finished
+finished_in None = false
+
+abbrev pub unreturned_in : Option Question → Bool
+unreturned_in (Some known) = not known.returned
+unreturned_in None = false
+
+abbrev pub opening_call_in : Option Question → Option ℕ
+opening_call_in known = option_map (λ known. known.call) known
+
+-- what a target stands for, sent or received on a connection
+abbrev pub target_by : (ℕ → Option View) → ExportsImports → (TableKey → Option Question) → ℕ → Bool → Target → Option View
+target_by named lives known k sent (Imported n) = number_by named lives (id k (not sent) n)
+target_by named lives known k sent (Promised q path) = option_map (λ call. FieldOf call path) (call_by (known (id k sent q)))
+
+-- what a record's target stands for
+abbrev pub targeted_by : (ℕ → Option View) → ExportsImports → (TableKey → Option Question) → DecodedRecord → Option View
+targeted_by named lives known (Wire sent k call rs m) = option_and_then (target_by named lives known k sent) (target_of m)
+targeted_by named lives known _ = None
+
+-- the number that a Release gives back, and how much of it
+abbrev pub let_go_of : DecodedRecord → Option (TableKey × ℕ)
+let_go_of (Wire sent k call references (Release n count)) = Some (id k (not sent) n, count)
+let_go_of _ = None
+
+-- how much of a number a record gives back
+abbrev pub given_by : (TableKey → Option Question) → TableKey → DecodedRecord → ℕ
+given_by known i e = count_by (same_id i) (given_back_by known e) + count_released i e
+
+-- how often a number was counted
+abbrev pub tally_at : KeyCounts → TableKey → ℕ
+tally_at tally i = unwrap_or (get id_cmp tally.entries i) 0
+
+-- a number that may be named passes a test, if it is
+abbrev pub passes_if : (TableKey → Bool) → Option TableKey → Bool
+passes_if test (Some i) = test i
+passes_if test None = true

@@ -1,0 +1,138 @@
+-- For the code's contracts, and no part of the meaning: the table of calls, and what looking back finds for each of
+-- them.
+use Rattle.std.specs.Prelude.{◌≡◌, ℕ, ◌==◌, Bool, true, false, Option, Some, None, if◌then◌else◌, option_map, option_and_then}
+use Rattle.rising_table.specs.Entries.{entry_at}
+use Rattle.vat_view.specs.declared.tables.question.Question.{Question}
+use Rattle.vat_view.specs.declared.tables.exports_imports.ExportsImports.{ExportsImports}
+use Rattle.vat_view.specs.declared.tables.calls.Calls.{Calls}
+use Rattle.vat_view.specs.declared.tables.call_state.CallState.{CallState}
+use Rattle.vat_view.specs.declared.tables.call_state.CallEntry.{CallEntry}
+use Rattle.vat_view.specs.declared.tables.call_state.CallChange.{CallChange}
+use Rattle.vat_view.specs.declared.tables.call_state.CallChange.TheVariants.{Left, Delivered, Faulted, Answered, Known}
+use Rattle.vat_view.specs.declared.tables.call_state.CallEffect.{CallEffect}
+use Rattle.vat_view.specs.declared.tables.call_state.CallEffect.TheVariants.{Nothing, Begins, Moves}
+use Rattle.vat_view.specs.Types.{Bootstrap, Call, Return, Results, Exception, Canceled, DecodedRecord, Make, Deliver, Answer, Fault, Wire, View, Asked, TableKey}
+use Rattle.vat_view.specs.Past.{Past, id}
+use Rattle.vat_view.specs.Questions.{is_late, call_at, opening}
+use Rattle.vat_view.specs.Views.{view_of_reference, view_of_target}
+use Rattle.vat_view.specs.Calls.{request_of, is_at_vat, is_served, is_settled, is_known}
+use Rattle.vat_view.specs.Bindings.{is_bound_call}
+use Rattle.vat_view.specs.Glue.Tables.{late_by}
+use Rattle.vat_view.specs.Glue.Asking.{opening_call_in, targeted_by}
+
+-- the goal that an entry has
+abbrev pub aim_in : CallEntry → Option View
+aim_in entry = if entry.aimed then Some entry.goal else None
+
+-- what an entry says of a call
+abbrev pub call_state_in : CallEntry → CallState
+call_state_in entry = record {
+  asked = if entry.came then Some (record { goal = aim_in entry; interface = entry.interface; method = entry.method }) else None;
+  at_vat = entry.at_vat;
+  served = entry.served;
+  settled = entry.settled;
+  known = entry.known;
+}
+
+-- what the table has of a call
+abbrev pub call_state_at : Calls → ℕ → Option CallState
+call_state_at table c = option_map call_state_in (entry_at table.entries c)
+
+-- what looking back finds of a call that is bound
+abbrev pub call_state_of : ℕ → Past → Option CallState
+call_state_of c past =
+    if is_bound_call past c then Some (record { asked = request_of c past; at_vat = is_at_vat c past; served = is_served c past; settled = is_settled c past; known = is_known c past }) else None
+
+-- the table of calls has what looking back finds
+abbrev pub AreCalled : Past → Calls → Type 0
+AreCalled past table = (c : ℕ) → call_state_at table c ≡ call_state_of c past
+
+-- what a call's entry says of it
+abbrev pub request_in : Option CallState → Option Asked
+request_in (Some p) = p.asked
+request_in None = None
+
+abbrev pub goal_in : Option CallState → Option View
+goal_in progress = option_and_then (λ a. a.goal) (request_in progress)
+
+abbrev pub at_vat_in : Option CallState → Bool
+at_vat_in (Some p) = p.at_vat
+at_vat_in None = false
+
+abbrev pub served_in : Option CallState → Bool
+served_in (Some p) = p.served
+served_in None = false
+
+abbrev pub settled_in : Option CallState → Bool
+settled_in (Some p) = p.settled
+settled_in None = false
+
+abbrev pub known_in : Option CallState → Bool
+known_in (Some p) = p.known
+known_in None = false
+
+-- how far a call has come after this happened to it
+abbrev pub after_change : CallChange → CallState → CallState
+after_change Left p = record p { at_vat = false }
+after_change Delivered p = record p { at_vat = false; served = true }
+after_change Faulted p = record p { at_vat = false; settled = true }
+after_change Answered p = record p { settled = true; known = true }
+after_change Known p = record p { known = true }
+
+-- a call that comes to the vat
+abbrev pub arriving_call : Option View → ℕ → ℕ → CallState
+arriving_call goal interface method = record {
+  asked = Some (record { goal = goal; interface = interface; method = method });
+  at_vat = true;
+  served = false;
+  settled = false;
+  known = false;
+}
+
+-- the call of a Bootstrap, which is served where that was received
+abbrev pub bootstrap_call : Bool → CallState
+bootstrap_call received = record { asked = None; at_vat = false; served = received; settled = false; known = false }
+
+-- this happens to a call, if there is one
+abbrev pub change_of_call : CallChange → Option ℕ → CallEffect
+change_of_call step (Some c) = Moves c step
+change_of_call step None = Nothing
+
+-- what a sent record tells of calls, by the calls of questions
+abbrev pub sent_effect : (TableKey → Option ℕ) → DecodedRecord → CallEffect
+sent_effect opened (Wire true k c rs (Bootstrap q)) = Begins c (bootstrap_call false)
+sent_effect opened (Wire true k c rs (Call q target interface method params)) = Moves c Left
+sent_effect opened (Wire true k c rs (Return q release Exception)) = change_of_call Left (opened (id k false q))
+sent_effect opened (Wire true k c rs (Return q release Canceled)) = change_of_call Left (opened (id k false q))
+sent_effect opened _ = Nothing
+
+-- what a received record tells of calls, by the views of targets, whether it is late, and the calls of questions
+abbrev pub received_effect : Option View → Bool → (TableKey → Option ℕ) → DecodedRecord → CallEffect
+received_effect target late opened (Wire false k c rs (Bootstrap q)) = Begins c (bootstrap_call true)
+received_effect target late opened (Wire false k c rs (Call q t interface method params)) = Begins c (arriving_call target interface method)
+received_effect target late opened (Wire false k c rs (Return q release (Results payload))) = if late then Nothing else change_of_call Known (opened (id k true q))
+received_effect target late opened _ = Nothing
+
+-- what a record tells of calls
+abbrev pub effect_from : (ℕ → Option View) → Option View → Bool → (TableKey → Option ℕ) → DecodedRecord → CallEffect
+effect_from named target late opened (Make c r interface method) = Begins c (arriving_call (named r) interface method)
+effect_from named target late opened (Deliver c object) = Moves c Delivered
+effect_from named target late opened (Answer c results) = Moves c Answered
+effect_from named target late opened (Fault c) = Moves c Faulted
+effect_from named target late opened (Wire true k c rs m) = sent_effect opened (Wire true k c rs m)
+effect_from named target late opened (Wire false k c rs m) = received_effect target late opened (Wire false k c rs m)
+effect_from named target late opened _ = Nothing
+
+-- by the tables
+abbrev pub effect_by : (ℕ → Option View) → ExportsImports → (TableKey → Option Question) → DecodedRecord → CallEffect
+effect_by named lives known e = effect_from named (targeted_by named lives known e) (late_by known e) (λ q. opening_call_in (known q)) e
+
+-- by looking back
+abbrev pub effect_of : Past → DecodedRecord → CallEffect
+effect_of before e = effect_from (view_of_reference before) (view_of_target before e) (is_late before e) (λ q. call_at (opening q before)) e
+
+-- what is known of a call after some news
+abbrev pub after_effect : CallEffect → ℕ → Option CallState → Option CallState
+after_effect Nothing c progress = progress
+after_effect (Begins d begun) c progress = if d == c then Some begun else progress
+after_effect (Moves d step) c progress = if d == c then option_map (after_change step) progress else progress

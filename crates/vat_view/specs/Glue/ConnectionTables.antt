@@ -1,0 +1,67 @@
+-- For the code's contracts, and no part of the meaning: the table of connections, and walks to views of a kind.
+use Rattle.std.specs.Prelude.{◌≡◌, ℕ, ◌==◌, List, Bool, true, false, ◌||◌, Option, Some, None, if◌then◌else◌, option_and_then, unwrap_or, is_some, slice_get, IsTrue}
+use Rattle.std.specs.Ordering.{nat_cmp}
+use Rattle.std.specs.BTreeMap.{get}
+use Rattle.rising_table.specs.Entries.{entry_at}
+use Rattle.vat_view.specs.declared.tables.connections.Connections.{Connections}
+use Rattle.vat_view.specs.declared.walks.reachable.Sought.{Sought}
+use Rattle.vat_view.specs.declared.walks.reachable.Sought.TheVariants.{Over, Elsewhere}
+use Rattle.vat_view.specs.Types.{Bootstrap, Call, DecodedRecord, Wire, View, FieldOf, Import}
+use Rattle.vat_view.specs.Past.{Past, is}
+use Rattle.vat_view.specs.Connections.{is_aborted, asked_on, connection_of, is_own, is_another}
+use Rattle.vat_view.specs.Glue.TurnTables.{after_turns}
+
+-- the call for which a record asks a question of this vat's, with the connection
+abbrev pub call_sent_on : DecodedRecord → Option (ℕ × ℕ)
+call_sent_on (Wire true k c rs (Bootstrap q)) = Some (c, k)
+call_sent_on (Wire true k c rs (Call q target interface method params)) = Some (c, k)
+call_sent_on _ = None
+
+-- the connection, where it is this call
+abbrev pub on_for : ℕ → Option (ℕ × ℕ) → Option ℕ
+on_for call (Some a) = if a.0 == call then Some a.1 else None
+on_for call None = None
+
+-- the connection that the table has for a call
+abbrev pub asked_at : Connections → ℕ → Option ℕ
+asked_at table c = option_and_then (λ connection. connection) (entry_at table.asked c)
+
+-- the table has a connection as aborted
+abbrev pub aborted_at : Connections → ℕ → Bool
+aborted_at table k = unwrap_or (get nat_cmp table.aborted k) false
+
+-- the table has room for a call that is asked
+abbrev pub has_asked : Connections → Option (ℕ × ℕ) → Bool
+has_asked table (Some a) = is_some (entry_at table.asked a.0)
+has_asked table None = true
+
+-- the table has room for a connection that is aborted
+abbrev pub has_aborted : Connections → Option ℕ → Bool
+has_aborted table (Some k) = is_some (get nat_cmp table.aborted k)
+has_aborted table None = true
+
+-- the table of connections has what looking back finds
+pub record AreConnected (past : Past) (table : Connections) : Type 0 where
+  pub asked : (c : ℕ) → asked_at table c ≡ asked_on c past
+  pub aborted : (k : ℕ) → aborted_at table k ≡ is_aborted k past
+
+-- ---- walks to views of a kind
+
+-- the connection over which a view is reached, by the table, among these records with the oldest first
+abbrev pub over_by : List DecodedRecord → Connections → View → Option ℕ
+over_by events table (Import number place) = option_and_then connection_of (slice_get events number)
+over_by events table (FieldOf call path) = asked_at table call
+over_by events table _ = None
+
+-- a view is sought, where it is reached over this connection
+abbrev pub is_sought : Sought → View → Option ℕ → Bool
+is_sought (Over k) v over = is k over
+is_sought (Elsewhere k) v over = is_own v || is_another k over
+
+-- the same by the table
+abbrev pub sought_by : List DecodedRecord → Connections → Sought → View → Bool
+sought_by events table sought v = is_sought sought v (over_by events table v)
+
+-- one that passes a test is reached by some number of turns
+abbrev pub ReachesOne : {A : Type 0} → (A → Option A) → (A → Bool) → A → Type 0
+ReachesOne {A} turn test a = (n : ℕ) × (b : A) × (after_turns turn n (Some a) ≡ Some b) × IsTrue (test b)

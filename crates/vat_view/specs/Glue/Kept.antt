@@ -1,0 +1,15 @@
+-- For the code's contracts, and no part of the meaning: all tables of a point of a log.
+use Rattle.vat_view.specs.declared.tables.questions.Questions.{Questions}
+use Rattle.vat_view.specs.declared.tables.exports_imports.ExportsImports.{ExportsImports}
+use Rattle.vat_view.specs.declared.tables.references.BoundReferences.{BoundReferences}
+use Rattle.vat_view.specs.declared.tables.calls.Calls.{Calls}
+use Rattle.vat_view.specs.Past.{Past, Each}
+use Rattle.vat_view.specs.Sound.{IsSound}
+use Rattle.vat_view.specs.Glue.Tables.{AreTabled}
+use Rattle.vat_view.specs.Glue.CallTables.{AreCalled}
+
+-- the tables have what looking back finds, and each record is as it should be after those before it
+pub record AreKept (past : Past) (questions : Questions) (lives : ExportsImports) (bound : BoundReferences) (calls : Calls) : Type 0 where
+  pub sound : Each IsSound past
+  pub tabled : AreTabled past questions lives bound
+  pub called : AreCalled past calls

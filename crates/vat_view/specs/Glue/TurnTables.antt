@@ -1,0 +1,239 @@
+-- For the code's contracts, and no part of the meaning: the table of turns, what looking back finds for its keys, and
+-- walks by so many turns.
+use Rattle.std.specs.Prelude.{◌≡◌, ◌⊎◌, ◌≤◌, ℕ, zero, suc, ◌==◌, ◌&&◌, List, ◌∷◌, [], Bool, true, false, Option, Some, None, option_map, option_and_then, find, slice_get, is_some, length}
+use Rattle.std.specs.declared.cmp.Ordering.{Ordering}
+use Rattle.std.specs.BTreeMap.{get}
+use Rattle.std.specs.Str.{bytes_eq as same_path}
+use Rattle.rising_table.specs.Entries.{entry_at}
+use Rattle.vat_view.specs.declared.tables.question.Question.{Question}
+use Rattle.vat_view.specs.declared.tables.exports_imports.ExportsImports.{ExportsImports}
+use Rattle.vat_view.specs.declared.tables.references.BoundReferences.{BoundReferences}
+use Rattle.vat_view.specs.declared.tables.references.Binding.{Binding}
+use Rattle.vat_view.specs.declared.tables.references.Shortcut.{Shortcut}
+use Rattle.vat_view.specs.declared.record.origin.Origin.{Origin}
+use Rattle.vat_view.specs.declared.record.unsettled.Unsettled.{Unsettled}
+use Rattle.vat_view.specs.declared.record.unsettled.Unsettled.TheVariants.{Promise as PromiseToKeep, Results as ResultsOf, Import as ImportToResolve}
+use Rattle.vat_view.specs.declared.tables.settlements.Settlements.{Settlements}
+use Rattle.vat_view.specs.contracts.record.unsettled.UnsettledOrd.TheImpl as pending_order
+use Rattle.vat_view.specs.Types.{Results, Return, Resolve, DecodedRecord, Fulfil, Break, Answer, Fault, Wire, View, Object, Promise, FieldOf, Import, TableKey}
+use Rattle.vat_view.specs.Past.{Past, Point, id, record_index, last_where, Each}
+use Rattle.vat_view.specs.Questions.{call_at, opening}
+use Rattle.vat_view.specs.Lives.{Birth, birth}
+use Rattle.vat_view.specs.Views.{placed_references, view_of_reference}
+use Rattle.vat_view.specs.Walks.{Next, turns, stays, on_to, next}
+use Rattle.vat_view.specs.Bindings.{is_bound}
+use Rattle.vat_view.specs.Glue.Tables.{bound_at, held_origin}
+
+-- ---- what records settle
+
+-- two are one
+abbrev pub same_pending : Unsettled → Unsettled → Bool
+same_pending (PromiseToKeep p) (PromiseToKeep q) = q == p
+same_pending (ResultsOf c) (ResultsOf d) = d == c
+same_pending (ImportToResolve i place) (ImportToResolve j other) = (j == i) && (other == place)
+same_pending _ _ = false
+
+-- something is settled, and it is this
+abbrev pub is_this : Unsettled → Option Unsettled → Bool
+is_this p (Some q) = same_pending p q
+is_this p None = false
+
+-- what a view waits for; an object for nothing
+abbrev pub awaited_by : View → Option Unsettled
+awaited_by (Object object) = None
+awaited_by (Promise p) = Some (PromiseToKeep p)
+awaited_by (FieldOf call path) = Some (ResultsOf call)
+awaited_by (Import i place) = Some (ImportToResolve i place)
+
+-- the path of a field; the empty one of every other view
+abbrev pub field_path : View → List ℕ
+field_path (FieldOf call path) = path
+field_path _ = []
+
+-- the own promise for which a reference stands
+abbrev pub promise_of : Option View → Option Unsettled
+promise_of (Some (Promise p)) = Some (PromiseToKeep p)
+promise_of _ = None
+
+-- the import whose life began so
+abbrev pub import_at : Birth → Unsettled
+import_at b = ImportToResolve (record_index b.from) b.place
+
+-- what a record settles: the promise that it keeps or breaks, the call that it ends, the import that it resolves
+abbrev pub settlement_of : Past → DecodedRecord → Option Unsettled
+settlement_of before (Fulfil r to) = promise_of (view_of_reference before r)
+settlement_of before (Break r) = promise_of (view_of_reference before r)
+settlement_of before (Answer c results) = Some (ResultsOf c)
+settlement_of before (Fault c) = Some (ResultsOf c)
+settlement_of before (Wire false k c rs (Return q release outcome)) = option_map ResultsOf (call_at (opening (id k true q) before))
+settlement_of before (Wire false k c rs (Resolve n resolution)) = option_map import_at (birth (id k false n) before)
+settlement_of before _ = None
+
+-- the call of a question, by what is known of it
+abbrev pub results_by : Option Question → Option Unsettled
+results_by known = option_map (λ question. ResultsOf question.call) known
+
+-- an import, by where its life began
+abbrev pub import_by : Option Origin → Option Unsettled
+import_by origin = option_map (λ o. ImportToResolve o.number o.place) origin
+
+-- the same by the tables before the record
+abbrev pub settled_by : (ℕ → Option View) → ExportsImports → (TableKey → Option Question) → DecodedRecord → Option Unsettled
+settled_by named lives known (Fulfil r to) = promise_of (named r)
+settled_by named lives known (Break r) = promise_of (named r)
+settled_by named lives known (Answer c results) = Some (ResultsOf c)
+settled_by named lives known (Fault c) = Some (ResultsOf c)
+settled_by named lives known (Wire false k c rs (Return q release outcome)) = results_by (known (id k true q))
+settled_by named lives known (Wire false k c rs (Resolve n resolution)) = import_by (held_origin lives (id k false n))
+settled_by named lives known _ = None
+
+-- ---- where they turn it
+
+-- the reference noted for the descriptor at a place of a record
+abbrev pub reference_at : DecodedRecord → ℕ → Option ℕ
+reference_at e place = option_map (λ n. n.0) (find (λ n. n.1 == place) (placed_references e))
+
+-- the reference to which a record turns a view of this path that it settles
+abbrev pub turn_target : List ℕ → DecodedRecord → Option ℕ
+turn_target path (Fulfil r to) = Some to
+turn_target path (Answer c results) = option_map (λ answer. answer.0) (find (λ answer. same_path answer.1 path) results)
+turn_target path (Wire s k c rs (Return q release (Results payload))) =
+    option_and_then (λ field. reference_at (Wire s k c rs (Return q release (Results payload))) field.1) (find (λ field. same_path field.0 path) payload.fields)
+turn_target path (Wire s k c rs (Resolve n resolution)) = reference_at (Wire s k c rs (Resolve n resolution)) 0
+turn_target path _ = None
+
+-- where a view of this path goes by the record that settled it, where references are named; it stays where none did
+abbrev pub goes : (ℕ → Option View) → List ℕ → Option DecodedRecord → Next
+goes named path (Some e) = on_to (option_and_then named (turn_target path e))
+goes named path None = stays
+
+-- the last record that settled this
+abbrev pub settler : Unsettled → Past → Option Point
+settler p past = last_where (λ before e. is_this p (settlement_of before e)) past
+
+-- the last record that settled a view
+abbrev pub settler_of : View → Past → Option DecodedRecord
+settler_of v past = option_map (λ p. p.event) (option_and_then (λ p. settler p past) (awaited_by v))
+
+-- each reference to which a record turns something is bound
+abbrev pub LandsBound : Past → DecodedRecord → Type 0
+LandsBound before e = (path : List ℕ) (r : ℕ) → turn_target path e ≡ Some r → is_bound (e ∷ before) r ≡ true
+
+-- ---- the table
+
+-- the order of what views wait for
+abbrev pub pending_cmp : Unsettled → Unsettled → Ordering
+pending_cmp = (pending_order.ghosts).cmp
+
+-- the number of the record that a row of the table has under a key
+abbrev pub number_in : List (ℕ × Option ℕ) → ℕ → Option ℕ
+number_in entries k = option_and_then (λ number. number) (entry_at entries k)
+
+-- the number of the record that the table has for this
+abbrev pub settler_at : Settlements → Unsettled → Option ℕ
+settler_at table (PromiseToKeep p) = number_in table.promises p
+settler_at table (ResultsOf c) = number_in table.results c
+settler_at table (ImportToResolve i place) = option_and_then (λ number. number) (get pending_cmp table.imports (ImportToResolve i place))
+
+-- the table has room for what is settled
+abbrev pub has_room_to_settle : Settlements → Option Unsettled → Bool
+has_room_to_settle table (Some (PromiseToKeep p)) = is_some (entry_at table.promises p)
+has_room_to_settle table (Some (ResultsOf c)) = is_some (entry_at table.results c)
+has_room_to_settle table (Some (ImportToResolve i place)) = is_some (get pending_cmp table.imports (ImportToResolve i place))
+has_room_to_settle table None = true
+
+-- the table of turns at a point of a log: for each thing it has the last record that settled it; each view goes where
+-- the record that settled it says, and what it goes to is bound
+pub record AreSettled (past : Past) (table : Settlements) : Type 0 where
+  pub settlers : (p : Unsettled) → settler_at table p ≡ option_map record_index (settler p past)
+  pub going : (v : View) → next past v ≡ goes (view_of_reference past) (field_path v) (settler_of v past)
+  pub landed : Each LandsBound past
+
+-- the record that settled a view, by the table, among these records with the oldest first
+abbrev pub settler_by : Settlements → List DecodedRecord → View → Option DecodedRecord
+settler_by table events v = option_and_then (slice_get events) (option_and_then (settler_at table) (awaited_by v))
+
+-- where a view goes next, by the table
+abbrev pub goes_by : List DecodedRecord → Settlements → (ℕ → Option View) → View → Next
+goes_by events table named v = goes named (field_path v) (settler_by table events v)
+
+-- the reference to which the record that settled a view turns it, by the table
+abbrev pub landed_by : List DecodedRecord → Settlements → View → Option ℕ
+landed_by events table v = option_and_then (turn_target (field_path v)) (settler_by table events v)
+
+-- how many references are bound
+abbrev pub bound_len : BoundReferences → ℕ
+bound_len table = length table.entries
+
+-- from a reference to itself
+abbrev pub own_leap : ℕ → Shortcut
+own_leap r = record { to = r; turns = 0 }
+
+-- what is ahead of a reference, by what is kept of it: itself, where the references ahead are dropped
+abbrev pub ahead_in : Bool → ℕ → Binding → Shortcut
+ahead_in true r binding = own_leap r
+ahead_in false r binding = binding.ahead
+
+-- what is ahead of a bound reference, and by how many turns
+abbrev pub ahead_at : BoundReferences → ℕ → Option Shortcut
+ahead_at table r = option_map (λ binding. ahead_in table.dropped r binding) (entry_at table.entries r)
+
+-- what is ahead of a reference was so before, or is itself
+abbrev pub IsOwnOrOld : BoundReferences → BoundReferences → Type 0
+IsOwnOrOld before after = (r : ℕ) (q : Shortcut) → ahead_at after r ≡ Some q → (ahead_at before r ≡ Some q) ⊎ (q ≡ own_leap r)
+
+-- where the reference ahead of this one lands
+abbrev pub onward_by : List DecodedRecord → Settlements → BoundReferences → ℕ → Option ℕ
+onward_by events table bound r = option_and_then (landed_by events table) (option_and_then (λ leap. bound_at bound leap.to) (ahead_at bound r))
+
+-- ---- walks
+
+-- the view to which a view turns
+abbrev pub turned_to : Next → Option View
+turned_to (turns v) = Some v
+turned_to _ = None
+
+-- the same by the table
+abbrev pub turn_by : List DecodedRecord → Settlements → (ℕ → Option View) → View → Option View
+turn_by events table named v = turned_to (goes_by events table named v)
+
+-- what is reached by n turns, if there is something
+abbrev pub after_turns : {A : Type 0} → (A → Option A) → ℕ → Option A → Option A
+after_turns turn zero v = v
+after_turns turn (suc n) v = after_turns turn n (option_and_then turn v)
+
+-- one is reached from another by some number of turns
+abbrev pub Reaches : {A : Type 0} → (A → Option A) → A → A → Type 0
+Reaches turn a b = (n : ℕ) × (after_turns turn n (Some a) ≡ Some b)
+
+-- it is so by 1 or more turns
+abbrev pub ReachesByTurns : {A : Type 0} → (A → Option A) → A → A → Type 0
+ReachesByTurns turn a c = (n : ℕ) × (after_turns turn n (turn a) ≡ Some c)
+
+-- it is so by one turn and then so many
+abbrev pub TurnsAndThen : {A : Type 0} → (A → Option A) → A → ℕ → A → Type 0
+TurnsAndThen turn a n c = after_turns turn n (turn a) ≡ Some c
+
+-- so many turns are made, to this view; and where they are at most so many, none after them
+abbrev pub TurnsOn : {A : Type 0} → (A → Option A) → A → ℕ → A → ℕ → Type 0
+TurnsOn turn a most last n = (after_turns turn n (Some a) ≡ Some last) × (n ≤ most → turn last ≡ None)
+
+-- the last that is reached, where it stays
+abbrev pub EndsBy : (View → Next) → View → View → Type 0
+EndsBy goes a end = Reaches (λ v. turned_to (goes v)) a end × (goes end ≡ stays)
+
+-- a reference is ahead of another: the other's view leads, by exactly so many of these turns, to its view
+abbrev pub IsAhead : (View → Option View) → BoundReferences → ℕ → Shortcut → Type 0
+IsAhead turn table r q = (a : View) × (b : View) × (bound_at table r ≡ Some a) × (bound_at table q.to ≡ Some b) × (after_turns turn q.turns (Some a) ≡ Some b)
+
+-- what the table has beside each bound reference is ahead of it
+abbrev pub AreAhead : (View → Option View) → BoundReferences → Type 0
+AreAhead turn table = (r : ℕ) (q : Shortcut) → ahead_at table r ≡ Some q → IsAhead turn table r q
+
+-- the turns by the tables
+abbrev pub turns_of : List DecodedRecord → Settlements → BoundReferences → View → Option View
+turns_of events table bound v = turn_by events table (bound_at bound) v
+
+-- the references ahead are ahead by the turns of these tables
+abbrev pub HaveAhead : List DecodedRecord → Settlements → BoundReferences → Type 0
+HaveAhead events table bound = AreAhead (turns_of events table bound) bound

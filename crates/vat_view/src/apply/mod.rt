@@ -1,0 +1,5 @@
+//! Applying a record: what it changes in the tables.
+
+pub(crate) mod apply_record;
+pub(crate) mod calls;
+pub(crate) mod tables;

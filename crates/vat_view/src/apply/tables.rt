@@ -1,0 +1,247 @@
+//! What one record tells the tables.
+
+ghost use Rattle.std.specs.Prelude.{◌≡◌, ◌+◌, ◌-◌, ◌<◌, ◌∷◌, length, count_by, OnOk, OnErr};
+ghost use Rattle.vat_view.specs.Types.{TableKey};
+ghost use Rattle.vat_view.specs.Past.{Past, same_id};
+ghost use Rattle.vat_view.specs.Questions.{noted_call};
+ghost use Rattle.vat_view.specs.Lives.{GivesBackHeld};
+ghost use Rattle.vat_view.specs.Uses.{UsesQuestions};
+ghost use Rattle.vat_view.specs.Glue.TurnTables.{IsOwnOrOld};
+ghost use Rattle.vat_view.specs.Glue.Tables.{question_at, late_by, given_back_by, count_at, origin_at, raised_origin, count_released, just_opened, noted_by, IsPut, IsSameQuestions, IsTabled, AreTabled, IsFit};
+
+use crate::record::bindings::{bindings, introduced_by, new_references};
+use crate::record::decoded::DecodedRecord;
+use crate::record::effects::{
+    introductions, noted_call, origins, question_finished, question_opened, question_released,
+    question_returned,
+};
+use crate::record::origin::Origin;
+use crate::record::table_key::TableKey;
+use crate::record::table_keys::TableKeys;
+use crate::tables::exports_imports::ExportsImports;
+use crate::tables::question::Question;
+use crate::tables::questions::Questions;
+use crate::tables::references::BoundReferences;
+use rpc_view::RpcMessage;
+use std::alloc::{AllocError, Global};
+
+/// Whether a record is a late Return.
+pub(crate) fn is_late(questions: &Questions, event: &DecodedRecord) -> bool
+    ensures { result ≡ late_by (question_at questions.now) event.now }
+{
+    let DecodedRecord::Wire {
+        sent,
+        connection,
+        message: RpcMessage::Return { answer: number, .. },
+        ..
+    } = event
+    else {
+        return false;
+    };
+    let question = TableKey::of_receiver(*sent, *connection, *number);
+    match questions.of(question) {
+        Some(known) => known.released,
+        None => false,
+    }
+}
+
+/// The introductions that a Return or a Finish gives back.
+pub(crate) fn given_back_by<'a>(questions: &'a Questions, event: &DecodedRecord) -> &'a [TableKey]
+    ensures { result.now ≡ given_back_by (question_at questions.now) event.now }
+{
+    match event {
+        DecodedRecord::Wire {
+            sent,
+            connection,
+            message: RpcMessage::Return {
+                answer: number,
+                release_param_caps: true,
+                ..
+            },
+            ..
+        } => questions.asked_in(TableKey::of_receiver(*sent, *connection, *number)),
+        DecodedRecord::Wire {
+            sent,
+            connection,
+            message: RpcMessage::Finish {
+                question: number,
+                release_result_caps: true,
+            },
+            ..
+        } => questions.brought_in(TableKey::of_sender(*sent, *connection, *number)),
+        _ => &[],
+    }
+}
+
+/// Takes from the counts what a Release gives back.
+pub(crate) fn release(lives: &mut ExportsImports, event: &DecodedRecord)
+    ensures counts { (i : TableKey) → count_at lives.new i
+        ≡ count_at lives.old i - count_released i event.now }
+    ensures origins { (i : TableKey) → origin_at lives.new i ≡ origin_at lives.old i }
+{
+    if let DecodedRecord::Wire {
+        sent,
+        connection,
+        message: RpcMessage::Release { id: number, count },
+        ..
+    } = event
+    {
+        let number = TableKey::of_receiver(*sent, *connection, *number);
+        lives.lower(number, u64::from(*count));
+    }
+}
+
+/// Notes what a record does to the question that it returns or finishes.
+pub(crate) fn note_on_question(
+    questions: &mut Questions,
+    event: &DecodedRecord,
+    introduced: TableKeys,
+)
+    ensures { (q : TableKey) → question_at questions.new q
+        ≡ noted_by event.now introduced q (question_at questions.old q) }
+{
+    if let Some(question) = question_returned(event) {
+        questions.note_return(question, introduced);
+    }
+    if let Some(question) = question_finished(event) {
+        questions.note_finish(question, question_released(event).is_some());
+    }
+}
+
+/// A record opened this question and introduced these numbers. Where memory is refused, nothing changes but the
+/// origins of numbers that aren't held.
+pub(crate) fn apply_opening(
+    questions: &mut Questions,
+    lives: &mut ExportsImports,
+    event: &DecodedRecord,
+    question: TableKey,
+    numbers: TableKeys,
+    origins: &[(TableKey, Origin)],
+) -> Result<(), AllocError>
+    ensures known { OnOk result
+        (IsPut question (just_opened (noted_call event.now) numbers) questions.old questions.new) }
+    ensures counted { OnOk result
+        ((i : TableKey) → count_at lives.new i
+        ≡ count_at lives.old i + count_by (λ x. same_id i x.0) origins.now) }
+    ensures born { OnOk result
+        ((i : TableKey) → origin_at lives.new i
+        ≡ raised_origin (count_at lives.old i) (origin_at lives.old i) i origins.now) }
+    ensures same_known { OnErr result (IsSameQuestions questions.old questions.new) }
+    ensures same_counted { OnErr result
+        ((i : TableKey) → count_at lives.new i ≡ count_at lives.old i) }
+    ensures same_born { OnErr result
+        ((i : TableKey) → 0 < count_at lives.old i
+        → origin_at lives.new i ≡ origin_at lives.old i) }
+{
+    lives.raise_each(origins)?;
+    let known = Question {
+        call: noted_call(event),
+        returned: false,
+        finished: false,
+        released: false,
+        asked: numbers,
+        brought: TableKeys::none(),
+    };
+    if questions.open(question, known).is_err() {
+        lives.lower_raised(origins);
+        return Err(AllocError);
+    }
+    Ok(())
+}
+
+/// A record that opens no question introduced these numbers. Where memory is refused, nothing changes but the origins
+/// of numbers that aren't held.
+pub(crate) fn apply_other(
+    questions: &mut Questions,
+    lives: &mut ExportsImports,
+    event: &DecodedRecord,
+    numbers: TableKeys,
+    origins: &[(TableKey, Origin)],
+) -> Result<(), AllocError>
+    ensures known { OnOk result
+        ((q : TableKey) → question_at questions.new q
+        ≡ noted_by event.now numbers q (question_at questions.old q)) }
+    ensures counted { OnOk result
+        ((i : TableKey) → count_at lives.new i
+        ≡ count_at lives.old i
+        + count_by (λ x. same_id i x.0) origins.now
+        - count_by (same_id i) (given_back_by (question_at questions.old) event.now)
+        - count_released i event.now) }
+    ensures born { OnOk result
+        ((i : TableKey) → origin_at lives.new i
+        ≡ raised_origin (count_at lives.old i) (origin_at lives.old i) i origins.now) }
+    ensures same_known { OnErr result (IsSameQuestions questions.old questions.new) }
+    ensures same_counted { OnErr result
+        ((i : TableKey) → count_at lives.new i ≡ count_at lives.old i) }
+    ensures same_born { OnErr result
+        ((i : TableKey) → 0 < count_at lives.old i
+        → origin_at lives.new i ≡ origin_at lives.old i) }
+{
+    lives.raise_each(origins)?;
+    lives.lower_each(given_back_by(questions, event));
+    release(lives, event);
+    note_on_question(questions, event, numbers);
+    Ok(())
+}
+
+/// Tells the tables of one record, which has this number in the log, and whether it is late. Where memory is refused,
+/// they are of the records before.
+pub(crate) fn count_numbers(
+    alloc: Global,
+    late: bool,
+    number: usize,
+    questions: &mut Questions,
+    lives: &mut ExportsImports,
+    event: &DecodedRecord,
+) -> Result<(), AllocError>
+    requires { late ≡ late_by (question_at questions.old) event.now }
+    ensures ok { OnOk result
+        ((before : Past) → number ≡ length before → IsTabled before questions.old lives.old
+        → UsesQuestions before event.now → GivesBackHeld before event.now
+        → IsTabled (event.now ∷ before) questions.new lives.new) }
+    ensures err { OnErr result
+        ((before : Past) → IsTabled before questions.old lives.old
+        → IsTabled before questions.new lives.new) }
+{
+    let numbers = introductions(alloc, late, event)?;
+    let origins = origins(alloc, late, number, event)?;
+    let begun = origins.as_slice();
+    match question_opened(event) {
+        Some(question) => apply_opening(questions, lives, event, question, numbers, begun),
+        None => apply_other(questions, lives, event, numbers, begun),
+    }
+}
+
+/// Tells all tables of one record, which has this number in the log. Where memory is refused, they are of the records
+/// before.
+pub(crate) fn bind_and_count(
+    alloc: Global,
+    number: usize,
+    questions: &mut Questions,
+    lives: &mut ExportsImports,
+    bound: &mut BoundReferences,
+    event: &DecodedRecord,
+) -> Result<(), AllocError>
+    ensures ok { OnOk result
+        ((before : Past) → number ≡ length before
+        → AreTabled before questions.old lives.old bound.old → IsFit before event.now
+        → AreTabled (event.now ∷ before) questions.new lives.new bound.new) }
+    ensures err { OnErr result
+        ((before : Past) → number ≡ length before
+        → AreTabled before questions.old lives.old bound.old → IsFit before event.now
+        → AreTabled before questions.new lives.new bound.new) }
+    ensures ahead { IsOwnOrOld bound.old bound.new }
+{
+    let late = is_late(questions, event);
+    let begun = introduced_by(alloc, late, number, event)?;
+    let list = bindings(alloc, bound, lives, &begun, questions, event)?;
+    if bound.bind_each(list).is_err() {
+        bound.unbind_each(new_references(event));
+        return Err(AllocError);
+    }
+    if count_numbers(alloc, late, number, questions, lives, event).is_err() {
+        bound.unbind_each(new_references(event));
+        return Err(AllocError);
+    }
+    Ok(())
+}

@@ -1,0 +1,84 @@
+//! What numbers stand for, by the tables.
+
+ghost use Rattle.std.specs.Prelude.{◌≡◌, option_map, IfOk};
+ghost use Rattle.vat_view.specs.Types.{FieldOf};
+ghost use Rattle.vat_view.specs.Glue.Tables.{bound_at, view_from, number_by, question_at, call_by};
+
+use crate::record::origin::Origin;
+use crate::record::table_key::TableKey;
+use crate::tables::exports_imports::ExportsImports;
+use crate::tables::questions::Questions;
+use crate::tables::references::BoundReferences;
+use crate::view::View;
+use cap_frame::Path;
+use std::alloc::AllocError;
+
+/// The view of a reference, if it has one.
+pub(crate) fn view_of_reference(
+    bound: &BoundReferences,
+    reference: u64,
+) -> Result<Option<View>, AllocError>
+    ensures { IfOk result (λ v. v ≡ bound_at bound.now reference) }
+{
+    match bound.of(reference) {
+        Some(view) => Ok(Some(view.copy()?)),
+        None => Ok(None),
+    }
+}
+
+/// What a number stands for, of this vat or of its peer, whose life began so.
+pub(crate) fn view_from(
+    bound: &BoundReferences,
+    ours: bool,
+    origin: Origin,
+) -> Result<Option<View>, AllocError>
+    ensures { IfOk result (λ v. v ≡ view_from (bound_at bound.now) ours origin) }
+{
+    if !ours {
+        return Ok(Some(View::Import(origin.number, origin.place)));
+    }
+    match origin.reference {
+        Some(reference) => view_of_reference(bound, reference),
+        None => Ok(None),
+    }
+}
+
+/// What an export or import number stands for.
+pub(crate) fn view_of_number(
+    bound: &BoundReferences,
+    lives: &ExportsImports,
+    number: TableKey,
+) -> Result<Option<View>, AllocError>
+    ensures { IfOk result (λ v. v ≡ number_by (bound_at bound.now) lives.now number) }
+{
+    match lives.origin_of(number) {
+        Some(origin) => view_from(bound, number.ours, origin),
+        None => Ok(None),
+    }
+}
+
+/// The call of a question that isn't free.
+pub(crate) fn call_of(questions: &Questions, question: TableKey) -> Option<u64>
+    ensures { result ≡ call_by (question_at questions.now question) }
+{
+    match questions.of(question) {
+        Some(known) if !(known.returned && known.finished) => Some(known.call),
+        _ => None,
+    }
+}
+
+/// The field at a path of the call of a question that isn't free.
+pub(crate) fn field_of(
+    questions: &Questions,
+    question: TableKey,
+    path: &Path,
+) -> Result<Option<View>, AllocError>
+    ensures { IfOk result
+        (λ v. v ≡ option_map (λ call. FieldOf call path.now)
+        (call_by (question_at questions.now question))) }
+{
+    match call_of(questions, question) {
+        Some(call) => Ok(Some(View::Field(call, path.copy()?))),
+        None => Ok(None),
+    }
+}

@@ -1,0 +1,5 @@
+//! What the tables answer of a record that comes next.
+
+pub(crate) mod meaning;
+pub(crate) mod settling;
+pub(crate) mod table_answers;

@@ -1,0 +1,190 @@
+//! What is asked of questions, numbers and records, by the tables.
+
+ghost use Rattle.std.specs.Prelude.{◌≡◌, ◌≤◌, ◌<◌, ◌∷◌, [], count_by, map, Decides, IfOk};
+ghost use Rattle.vat_view.specs.Past.{same_id};
+ghost use Rattle.vat_view.specs.Types.{TableKey};
+ghost use Rattle.vat_view.specs.Lives.{descriptors};
+ghost use Rattle.vat_view.specs.Glue.Tables.{question_at, count_at, bound_at, view_by};
+ghost use Rattle.vat_view.specs.Glue.Asking.{free_in, unfinished_in, finished_in, unreturned_in, opening_call_in, targeted_by, let_go_of, given_by};
+
+use crate::apply::tables::given_back_by;
+use crate::lookups::meaning::{field_of, view_of_number};
+use crate::preconditions::key_counts::KeyCounts;
+use crate::record::bindings::view_by;
+use crate::record::decoded::DecodedRecord;
+use crate::record::effects::descriptors;
+use crate::record::introduced::Introduced;
+use crate::record::table_key::TableKey;
+use crate::tables::exports_imports::ExportsImports;
+use crate::tables::questions::Questions;
+use crate::tables::references::BoundReferences;
+use crate::view::View;
+use rpc_view::{RpcMessage, Target};
+use std::alloc::{AllocError, Global};
+
+/// Whether a question is free.
+pub(crate) fn is_free(questions: &Questions, question: TableKey) -> bool
+    ensures { result ≡ free_in (question_at questions.now question) }
+{
+    match questions.of(question) {
+        Some(known) => known.returned && known.finished,
+        None => true,
+    }
+}
+
+/// Whether a question is opened and not finished.
+pub(crate) fn is_unfinished(questions: &Questions, question: TableKey) -> bool
+    ensures { result ≡ unfinished_in (question_at questions.now question) }
+{
+    match questions.of(question) {
+        Some(known) => !known.finished,
+        None => false,
+    }
+}
+
+/// Whether a question is finished.
+pub(crate) fn is_finished(questions: &Questions, question: TableKey) -> bool
+    ensures { result ≡ finished_in (question_at questions.now question) }
+{
+    match questions.of(question) {
+        Some(known) => known.finished,
+        None => false,
+    }
+}
+
+/// Whether a question is opened and not returned.
+pub(crate) fn is_unreturned(questions: &Questions, question: TableKey) -> bool
+    ensures { result ≡ unreturned_in (question_at questions.now question) }
+{
+    match questions.of(question) {
+        Some(known) => !known.returned,
+        None => false,
+    }
+}
+
+/// The call of a question's last opening.
+pub(crate) fn opening_call(questions: &Questions, question: TableKey) -> Option<u64>
+    ensures { result ≡ opening_call_in (question_at questions.now question) }
+{
+    match questions.of(question) {
+        Some(known) => Some(known.call),
+        None => None,
+    }
+}
+
+/// What a record's target stands for.
+pub(crate) fn view_of_target(
+    bound: &BoundReferences,
+    lives: &ExportsImports,
+    questions: &Questions,
+    event: &DecodedRecord,
+) -> Result<Option<View>, AllocError>
+    ensures { IfOk result
+        (λ v. v ≡ targeted_by (bound_at bound.now) lives.now
+        (question_at questions.now) event.now) }
+{
+    let DecodedRecord::Wire {
+        sent,
+        connection,
+        message: RpcMessage::Call { target, .. } | RpcMessage::Disembargo { target, .. },
+        ..
+    } = event
+    else {
+        return Ok(None);
+    };
+    match target {
+        Target::Imported(n) => {
+            let number = TableKey::of_receiver(*sent, *connection, *n);
+            view_of_number(bound, lives, number)
+        }
+        Target::Promised(q, path) => {
+            let question = TableKey::of_sender(*sent, *connection, *q);
+            field_of(questions, question, path)
+        }
+    }
+}
+
+/// What the descriptors of a record stand for, by place, by the tables before it and what it introduces.
+pub(crate) fn views_of_descriptors(
+    alloc: Global,
+    bound: &BoundReferences,
+    lives: &ExportsImports,
+    begun: &Introduced<'_>,
+    questions: &Questions,
+    event: &DecodedRecord,
+) -> Result<Vec<Option<View>>, AllocError>
+    ensures { IfOk result
+        (λ list. list.items
+        ≡ map (view_by (bound_at bound.now) lives.now begun.now
+        (question_at questions.now) event.now) (descriptors event.now)) }
+{
+    let described = descriptors(event);
+    let mut list = Vec::with_capacity(alloc, described.len())?;
+    for descriptor in described {
+        let view = view_by(bound, lives, begun, questions, event, descriptor)?;
+        list.push(view)?;
+    }
+    Ok(list)
+}
+
+/// The number that a Release gives back, and how much of it.
+fn let_go_of(event: &DecodedRecord) -> Option<(TableKey, u64)>
+    ensures { result ≡ let_go_of event.now }
+{
+    match event {
+        DecodedRecord::Wire {
+            sent,
+            connection,
+            message: RpcMessage::Release { id: number, count },
+            ..
+        } => {
+            let number = TableKey::of_receiver(*sent, *connection, *number);
+            Some((number, u64::from(*count)))
+        }
+        _ => None,
+    }
+}
+
+/// Whether a number is held.
+fn is_held(lives: &ExportsImports, number: TableKey) -> bool
+    ensures { Decides result
+        ((i : TableKey) → count_by (same_id i) (number ∷ []) ≤ count_at lives.now i) }
+{
+    lives.count_of(number) > 0
+}
+
+/// Whether each number is held at least as often as it is one of these.
+fn are_held(alloc: Global, lives: &ExportsImports, numbers: &[TableKey]) -> Result<bool, AllocError>
+    ensures { IfOk result
+        (λ held. Decides held
+        ((i : TableKey) → count_by (same_id i) numbers.now ≤ count_at lives.now i)) }
+{
+    if let [number] = numbers {
+        return Ok(is_held(lives, *number));
+    }
+    let mut tally = KeyCounts::new(alloc);
+    for number in numbers {
+        if tally.count(*number)? > lives.count_of(*number) {
+            return Ok(false);
+        }
+    }
+    Ok(true)
+}
+
+/// Whether a record gives back no more of each number than is held.
+pub(crate) fn gives_back_held(
+    alloc: Global,
+    questions: &Questions,
+    lives: &ExportsImports,
+    event: &DecodedRecord,
+) -> Result<bool, AllocError>
+    ensures { IfOk result
+        (λ held. Decides held
+        ((i : TableKey) → given_by (question_at questions.now) i event.now
+        ≤ count_at lives.now i)) }
+{
+    match let_go_of(event) {
+        Some((number, count)) => Ok(count <= lives.count_of(number)),
+        None => are_held(alloc, lives, given_back_by(questions, event)),
+    }
+}

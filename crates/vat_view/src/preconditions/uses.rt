@@ -1,0 +1,136 @@
+//! Whether a record that may be applied next names and uses things as it should.
+
+ghost use Rattle.std.specs.Prelude.{◌≡◌, ◌&&◌, count_by, Decides};
+ghost use Rattle.std.specs.List.{list_all};
+ghost use Rattle.vat_view.specs.Questions.{is_unfinished};
+ghost use Rattle.vat_view.specs.Lives.{descriptors, is_in_life};
+ghost use Rattle.vat_view.specs.Uses.{question_described, questions_used, number_described, numbers_used, OpensFree, UsesQuestions, UsesNumbers};
+ghost use Rattle.vat_view.specs.Glue.Tables.{is_cap};
+ghost use Rattle.vat_view.specs.Bindings.{NotesEach};
+ghost use Rattle.vat_view.specs.Glue.Asking.{passes_if};
+
+use crate::record::decoded::DecodedRecord;
+use crate::record::effects::is_cap;
+use crate::record::table_key::TableKey;
+use crate::state::VatState;
+
+/// Whether three tests all hold; a function of its own, so that the proof sees one `&&`.
+pub(crate) fn all_three(first: bool, second: bool, third: bool) -> bool
+    ensures { result ≡ ((first && second) && third) }
+{
+    first && second && third
+}
+
+/// Whether a question, if there is one, is opened and not finished.
+fn is_unfinished(state: &VatState, question: Option<TableKey>) -> bool
+    ensures { result ≡ passes_if (λ q. is_unfinished q state.now) question }
+{
+    match question {
+        Some(question) => state.is_unfinished(question),
+        None => true,
+    }
+}
+
+/// Whether every question that a record's descriptors name is opened and not finished.
+fn describes_unfinished(state: &VatState, event: &DecodedRecord) -> bool
+    ensures { result ≡ list_all
+        (λ d. passes_if (λ q. is_unfinished q state.now) (question_described event.now d))
+        (descriptors event.now) }
+{
+    event.descriptors().iter().all(|descriptor| is_unfinished(
+        state,
+        event.question_described(descriptor),
+    ))
+}
+
+/// Whether every question that a record uses is opened and not finished.
+fn uses_unfinished(state: &VatState, event: &DecodedRecord) -> bool
+    ensures { result ≡ list_all (λ q. is_unfinished q state.now) (questions_used event.now) }
+{
+    all_three(
+        is_unfinished(state, event.question_targeted()),
+        describes_unfinished(state, event),
+        is_unfinished(state, event.question_finished()),
+    )
+}
+
+/// Whether a number, if there is one, is in life.
+fn is_in_life(state: &VatState, number: Option<TableKey>) -> bool
+    ensures { result ≡ passes_if (λ i. is_in_life i state.now) number }
+{
+    match number {
+        Some(number) => state.is_in_life(number),
+        None => true,
+    }
+}
+
+/// Whether every number that a record's descriptors use is in life.
+fn describes_in_life(state: &VatState, event: &DecodedRecord) -> bool
+    ensures { result ≡ list_all
+        (λ d. passes_if (λ i. is_in_life i state.now) (number_described event.now d))
+        (descriptors event.now) }
+{
+    event.descriptors().iter().all(|descriptor| is_in_life(
+        state,
+        event.number_described(descriptor),
+    ))
+}
+
+/// What a record that may be applied next names and uses.
+impl VatState {
+    /// Whether a question number that it opens is free (rpc.capnp, `Call.questionId`).
+    pub fn opens_free(&self, event: &DecodedRecord) -> bool
+        ensures { Decides result (OpensFree self.now event.now) }
+    {
+        match event.question_opened() {
+            Some(question) => self.is_free(question),
+            None => true,
+        }
+    }
+
+    /// Whether each question that it uses is opened and not finished, and one that it returns is opened and not
+    /// returned (rpc.capnp, `Return.answerId`, `Finish.questionId` and `PromisedAnswer.questionId`).
+    pub fn uses_questions(&self, event: &DecodedRecord) -> bool
+        ensures { Decides result (UsesQuestions self.now event.now) }
+    {
+        let may_return = match event.question_returned() {
+            Some(question) => self.is_unreturned(question),
+            None => true,
+        };
+        may_return && uses_unfinished(self, event)
+    }
+
+    /// Whether each export or import number that it uses is in life (rpc.capnp, `MessageTarget.importedCap`,
+    /// `CapDescriptor.receiverHosted` and `Release.id`).
+    pub fn uses_numbers(&self, event: &DecodedRecord) -> bool
+        ensures { Decides result (UsesNumbers self.now event.now) }
+    {
+        all_three(
+            is_in_life(self, event.number_targeted()),
+            describes_in_life(self, event),
+            is_in_life(self, event.number_released()),
+        )
+    }
+
+    /// Whether one reference is noted beside it for each descriptor that isn't none, and none beside a late Return.
+    pub fn notes_each(&self, event: &DecodedRecord) -> bool
+        ensures { Decides result (NotesEach self.now event.now) }
+    {
+        if self.is_late(event) {
+            event.references().is_empty()
+        } else {
+            event.references().len() == caps(event)
+        }
+    }
+}
+
+/// How many descriptors of a record aren't none.
+fn caps(event: &DecodedRecord) -> usize
+    ensures { result ≡ count_by is_cap (descriptors event.now) }
+{
+    event
+        .descriptors()
+        .iter()
+        .filter(|descriptor| is_cap(descriptor))
+        .count()
+}

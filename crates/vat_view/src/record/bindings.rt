@@ -1,0 +1,194 @@
+//! Which references a record binds, and to which views.
+
+ghost use Rattle.std.specs.Prelude.{◌≡◌, ◌∷◌, [], IfOk};
+ghost use Rattle.vat_view.specs.Lives.{descriptors};
+ghost use Rattle.vat_view.specs.Views.{references};
+ghost use Rattle.vat_view.specs.Bindings.{new_references};
+ghost use Rattle.vat_view.specs.Glue.Tables.{bound_at, question_at, origins_if, AreBegun, sender_view, view_by, reference_by, bound_from, bindings};
+
+use crate::lookups::meaning::{field_of, view_from, view_of_number};
+use crate::record::decoded::DecodedRecord;
+use crate::record::effects::{descriptors, is_cap, origins, references};
+use crate::record::introduced::{FEW, Introduced};
+use crate::record::table_key::TableKey;
+use crate::tables::exports_imports::ExportsImports;
+use crate::tables::questions::Questions;
+use crate::tables::references::BoundReferences;
+use crate::view::View;
+use rpc_view::Descriptor;
+use std::alloc::{AllocError, Global};
+use std::slice;
+
+/// What a record of this number introduces, with the place of the first of each; a late Return's introductions aren't
+/// counted.
+pub(crate) fn introduced_by<'a>(
+    alloc: Global,
+    late: bool,
+    number: usize,
+    event: &'a DecodedRecord,
+) -> Result<Introduced<'a>, AllocError>
+    ensures { IfOk result (λ begun. AreBegun (origins_if late number event.now) begun) }
+{
+    if late {
+        return Ok(Introduced::Nothing);
+    }
+    if descriptors(event).len() <= FEW {
+        return Ok(Introduced::Few(number, event));
+    }
+    let origins = origins(alloc, late, number, event)?;
+    let mut begun = ExportsImports::new(alloc);
+    begun.raise_each(origins.as_slice())?;
+    Ok(Introduced::Many(begun))
+}
+
+/// What a number of the sender stands for with a record counted: its life began before, or begins there.
+fn sender_view(
+    bound: &BoundReferences,
+    lives: &ExportsImports,
+    begun: &Introduced<'_>,
+    number: TableKey,
+) -> Result<Option<View>, AllocError>
+    ensures { IfOk result (λ v. v ≡ sender_view (bound_at bound.now) lives.now begun.now number) }
+{
+    match lives.origin_of(number).or(begun.origin_of(number)) {
+        Some(origin) => view_from(bound, number.ours, origin),
+        None => Ok(None),
+    }
+}
+
+/// What a descriptor of a record stands for, by the tables before it and what it introduces.
+pub(crate) fn view_by(
+    bound: &BoundReferences,
+    lives: &ExportsImports,
+    begun: &Introduced<'_>,
+    questions: &Questions,
+    event: &DecodedRecord,
+    descriptor: &Descriptor,
+) -> Result<Option<View>, AllocError>
+    ensures { IfOk result
+        (λ v. v ≡ view_by (bound_at bound.now) lives.now begun.now
+        (question_at questions.now) event.now descriptor.now) }
+{
+    let DecodedRecord::Wire {
+        sent,
+        connection,
+        ..
+    } = event
+    else {
+        return Ok(None);
+    };
+    match descriptor {
+        Descriptor::NoCap => Ok(None),
+        Descriptor::SenderHosted(n) | Descriptor::SenderPromise(n) => {
+            let id = TableKey::of_sender(*sent, *connection, *n);
+            sender_view(bound, lives, begun, id)
+        }
+        Descriptor::ReceiverHosted(n) => {
+            let id = TableKey::of_receiver(*sent, *connection, *n);
+            view_of_number(bound, lives, id)
+        }
+        Descriptor::ReceiverAnswer(q, path) => {
+            let id = TableKey::of_sender(*sent, *connection, *q);
+            field_of(questions, id, path)
+        }
+    }
+}
+
+/// The reference noted for a descriptor, where so many were noted before it.
+pub(crate) fn reference_by(
+    references: &[u64],
+    before: usize,
+    descriptor: &Descriptor,
+) -> Option<u64>
+    ensures { result ≡ reference_by references.now before descriptor.now }
+{
+    if is_cap(descriptor) {
+        references.get(before).copied()
+    } else {
+        None
+    }
+}
+
+/// The references noted for the descriptors of a record, with what these stand for.
+fn bound_descriptors(
+    alloc: Global,
+    bound: &BoundReferences,
+    lives: &ExportsImports,
+    begun: &Introduced<'_>,
+    questions: &Questions,
+    event: &DecodedRecord,
+) -> Result<Vec<(u64, View)>, AllocError>
+    ensures { IfOk result
+        (λ list. list.items
+        ≡ bound_from (view_by (bound_at bound.now) lives.now begun.now
+        (question_at questions.now) event.now) (references event.now) 0 (descriptors event.now)) }
+{
+    let mut list = Vec::new(alloc);
+    let noted = references(event);
+    let mut before = 0;
+    for descriptor in descriptors(event) {
+        if let Some(reference) = reference_by(noted, before, descriptor) {
+            if let Some(view) = view_by(bound, lives, begun, questions, event, descriptor)? {
+                list.push((reference, view))?;
+            }
+        }
+        if is_cap(descriptor) {
+            before += 1;
+        }
+    }
+    Ok(list)
+}
+
+/// One reference with its view.
+fn one(alloc: Global, reference: u64, view: View) -> Result<Vec<(u64, View)>, AllocError>
+    ensures { IfOk result (λ list. list.items ≡ (reference, view) ∷ []) }
+{
+    let mut list = Vec::new(alloc);
+    list.push((reference, view))?;
+    Ok(list)
+}
+
+/// The references that a record binds, with their views.
+pub(crate) fn bindings(
+    alloc: Global,
+    bound: &BoundReferences,
+    lives: &ExportsImports,
+    begun: &Introduced<'_>,
+    questions: &Questions,
+    event: &DecodedRecord,
+) -> Result<Vec<(u64, View)>, AllocError>
+    ensures { IfOk result
+        (λ list. list.items
+        ≡ bindings (bound_at bound.now) lives.now begun.now (question_at questions.now) event.now) }
+{
+    match event {
+        DecodedRecord::Host { reference, object } => one(alloc, *reference, View::Object(*object)),
+        DecodedRecord::Vow { reference } => one(alloc, *reference, View::Promise(*reference)),
+        DecodedRecord::Field {
+            reference,
+            call,
+            path,
+        } => one(alloc, *reference, View::Field(*call, path.copy()?)),
+        DecodedRecord::Wire { sent: false, .. } => bound_descriptors(
+            alloc, bound, lives, begun, questions, event,
+        ),
+        _ => Ok(Vec::new(alloc)),
+    }
+}
+
+/// The references that a record newly binds.
+pub(crate) fn new_references(event: &DecodedRecord) -> &[u64]
+    ensures { result.now ≡ new_references event.now }
+{
+    match event {
+        DecodedRecord::Host { reference, .. }
+        | DecodedRecord::Vow { reference }
+        | DecodedRecord::Field { reference, .. } => slice::from_ref(reference),
+        DecodedRecord::Wire {
+            sent: false,
+            references,
+            ..
+        } => references.as_slice(),
+        _ => &[],
+    }
+}

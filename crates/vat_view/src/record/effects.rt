@@ -1,0 +1,248 @@
+//! What one record does to the numbers of its connection.
+
+ghost use Rattle.std.specs.Prelude.{◌≡◌, [], IfOk, if◌then◌else◌};
+ghost use Rattle.std.specs.List.{filter_map};
+ghost use Rattle.vat_view.specs.Questions.{question_opened, question_returned, question_finished, question_released, noted_call};
+ghost use Rattle.vat_view.specs.Lives.{descriptors, number_introduced, promise_resolved};
+ghost use Rattle.vat_view.specs.Views.{references};
+ghost use Rattle.vat_view.specs.Glue.Tables.{is_cap, origin_by, origins_from};
+
+use crate::record::decoded::DecodedRecord;
+use crate::record::origin::Origin;
+use crate::record::table_key::TableKey;
+use crate::record::table_keys::TableKeys;
+use rpc_view::{Descriptor, Outcome, Resolution, RpcMessage};
+use std::alloc::{AllocError, Global};
+use std::slice;
+
+/// The question that a record opens.
+pub(crate) fn question_opened(event: &DecodedRecord) -> Option<TableKey>
+    ensures { result ≡ question_opened event.now }
+{
+    match event {
+        DecodedRecord::Wire {
+            sent,
+            connection,
+            message: RpcMessage::Bootstrap { question: number }
+            | RpcMessage::Call {
+                question: number,
+                ..
+            },
+            ..
+        } => Some(TableKey::of_sender(*sent, *connection, *number)),
+        _ => None,
+    }
+}
+
+/// The question that a record returns.
+pub(crate) fn question_returned(event: &DecodedRecord) -> Option<TableKey>
+    ensures { result ≡ question_returned event.now }
+{
+    match event {
+        DecodedRecord::Wire {
+            sent,
+            connection,
+            message: RpcMessage::Return { answer: number, .. },
+            ..
+        } => Some(TableKey::of_receiver(*sent, *connection, *number)),
+        _ => None,
+    }
+}
+
+/// The question that a record finishes.
+pub(crate) fn question_finished(event: &DecodedRecord) -> Option<TableKey>
+    ensures { result ≡ question_finished event.now }
+{
+    match event {
+        DecodedRecord::Wire {
+            sent,
+            connection,
+            message: RpcMessage::Finish {
+                question: number,
+                ..
+            },
+            ..
+        } => Some(TableKey::of_sender(*sent, *connection, *number)),
+        _ => None,
+    }
+}
+
+/// The question whose results a record gives back.
+pub(crate) fn question_released(event: &DecodedRecord) -> Option<TableKey>
+    ensures { result ≡ question_released event.now }
+{
+    match event {
+        DecodedRecord::Wire {
+            sent,
+            connection,
+            message: RpcMessage::Finish {
+                question: number,
+                release_result_caps: true,
+            },
+            ..
+        } => Some(TableKey::of_sender(*sent, *connection, *number)),
+        _ => None,
+    }
+}
+
+/// The promise that a record resolves.
+pub(crate) fn promise_resolved(event: &DecodedRecord) -> Option<TableKey>
+    ensures { result ≡ promise_resolved event.now }
+{
+    match event {
+        DecodedRecord::Wire {
+            sent,
+            connection,
+            message: RpcMessage::Resolve {
+                promise: number,
+                ..
+            },
+            ..
+        } => Some(TableKey::of_sender(*sent, *connection, *number)),
+        _ => None,
+    }
+}
+
+/// The call noted beside a record, 0 where none is.
+pub(crate) fn noted_call(event: &DecodedRecord) -> u64
+    ensures { result ≡ noted_call event.now }
+{
+    match event {
+        DecodedRecord::Wire { call, .. } => *call,
+        _ => 0,
+    }
+}
+
+/// The descriptors of a record, by place; a Resolve's stands at place 0.
+pub(crate) fn descriptors(event: &DecodedRecord) -> &[Descriptor]
+    ensures { result.now ≡ descriptors event.now }
+{
+    let DecodedRecord::Wire { message, .. } = event else {
+        return &[];
+    };
+    match message {
+        RpcMessage::Call { params, .. } => params.descriptors.as_slice(),
+        RpcMessage::Return {
+            outcome: Outcome::Results(payload),
+            ..
+        } => payload.descriptors.as_slice(),
+        RpcMessage::Resolve {
+            resolution: Resolution::Cap(descriptor),
+            ..
+        } => slice::from_ref(descriptor),
+        _ => &[],
+    }
+}
+
+/// The number that a descriptor of a record introduces.
+pub(crate) fn number_introduced(event: &DecodedRecord, descriptor: &Descriptor) -> Option<TableKey>
+    ensures { result ≡ number_introduced event.now descriptor.now }
+{
+    match (event, descriptor) {
+        (
+            DecodedRecord::Wire {
+                sent,
+                connection,
+                ..
+            },
+            Descriptor::SenderHosted(number) | Descriptor::SenderPromise(number),
+        ) => Some(TableKey::of_sender(*sent, *connection, *number)),
+        _ => None,
+    }
+}
+
+/// The numbers that a record introduces, in the order of their places; those of a late Return aren't counted.
+pub(crate) fn introductions(
+    alloc: Global,
+    late: bool,
+    event: &DecodedRecord,
+) -> Result<TableKeys, AllocError>
+    ensures { IfOk result
+        (λ ids. ids ≡ (if late then []
+        else filter_map (number_introduced event.now) (descriptors event.now))) }
+{
+    if late {
+        return Ok(TableKeys::none());
+    }
+    let described = descriptors(event);
+    if let [descriptor] = described {
+        return Ok(match number_introduced(event, descriptor) {
+            Some(id) => TableKeys::one(id),
+            None => TableKeys::none(),
+        });
+    }
+    let mut ids = Vec::new(alloc);
+    for descriptor in described {
+        if let Some(id) = number_introduced(event, descriptor) {
+            ids.push(id)?;
+        }
+    }
+    TableKeys::new(alloc, ids)
+}
+
+/// The references noted beside a record.
+pub(crate) fn references(event: &DecodedRecord) -> &[u64]
+    ensures { result.now ≡ references event.now }
+{
+    match event {
+        DecodedRecord::Wire { references, .. } => references.as_slice(),
+        _ => &[],
+    }
+}
+
+/// Whether a descriptor isn't none.
+pub(crate) fn is_cap(descriptor: &Descriptor) -> bool
+    ensures { result ≡ is_cap descriptor.now }
+{
+    !matches!(descriptor, Descriptor::NoCap)
+}
+
+/// What a descriptor at a place of a record introduces, with its origin, where so many references were noted before
+/// it.
+pub(crate) fn origin_by(
+    number: usize,
+    event: &DecodedRecord,
+    place: usize,
+    before: usize,
+    descriptor: &Descriptor,
+) -> Option<(TableKey, Origin)>
+    ensures { result ≡ origin_by number event.now place before descriptor.now }
+{
+    let id = number_introduced(event, descriptor)?;
+    let reference = references(event).get(before).copied();
+    Some((
+        id,
+        Origin {
+            number,
+            place,
+            reference,
+        },
+    ))
+}
+
+/// What a record of this number introduces, with the origins; a late Return's introductions aren't counted.
+pub(crate) fn origins(
+    alloc: Global,
+    late: bool,
+    number: usize,
+    event: &DecodedRecord,
+) -> Result<Vec<(TableKey, Origin)>, AllocError>
+    ensures { IfOk result
+        (λ list. list.items
+        ≡ (if late then [] else origins_from number event.now 0 0 (descriptors event.now))) }
+{
+    let mut list = Vec::new(alloc);
+    if late {
+        return Ok(list);
+    }
+    let mut before = 0;
+    for (place, descriptor) in descriptors(event).iter().enumerate() {
+        if let Some(origin) = origin_by(number, event, place, before, descriptor) {
+            list.push(origin)?;
+        }
+        if is_cap(descriptor) {
+            before += 1;
+        }
+    }
+    Ok(list)
+}

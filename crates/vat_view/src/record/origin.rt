@@ -1,0 +1,80 @@
+//! Where lives of numbers began.
+
+ghost use Rattle.std.specs.Prelude.{◌≡◌, ◌-◌, IfOk};
+ghost use Rattle.vat_view.specs.Glue.Tables.{begun_at};
+
+use std::alloc::AllocError;
+
+/// Where a life of an export or import number began.
+#[derive(Clone, Copy)]
+pub(crate) struct Origin {
+    /// The number of the record in the log, counted from 0.
+    pub(crate) number: usize,
+    /// The place of the descriptor in the record's table, counted from 0.
+    pub(crate) place: usize,
+    /// The reference noted for that descriptor, if there is one.
+    pub(crate) reference: Option<u64>,
+}
+
+/// What is known of an export or import number, kept in little room since there is one for each number of a log.
+#[derive(Clone, Copy)]
+pub(crate) struct Life {
+    /// How often it is held.
+    pub(crate) count: u64,
+    /// The number of the record where its life began; of no use where it isn't held, as all that follows.
+    number: u32,
+    /// The place of the descriptor there.
+    place: u32,
+    /// Whether a reference was noted for that descriptor.
+    noted: bool,
+    /// That reference.
+    reference: u64,
+}
+
+impl Life {
+    /// A number that is held so often, and whose life began so. A record's number or a place of 2^32 or more, which no
+    /// log reaches, is answered as out of memory is.
+    pub(crate) fn new(count: u64, origin: Origin) -> Result<Life, AllocError>
+        ensures count { IfOk result (λ life. life.count ≡ count) }
+        ensures origin { IfOk result (λ life. begun_at life ≡ origin) }
+    {
+        let (Ok(number), Ok(place)) = (u32::try_from(origin.number), u32::try_from(origin.place))
+        else {
+            return Err(AllocError);
+        };
+        Ok(Life {
+            count,
+            number,
+            place,
+            noted: origin.reference.is_some(),
+            reference: origin.reference.unwrap_or(0),
+        })
+    }
+
+    /// Where its life began.
+    pub(crate) fn origin(self) -> Origin
+        ensures { result ≡ begun_at self }
+    {
+        let reference = if self.noted {
+            Some(self.reference)
+        } else {
+            None
+        };
+        Origin {
+            number: self.number as usize,
+            place: self.place as usize,
+            reference,
+        }
+    }
+
+    /// The same number, held so much less often, down to 0.
+    pub(crate) fn less(self, by: u64) -> Life
+        ensures count { result.count ≡ self.count - by }
+        ensures origin { begun_at result ≡ begun_at self }
+    {
+        Life {
+            count: self.count.saturating_sub(by),
+            ..self
+        }
+    }
+}

@@ -1,0 +1,190 @@
+//! What one record opens, binds, names and uses.
+
+ghost use Rattle.std.specs.Prelude.{◌≡◌, option_to_list};
+ghost use Rattle.vat_view.specs.Questions.{question_opened, question_returned, question_finished};
+ghost use Rattle.vat_view.specs.Lives.{descriptors};
+ghost use Rattle.vat_view.specs.Views.{references};
+ghost use Rattle.vat_view.specs.Uses.{question_targeted, question_described, number_targeted, number_described, number_released};
+ghost use Rattle.vat_view.specs.Bindings.{new_references, new_calls, named_calls};
+
+use crate::record::decoded::DecodedRecord;
+use crate::record::table_key::TableKey;
+use crate::record::{bindings, effects};
+use rpc_view::{Descriptor, RpcMessage, Target};
+
+impl DecodedRecord {
+    /// The question that it opens: a Bootstrap's or a Call's.
+    pub(crate) fn question_opened(&self) -> Option<TableKey>
+        ensures { result ≡ question_opened self.now }
+    {
+        effects::question_opened(self)
+    }
+
+    /// The question that it returns.
+    pub(crate) fn question_returned(&self) -> Option<TableKey>
+        ensures { result ≡ question_returned self.now }
+    {
+        effects::question_returned(self)
+    }
+
+    /// The question that it finishes.
+    pub(crate) fn question_finished(&self) -> Option<TableKey>
+        ensures { result ≡ question_finished self.now }
+    {
+        effects::question_finished(self)
+    }
+
+    /// Its descriptors, by place, counted from 0; a Resolve's stands at place 0.
+    pub fn descriptors(&self) -> &[Descriptor]
+        ensures { result.now ≡ descriptors self.now }
+    {
+        effects::descriptors(self)
+    }
+
+    /// The references noted beside it.
+    pub(crate) fn references(&self) -> &[u64]
+        ensures { result.now ≡ references self.now }
+    {
+        effects::references(self)
+    }
+
+    /// The references that it newly binds: of HOST, VOW, FIELD and RECV.
+    pub fn new_references(&self) -> &[u64]
+        ensures { result.now ≡ new_references self.now }
+    {
+        bindings::new_references(self)
+    }
+
+    /// The call that it newly binds.
+    pub(crate) fn new_call(&self) -> Option<u64>
+        ensures { option_to_list result ≡ new_calls self.now }
+    {
+        match self {
+            DecodedRecord::Make { call, .. }
+            | DecodedRecord::Wire {
+                call,
+                message: RpcMessage::Bootstrap { .. },
+                ..
+            }
+            | DecodedRecord::Wire {
+                sent: false,
+                call,
+                message: RpcMessage::Call { .. },
+                ..
+            } => Some(*call),
+            _ => None,
+        }
+    }
+
+    /// The other call that it names.
+    pub(crate) fn named_call(&self) -> Option<u64>
+        ensures { option_to_list result ≡ named_calls self.now }
+    {
+        match self {
+            DecodedRecord::Field { call, .. }
+            | DecodedRecord::Deliver { call, .. }
+            | DecodedRecord::Answer { call, .. }
+            | DecodedRecord::Fault { call }
+            | DecodedRecord::Wire {
+                sent: true,
+                call,
+                message: RpcMessage::Call { .. },
+                ..
+            } => Some(*call),
+            _ => None,
+        }
+    }
+
+    /// The question that its target names: one of the sender's.
+    pub(crate) fn question_targeted(&self) -> Option<TableKey>
+        ensures { result ≡ question_targeted self.now }
+    {
+        match self {
+            DecodedRecord::Wire {
+                sent,
+                connection,
+                message: RpcMessage::Call {
+                    target: Target::Promised(number, _),
+                    ..
+                }
+                | RpcMessage::Disembargo {
+                    target: Target::Promised(number, _),
+                    ..
+                },
+                ..
+            } => Some(TableKey::of_sender(*sent, *connection, *number)),
+            _ => None,
+        }
+    }
+
+    /// The question that one of its descriptors names: one of the sender's.
+    pub(crate) fn question_described(&self, descriptor: &Descriptor) -> Option<TableKey>
+        ensures { result ≡ question_described self.now descriptor.now }
+    {
+        match (self, descriptor) {
+            (
+                DecodedRecord::Wire {
+                    sent,
+                    connection,
+                    ..
+                },
+                Descriptor::ReceiverAnswer(number, _),
+            ) => Some(TableKey::of_sender(*sent, *connection, *number)),
+            _ => None,
+        }
+    }
+
+    /// The number that its target names: one of the receiver's exports.
+    pub(crate) fn number_targeted(&self) -> Option<TableKey>
+        ensures { result ≡ number_targeted self.now }
+    {
+        match self {
+            DecodedRecord::Wire {
+                sent,
+                connection,
+                message: RpcMessage::Call {
+                    target: Target::Imported(number),
+                    ..
+                }
+                | RpcMessage::Disembargo {
+                    target: Target::Imported(number),
+                    ..
+                },
+                ..
+            } => Some(TableKey::of_receiver(*sent, *connection, *number)),
+            _ => None,
+        }
+    }
+
+    /// The number that one of its descriptors uses: receiverHosted names one of the receiver's exports.
+    pub(crate) fn number_described(&self, descriptor: &Descriptor) -> Option<TableKey>
+        ensures { result ≡ number_described self.now descriptor.now }
+    {
+        match (self, descriptor) {
+            (
+                DecodedRecord::Wire {
+                    sent,
+                    connection,
+                    ..
+                },
+                Descriptor::ReceiverHosted(number),
+            ) => Some(TableKey::of_receiver(*sent, *connection, *number)),
+            _ => None,
+        }
+    }
+
+    /// The number that it releases: one of the receiver's exports.
+    pub(crate) fn number_released(&self) -> Option<TableKey>
+        ensures { result ≡ number_released self.now }
+    {
+        match self {
+            DecodedRecord::Wire {
+                sent,
+                connection,
+                message: RpcMessage::Release { id: number, .. },
+                ..
+            } => Some(TableKey::of_receiver(*sent, *connection, *number)),
+            _ => None,
+        }
+    }
+}

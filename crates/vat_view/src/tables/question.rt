@@ -1,0 +1,34 @@
+//! What is known of one question.
+
+use crate::record::table_keys::TableKeys;
+
+/// What is known of a question by its last opening and what came since.
+#[derive(Drop)]
+pub(crate) struct Question {
+    /// The call noted beside its opening.
+    pub(crate) call: u64,
+    /// Whether its Return has passed.
+    pub(crate) returned: bool,
+    /// Whether its Finish has passed.
+    pub(crate) finished: bool,
+    /// Whether a Finish of it with releaseResultCaps true has passed.
+    pub(crate) released: bool,
+    /// The numbers that its opening introduced.
+    pub(crate) asked: TableKeys,
+    /// The numbers that its Return introduced.
+    pub(crate) brought: TableKeys,
+}
+
+impl Question {
+    /// What holds the place of what is known while that is changed. It takes no memory.
+    pub(crate) fn blank() -> Question {
+        Question {
+            call: 0,
+            returned: false,
+            finished: false,
+            released: false,
+            asked: TableKeys::none(),
+            brought: TableKeys::none(),
+        }
+    }
+}

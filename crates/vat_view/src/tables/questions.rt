@@ -1,0 +1,88 @@
+//! The table of questions.
+
+ghost use Rattle.std.specs.Prelude.{◌≡◌, None, OnOk, OnErr, if◌then◌else◌};
+ghost use Rattle.std.specs.Option.{option_copied};
+ghost use Rattle.vat_view.specs.declared.record.table_key.TableKey.{TableKey};
+ghost use Rattle.vat_view.specs.Glue.Tables.{question_at, params_introduced_in, results_introduced_in, with_return, with_finish, with_release, IsPut, IsSameQuestions, IsChanged};
+
+use crate::record::table_key::TableKey;
+use crate::record::table_keys::TableKeys;
+use crate::tables::by_connection::ByConnection;
+use crate::tables::question::Question;
+use std::alloc::{AllocError, Global};
+
+/// What is known of each question that was opened.
+#[derive(Drop)]
+pub(crate) struct Questions {
+    entries: ByConnection<Question>,
+}
+
+impl Questions {
+    /// Before any is opened.
+    pub(crate) fn new(alloc: Global) -> Questions
+        ensures { (q : TableKey) → question_at result q ≡ None }
+    {
+        Questions {
+            entries: ByConnection::new(alloc),
+        }
+    }
+
+    /// What is known of this question, if it was opened.
+    pub(crate) fn of(&self, question: TableKey) -> Option<&Question>
+        ensures { option_copied result ≡ question_at self.now question }
+    {
+        self.entries.get(question)
+    }
+
+    /// What this question's opening introduced.
+    pub(crate) fn asked_in(&self, question: TableKey) -> &[TableKey]
+        ensures { result.now ≡ params_introduced_in (question_at self.now question) }
+    {
+        match self.of(question) {
+            Some(known) => known.asked.as_slice(),
+            None => &[],
+        }
+    }
+
+    /// What this question's Return introduced.
+    pub(crate) fn brought_in(&self, question: TableKey) -> &[TableKey]
+        ensures { result.now ≡ results_introduced_in (question_at self.now question) }
+    {
+        match self.of(question) {
+            Some(known) => known.brought.as_slice(),
+            None => &[],
+        }
+    }
+
+    /// This question was opened. Where memory is refused, nothing changes.
+    pub(crate) fn open(&mut self, question: TableKey, opened: Question) -> Result<(), AllocError>
+        ensures ok { OnOk result (IsPut question opened self.old self.new) }
+        ensures err { OnErr result (IsSameQuestions self.old self.new) }
+    {
+        self.entries.put(question, opened)
+    }
+
+    /// This question was returned, and its Return introduced these numbers.
+    pub(crate) fn note_return(&mut self, question: TableKey, brought: TableKeys)
+        ensures { IsChanged question (with_return brought) self.old self.new }
+    {
+        if let Some(mut known) = self.entries.replace(question, Question::blank()) {
+            known.returned = true;
+            known.brought = brought;
+            let _ = self.entries.replace(question, known);
+        }
+    }
+
+    /// This question was finished, and its results were given back or not.
+    pub(crate) fn note_finish(&mut self, question: TableKey, released: bool)
+        ensures { IsChanged question
+            (λ known. if released then with_release (with_finish known) else with_finish known)
+            self.old self.new }
+    {
+        if let Some(mut known) = self.entries.replace(question, Question::blank()) {
+            known.finished = true;
+            known.released = known.released || released;
+            let _ = self.entries.replace(question, known);
+        }
+    }
+}

@@ -1,0 +1,123 @@
+//! Walks to views of a kind.
+
+ghost use Rattle.std.specs.Prelude.{◌≡◌, ◌↔◌, IsTrue};
+ghost use Rattle.vat_view.specs.Past.{is};
+ghost use Rattle.vat_view.specs.Glue.Tables.{bound_at};
+ghost use Rattle.vat_view.specs.Connections.{connection_of, is_own, is_another};
+ghost use Rattle.vat_view.specs.Glue.TurnTables.{turn_by, HaveAhead};
+ghost use Rattle.vat_view.specs.Glue.ConnectionTables.{over_by, sought_by, ReachesOne};
+
+use crate::record::decoded::DecodedRecord;
+use crate::tables::connections::Connections;
+use crate::tables::references::BoundReferences;
+use crate::tables::settlements::Settlements;
+use crate::view::View;
+use crate::walks::hops::{event_at, further, turned_to};
+
+/// Which views a walk seeks.
+#[derive(Clone, Copy)]
+pub(crate) enum Sought {
+    /// Those that are reached over this connection.
+    Over(u32),
+    /// Own objects, own promises, and those that are reached over another connection than this.
+    Elsewhere(u32),
+}
+
+/// The connection on which a record's frame passed.
+fn connection_of(event: &DecodedRecord) -> Option<u32>
+    ensures { result ≡ connection_of event.now }
+{
+    match event {
+        DecodedRecord::Wire { connection, .. } => Some(*connection),
+        _ => None,
+    }
+}
+
+/// The connection over which a view is reached.
+fn reached_over(events: &[DecodedRecord], connections: &Connections, view: &View) -> Option<u32>
+    ensures { result ≡ over_by events.now connections.now view.now }
+{
+    match view {
+        View::Object(_) | View::Promise(_) => None,
+        View::Field(call, _) => connections.asked_on(*call),
+        View::Import(number, _) => connection_of(event_at(events, *number)?),
+    }
+}
+
+/// Whether a view is an own object or promise.
+fn is_own(view: &View) -> bool
+    ensures { result ≡ is_own view.now }
+{
+    match view {
+        View::Object(_) | View::Promise(_) => true,
+        View::Field(_, _) | View::Import(_, _) => false,
+    }
+}
+
+/// Whether there is a connection, and it is this one.
+fn is_this(connection: u32, over: Option<u32>) -> bool
+    ensures { result ≡ is connection over }
+{
+    match over {
+        Some(other) => other == connection,
+        None => false,
+    }
+}
+
+/// Whether there is a connection, and it is another than this one.
+fn is_another(connection: u32, over: Option<u32>) -> bool
+    ensures { result ≡ is_another connection over }
+{
+    match over {
+        Some(other) => other != connection,
+        None => false,
+    }
+}
+
+/// Whether a view is sought.
+fn is_sought(
+    events: &[DecodedRecord],
+    connections: &Connections,
+    sought: Sought,
+    view: &View,
+) -> bool
+    ensures { result ≡ sought_by events.now connections.now sought view.now }
+{
+    let over = reached_over(events, connections, view);
+    match sought {
+        Sought::Over(connection) => is_this(connection, over),
+        Sought::Elsewhere(connection) => is_own(view) || is_another(connection, over),
+    }
+}
+
+/// Whether a view leads, by 0 or more turns, to one that is sought. A walk makes at most as many turns as references
+/// are bound, so that it meets each view of a circle; beside it a walk hops, which may pass a view by.
+pub(crate) fn leads_to(
+    events: &[DecodedRecord],
+    turns: &Settlements,
+    bound: &BoundReferences,
+    connections: &Connections,
+    from: &View,
+    sought: Sought,
+) -> bool
+    requires { HaveAhead events.now turns.now bound.now }
+    ensures { IsTrue result
+        ↔ ReachesOne (turn_by events.now turns.now (bound_at bound.now))
+        (sought_by events.now connections.now sought) from.now }
+{
+    let mut view = from;
+    let mut far = from;
+    for _made in 0..bound.len() {
+        if is_sought(events, connections, sought, far)
+            || is_sought(events, connections, sought, view)
+        {
+            return true;
+        }
+        match turned_to(events, turns, bound, view) {
+            Some(next) => view = next,
+            None => return false,
+        }
+        far = further(events, turns, bound, far);
+    }
+    is_sought(events, connections, sought, view)
+}

@@ -34,7 +34,7 @@ const RECORDS: [(&str, &str, &str); 8] = [
     (
         "ANSWER c5 r9@[] r4@[0,258]",
         "08 0500000000000000 0200 0900000000000000 0000 0400000000000000 0200 0000 0201",
-        "vat 3: Answer { call: 5, results: Results { items: [(9, Path { fields: [] }), \
+        "vat 3: Answer { call: 5, results: ResultReferences { items: [(9, Path { fields: [] }), \
         (4, Path { fields: [0, 258] })] } };",
     ),
     (

@@ -27,7 +27,7 @@ const ROWS: [(&str, &str); 3] = [
         call Some(Asked { goal: Some(Field(1, Path { fields: [] })), interface: 4660, method: 2 }) \
         Some(Field(1, Path { fields: [] })) false true true true; \
         opening Some(1) finished false promised Some(false) resolved false; \
-        record Some(Answer { call: 1, results: Results { items: [(1, Path { fields: [] })] } }); \
+        record Some(Answer { call: 1, results: ResultReferences { items: [(1, Path { fields: [] })] } }); \
         stays false leads true by turns false end Some(Object(7))",
     ),
     (
@@ -37,7 +37,7 @@ const ROWS: [(&str, &str); 3] = [
         call Some(Asked { goal: Some(Field(1, Path { fields: [] })), interface: 4660, method: 2 }) \
         Some(Field(1, Path { fields: [] })) false true false false; \
         opening Some(1) finished true promised None resolved false; \
-        record Some(Answer { call: 1, results: Results { items: [(1, Path { fields: [] })] } }); \
+        record Some(Answer { call: 1, results: ResultReferences { items: [(1, Path { fields: [] })] } }); \
         stays false leads true by turns false end Some(Object(7))",
     ),
 ];

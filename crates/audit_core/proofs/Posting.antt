@@ -1,4 +1,4 @@
--- What is found for a piece that was missing is posted.
+-- A piece that is answered as missing is missing and claimed; where none is answered, none is missing.
 use Rattle.std.proofs.Common.{◌≡◌, ℕ, zero, suc, ◌<◌, Bool, true, false, cond, List, [], ◌∷◌, length, get_or, Option, Some, None, refl, sym, ap, ◌∙◌, subst, inl, inr, arith}
 use Rattle.std.specs.Prelude.{Result, Ok, Err, IfErr, is_none, position, count_by, slice_get, slice_set}
 use Rattle.std.specs.List.{position_or_len}
@@ -40,21 +40,6 @@ missing_claimed old new number is after answer =
     let lt = there.0 in
     let within : number < length (slice_set old.claimed number true) = omega (arith, lt, claims, places) in
     (subst (λ (book : Kept). IsMissing book number) (sym now) there.1, subst (λ (book : Kept). IsClaimed book number) (sym now) (written old.claimed number within))
-
--- ---- it is posted
-
-not_refused : (book : Kept) (found : Finding) (refused : Refused) (number : ℕ) → IsBook book → IsForPiece book.case found number → IsMissing book number → IsClaimed book number
-    → IsRefusal book found refused → ⊥
-not_refused book found (Stranger back) number is own missing claimed why = why.1 number own
-not_refused book found (Double back) number is own missing claimed why =
-    why.1.2 (subst (IsMissing book) (for_one book.case is.holds found number why.1.0 own why.1.1) missing)
-not_refused book found (Unclaimed back) number is own missing claimed why =
-    why.1.3 (subst (IsClaimed book) (for_one book.case is.holds found number why.1.0 own why.1.1) claimed)
-
-pub posted : (book : Kept) (found : Finding) (answer : Result (Unit {0}) Refused) (number : ℕ) → IsBook book → IsForPiece book.case found number → IsMissing book number → IsClaimed book number
-    → IfErr answer (IsRefusal book found) → is_err answer ≡ true → ⊥
-posted book found (Ok done) number is own missing claimed why fails = cc
-posted book found (Err refused) number is own missing claimed why fails = not_refused book found refused number is own missing claimed why
 
 -- ---- where none is missing, all are posted
 

@@ -10,10 +10,11 @@ use crate::error::AuditError;
 use crate::gate::Gate;
 use crate::judging::{judge, judge_unordered};
 use crate::report::Report;
+use crate::working::work_together;
 use case_book::{Book, Case, Findings, TieFault};
 use merge_order::Order;
 use std::alloc::{AllocError, Global};
-use std::sync::Wait;
+use std::sync::{Mutex, Wait};
 use std::thread::Threads;
 
 /// How many workers there may be.
@@ -36,20 +37,27 @@ fn refused(case: &Case, workers: u32) -> Option<AuditError>
     }
 }
 
-/// Does the work of each piece that is missing, and posts what is found.
-fn find_all<G: Gate>(alloc: Global, case: Case, gate: &G) -> Result<Findings, AllocError>
+/// The book of this case: the one that came out of the lock, or a new one where that is of another case.
+fn own_book(alloc: Global, case: Case, book: Book) -> Result<Book, AllocError>
     requires { tie_fault_of case ≡ None }
-    ensures { IfOk result (λ all. all.case ≡ case) }
+    ensures { IfOk result (λ own. own.case ≡ case) }
 {
-    let mut book = Book::new(alloc, case)?;
+    if book.case().is_same(&case) {
+        return Ok(book);
+    }
+    Book::new(alloc, case)
+}
+
+/// Does the work of each piece that is missing, and keeps what is found.
+fn finish<G: Gate>(alloc: Global, mut book: Book, gate: &G) -> Result<Findings, AllocError>
+    ensures { IfOk result (λ all. all.case ≡ book.case) }
+{
     while let Some(piece) = book.next_missing() {
         let Some(found) = book.case().find(alloc, piece)? else {
             unreachable!()
         };
         gate.before_post(piece.number);
-        if book.post(found).is_err() {
-            unreachable!()
-        }
+        book.keep(piece, found);
     }
     match book.into_findings() {
         Ok(findings) => Ok(findings),
@@ -57,9 +65,26 @@ fn find_all<G: Gate>(alloc: Global, case: Case, gate: &G) -> Result<Findings, Al
     }
 }
 
+/// The findings of all pieces of a case, by so many workers. The calling thread does what they leave undone.
+fn find_all<R: Threads + Wait + Sync, G: Gate + Sync>(
+    rt: &R,
+    alloc: Global,
+    case: Case,
+    workers: u32,
+    gate: &G,
+) -> Result<Findings, AllocError>
+    requires { tie_fault_of case ≡ None }
+    ensures { IfOk result (λ all. all.case ≡ case) }
+{
+    let shared = Mutex::new(Book::new(alloc, case.copy(alloc)?)?);
+    work_together(rt, alloc, &case, &shared, workers, gate);
+    let book = own_book(alloc, case, shared.into_inner())?;
+    finish(alloc, book, gate)
+}
+
 /// Audits a case: the report of its findings, and of the order that is given, or of the one that takes the smallest vat
-/// number that may come at each step. The report is the same for every number of workers, at least 1 and at most 64. All
-/// pieces are done on the calling thread, which calls the gate just before it posts each.
+/// number that may come at each step. The report is the same for every number of workers, at least 1 and at most 64. The
+/// workers are the calling thread and as many others as can be started; each calls the gate just before it posts a finding.
 ///
 /// # Errors
 ///
@@ -81,11 +106,10 @@ pub fn audit<R: Threads + Wait + Sync, G: Gate + Sync>(
     // What a yes means.
     ensures headline { IfOk result (YesMeansHeadline case.logs) }
 {
-    let _runtime = rt;
     if let Some(error) = refused(&case, workers) {
         return Err(error);
     }
-    let findings = find_all(alloc, case, gate)?;
+    let findings = find_all(rt, alloc, case, workers, gate)?;
     let report = match order {
         Some(order) => judge(alloc, findings, order)?,
         None => judge_unordered(alloc, findings)?,

@@ -16,6 +16,7 @@ mod gate;
 mod judging;
 mod laws;
 mod report;
+mod working;
 
 pub use auditing::audit;
 pub use error::AuditError;

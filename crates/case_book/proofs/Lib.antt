@@ -1,3 +1,4 @@
+pub mod Alike
 pub mod Numbers
 pub mod Rest
 pub mod Search

@@ -1,6 +1,6 @@
 //! Cases.
 
-ghost use Rattle.std.specs.Prelude.{◌≡◌, ◌≤◌, None, Some, IfOk, IfErr, MatchOption, length, map};
+ghost use Rattle.std.specs.Prelude.{◌≡◌, ◌≤◌, None, Some, Decides, IfOk, IfErr, MatchOption, length, map};
 ghost use Rattle.std.specs.Arc.{arc_value};
 ghost use Rattle.std.specs.List.Sorted.{IsPermutation, IsStrictlyIncreasing};
 ghost use Rattle.case_book.specs.Case.{vat_limit, link_limit, vats_fault, links_fault, refusal_of, vats_of, connections_of, IsCase, HoldsJust};
@@ -11,6 +11,7 @@ use crate::error::CaseError;
 use crate::finding::Finding;
 use crate::link::Link;
 use crate::piece::Piece;
+use crate::places::is_same_log;
 use crate::repeats::{repeated_connection, repeated_vat};
 use crate::ties::{TieFault, least_missing, least_same_ended};
 use crate::work::{audit_log, compare_ends};
@@ -82,6 +83,21 @@ fn copied_logs(alloc: Global, logs: &[Arc<VatLog>]) -> Result<Vec<Arc<VatLog>>, 
     Ok(copies)
 }
 
+/// Whether two lists have the same logs in the same order.
+fn are_same_logs(ones: &[Arc<VatLog>], others: &[Arc<VatLog>]) -> bool
+    ensures { Decides result (map arc_value ones.now ≡ map arc_value others.now) }
+{
+    if ones.len() != others.len() {
+        return false;
+    }
+    for index in 0..ones.len() {
+        if !is_same_log(&ones[index], &others[index]) {
+            return false;
+        }
+    }
+    true
+}
+
 impl Model for Case {
     ghost use Rattle.std.specs.Prelude.{map};
     ghost use Rattle.std.specs.Arc.{arc_value};
@@ -145,6 +161,15 @@ impl Case {
             return Some(TieFault::MissingLog(connection));
         }
         least_same_ended(links).map(TieFault::SameEnds)
+    }
+
+    /// Whether two cases have the same logs and links. Logs are compared byte for byte: a log has one spelling. It takes no
+    /// memory.
+    pub fn is_same(&self, other: &Case) -> bool
+        ensures { Decides result (self.now ≡ other.now) }
+    {
+        let Case { logs, links } = self;
+        are_same_logs(logs, other.logs()) && links.as_slice() == other.links()
     }
 
     /// A case with the same logs and links. Only its lists are made anew: a log's bytes aren't copied.

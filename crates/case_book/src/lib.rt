@@ -8,8 +8,8 @@
 //!
 //! `specs/Pieces.antt` says which pieces a case has, and when a finding is for one; a finding is for one piece at most (the
 //! law [`a_finding_is_for_one_piece`]). [`Case::find`] does the work of a piece. A [`Book`], of which `specs/Books.antt`
-//! speaks, hands the pieces out and keeps one finding for each. Memory is taken by [`Case::copy`], [`Case::find`] and
-//! [`Book::new`] alone.
+//! speaks, hands the pieces out and keeps one finding for each; a [`SharedBook`] is one that threads share. Memory is taken by
+//! [`Case::copy`], [`Case::find`] and [`Book::new`] alone.
 #![tactic(auto)]
 
 mod book;
@@ -23,6 +23,7 @@ mod piece;
 mod places;
 mod refused;
 mod repeats;
+mod shared;
 mod ties;
 mod work;
 
@@ -35,4 +36,5 @@ pub use laws::{a_finding_is_for_one_piece, least_is_least};
 pub use link::Link;
 pub use piece::Piece;
 pub use refused::Refused;
+pub use shared::SharedBook;
 pub use ties::TieFault;

@@ -14,7 +14,7 @@ use vat_log::VatLog;
 use vat_rules::VatFinding;
 
 /// Whether two logs are the same, byte for byte: a log has one spelling.
-fn is_same(one: &VatLog, other: &VatLog) -> bool
+pub fn is_same_log(one: &VatLog, other: &VatLog) -> bool
     ensures { Decides result (one.now ≡ other.now) }
 {
     one.bytes() == other.bytes()
@@ -26,7 +26,7 @@ fn place_of(logs: &[Arc<VatLog>], log: &VatLog) -> Option<usize>
         (λ k. slice_get (map arc_value logs.now) k ≡ Some log.now) }
 {
     for (index, held) in logs.iter().enumerate() {
-        if is_same(held, log) {
+        if is_same_log(held, log) {
             return Some(index);
         }
     }

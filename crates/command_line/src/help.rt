@@ -73,7 +73,7 @@ Exit status:
 
 /// N of `check`.
 pub const WORKERS: &str =
-    "How many workers, 1 to 64; it changes nothing, since all work is done on one thread";
+    "How many workers, 1 to 64, audit at the same time; the answer is the same";
 
 /// `graph`, in the list of commands.
 pub const GRAPH: &str = "Prints which vat came to have what of another's";

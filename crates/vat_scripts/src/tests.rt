@@ -21,3 +21,4 @@ mod runs;
 mod states;
 mod tables;
 mod taps;
+mod workers;

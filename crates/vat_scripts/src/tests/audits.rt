@@ -15,7 +15,7 @@ use vat_rules::{Rule, Why};
 
 /// What vats recorded, and the links between them.
 #[derive(Clone, Copy)]
-struct Conversation<'a> {
+pub(super) struct Conversation<'a> {
     /// The number of each vat, and its records.
     vats: &'a [(&'a str, &'a str)],
     links: &'a [Link],
@@ -45,7 +45,7 @@ const PIPELINED_CALL: Conversation<'static> = Conversation {
 };
 
 /// Calls to the caller's own object, the later of which waits for an embargo.
-const EMBARGOED_CALLS: Conversation<'static> = Conversation {
+pub(super) const EMBARGOED_CALLS: Conversation<'static> = Conversation {
     vats: &[
         (
             "1",
@@ -152,7 +152,7 @@ const SAME_ENDS: Conversation<'static> = Conversation {
 
 /// What is answered of a case, all but the run.
 #[derive(Clone, Copy, Debug, PartialEq, Eq)]
-enum Line {
+pub(super) enum Line {
     Vat(u32, u64, Breach),
     OutsideVat(u32, u64, Why),
     Link(u32, u32, u64),
@@ -163,7 +163,7 @@ enum Line {
 }
 
 /// The line of a report. None where it is a yes whose run hasn't a step for each record.
-fn line_of(report: &Report) -> Option<Line> {
+pub(super) fn line_of(report: &Report) -> Option<Line> {
     match report {
         Report::Vat { vat, at, rule } => Some(Line::Vat(*vat, *at, *rule)),
         Report::OutsideVat { vat, at, why } => Some(Line::OutsideVat(*vat, *at, *why)),
@@ -200,7 +200,11 @@ fn changed_log(
 }
 
 /// The case of a conversation, with what is changed in its logs.
-fn case_of(alloc: Global, given: &Conversation<'_>, changes: &[&str]) -> Result<Case, Refused> {
+pub(super) fn case_of(
+    alloc: Global,
+    given: &Conversation<'_>,
+    changes: &[&str],
+) -> Result<Case, Refused> {
     let mut logs = Vec::new(alloc);
     for (number, records) in given.vats {
         logs.push(changed_log(alloc, number, records, changes)?)?;

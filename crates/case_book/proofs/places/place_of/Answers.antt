@@ -12,6 +12,6 @@ loop-index-preserved c =
     c.deref.ensures ∙ ap (arc_value {X = VatLog} {Z = Global}) c.index-logs-index.is
     ∙ sym (get_or-map (arc_value {X = VatLog} {Z = Global}) c.args.logs.now c.loop-index.index c.index-logs-index.result c.args.log.now (omega arith))
     ∙ same in
-    let is = c.is_same.ensures.1 held in
-    let isnt = c.if-is_same.false in
+    let is = c.is_same_log.ensures.1 held in
+    let isnt = c.if-is_same_log.false in
     cc)

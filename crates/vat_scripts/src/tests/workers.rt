@@ -1,0 +1,64 @@
+//! Workers that hold their findings at the same time. No contract says that a thread beside the calling one runs, so this is
+//! what shows it.
+
+use super::audits::{EMBARGOED_CALLS, Line, case_of, line_of};
+use super::given::Refused;
+use audit_core::{Gate, audit};
+use std::alloc::Global;
+use std::sync::Wait;
+use std::sync::atomic::{AtomicBool, AtomicU64, Ordering};
+use std::thread;
+use std::thread::Threads;
+
+/// How often a worker yields before it gives up on the others.
+const TURNS: u64 = 10_000_000;
+
+/// A gate at which so many of the first pieces are held until all of them have come.
+#[derive(Drop)]
+struct Meeting {
+    wanted: u64,
+    /// How many of them came.
+    came: AtomicU64,
+    /// Whether one of them waited in vain.
+    is_missed: AtomicBool,
+}
+
+impl Gate for Meeting {
+    fn before_post(&self, piece: u32) {
+        if u64::from(piece) >= self.wanted {
+            return;
+        }
+        self.came.fetch_add(1, Ordering::SeqCst);
+        for _ in 0..TURNS {
+            if self.came.load(Ordering::SeqCst) >= self.wanted {
+                return;
+            }
+            thread::yield_now();
+        }
+        self.is_missed.store(true, Ordering::SeqCst);
+    }
+}
+
+/// Whether so many workers hold a piece each at the same time, and what they find is answered as ever. Where a worker was
+/// refused memory, the pieces may not meet.
+fn meet<R: Threads + Wait + Sync>(rt: &R, alloc: Global, workers: u32) -> Result<bool, Refused> {
+    let gate = Meeting {
+        wanted: u64::from(workers),
+        came: AtomicU64::new(0),
+        is_missed: AtomicBool::new(false),
+    };
+    let case = case_of(alloc, &EMBARGOED_CALLS, &[])?;
+    let report = audit(rt, alloc, case, None, workers, &gate)?;
+    Ok(!gate.is_missed.load(Ordering::SeqCst) && line_of(&report) == Some(Line::Yes(2, 28, 3, 0)))
+}
+
+#[test]
+fn workers_hold_their_pieces_at_once(rt: HostRuntime) {
+    for workers in [2, 3] {
+        let is_so = match meet(&rt, rt.alloc(), workers) {
+            Ok(true) => true,
+            _ => meet(&rt, rt.alloc(), workers).unwrap_or(false),
+        };
+        assert!(rt; is_so, "{workers} workers");
+    }
+}

@@ -3,9 +3,9 @@
 ghost use Rattle.std.specs.Prelude.{◌≡◌, ◌+◌, length, OnOk};
 ghost use Rattle.vat_tap.specs.Tickets.{SameLane};
 
-use crate::gate::Gate;
-use crate::refused::Refused;
-use crate::sends::{send, sends};
+use crate::barrier::Barrier;
+use crate::bench_error::BenchError;
+use crate::send_records::{make_send, make_sends};
 use std::alloc::Global;
 use std::time::{Clock, Instant};
 use vat_log::Record;
@@ -54,7 +54,7 @@ impl Span {
 }
 
 /// Records all of these, the last one first. They go, their room stays.
-fn record_all(lane: &mut Lane, records: &mut Vec<Record>) -> Result<(), Refused>
+fn record_all(lane: &mut Lane, records: &mut Vec<Record>) -> Result<(), BenchError>
     ensures same { SameLane lane.old lane.new }
     ensures all { OnOk result
         (length lane.new.recorded ≡ length lane.old.recorded + length records.old.items) }
@@ -66,36 +66,36 @@ fn record_all(lane: &mut Lane, records: &mut Vec<Record>) -> Result<(), Refused>
 }
 
 /// Makes so many records, and records each.
-pub fn make_all(alloc: Global, lane: &mut Lane, count: usize) -> Result<(), Refused>
+pub fn make_and_record_all(alloc: Global, lane: &mut Lane, count: usize) -> Result<(), BenchError>
     ensures same { SameLane lane.old lane.new }
     ensures all { OnOk result (length lane.new.recorded ≡ length lane.old.recorded + count) }
 {
     for _ in 0..count {
-        lane.record(send(alloc)?)?;
+        lane.record(make_send(alloc)?)?;
     }
     Ok(())
 }
 
-/// Records so many, once the others are at the gate, too.
+/// Records so many, once the others are at the barrier, too.
 pub fn record<R: Clock>(
     rt: &R,
     alloc: Global,
-    gate: &Gate,
+    barrier: &Barrier,
     lane: &mut Lane,
     work: Work,
-) -> Result<Span, Refused>
+) -> Result<Span, BenchError>
     ensures same { SameLane lane.old lane.new }
     ensures all { OnOk result (length lane.new.recorded ≡ length lane.old.recorded + work.count) }
 {
     let mut records = match work.timed {
-        Timed::Record => sends(alloc, work.count)?,
+        Timed::Record => make_sends(alloc, work.count)?,
         Timed::MakeAndRecord => Vec::new(alloc),
     };
-    gate.pass();
+    barrier.wait();
     let start = Instant::now(rt)?;
     match work.timed {
         Timed::Record => record_all(lane, &mut records)?,
-        Timed::MakeAndRecord => make_all(alloc, lane, work.count)?,
+        Timed::MakeAndRecord => make_and_record_all(alloc, lane, work.count)?,
     }
     let end = Instant::now(rt)?;
     Ok(Span { start, end })

@@ -10,25 +10,25 @@
 //! - `close T`: `Tap::close` of one lane with COUNT records, all drained before, for each record.
 //! - `close of 10 times as many T`: the same with 10 times COUNT.
 //!
-//! It stands on `vat_tap` and `vat_log`. [`sends`] makes just so many records, each as `specs/Sends.antt` says, and those that
-//! are timed are all recorded. That times are times is trusted.
+//! It stands on `vat_tap` and `vat_log`. [`make_sends`] makes just so many records, each as `specs/Sends.antt` says, and those
+//! that are timed are all recorded. That times are times is trusted.
 #![tactic(auto)]
 
 ghost use Rattle.std.specs.Prelude.{◌≤◌, IfSome};
 
-mod gate;
+mod barrier;
+mod bench_error;
 mod lanes;
 mod measure;
-mod refused;
-mod report;
+mod measurements;
 mod runs;
-mod sends;
+mod send_records;
 
 use measure::measure;
 use std::{env, io};
 
 /// How many records a lane's ring has room for at most.
-const MOST: usize = 65_536;
+const MOST_RECORDS: usize = 65_536;
 
 /// The count that the words after the program's name give, if they are one that can be measured.
 fn count_of(words: &[String]) -> Option<usize>
@@ -38,7 +38,7 @@ fn count_of(words: &[String]) -> Option<usize>
         return None;
     };
     let count = word.parse::<usize>().ok()?;
-    if count == 0 || count > MOST {
+    if count == 0 || count > MOST_RECORDS {
         return None;
     }
     Some(count)
@@ -51,7 +51,7 @@ fn main(rt: HostRuntime) -> io::Result<()> {
         return Ok(());
     };
     match measure(&rt, rt.alloc(), count) {
-        Ok(report) => println!(rt; "{report}"),
-        Err(refused) => println!(rt; "not measured: {refused}"),
+        Ok(measured) => println!(rt; "{measured}"),
+        Err(error) => println!(rt; "not measured: {error}"),
     }
 }

@@ -2,10 +2,10 @@
 
 ghost use Rattle.std.specs.Prelude.{◌≡◌, ◌≤◌, IfOk};
 
+use crate::bench_error::BenchError;
 use crate::lanes::Timed;
-use crate::refused::Refused;
-use crate::report::{Lanes, Report};
-use crate::runs::{close, one_lane, two_lanes};
+use crate::measurements::{LaneTimes, Measurements};
+use crate::runs::{time_close, time_one_lane, time_two_lanes};
 use std::alloc::Global;
 use std::thread::Threads;
 use std::time::Clock;
@@ -15,7 +15,7 @@ const RUNS: usize = 11;
 
 /// A kind of run.
 #[derive(Clone, Copy, PartialEq, Eq)]
-enum Kind {
+enum RunKind {
     /// By one lane.
     OneLane(Timed),
     /// By two lanes at once.
@@ -27,19 +27,19 @@ enum Kind {
 }
 
 /// How many nanoseconds one run takes.
-fn run<R: Clock + Threads + Sync>(
+fn run_time<R: Clock + Threads + Sync>(
     rt: &R,
     alloc: Global,
-    kind: Kind,
+    kind: RunKind,
     count: usize,
-) -> Result<u128, Refused>
+) -> Result<u128, BenchError>
     requires { (1 ≤ count) × (count ≤ 65536) }
 {
     match kind {
-        Kind::OneLane(timed) => one_lane(rt, alloc, timed, count),
-        Kind::TwoLanes(timed) => two_lanes(rt, alloc, timed, count),
-        Kind::Close => close(rt, alloc, 1, count),
-        Kind::TenfoldClose => close(rt, alloc, 10, count),
+        RunKind::OneLane(timed) => time_one_lane(rt, alloc, timed, count),
+        RunKind::TwoLanes(timed) => time_two_lanes(rt, alloc, timed, count),
+        RunKind::Close => time_close(rt, alloc, 1, count),
+        RunKind::TenfoldClose => time_close(rt, alloc, 10, count),
     }
 }
 
@@ -47,31 +47,31 @@ fn run<R: Clock + Threads + Sync>(
 fn median<R: Clock + Threads + Sync>(
     rt: &R,
     alloc: Global,
-    kind: Kind,
+    kind: RunKind,
     count: usize,
-) -> Result<u128, Refused>
+) -> Result<u128, BenchError>
     requires { (1 ≤ count) × (count ≤ 65536) }
 {
     let mut times = Vec::new(alloc);
     for _ in 0..RUNS {
-        times.push(run(rt, alloc, kind, count)?)?;
+        times.push(run_time(rt, alloc, kind, count)?)?;
     }
     times.sort_unstable();
-    times.get(RUNS / 2).copied().ok_or(Refused::OtherCount)
+    times.get(RUNS / 2).copied().ok_or(BenchError::OtherCount)
 }
 
 /// The medians of one lane and of two.
-fn lanes<R: Clock + Threads + Sync>(
+fn lane_times<R: Clock + Threads + Sync>(
     rt: &R,
     alloc: Global,
     timed: Timed,
     count: usize,
-) -> Result<Lanes, Refused>
+) -> Result<LaneTimes, BenchError>
     requires { (1 ≤ count) × (count ≤ 65536) }
 {
-    Ok(Lanes {
-        one: median(rt, alloc, Kind::OneLane(timed), count)?,
-        two: median(rt, alloc, Kind::TwoLanes(timed), count)?,
+    Ok(LaneTimes {
+        one: median(rt, alloc, RunKind::OneLane(timed), count)?,
+        two: median(rt, alloc, RunKind::TwoLanes(timed), count)?,
     })
 }
 
@@ -80,15 +80,15 @@ pub fn measure<R: Clock + Threads + Sync>(
     rt: &R,
     alloc: Global,
     count: usize,
-) -> Result<Report, Refused>
+) -> Result<Measurements, BenchError>
     requires { (1 ≤ count) × (count ≤ 65536) }
-    ensures { IfOk result (λ report. report.count ≡ count) }
+    ensures { IfOk result (λ measured. measured.count ≡ count) }
 {
-    Ok(Report {
+    Ok(Measurements {
         count,
-        record: lanes(rt, alloc, Timed::Record, count)?,
-        make: lanes(rt, alloc, Timed::MakeAndRecord, count)?,
-        close: median(rt, alloc, Kind::Close, count)?,
-        tenfold: median(rt, alloc, Kind::TenfoldClose, count)?,
+        record: lane_times(rt, alloc, Timed::Record, count)?,
+        make: lane_times(rt, alloc, Timed::MakeAndRecord, count)?,
+        close: median(rt, alloc, RunKind::Close, count)?,
+        tenfold_close: median(rt, alloc, RunKind::TenfoldClose, count)?,
     })
 }

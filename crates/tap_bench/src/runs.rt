@@ -3,9 +3,9 @@
 ghost use Rattle.std.specs.Prelude.{◌≡◌, ◌≤◌, IfOk};
 ghost use Rattle.vat_tap.specs.Tickets.{IsLaneOf, SameLane, SameTap};
 
-use crate::gate::Gate;
-use crate::lanes::{Span, Timed, Work, make_all, record};
-use crate::refused::Refused;
+use crate::barrier::Barrier;
+use crate::bench_error::BenchError;
+use crate::lanes::{Span, Timed, Work, make_and_record_all, record};
 use std::alloc::Global;
 use std::thread;
 use std::thread::Threads;
@@ -16,70 +16,70 @@ use vat_tap::{Lane, Tap};
 const VAT: u32 = 1;
 
 /// Drains just so many records.
-fn drain(tap: &mut Tap, count: usize) -> Result<(), Refused>
+fn drain(tap: &mut Tap, count: usize) -> Result<(), BenchError>
     ensures { SameTap tap.old tap.new }
 {
     if tap.drain()? == count as u64 {
         Ok(())
     } else {
-        Err(Refused::OtherCount)
+        Err(BenchError::OtherCount)
     }
 }
 
 /// A tap with one lane, and its lane.
-fn open_one(alloc: Global, ring: usize) -> Result<(Tap, Lane), Refused>
+fn open_one(alloc: Global, ring: usize) -> Result<(Tap, Lane), BenchError>
     requires { (1 ≤ ring) × (ring ≤ 65536) }
     ensures { IfOk result (λ opened. IsLaneOf opened.0 opened.1) }
 {
     let (tap, opened) = Tap::open(alloc, VAT, 1, ring)?;
     let mut lanes = opened;
-    let lane = lanes.pop().ok_or(Refused::NoRecord)?;
+    let lane = lanes.pop().ok_or(BenchError::NoRecord)?;
     Ok((tap, lane))
 }
 
 /// A tap with two lanes, and its lanes.
-fn open_two(alloc: Global, ring: usize) -> Result<(Tap, Lane, Lane), Refused>
+fn open_two(alloc: Global, ring: usize) -> Result<(Tap, Lane, Lane), BenchError>
     requires { (1 ≤ ring) × (ring ≤ 65536) }
 {
     let (tap, opened) = Tap::open(alloc, VAT, 2, ring)?;
     let mut lanes = opened;
-    let second = lanes.pop().ok_or(Refused::NoRecord)?;
-    let first = lanes.pop().ok_or(Refused::NoRecord)?;
+    let second = lanes.pop().ok_or(BenchError::NoRecord)?;
+    let first = lanes.pop().ok_or(BenchError::NoRecord)?;
     Ok((tap, first, second))
 }
 
-/// One lane records so many, once the other threads are at the gate.
-fn by_one<R: Clock>(
+/// One lane records so many, once the other threads are at the barrier.
+fn record_by_one<R: Clock>(
     rt: &R,
     alloc: Global,
-    gate: &Gate,
+    barrier: &Barrier,
     lane: Lane,
     work: Work,
-) -> (Lane, Result<Span, Refused>) {
+) -> (Lane, Result<Span, BenchError>) {
     let mut lane = lane;
-    let span = record(rt, alloc, gate, &mut lane, work);
+    let span = record(rt, alloc, barrier, &mut lane, work);
     (lane, span)
 }
 
 /// Two lanes record so many each, in two threads.
-fn by_two<R: Clock + Threads + Sync>(
+fn record_by_two<R: Clock + Threads + Sync>(
     rt: &R,
     alloc: Global,
     lanes: (Lane, Lane),
     work: Work,
-) -> Result<(Lane, Lane, Span), Refused> {
+) -> Result<(Lane, Lane, Span), BenchError> {
     let (first, second) = lanes;
-    let gate = Gate::new(2);
+    let barrier = Barrier::new(2);
     let ((first, one), (second, other)) = thread::join(
         rt,
-        || by_one(rt, alloc, &gate, first, work),
-        || by_one(rt, alloc, &gate, second, work),
+        || record_by_one(rt, alloc, &barrier, first, work),
+        || record_by_one(rt, alloc, &barrier, second, work),
     );
     Ok((first, second, one?.with(other?)))
 }
 
 /// How a ring is used before it is timed.
-fn warming(count: usize) -> Work {
+fn warm_up(count: usize) -> Work {
     Work {
         timed: Timed::Record,
         count,
@@ -87,72 +87,77 @@ fn warming(count: usize) -> Work {
 }
 
 /// How many nanoseconds one lane takes for so many records, in a ring that was used once before.
-pub fn one_lane<R: Clock>(
+pub fn time_one_lane<R: Clock>(
     rt: &R,
     alloc: Global,
     timed: Timed,
     count: usize,
-) -> Result<u128, Refused>
+) -> Result<u128, BenchError>
     requires { (1 ≤ count) × (count ≤ 65536) }
 {
     let (mut tap, lane) = open_one(alloc, count)?;
-    let (lane, first) = by_one(rt, alloc, &Gate::new(1), lane, warming(count));
+    let (lane, first) = record_by_one(rt, alloc, &Barrier::new(1), lane, warm_up(count));
     first?;
     drain(&mut tap, count)?;
-    let (_lane, span) = by_one(rt, alloc, &Gate::new(1), lane, Work { timed, count });
+    let (_lane, span) = record_by_one(rt, alloc, &Barrier::new(1), lane, Work { timed, count });
     Ok(span?.nanoseconds())
 }
 
 /// How many nanoseconds two lanes at once take for so many records each, from when the first begins to when the last ends, in
 /// rings that were used once before.
-pub fn two_lanes<R: Clock + Threads + Sync>(
+pub fn time_two_lanes<R: Clock + Threads + Sync>(
     rt: &R,
     alloc: Global,
     timed: Timed,
     count: usize,
-) -> Result<u128, Refused>
+) -> Result<u128, BenchError>
     requires { (1 ≤ count) × (count ≤ 65536) }
 {
     let (mut tap, first, second) = open_two(alloc, count)?;
-    let (first, second, _) = by_two(rt, alloc, (first, second), warming(count))?;
+    let (first, second, _) = record_by_two(rt, alloc, (first, second), warm_up(count))?;
     drain(&mut tap, 2 * count)?;
-    let (_first, _second, span) = by_two(rt, alloc, (first, second), Work { timed, count })?;
+    let (_first, _second, span) = record_by_two(rt, alloc, (first, second), Work { timed, count })?;
     Ok(span.nanoseconds())
 }
 
 /// How many nanoseconds `Tap::close` takes, of one lane with so many times so many records, all drained before.
-pub fn close<R: Clock>(rt: &R, alloc: Global, times: usize, count: usize) -> Result<u128, Refused>
+pub fn time_close<R: Clock>(
+    rt: &R,
+    alloc: Global,
+    times: usize,
+    count: usize,
+) -> Result<u128, BenchError>
     requires times { times ≤ 16 }
     requires count { (1 ≤ count) × (count ≤ 65536) }
 {
     let (mut tap, mut lane) = open_one(alloc, count)?;
     for _ in 0..times {
-        make_all(alloc, &mut lane, count)?;
+        make_and_record_all(alloc, &mut lane, count)?;
         drain(&mut tap, count)?;
     }
-    closed(rt, alloc, tap, lane, times * count)
+    time_close_of(rt, alloc, tap, lane, times * count)
 }
 
 /// How many nanoseconds it takes to close a tap with one lane, whose log then has just so many records.
-fn closed<R: Clock>(
+fn time_close_of<R: Clock>(
     rt: &R,
     alloc: Global,
     tap: Tap,
     lane: Lane,
     count: usize,
-) -> Result<u128, Refused>
+) -> Result<u128, BenchError>
     requires { IsLaneOf tap lane }
 {
     let mut lanes = Vec::new(alloc);
     lanes.push(lane)?;
     let start = Instant::now(rt)?;
     let Ok(log) = tap.close(lanes) else {
-        return Err(Refused::OutOfMemory);
+        return Err(BenchError::OutOfMemory);
     };
     let time = start.elapsed(rt)?;
     if log.len() == count {
         Ok(time.as_nanos())
     } else {
-        Err(Refused::OtherCount)
+        Err(BenchError::OtherCount)
     }
 }

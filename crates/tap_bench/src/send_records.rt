@@ -3,7 +3,7 @@
 ghost use Rattle.std.specs.Prelude.{◌≡◌, length, All, IfOk};
 ghost use Rattle.tap_bench.specs.Sends.{IsSend};
 
-use crate::refused::Refused;
+use crate::bench_error::BenchError;
 use bytes::Bytes;
 use std::alloc::Global;
 use vat_log::{Body, Record, References};
@@ -12,7 +12,7 @@ use vat_log::{Body, Record, References};
 const FRAME: [u8; 112] = [0; 112];
 
 /// A SEND with a frame of its own.
-pub fn send(alloc: Global) -> Result<Record, Refused>
+pub fn make_send(alloc: Global) -> Result<Record, BenchError>
     ensures { IfOk result IsSend }
 {
     let body = Body::Send {
@@ -25,13 +25,13 @@ pub fn send(alloc: Global) -> Result<Record, Refused>
 }
 
 /// So many of these.
-pub fn sends(alloc: Global, count: usize) -> Result<Vec<Record>, Refused>
+pub fn make_sends(alloc: Global, count: usize) -> Result<Vec<Record>, BenchError>
     ensures count { IfOk result (λ records. length records.items ≡ count) }
     ensures each { IfOk result (λ records. All IsSend records.items) }
 {
     let mut records = Vec::with_capacity(alloc, count)?;
     for _ in 0..count {
-        records.push(send(alloc)?)?;
+        records.push(make_send(alloc)?)?;
     }
     Ok(records)
 }

@@ -5,7 +5,7 @@ use std::fmt::{Display, Formatter, Write};
 
 /// How many nanoseconds so many records take, by one lane and by two at once.
 #[derive(Clone, Copy, Debug)]
-pub struct Lanes {
+pub struct LaneTimes {
     /// So many records by one lane.
     pub one: u128,
     /// So many by each of two.
@@ -14,17 +14,17 @@ pub struct Lanes {
 
 /// What was measured.
 #[derive(Clone, Copy, Debug)]
-pub struct Report {
+pub struct Measurements {
     /// How many records each lane recorded.
     pub count: usize,
     /// Recording alone.
-    pub record: Lanes,
+    pub record: LaneTimes,
     /// Making and recording.
-    pub make: Lanes,
+    pub make: LaneTimes,
     /// How many nanoseconds a close with so many records takes.
     pub close: u128,
     /// How many nanoseconds a close with 10 times as many takes.
-    pub tenfold: u128,
+    pub tenfold_close: u128,
 }
 
 /// A number of tenths.
@@ -46,7 +46,7 @@ impl Display for Tenths {
 fn write_lanes<W: Write>(
     f: &mut Formatter<W>,
     what: &str,
-    lanes: &Lanes,
+    lanes: &LaneTimes,
     count: u128,
 ) -> fmt::Result {
     writeln!(
@@ -58,7 +58,7 @@ fn write_lanes<W: Write>(
     )
 }
 
-impl Display for Report {
+impl Display for Measurements {
     fn fmt<W: Write>(&self, f: &mut Formatter<W>) -> fmt::Result {
         let count = self.count as u128;
         writeln!(f, "records {}", self.count)?;
@@ -69,7 +69,7 @@ impl Display for Report {
         write!(
             f,
             "close of 10 times as many {}",
-            ratio(self.tenfold, tenfold)
+            ratio(self.tenfold_close, tenfold)
         )
     }
 }

@@ -4,7 +4,8 @@
 //! `thiserror`, which derives `SourceError`. It opens no file and says no line: a `Source` gives bytes by name, and a
 //! `ReadCase` or a `CaseFault` goes out. What bytes say as a case file stands in `specs/CaseFile.antt`, what comes of a
 //! case by its name in `specs/CaseReading.antt`; [`read_case`] is exactly that, where memory doesn't run out. A
-//! [`FileList`] is a source whose reading is look-up (`specs/LookUp.antt`).
+//! [`FileList`] is a source whose reading is look-up (`specs/LookUp.antt`); a [`RememberingSource`] also tells what was read
+//! from it, for people.
 #![tactic(auto)]
 
 mod case_fault;
@@ -16,4 +17,4 @@ mod source;
 pub use case_fault::CaseFault;
 pub use case_reading::{ReadCase, read_case};
 pub use file_list::FileList;
-pub use source::{Source, SourceError};
+pub use source::{RememberingSource, Source, SourceError};

@@ -49,19 +49,16 @@ pub trait Source {
     /// `CannotRead` where there is nothing that can be read under it, or out of memory.
     fn read(&mut self, name: &str) -> Result<Bytes, SourceError>
         ensures { read_gives self.old name.now result self.new };
+}
 
-    /// The name that was asked for last, where it is kept. People are told it; no answer depends on it.
-    fn last(&self) -> Option<&str> {
-        None
-    }
+/// A source that remembers what it was asked for, so that people can be told of it. No answer depends on it.
+pub trait RememberingSource: Source {
+    /// The name that was asked for last, where it is kept.
+    fn last(&self) -> Option<&str>;
 
-    /// Why nothing could be read under that name, where it is kept. It is for people, too.
-    fn refusal(&self) -> Option<&io::Error> {
-        None
-    }
+    /// Why nothing could be read under that name, where it is kept.
+    fn refusal(&self) -> Option<&io::Error>;
 
-    /// The files that were read, with their names, in the order of reading, where they are kept. They are for people, too.
-    fn kept(&self) -> &[(String, Bytes)] {
-        &[]
-    }
+    /// The files that were read, with their names, in the order of reading, as far as they are kept.
+    fn kept(&self) -> &[(String, Bytes)];
 }

@@ -16,7 +16,7 @@ use crate::commands::vat_audit::say_vat;
 use crate::notes::cause::Heard;
 use crate::notes::note_lines::notes_of;
 use crate::output::{Failed, Output};
-use case_files::Source;
+use case_files::{RememberingSource, Source};
 use command_line::Command;
 use std::alloc::Global;
 use std::io::Write;
@@ -119,7 +119,7 @@ pub fn run_on<R: Threads + Wait + Sync, S: Source, W: Write, F: Write>(
 /// a no, an outside, a file that can't be read or a log, an order or a case file that is bad (docs/FORMATS.md). No contract
 /// says what they tell. They change neither what is written elsewhere nor the exit status: where a write of them fails, or
 /// memory is refused for them, they are left out.
-pub fn run_with_notes<R: Threads + Wait + Sync, S: Source, W: Write, F: Write, N: Write>(
+pub fn run_with_notes<R: Threads + Wait + Sync, S: RememberingSource, W: Write, F: Write, N: Write>(
     rt: &R,
     alloc: Global,
     command: &Command<'_>,

@@ -3,7 +3,7 @@
 ghost use Rattle.std.specs.Prelude.{◌≡◌, ◌<◌, ◌≤◌, length, IfErr, IfOk, IfSome};
 
 use bytes::Bytes;
-use case_files::{Source, SourceError};
+use case_files::{RememberingSource, Source, SourceError};
 use std::alloc::{AllocError, Global};
 use std::io::{ErrorKind, Read};
 use std::rt::Files;
@@ -55,50 +55,6 @@ pub fn read_all<R: Read + Drop>(
     }
 }
 
-/// The files of the working directory, and standard input under the name `-`. Where notes are wanted it keeps what people
-/// are told of the files; the bytes that it keeps are shared, not copied.
-#[derive(Drop)]
-pub struct Folder<'a, R> {
-    rt: &'a R,
-    keeps: bool,
-    last: Option<String>,
-    refusal: Option<io::Error>,
-    kept: Vec<(String, Bytes)>,
-}
-
-impl<'a, R: Files + Input + AllocGlobal> Folder<'a, R> {
-    /// The folder, which keeps nothing.
-    pub fn new(rt: &'a R) -> Folder<'a, R> {
-        Folder {
-            rt,
-            keeps: false,
-            last: None,
-            refusal: None,
-            kept: Vec::new(rt.alloc()),
-        }
-    }
-
-    /// The folder, which keeps what notes need.
-    pub fn keeping(rt: &'a R) -> Folder<'a, R> {
-        Folder {
-            keeps: true,
-            ..Folder::new(rt)
-        }
-    }
-
-    /// Keeps the name that is asked for, and the file that was read. Where memory is refused less is kept.
-    fn keep(&mut self, name: &str, read: &Result<Bytes, SourceError>) -> Result<(), AllocError> {
-        let alloc = self.rt.alloc();
-        self.last = None;
-        self.last = Some(String::from_str(alloc, name)?);
-        if let Ok(bytes) = read {
-            let file = (String::from_str(alloc, name)?, bytes.clone()?);
-            self.kept.push(file)?;
-        }
-        Ok(())
-    }
-}
-
 /// All bytes of a file, or of standard input. Where they can't be read the reason is told.
 fn read_named<R: Files + Input + AllocGlobal>(
     rt: &R,
@@ -115,16 +71,68 @@ fn read_named<R: Files + Input + AllocGlobal>(
     }
 }
 
+/// The files of the working directory, and standard input under the name `-`.
+#[derive(Drop)]
+pub struct Folder<'a, R> {
+    rt: &'a R,
+}
+
+impl<'a, R> Folder<'a, R> {
+    /// The folder.
+    pub fn new(rt: &'a R) -> Folder<'a, R> {
+        Folder { rt }
+    }
+}
+
 impl<R: Files + Input + AllocGlobal> Source for Folder<'_, R> {
+    fn read(&mut self, name: &str) -> Result<Bytes, SourceError> {
+        read_named(self.rt, name, &mut None)
+    }
+}
+
+/// The same files, with what people are told of them. The bytes that it keeps are shared, not copied.
+#[derive(Drop)]
+pub struct RememberingFolder<'a, R> {
+    rt: &'a R,
+    last: Option<String>,
+    refusal: Option<io::Error>,
+    kept: Vec<(String, Bytes)>,
+}
+
+impl<'a, R: AllocGlobal> RememberingFolder<'a, R> {
+    /// The folder, of which nothing has been read yet.
+    pub fn new(rt: &'a R) -> RememberingFolder<'a, R> {
+        RememberingFolder {
+            rt,
+            last: None,
+            refusal: None,
+            kept: Vec::new(rt.alloc()),
+        }
+    }
+
+    /// Keeps the name that is asked for, and the file that was read. Where memory is refused less is kept.
+    fn keep(&mut self, name: &str, read: &Result<Bytes, SourceError>) -> Result<(), AllocError> {
+        let alloc = self.rt.alloc();
+        self.last = None;
+        self.last = Some(String::from_str(alloc, name)?);
+        if let Ok(bytes) = read {
+            let file = (String::from_str(alloc, name)?, bytes.clone()?);
+            self.kept.push(file)?;
+        }
+        Ok(())
+    }
+}
+
+impl<R: Files + Input + AllocGlobal> Source for RememberingFolder<'_, R> {
     fn read(&mut self, name: &str) -> Result<Bytes, SourceError> {
         self.refusal = None;
         let read = read_named(self.rt, name, &mut self.refusal);
-        if self.keeps {
-            let _ = self.keep(name, &read);
-        }
+        let _ = self.keep(name, &read);
         read
     }
+}
 
+impl<R: Files + Input + AllocGlobal> RememberingSource for RememberingFolder<'_, R> {
     fn last(&self) -> Option<&str> {
         self.last.as_ref().map(String::as_str)
     }

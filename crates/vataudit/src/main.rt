@@ -8,7 +8,7 @@
 //!
 //! It stands on `command_line`, which reads the words, and on `command_run`, which runs the command that they spell
 //! and says in its specs/Runs.antt what a run prints. Here are the files: those that are read are a `Source` of
-//! `case_files` (file.rt), and the order of a case is written to a new one (new_file.rt).
+//! `case_files`, which remembers what it read where notes are wanted (file.rt), and the order of a case is written to a new one (new_file.rt).
 #![tactic(auto)]
 
 ghost use Rattle.std.specs.Prelude.{◌≡◌, ◌≢◌, ◌⊎◌};
@@ -21,7 +21,7 @@ mod new_file;
 use clap::error::ErrorKind;
 use command_line::command_of;
 use command_run::{FAILED, run_on, run_with_notes};
-use file::Folder;
+use file::{Folder, RememberingFolder};
 use new_file::NewFile;
 use report_lines::Fault;
 use std::io::Write;
@@ -88,7 +88,7 @@ fn start<
         let mut folder = Folder::new(rt);
         run_on(rt, alloc, &command, &mut folder, out, &mut file)
     } else {
-        let mut folder = Folder::keeping(rt);
+        let mut folder = RememberingFolder::new(rt);
         run_with_notes(rt, alloc, &command, &mut folder, out, &mut file, notes)
     }
 }

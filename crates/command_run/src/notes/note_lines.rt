@@ -3,7 +3,7 @@
 use crate::commands::log_records::numbered;
 use crate::notes::cause::{Heard, Place};
 use bytes::Bytes;
-use case_files::Source;
+use case_files::RememberingSource;
 use report_lines::NumberedRecord;
 use std::alloc::{AllocError, Global};
 use std::fmt::Write;
@@ -101,7 +101,7 @@ fn put_record(
 }
 
 /// Appends the note of the file that was asked for last and can't be read, with the system's reason, where it is kept.
-fn put_unread<S: Source>(text: &mut String, source: &S) -> Result<(), AllocError> {
+fn put_unread<S: RememberingSource>(text: &mut String, source: &S) -> Result<(), AllocError> {
     let Some(name) = source.last() else {
         return Ok(());
     };
@@ -117,7 +117,11 @@ fn put_unread<S: Source>(text: &mut String, source: &S) -> Result<(), AllocError
 /// # Errors
 ///
 /// Out of memory.
-pub fn notes_of<S: Source>(alloc: Global, heard: Heard, source: &S) -> Result<String, AllocError> {
+pub fn notes_of<S: RememberingSource>(
+    alloc: Global,
+    heard: Heard,
+    source: &S,
+) -> Result<String, AllocError> {
     let mut text = String::new(alloc);
     match heard {
         Heard::Nothing => {}

@@ -2,7 +2,7 @@
 
 use super::given::Refused;
 use bytes::Bytes;
-use case_files::{FileList, Source, SourceError};
+use case_files::{FileList, RememberingSource, Source, SourceError};
 use clap::error::ErrorKind;
 use command_line::{Command, command_of};
 use command_run::{run_on, run_with_notes};
@@ -158,6 +158,16 @@ impl Source for One {
             Some((_, bytes)) => Ok(bytes.clone()?),
             None => Err(SourceError::CannotRead),
         }
+    }
+}
+
+impl RememberingSource for One {
+    fn last(&self) -> Option<&str> {
+        None
+    }
+
+    fn refusal(&self) -> Option<&io::Error> {
+        None
     }
 
     fn kept(&self) -> &[(String, Bytes)] {

@@ -13,9 +13,10 @@
 
 mod answering;
 mod commands;
+mod host;
 mod notes;
 mod output;
 mod run;
 
 pub use output::{Failed, Output};
-pub use run::{FAILED, answer_command, run_on, run_with_notes};
+pub use run::{FAILED, NotedSource, answer_command, run_on, run_with_notes};

@@ -9,10 +9,11 @@ use crate::commands::check::say_report;
 use crate::commands::frame_list::say_frames;
 use crate::commands::graph::say_graph;
 use crate::commands::hex_frame::say_frame;
-use crate::commands::log_records::say_records;
+use crate::commands::log_records::{RecordRange, say_records};
 use crate::commands::make_order::say_order;
 use crate::commands::run_steps::say_run;
 use crate::commands::vat_audit::say_vat;
+use crate::host::Host;
 use crate::notes::cause::Heard;
 use crate::notes::note_lines::notes_of;
 use crate::output::{Failed, Output};
@@ -38,8 +39,7 @@ fn of_lines<O, F>(said: Result<u8, O>) -> Result<u8, Failed<O, F>>
 
 /// Runs a command, as [`answer_command`] does; its last answer is heard.
 fn answer_heard<R: Threads + Wait + Sync, S: Source, O: Output, F: Output>(
-    rt: &R,
-    alloc: Global,
+    host: &Host<'_, R>,
     command: &Command<'_>,
     source: &mut S,
     heard: &mut Heard,
@@ -55,27 +55,35 @@ fn answer_heard<R: Threads + Wait + Sync, S: Source, O: Output, F: Output>(
 {
     match command {
         Command::Check { case, workers } => {
-            of_lines(say_report(rt, alloc, case, *workers, source, heard, out))
+            of_lines(say_report(host, case, *workers, source, heard, out))
         }
-        Command::Order { case, .. } => say_order(alloc, case, source, heard, out, file),
-        Command::Graph { case } => of_lines(say_graph(rt, alloc, case, source, heard, out)),
-        Command::Run { case } => of_lines(say_run(rt, alloc, case, source, heard, out)),
-        Command::Vat { file: name } => of_lines(say_vat(alloc, name, source, heard, out)),
+        Command::Order { case, .. } => say_order(host.alloc, case, source, heard, out, file),
+        Command::Graph { case } => of_lines(say_graph(host, case, source, heard, out)),
+        Command::Run { case } => of_lines(say_run(host, case, source, heard, out)),
+        Command::Vat { file: name } => of_lines(say_vat(host.alloc, name, source, heard, out)),
         Command::Records {
             file: name,
             from,
             count,
-        } => of_lines(say_records(alloc, name, *from, *count, source, heard, out)),
-        Command::Frame { hex } => of_lines(say_frame(alloc, hex, heard, out)),
-        Command::Frames { file: name } => of_lines(say_frames(alloc, name, source, heard, out)),
+        } => {
+            let range = RecordRange {
+                from: *from,
+                count: *count,
+            };
+            of_lines(say_records(host.alloc, name, range, source, heard, out))
+        }
+        Command::Frame { hex } => of_lines(say_frame(host.alloc, hex, heard, out)),
+        Command::Frames { file: name } => of_lines(say_frames(
+            host.alloc, name, source, heard, out,
+        )),
     }
 }
 
 /// Runs a command: writes its line, or its lines, to `out`, and answers the exit status. It is 0 where the log is good, the
 /// report of a case is yes, the message of each frame is said, the records are or an order is made; 1 where a record breaks
 /// a rule, the report is a no, or no order exists; 2 where a record isn't judged, a message isn't read, or the input is bad
-/// or can't be read; and 3 where memory ran out. To `file` go the bytes of an order alone, before the line. `rt` is for the
-/// workers that audit a case; today all is done on the calling thread.
+/// or can't be read; and 3 where memory ran out. To `file` go the bytes of an order alone, before the line. Of the workers that
+/// audit a case one is the calling thread, and `rt` starts the others; the answer is the same for any number of them.
 ///
 /// # Errors
 ///
@@ -95,7 +103,14 @@ pub fn answer_command<R: Threads + Wait + Sync, S: Source, O: Output, F: Output>
         (λ answers. Writes answers (Wrote O.contents O.is_finished)
         (Wrote F.contents F.is_finished) out.old out.new file.old file.new result) }
 {
-    answer_heard(rt, alloc, command, source, &mut Heard::Nothing, out, file)
+    answer_heard(
+        &Host { rt, alloc },
+        command,
+        source,
+        &mut Heard::Nothing,
+        out,
+        file,
+    )
 }
 
 /// Runs a command over std's writers: as `answer_command`, and the exit status is 2 where a write fails.
@@ -115,7 +130,16 @@ pub fn run_on<R: Threads + Wait + Sync, S: Source, W: Write, F: Write>(
     answer_command(rt, alloc, command, source, out, file).unwrap_or(FAILED)
 }
 
-/// Runs a command over std's writers, as [`run_on`] does, and then writes notes to `notes`: a line or two for people, beside
+/// A source, and what the notes of what was read from it are written to.
+#[derive(Drop)]
+pub struct NotedSource<S, N> {
+    /// The source.
+    pub source: S,
+    /// The writer of the notes.
+    pub notes: N,
+}
+
+/// Runs a command over std's writers, as [`run_on`] does, and then writes notes: a line or two for people, beside
 /// a no, an outside, a file that can't be read or a log, an order or a case file that is bad (docs/FORMATS.md). No contract
 /// says what they tell. They change neither what is written elsewhere nor the exit status: where a write of them fails, or
 /// memory is refused for them, they are left out.
@@ -123,20 +147,20 @@ pub fn run_with_notes<R: Threads + Wait + Sync, S: RememberingSource, W: Write, 
     rt: &R,
     alloc: Global,
     command: &Command<'_>,
-    source: &mut S,
+    noted: &mut NotedSource<S, N>,
     out: &mut W,
     file: &mut F,
-    notes: &mut N,
 ) -> u8
     requires { HasWorkers command.now }
-    ensures { CarriesOut S.read_gives command.now source.old source.new
+    ensures { CarriesOut S.read_gives command.now noted.old.source noted.new.source
         (λ answers. WritesOrFails answers (Adds W.contents)
         (Adds F.contents) out.old out.new file.old file.new result) }
 {
     let mut heard = Heard::Nothing;
-    let answered = answer_heard(rt, alloc, command, source, &mut heard, out, file);
-    if let Ok(text) = notes_of(alloc, heard, source) {
-        let _ = notes.write_all(text.as_bytes());
+    let host = Host { rt, alloc };
+    let answered = answer_heard(&host, command, &mut noted.source, &mut heard, out, file);
+    if let Ok(text) = notes_of(alloc, heard, &noted.source) {
+        let _ = noted.notes.write_all(text.as_bytes());
     }
     answered.unwrap_or(FAILED)
 }

@@ -20,7 +20,7 @@ mod new_file;
 
 use clap::error::ErrorKind;
 use command_line::command_of;
-use command_run::{FAILED, run_on, run_with_notes};
+use command_run::{FAILED, NotedSource, run_on, run_with_notes};
 use file::{Folder, RememberingFolder};
 use new_file::NewFile;
 use report_lines::Fault;
@@ -75,8 +75,8 @@ fn take_quiet(words: &mut Vec<String>) -> bool {
 fn start<
     R: Threads + Wait + Sync + Files + Input + Print + Eprint + AllocGlobal,
     W: Write,
-    N: Write,
->(rt: &R, out: &mut W, notes: &mut N, words: &mut Vec<String>) -> u8 {
+    N: Write + Drop,
+>(rt: &R, out: &mut W, notes: N, words: &mut Vec<String>) -> u8 {
     let alloc = rt.alloc();
     let is_quiet = take_quiet(words);
     let command = match command_of(alloc, words) {
@@ -88,8 +88,11 @@ fn start<
         let mut folder = Folder::new(rt);
         run_on(rt, alloc, &command, &mut folder, out, &mut file)
     } else {
-        let mut folder = RememberingFolder::new(rt);
-        run_with_notes(rt, alloc, &command, &mut folder, out, &mut file, notes)
+        let mut noted = NotedSource {
+            source: RememberingFolder::new(rt),
+            notes,
+        };
+        run_with_notes(rt, alloc, &command, &mut noted, out, &mut file)
     }
 }
 
@@ -98,7 +101,7 @@ fn main(rt: HostRuntime) -> ExitCode {
     let alloc = rt.alloc();
     let words: io::Result<Vec<String>> = env::args(&rt).and_then(|args| Ok(args.collect(alloc)?));
     ExitCode::from(match words {
-        Ok(mut words) => start(&rt, &mut rt.stdout(), &mut rt.stderr(), &mut words),
+        Ok(mut words) => start(&rt, &mut rt.stdout(), rt.stderr(), &mut words),
         Err(e) if e.kind() == io::ErrorKind::OutOfMemory => out_of_memory(&rt),
         Err(_) => {
             let _ = rt.eprint("error: an argument isn't UTF-8\n");

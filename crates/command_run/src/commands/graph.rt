@@ -7,7 +7,8 @@ ghost use Rattle.command_run.specs.ReportAnswers.{AnswersGraph, ShowsEdges, edge
 ghost use Rattle.command_run.specs.Runs.{Adds, Wrote};
 
 use crate::answering::say;
-use crate::commands::check::report_of;
+use crate::commands::case_report::case_report;
+use crate::host::Host;
 use crate::notes::cause::Heard;
 use crate::output::Output;
 use audit_core::Report;
@@ -57,8 +58,7 @@ fn say_edges<O: Output>(
 ///
 /// That of a write; nothing is written after it.
 pub fn say_graph<R: Threads + Wait + Sync, S: Source, O: Output>(
-    rt: &R,
-    alloc: Global,
+    host: &Host<'_, R>,
     name: &str,
     source: &mut S,
     heard: &mut Heard,
@@ -68,12 +68,12 @@ pub fn say_graph<R: Threads + Wait + Sync, S: Source, O: Output>(
     ensures { Prints (AnswersReportOf AnswersGraph S.read_gives source.old name.now source.new)
         (Wrote O.contents O.is_finished) out.old out.new result }
 {
-    let report = match report_of(rt, alloc, name, 1, source) {
+    let report = match case_report(host, name, 1, source) {
         Ok(report) => report,
         Err(fault) => return say(Answer::Fault(fault), heard, out),
     };
     match report {
-        Report::Yes { run, .. } => say_edges(alloc, &run, heard, out),
+        Report::Yes { run, .. } => say_edges(host.alloc, &run, heard, out),
         report => say(Answer::Report(report), heard, out),
     }
 }

@@ -18,6 +18,15 @@ use report_lines::{Answer, Fault, NumberedRecord};
 use std::alloc::{AllocError, Global};
 use vat_log::{Body, Record, VatLog, parse_log};
 
+/// Which records of a log are asked for.
+#[derive(Clone, Copy, Debug)]
+pub struct RecordRange {
+    /// The number of the first one, counted from 0; the log's first where there is none.
+    pub from: Option<u64>,
+    /// How many; all that follow where there is none.
+    pub count: Option<u64>,
+}
+
 /// A record to be shown with its number, its frame read as `frame` reads it.
 pub fn numbered<'a>(
     alloc: Global,
@@ -60,21 +69,20 @@ fn end_of(first: usize, count: Option<u64>, len: usize) -> usize
     }
 }
 
-/// Says the records of a log from this one on, as many as are wanted.
+/// Says the records of a log that are asked for.
 fn say_log<O: Output>(
     alloc: Global,
     log: &VatLog,
-    from: Option<u64>,
-    count: Option<u64>,
+    range: RecordRange,
     heard: &mut Heard,
     out: &mut O,
 ) -> Result<u8, O::Error>
     requires { O.can_write out.old }
-    ensures { Prints (AnswersListing from count log.now.records)
+    ensures { Prints (AnswersListing range.from range.count log.now.records)
         (Wrote O.contents O.is_finished) out.old out.new result }
 {
-    let first = from.unwrap_or(0) as usize;
-    let end = end_of(first, count, log.len());
+    let first = range.from.unwrap_or(0) as usize;
+    let end = end_of(first, range.count, log.len());
     let mut at = first;
     while at < end {
         let Some(event) = log.get(at) else {
@@ -99,8 +107,7 @@ fn log_of<S: Source>(alloc: Global, source: &mut S, name: &str) -> Result<VatLog
     Ok(parse_log(alloc, bytes)?)
 }
 
-/// Says the records of the log that a source has under a name, from this one on or from the first, and as many as are
-/// wanted or all. The exit status is 0 where there is a log, whatever its frames are; where there is none its fault is
+/// Says the records that are asked for of the log that a source has under a name. The exit status is 0 where there is a log, whatever its frames are; where there is none its fault is
 /// said. Where memory runs out that is said in a last line.
 ///
 /// # Errors
@@ -109,19 +116,18 @@ fn log_of<S: Source>(alloc: Global, source: &mut S, name: &str) -> Result<VatLog
 pub fn say_records<S: Source, O: Output>(
     alloc: Global,
     name: &str,
-    from: Option<u64>,
-    count: Option<u64>,
+    range: RecordRange,
     source: &mut S,
     heard: &mut Heard,
     out: &mut O,
 ) -> Result<u8, O::Error>
     requires { O.can_write out.old }
     ensures { (read : Read) × S.read_gives source.old name.now read source.new
-        × Prints (AnswersLogRecords from count read)
+        × Prints (AnswersLogRecords range.from range.count read)
         (Wrote O.contents O.is_finished) out.old out.new result }
 {
     match log_of(alloc, source, name) {
-        Ok(log) => say_log(alloc, &log, from, count, heard, out),
+        Ok(log) => say_log(alloc, &log, range, heard, out),
         Err(fault) => say(Answer::Fault(fault), heard, out),
     }
 }

@@ -1,5 +1,7 @@
-//! The commands, one a file, with what they ask of their source and what they say.
+//! The commands, one a file, with what they ask of their source and what they say. `check`, `graph` and `run` have the report
+//! of a case in common (case_report.rt).
 
+pub(crate) mod case_report;
 pub(crate) mod check;
 pub(crate) mod frame_list;
 pub(crate) mod graph;

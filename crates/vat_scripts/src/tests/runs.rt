@@ -5,7 +5,7 @@ use bytes::Bytes;
 use case_files::{FileList, RememberingSource, Source, SourceError};
 use clap::error::ErrorKind;
 use command_line::{Command, command_of};
-use command_run::{run_on, run_with_notes};
+use command_run::{NotedSource, run_on, run_with_notes};
 use std::alloc::Global;
 use std::io;
 use std::io::Write;
@@ -182,21 +182,25 @@ const UNBOUND: &[u8] = b"VATLOG01\x07\0\0\0\x07\x01\0\0\0\0\0\0\0\x02\0\0\0\0\0\
 const UNBOUND_NOTES: &str =
     "note: given: record 0 deliver call 1 object 2\nnote: rule: a record binds new references and calls once, names others only where they were bound, and notes a call beside a Bootstrap or a Call alone\n";
 
-/// Whether that log is told its no, with these notes beside it.
-fn is_told<R: Threads + Wait + Sync + AllocGlobal, N: Write>(
-    rt: &R,
-    notes: &mut N,
-) -> Result<bool, Refused> {
-    let alloc = rt.alloc();
+/// That log, and this writer of the notes.
+fn noted_source<N: Write + Drop>(alloc: Global, notes: N) -> Result<NotedSource<One, N>, Refused> {
     let name = String::from_str(alloc, "given")?;
     let bytes = Bytes::copy_from_slice(alloc, UNBOUND)?;
-    let mut source = One {
+    let source = One {
         kept: vec![in alloc; (name, bytes)]?,
     };
+    Ok(NotedSource { source, notes })
+}
+
+/// Whether it is told its no, beside its notes.
+fn is_told<R: Threads + Wait + Sync + AllocGlobal, N: Write>(
+    rt: &R,
+    noted: &mut NotedSource<One, N>,
+) -> Result<bool, Refused> {
+    let alloc = rt.alloc();
     let mut out = Vec::with_capacity(alloc, 256)?;
     let vat = Command::Vat { file: "given" };
-    let file = &mut io::sink();
-    match run_with_notes(rt, alloc, &vat, &mut source, &mut out, file, notes) {
+    match run_with_notes(rt, alloc, &vat, noted, &mut out, &mut io::sink()) {
         3 => Err(Refused),
         status => Ok(status == 1 && out.as_slice() == b"no vat 7 record 0 rule REF\n".as_slice()),
     }
@@ -204,10 +208,10 @@ fn is_told<R: Threads + Wait + Sync + AllocGlobal, N: Write>(
 
 /// Whether it is noted, too. Where memory is refused for the notes alone, there are none.
 fn is_noted<R: Threads + Wait + Sync + AllocGlobal>(rt: &R) -> Result<bool, Refused> {
-    let mut notes = Vec::with_capacity(rt.alloc(), 256)?;
-    match is_told(rt, &mut notes)? {
-        true if notes.is_empty() => Err(Refused),
-        is_so => Ok(is_so && notes.as_slice() == UNBOUND_NOTES.as_bytes()),
+    let mut noted = noted_source(rt.alloc(), Vec::with_capacity(rt.alloc(), 256)?)?;
+    match is_told(rt, &mut noted)? {
+        true if noted.notes.is_empty() => Err(Refused),
+        is_so => Ok(is_so && noted.notes.as_slice() == UNBOUND_NOTES.as_bytes()),
     }
 }
 
@@ -222,13 +226,14 @@ fn notes_a_no(rt: HostRuntime) {
 
 /// Whether it is told just so where its notes can't be written.
 fn is_told_alone<R: Threads + Wait + Sync + AllocGlobal>(rt: &R) -> Result<bool, Refused> {
-    let mut notes = Narrow {
+    let notes = Narrow {
         room: 3,
         refusals: 0,
     };
-    match is_told(rt, &mut notes)? {
-        true if notes.room == 3 => Err(Refused),
-        is_so => Ok(is_so && notes.room == 0 && notes.refusals == 1),
+    let mut noted = noted_source(rt.alloc(), notes)?;
+    match is_told(rt, &mut noted)? {
+        true if noted.notes.room == 3 => Err(Refused),
+        is_so => Ok(is_so && noted.notes.room == 0 && noted.notes.refusals == 1),
     }
 }
 

@@ -11,9 +11,9 @@ returns-in-Ok g c =
     let read = c.in-Ok.ensures in (
       read.0,
       read.1,
-      prints_by (AnswersListing c.args.from c.args.count c.in-Ok.log.records) (AnswersLogRecords c.args.from c.args.count read.0)
+      prints_by (AnswersListing c.args.range.from c.args.range.count c.in-Ok.log.records) (AnswersLogRecords c.args.range.from c.args.range.count read.0)
           (Wrote g.O.Output.contents g.O.Output.is_finished) c.args.out.now c.say_log.new.out c.say_log.result
-          (listing_is c.args.from c.args.count read.0 c.in-Ok.log read.2) c.say_log.ensures,
+          (listing_is c.args.range.from c.args.range.count read.0 c.in-Ok.log read.2) c.say_log.ensures,
     )
 
 pub returns-in-Err : goal.returns-in-Err
@@ -21,6 +21,6 @@ returns-in-Err g c =
     let read = c.in-Err.ensures in (
       read.0,
       read.1,
-      told (AnswersLogRecords c.args.from c.args.count read.0) (Wrote g.O.Output.contents g.O.Output.is_finished) c.args.out.now c.say.new.out (Fault c.in-Err.fault) c.say.result
-          (fault_is c.args.from c.args.count read.0 c.in-Err.fault read.2) c.say.ensures.status c.say.ensures.line,
+      told (AnswersLogRecords c.args.range.from c.args.range.count read.0) (Wrote g.O.Output.contents g.O.Output.is_finished) c.args.out.now c.say.new.out (Fault c.in-Err.fault) c.say.result
+          (fault_is c.args.range.from c.args.range.count read.0 c.in-Err.fault read.2) c.say.ensures.status c.say.ensures.line,
     )

@@ -1,5 +1,5 @@
 use Rattle.command_run.proofs.Judged.{accepted, only_memory, tied}
-use Rattle.command_run.proofs.commands.check.report_of.Goals as goal
+use Rattle.command_run.proofs.commands.case_report.case_report.Goals as goal
 
 pub fault_of-requires : goal.fault_of-requires
 fault_of-requires g c =

@@ -1,5 +1,5 @@
 -- The run of findings explains the logs of their case, and no vat has too many steps in it.
-use Rattle.std.proofs.Common.{◌≡◌, ℕ, ◌-◌, ◌<◌, ◌≤◌, ◌^◌, Bool, true, false, List, [], ◌∷◌, length, take, Option, Some, None, refl, sym, ap, ◌∙◌, subst, arith}
+use Rattle.std.proofs.Common.{◌≡◌, ℕ, ◌-◌, ◌<◌, ◌≤◌, ◌^◌, Bool, true, false, List, [], ◌∷◌, length, map, take, Option, Some, None, refl, sym, ap, ◌∙◌, subst, arith}
 use Rattle.std.specs.Prelude.{◌==◌, ◌||◌, Contains, IsTrue, count_by}
 use Rattle.std.specs.List.{list_any, AllByRecursion}
 use Rattle.std.proofs.lemmas.List.{length-map}
@@ -97,14 +97,14 @@ left_at_first (log ∷ logs) =
     let all = sum_by-cons (λ (l : Log). length l.records) log logs in
     omega (arith, rest, all)
 
-pub few_steps : (vats : List Found) (order : List ℕ) (run : List Step) (total : ℕ) → IsFitting (logs_of vats) order → IsRunOf vats order run → total ≡ records_in (logs_of vats) → total ≤ 67108864
+pub few_steps : (logs : List Log) (order : List ℕ) (run : List Step) (total : ℕ) → IsFitting logs order → map vat_of run ≡ order → total ≡ records_in logs → total ≤ 67108864
     → (v : ℕ) → length (steps_of v run) < 2 ^ 32
-few_steps vats order run total fits is count few v =
+few_steps logs order run total fits by_order count few v =
     let own = length-filter (λ s. vat_of s == v) run in
     let fewer = count_by-le-length (λ s. vat_of s == v) run in
-    let long = sym (length-map run vat_of) ∙ ap length is.by_order in
-    let all = no_longer (begin (logs_of vats)) order fits in
-    let first = left_at_first (logs_of vats) in
+    let long = sym (length-map run vat_of) ∙ ap length by_order in
+    let all = no_longer (begin logs) order fits in
+    let first = left_at_first logs in
     omega (arith, own, fewer, long, all, first, count, few)
 
 -- ---- what is answered of a run
@@ -115,13 +115,10 @@ few_vats all vats good same =
     let few = good.whole.holds.few_vats in
     omega (arith, ap length same, long, few)
 
-module _ (all : AllFound) (good : AreGoodFindings all) (vats : List Found) (same : vats ≡ all.vats) (order : List ℕ) (run : List Step) (fits : IsFitting (logs_of all.vats) order)
+module _ (all : AllFound) (good : AreGoodFindings all) (vats : List Found) (same : vats ≡ all.vats) (order : List ℕ) (run : List Step) (fits : IsFitting all.case.logs order)
     (is : IsRunOf vats order run) (given : Option (List ℕ)) (by : IsOrderFor all.case.logs given order) where
   run_is : IsRunOf all.vats order run
   run_is = subst (λ (vs : List Found). IsRunOf vs order run) same is
-
-  fits_case : IsFitting all.case.logs order
-  fits_case = subst (λ (logs : List Log). IsFitting logs order) (logs_are all good.whole) fits
 
   pub early_report : (fault : Option (ℕ × ℕ)) (vat at : ℕ) → IsOrderFault run fault → fault ≡ Some (vat, at) → IsGoodCase all.case × IsEarlyAt all.case.logs given vat at
   early_report fault vat at early same_fault = (
@@ -129,7 +126,7 @@ module _ (all : AllFound) (good : AreGoodFindings all) (vats : List Found) (same
     record {
       order = order;
       by = by;
-      fits = fits_case;
+      fits = fits;
       run = run;
       explained = explains all good.whole order run run_is;
       early = subst (IsOrderFault run) same_fault early;
@@ -146,7 +143,7 @@ module _ (all : AllFound) (good : AreGoodFindings all) (vats : List Found) (same
         record {
           order = order;
           by = by;
-          fits = fits_case;
+          fits = fits;
           headline = record { explained = explains all good.whole order run run_is; ordered = subst (IsOrderFault run) none ordered };
           vats_are = ap length same ∙ vats_len all good.whole;
           records_are = ap records_in logs_same;

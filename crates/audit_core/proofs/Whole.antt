@@ -132,7 +132,3 @@ module _ (all : AllFound) (whole : AreAll all) where
       let same : place.0 ≡ j = omega (arith, e, vats_len) in
       taken (slice_get all.case.links j) (λ link. IsComparisonOf all.case.logs link ends)
       (subst (λ (n : ℕ). IsSomeAnd (slice_get all.case.links n) (λ link. IsComparisonOf all.case.logs link ends)) same place.2)
-
--- the logs that were taken from the findings are those of the case
-pub logs_of_case : (all : AllFound) → AreAll all → (vats : List Found) (logs : List Log) → logs ≡ logs_of vats → vats ≡ all.vats → logs ≡ all.case.logs
-logs_of_case all whole vats logs taken_from same = taken_from ∙ ap logs_of same ∙ logs_are all whole

@@ -1,7 +1,6 @@
 //! The report of findings.
 
-ghost use Rattle.std.specs.Prelude.{◌≡◌, ◌≤◌, ◌-◌, List, ℕ, Option, Some, None, IfOk, MatchOption, length, map};
-ghost use Rattle.std.specs.Arc.{arc_value};
+ghost use Rattle.std.specs.Prelude.{◌≡◌, ◌≤◌, ◌-◌, List, ℕ, Option, Some, None, IfOk, MatchOption, length};
 ghost use Rattle.merge_order.specs.Fits.{IsFitting};
 ghost use Rattle.call_trace.specs.Findings.{logs_of};
 ghost use Rattle.audit_core.specs.Headline.{YesMeansHeadline};
@@ -15,8 +14,6 @@ use case_book::Findings;
 use merge_order::{Order, OrderFinding, check_order, make_order};
 use run_model::Run;
 use std::alloc::{AllocError, Global};
-use std::sync::Arc;
-use vat_log::VatLog;
 use vat_rules::VatFinding;
 
 /// The line of the first vat, or else of the first link, that isn't good. It is the same whatever the order.
@@ -28,17 +25,6 @@ fn line_of(findings: &Findings) -> Option<Report>
         Some(line) => Some(line),
         None => link_line(findings.links()),
     }
-}
-
-/// The logs that were audited.
-fn logs_in(alloc: Global, vats: &[VatFinding]) -> Result<Vec<Arc<VatLog>>, AllocError>
-    ensures { IfOk result (λ logs. map arc_value logs.items ≡ logs_of vats.now) }
-{
-    let mut logs = Vec::new(alloc);
-    for found in vats {
-        logs.push(Arc::try_clone(found.log())?)?;
-    }
-    Ok(logs)
 }
 
 /// The yes to findings with so many records, and with their run.
@@ -63,7 +49,7 @@ fn yes(vats: &[VatFinding], records: u64, run: Run) -> Report
 /// The report of good findings and an order that fits.
 fn by_order(alloc: Global, findings: &Findings, order: &Order) -> Result<Report, AllocError>
     requires good { AreGoodFindings findings.now }
-    requires fits { IsFitting (logs_of findings.now.vats) order.now }
+    requires fits { IsFitting findings.now.case.logs order.now }
     ensures { IfOk result
         (λ answer. (given : Option (List ℕ)) → IsOrderFor findings.now.case.logs given order.now
         → IsReport findings.now.case given answer) }
@@ -95,8 +81,7 @@ pub fn judge(alloc: Global, findings: Findings, order: Order) -> Result<Report, 
     if let Some(line) = line_of(&findings) {
         return Ok(line);
     }
-    let logs = logs_in(alloc, findings.vats())?;
-    match check_order(alloc, &logs, &order)? {
+    match check_order(alloc, findings.case().logs(), &order)? {
         OrderFinding::Fails(step) => Ok(Report::OrderStep(step)),
         OrderFinding::Fits => by_order(alloc, &findings, &order),
     }
@@ -116,8 +101,7 @@ pub fn judge_unordered(alloc: Global, findings: Findings) -> Result<Report, Allo
     if let Some(line) = line_of(&findings) {
         return Ok(line);
     }
-    let logs = logs_in(alloc, findings.vats())?;
-    match make_order(alloc, &logs)? {
+    match make_order(alloc, findings.case().logs())? {
         None => Ok(Report::NoOrder),
         Some(order) => by_order(alloc, &findings, &order),
     }

@@ -1,21 +1,24 @@
 use Rattle.std.proofs.Common.{List, sym, ap, ◌∙◌, subst}
+use Rattle.vat_log.specs.Log.{Log}
 use Rattle.vat_rules.specs.Audit.{Found}
+use Rattle.merge_order.specs.Fits.{IsFitting}
 use Rattle.call_trace.specs.Findings.{logs_of, MayBeNamed}
-use Rattle.call_trace.specs.Named.{IsRunOf}
 use Rattle.audit_core.specs.Report.{records_in}
 use Rattle.audit_core.proofs.Naming.{may_be_named}
+use Rattle.audit_core.proofs.Whole.{logs_are}
 use Rattle.audit_core.proofs.Explaining.{few_steps, few_vats, early_report, yes_report}
 use Rattle.audit_core.proofs.judging.by_order.Goals as goal
 
 pub name_run-requires : goal.name_run-requires
 name_run-requires c =
-    subst (λ (vats : List Found). MayBeNamed vats c.args.order.now) (sym c.vats-vats.ensures.lent) (may_be_named c.args.findings.now c.args.order.now c.requires.good c.requires.fits)
+    let fits = subst (λ (logs : List Log). IsFitting logs c.args.order.now) (sym (logs_are c.args.findings.now c.requires.good.whole)) c.requires.fits in
+    subst (λ (vats : List Found). MayBeNamed vats c.args.order.now) (sym c.vats-vats.ensures.lent) (may_be_named c.args.findings.now c.args.order.now c.requires.good fits)
 
 pub order_fault-requires : goal.order_fault-requires
 order_fault-requires c =
-    few_steps c.args.findings.now.vats c.args.order.now c.in_ok-run.run' c.count_records-records.result c.requires.fits
-    (subst (λ (vats : List Found). IsRunOf vats c.args.order.now c.in_ok-run.run') c.vats-vats.ensures.lent c.in_ok-run.ensures)
-    (c.count_records-records.ensures.count ∙ ap (λ (vats : List Found). records_in (logs_of vats)) c.vats-vats.ensures.lent) c.count_records-records.ensures.few
+    few_steps c.args.findings.now.case.logs c.args.order.now c.in_ok-run.run' c.count_records-records.result c.requires.fits c.in_ok-run.ensures.by_order
+    (c.count_records-records.ensures.count ∙ ap (λ (vats : List Found). records_in (logs_of vats)) c.vats-vats.ensures.lent ∙ ap records_in (logs_are c.args.findings.now c.requires.good.whole))
+    c.count_records-records.ensures.few
 
 pub count_records-records-requires : goal.count_records-records-requires
 count_records-records-requires c = few_vats c.args.findings.now c.vats-vats.result.now c.requires.good c.vats-vats.ensures.lent

@@ -2,36 +2,25 @@ use Rattle.std.proofs.Common.{◌≡◌, List, ℕ, Option, None, sym, ap, ◌�
 use Rattle.std.specs.Prelude.{IfSome}
 use Rattle.std.specs.Arc.{arc_value}
 use Rattle.std.proofs.lemmas.Result.{IfOk-weaker}
-use Rattle.std.specs.declared.sync.Arc.{Arc}
 use Rattle.vat_log.specs.Log.{Log}
 use Rattle.vat_log.specs.declared.log.VatLog.{VatLog}
-use Rattle.merge_order.specs.Fits.{IsRising, IsFitting, TakesLeast}
+use Rattle.merge_order.specs.Fits.{IsFitting, TakesLeast}
+use Rattle.case_book.specs.Case.{Contents}
 use Rattle.audit_core.specs.Report.{IsOrderFor, IsReport}
 use Rattle.audit_core.specs.declared.report.Report.{Report}
-use Rattle.audit_core.proofs.Whole.{logs_of_case}
 use Rattle.audit_core.proofs.FirstLine.{good_case}
 use Rattle.audit_core.proofs.Meaning.{yes_means, yes_by_order}
 use Rattle.audit_core.proofs.judging.judge_unordered.Goals as goal
 
-pub make_order-requires : goal.make_order-requires
-make_order-requires c =
-    let logs = map (arc_value {X = VatLog} {Z = Global}) c.deref.result.now in
-    let same : logs ≡ c.args.findings.case.logs = logs_of_case c.args.findings c.vats.ensures.whole c.vats.result.now logs
-    (ap (λ (items : List (Arc VatLog Global)). map arc_value items) c.deref.ensures.value ∙ c.in_ok-logs.ensures) c.vats.ensures.lent in
-    subst IsRising (sym same) c.vats.ensures.whole.holds.rising_vats
-
 pub returns-in-None-clause-report : goal.returns-in-None-clause-report
 returns-in-None-clause-report c =
-    let logs = map (arc_value {X = VatLog} {Z = Global}) c.deref.result.now in
-    let same : logs ≡ c.args.findings.case.logs = logs_of_case c.args.findings c.vats.ensures.whole c.vats.result.now logs
-    (ap (λ (items : List (Arc VatLog Global)). map arc_value items) c.deref.ensures.value ∙ c.in_ok-logs.ensures) c.vats.ensures.lent in
+    let same = c.logs.ensures.lent ∙ ap (λ (held : Contents). held.logs) c.case.ensures.lent in
     (good_case c.args.findings c.in_default.ensures, λ order fits. c.in_ok-make_order.ensures.none c.in-None.is order (subst (λ (held : List Log). IsFitting held order) (sym same) fits))
 
 pub returns-clause-report : goal.returns-clause-report
 returns-clause-report c =
-    let logs = map (arc_value {X = VatLog} {Z = Global}) c.deref.result.now in
-    let same : logs ≡ c.args.findings.case.logs = logs_of_case c.args.findings c.vats.ensures.whole c.vats.result.now logs
-    (ap (λ (items : List (Arc VatLog Global)). map arc_value items) c.deref.ensures.value ∙ c.in_ok-logs.ensures) c.vats.ensures.lent in
+    let logs = map (arc_value {X = VatLog} {Z = Global}) c.logs.result.now in
+    let same : logs ≡ c.args.findings.case.logs = c.logs.ensures.lent ∙ ap (λ (held : Contents). held.logs) c.case.ensures.lent in
     let least : TakesLeast logs c.in-Some-2.order = subst (λ made. IfSome made (λ order. TakesLeast logs order)) c.in-Some-2.is c.in_ok-make_order.ensures.least in
     IfOk-weaker c.by_order.result (λ (answer : Report). (given : Option (List ℕ)) → IsOrderFor c.args.findings.case.logs given c.in-Some-2.order → IsReport c.args.findings.case given answer)
     (IsReport c.args.findings.case None) (λ answer so. so None (subst (λ (held : List Log). TakesLeast held c.in-Some-2.order) same least)) c.by_order.ensures

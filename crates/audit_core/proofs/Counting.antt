@@ -1,35 +1,75 @@
--- How many records of a log pass a test, one record further.
-use Rattle.std.proofs.Common.{◌≡◌, ℕ, ◌+◌, ◌<◌, ◌≤◌, Bool, true, false, List, length, take, Option, Some, None, sym, ap, ◌∙◌, inl, inr, arith}
-use Rattle.std.specs.Prelude.{count_by, slice_get}
-use Rattle.std.specs.Option.{option_copied}
-use Rattle.std.proofs.lemmas.Option.{slice_get_within, slice_get_cases, get_or_from_slice_get}
-use Rattle.std.proofs.lemmas.List.Sums.{count_by_more_yes, count_by_more_no}
+-- What the findings of good logs have counted.
+use Rattle.std.proofs.Common.{◌≡◌, ℕ, zero, suc, ◌+◌, ◌<◌, ◌≤◌, Bool, true, false, cond, List, [], ◌∷◌, length, get_or, take, Some, Result, Ok, Err, refl, ap, ◌∙◌, subst, arith}
+use Rattle.std.specs.Prelude.{count_by}
+use Rattle.std.specs.List.{filter_map, cons_option}
+use Rattle.std.proofs.lemmas.List.{take_all}
+use Rattle.std.proofs.lemmas.List.Sums.{sum_by-cons, count_by-le-length}
+use Rattle.cap_reader.specs.declared.limits.Limits.{Limits}
+use Rattle.vat_log.specs.Log.{Log}
 use Rattle.vat_log.specs.declared.body.Body.{Body}
-use denote.Ref.{Bor}
+use Rattle.vat_log.specs.declared.body.Body.TheVariants as body
+use Rattle.vat_rules.specs.Audit.{Found, IsTrueOf, reads_within}
+use Rattle.vat_rules.specs.Events.{Reader, with_message, event_of, event_or_none}
+use Rattle.vat_rules.specs.LogFacts.{Told}
+use Rattle.vat_rules.specs.Telling.{is_delivery}
+use Rattle.vat_rules.specs.Types.{RpcMessage, DecodedRecord, Host, Vow, Fulfil, Break, Make, Field, Deliver, Answer, Fault, Wire}
+use Rattle.vat_rules.specs.declared.outcome.Outcome.{Outcome}
+use Rattle.vat_rules.specs.declared.outcome.Outcome.TheVariants.{Good}
+use Rattle.vat_rules.specs.declared.outcome.Why.{Why}
+use Rattle.call_trace.specs.Findings.{logs_of}
+use Rattle.audit_core.specs.Report.{delivers, count_all, records_in}
+use Rattle.audit_core.proofs.Sums.{no_greater}
 
-none_some : (b : Body) → None ≡ Some b → ⊥
-none_some b e = cc
+-- ---- the deliveries of a good log
 
--- what was read is what stands there
-pub read_at : (xs : List Body) (i : ℕ) (r : Option (Bor Body)) (b : Bor Body) → option_copied r ≡ slice_get xs i → r ≡ Some b → slice_get xs i ≡ Some b.now
-read_at xs i r b same is = sym same ∙ ap option_copied is
+kept : (e : DecodedRecord) (delivery : Bool) (rest : List DecodedRecord) → is_delivery e ≡ delivery → count_by is_delivery (cons_option (Some e) rest) ≡ cond delivery 1 0 + count_by is_delivery rest
+kept e delivery rest is = sum_by-cons (λ (x : DecodedRecord). cond (is_delivery x) 1 0) e rest ∙ ap (λ (b : Bool). cond b 1 0 + count_by is_delivery rest) is
 
-pub counted : (p : Body → Bool) (xs : List Body) (i n : ℕ) (b : Body) (passes : Bool) → slice_get xs i ≡ Some b → passes ≡ p b → passes ≡ true → n ≡ count_by p (take i xs) → n ≤ i
-    → (n + 1 ≡ count_by p (take (i + 1) xs)) × (n + 1 ≤ i + 1)
-counted p xs i n b passes at is holds count le =
-    let more = count_by_more_yes p xs i b (slice_get_within xs i b at) (ap p (get_or_from_slice_get xs i b b at) ∙ sym is ∙ holds) in
-    (omega (arith, count, more), omega arith)
+wired : (event : RpcMessage → DecodedRecord) → ((m : RpcMessage) → is_delivery (event m) ≡ false) → (read : Result RpcMessage Why) (rest : List DecodedRecord)
+    → count_by is_delivery (cons_option (event_or_none (with_message event read)) rest) ≡ 0 + count_by is_delivery rest
+wired event other (Ok m) rest = kept (event m) false rest (other m)
+wired event other (Err why) rest = omega arith
 
-pub not_counted : (p : Body → Bool) (xs : List Body) (i n : ℕ) (b : Body) (passes : Bool) → slice_get xs i ≡ Some b → passes ≡ p b → passes ≡ false → n ≡ count_by p (take i xs) → n ≤ i
-    → (n ≡ count_by p (take (i + 1) xs)) × (n ≤ i + 1)
-not_counted p xs i n b passes at is fails count le =
-    let more = count_by_more_no p xs i b (slice_get_within xs i b at) (ap p (get_or_from_slice_get xs i b b at) ∙ sym is ∙ fails) in
-    (omega (arith, count, more), omega arith)
+one_event : (read : Reader) (b : Body) (rest : List DecodedRecord)
+    → count_by is_delivery (cons_option (event_or_none (event_of read b)) rest) ≡ cond (delivers b) 1 0 + count_by is_delivery rest
+unfolding is_delivery
+one_event read (body.Host reference object) rest = kept (Host reference object) false rest refl
+one_event read (body.Vow reference) rest = kept (Vow reference) false rest refl
+one_event read (body.Fulfil reference to) rest = kept (Fulfil reference to) false rest refl
+one_event read (body.Break reference) rest = kept (Break reference) false rest refl
+one_event read (body.Make call reference interface method) rest = kept (Make call reference interface method) false rest refl
+one_event read (body.Field reference call path) rest = kept (Field reference call path) false rest refl
+one_event read (body.Deliver call object) rest = kept (Deliver call object) true rest refl
+one_event read (body.Answer call results) rest = kept (Answer call results) false rest refl
+one_event read (body.Fault call) rest = kept (Fault call) false rest refl
+one_event read (body.Send connection call references frame) rest = wired (Wire true connection call references) (λ m. refl) (read frame) rest
+one_event read (body.Receive connection call references frame) rest = wired (Wire false connection call references) (λ m. refl) (read frame) rest
 
--- within a log a record stands
-pub stands : (xs : List Body) (i n : ℕ) (r : Option (Bor Body)) → option_copied r ≡ slice_get xs i → r ≡ None → i < n → n ≡ length xs → ⊥
-stands xs i n r same is lt all =
-    elim (slice_get_cases xs i).1 [
-      | inl there ↦ none_some there.0 (ap option_copied (sym is) ∙ same ∙ there.2)
-      | inr past ↦ let le = past.0 in omega arith
-    ]
+deliveries : (read : Reader) (bs : List Body) → count_by is_delivery (filter_map (λ b. event_or_none (event_of read b)) bs) ≡ count_by delivers bs
+deliveries read [] = refl
+deliveries read (b ∷ bs) =
+    omega (arith, one_event read b (filter_map (λ x. event_or_none (event_of read x)) bs), deliveries read bs, sum_by-cons (λ (x : Body). cond (delivers x) 1 0) b bs)
+
+pub delivered_is : (log : Log) (limits : Limits) (outcome : Outcome) (story : Told) → IsTrueOf log limits outcome → outcome ≡ Good story → story.delivered ≡ count_by delivers log.records
+delivered_is log limits outcome story means is =
+    let told = (subst (IsTrueOf log limits) is means).1 in
+    let whole = take_all (length log.records) log.records (omega arith) in
+    ap (λ (t : Told). t.delivered) told
+    ∙ ap (λ (bs : List Body). count_by is_delivery (filter_map (λ b. event_or_none (event_of (reads_within limits) b)) bs)) whole
+    ∙ deliveries (reads_within limits) log.records
+
+-- so many so far, and those of the next log
+so_far : (test : Body → Bool) (vats : List Found) (i : ℕ) (found : Found) → found ≡ get_or vats i found → i < length vats
+    → count_all test (logs_of (take i vats)) + count_by test found.log.records ≤ count_all test (logs_of vats)
+so_far test [] i found is lt = absurd (omega arith)
+so_far test (first ∷ vats) zero found is lt =
+    omega (arith, sum_by-cons (λ (log : Log). count_by test log.records) first.log (logs_of vats), ap (λ (f : Found). count_by test f.log.records) is)
+so_far test (first ∷ vats) (suc i) found is lt =
+    omega (arith, so_far test vats i found is (omega arith), sum_by-cons (λ (log : Log). count_by test log.records) first.log (logs_of vats),
+    sum_by-cons (λ (log : Log). count_by test log.records) first.log (logs_of (take i vats)))
+
+pub delivered_so_far : (vats : List Found) (i : ℕ) (found : Found) → found ≡ get_or vats i found → i < length vats
+    → count_all delivers (logs_of (take i vats)) + count_by delivers found.log.records ≤ records_in (logs_of vats)
+delivered_so_far vats i found is lt =
+    let no_more = no_greater (λ (log : Log). count_by delivers log.records) (λ (log : Log). length log.records) (logs_of vats) (λ k log at. count_by-le-length delivers log.records) in
+    omega (arith, so_far delivers vats i found is lt, no_more)

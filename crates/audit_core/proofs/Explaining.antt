@@ -109,12 +109,6 @@ few_steps logs order run total fits by_order count few v =
 
 -- ---- what is answered of a run
 
-pub few_vats : (all : AllFound) (vats : List Found) → AreGoodFindings all → vats ≡ all.vats → length vats ≤ 64
-few_vats all vats good same =
-    let long = vats_len all good.whole in
-    let few = good.whole.holds.few_vats in
-    omega (arith, ap length same, long, few)
-
 module _ (all : AllFound) (good : AreGoodFindings all) (vats : List Found) (same : vats ≡ all.vats) (order : List ℕ) (run : List Step) (fits : IsFitting all.case.logs order)
     (is : IsRunOf vats order run) (given : Option (List ℕ)) (by : IsOrderFor all.case.logs given order) where
   run_is : IsRunOf all.vats order run
@@ -134,10 +128,9 @@ module _ (all : AllFound) (good : AreGoodFindings all) (vats : List Found) (same
   )
 
   pub yes_report : (fault : Option (ℕ × ℕ)) (answer : Report) → IsOrderFault run fault → fault ≡ None
-      → answer ≡ report.Yes (length vats) (records_in (logs_of vats)) (count_all delivers (logs_of vats)) (count_all sends (logs_of vats) - count_all receives (logs_of vats)) run
+      → answer ≡ report.Yes (length all.case.logs) (records_in all.case.logs) (count_all delivers all.case.logs) (count_all sends all.case.logs - count_all receives all.case.logs) run
       → IsReport all.case given answer
   yes_report fault answer ordered none is_yes =
-      let logs_same : logs_of vats ≡ all.case.logs = ap logs_of same ∙ logs_are all good.whole in
       subst (IsReport all.case given) (sym is_yes) (
         good_case all good,
         record {
@@ -145,9 +138,13 @@ module _ (all : AllFound) (good : AreGoodFindings all) (vats : List Found) (same
           by = by;
           fits = fits;
           headline = record { explained = explains all good.whole order run run_is; ordered = subst (IsOrderFault run) none ordered };
-          vats_are = ap length same ∙ vats_len all good.whole;
-          records_are = ap records_in logs_same;
-          delivered_are = ap (count_all delivers) logs_same;
-          under_way_are = ap (λ (logs : List Log). count_all sends logs - count_all receives logs) logs_same;
+          vats_are = refl;
+          records_are = refl;
+          delivered_are = refl;
+          under_way_are = refl;
         },
       )
+
+-- a yes with the same counts is the same
+pub same_yes : {a b c d e f g h : ℕ} → a ≡ b → c ≡ d → e ≡ f → g ≡ h → (run : List Step) → report.Yes a c e g run ≡ report.Yes b d f h run
+same_yes vats records delivered under_way run = rw (vats, records, delivered, under_way) refl

@@ -1,7 +1,6 @@
 -- The line of the first finding that isn't good.
 use Rattle.std.proofs.Common.{◌≡◌, ℕ, ◌+◌, ◌<◌, List, length, get_or, Option, Some, None, refl, sym, ap, ◌∙◌, subst}
 use Rattle.std.specs.Prelude.{MatchOption, slice_get}
-use Rattle.std.proofs.lemmas.Option.{slice_get_read}
 use Rattle.cap_reader.specs.Defaults.{default_limits}
 use Rattle.cap_reader.specs.declared.limits.Limits.{Limits}
 use Rattle.vat_log.specs.Log.{Log}
@@ -20,11 +19,8 @@ use Rattle.audit_core.specs.Glue.{HoldsBefore, IsFirstNot, line_of, IsBadFinding
 use Rattle.audit_core.specs.declared.report.Breach.TheVariants.{Rule}
 use Rattle.audit_core.specs.declared.report.Report.{Report}
 use Rattle.audit_core.specs.declared.report.Report.TheVariants as report
-use Rattle.audit_core.proofs.Places.{holds_more, place_of, contained, smaller_before}
+use Rattle.audit_core.proofs.Places.{at_index, holds_more, place_of, contained, smaller_before}
 use Rattle.audit_core.proofs.Whole.{as_log, has_finding, finding_at, held_at, log_held, ends_at, link_own}
-
-at_index : {X : Type 0} (xs : List X) (n : ℕ) (x : X) → x ≡ get_or xs n x → n < length xs → slice_get xs n ≡ Some x
-at_index xs n x is lt = slice_get_read xs (length xs) n x refl lt is
 
 -- ---- the findings of vats
 

@@ -4,6 +4,8 @@ pub mod FirstLine
 pub mod Ties
 pub mod Naming
 pub mod Explaining
+pub mod Sums
+pub mod UnderWay
 pub mod Counting
 pub mod Posting
 pub mod Refusing

@@ -52,7 +52,7 @@ true_of : (b : Bool) → (b || false) ≡ true → b ≡ true
 true_of true e = refl
 true_of false e = absurd cc
 
-used : (b : Body) (k : ℕ) → (sends_frame k b || receives_frame k b) ≡ true → used_by b ≡ Some k
+pub used : (b : Body) (k : ℕ) → (sends_frame k b || receives_frame k b) ≡ true → used_by b ≡ Some k
 used (body.Host reference object) k e = absurd cc
 used (body.Vow reference) k e = absurd cc
 used (body.Fulfil reference to) k e = absurd cc

@@ -1,14 +1,10 @@
 -- For the code's contracts, and no part of the meaning: what is so of findings that stand at places of a list.
-use Rattle.std.specs.Prelude.{◌≡◌, ℕ, ◌<◌, Bool, List, Option, Some, None, slice_get}
+use Rattle.std.specs.Prelude.{◌≡◌, ℕ, ◌+◌, ◌-◌, ◌<◌, List, Option, Some, None, length, slice_get}
 use Rattle.vat_rules.specs.Audit.{Found, IsTrueOf}
 use Rattle.vat_rules.specs.declared.outcome.Outcome.{Outcome}
 use Rattle.vat_rules.specs.declared.outcome.Outcome.TheVariants.{Good, Broken, Outside}
-use Rattle.link_check.specs.Prefix.{Ends, IsOutcome}
+use Rattle.link_check.specs.Prefix.{Ends, IsOutcome, frames_sent, frames_received}
 use Rattle.link_check.specs.declared.outcome.LinkOutcome.TheVariants.{Broken as BrokenAt}
-use Rattle.vat_log.specs.declared.body.Body.{Body}
-use Rattle.audit_core.specs.Report.{delivers, sends, receives}
-use Rattle.audit_core.specs.declared.counts.Kind.{Kind}
-use Rattle.audit_core.specs.declared.counts.Kind.TheVariants.{Delivery, Sending, Receipt}
 use Rattle.audit_core.specs.declared.report.Breach.TheVariants.{Rule}
 use Rattle.audit_core.specs.declared.report.Report.{Report}
 use Rattle.audit_core.specs.declared.report.Report.TheVariants as report
@@ -43,8 +39,14 @@ pub record AreBadEnds (answer : Report) (ends : Ends) : Type 0 where
   pub line : answer ≡ report.Link ends.connection end message
   pub means : IsOutcome ends (BrokenAt end message)
 
--- a record is of a kind
-abbrev pub is_of : Kind → Body → Bool
-is_of Delivery = delivers
-is_of Sending = sends
-is_of Receipt = receives
+-- how many frames the two ends of a link sent
+abbrev pub sent_on : Ends → ℕ
+sent_on ends = length (frames_sent ends.connection ends.first) + length (frames_sent ends.connection ends.second)
+
+-- how many they received
+abbrev pub received_on : Ends → ℕ
+received_on ends = length (frames_received ends.connection ends.first) + length (frames_received ends.connection ends.second)
+
+-- how many were sent there and not received
+abbrev pub under_way_on : Ends → ℕ
+under_way_on ends = sent_on ends - received_on ends

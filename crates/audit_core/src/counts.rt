@@ -1,73 +1,74 @@
-//! How many records of a case there are, and of each kind that is counted.
+//! The counts of a case whose logs and links are good. Only the records are counted here: its findings know the calls that
+//! were delivered and the frames that are under way.
 
-ghost use Rattle.std.specs.Prelude.{◌≡◌, ◌≤◌, length, count_by};
+ghost use Rattle.std.specs.Prelude.{◌≡◌, ◌≤◌, length, map, count_by, sum_by};
+ghost use Rattle.std.specs.Arc.{arc_value};
 ghost use Rattle.call_trace.specs.Findings.{logs_of};
-ghost use Rattle.audit_core.specs.Report.{count_all, records_in};
-ghost use Rattle.audit_core.specs.Glue.{is_of};
+ghost use Rattle.audit_core.specs.Report.{AreGoodEnds, HoldsOfEach, IsGoodFinding, count_all, delivers, records_in};
+ghost use Rattle.audit_core.specs.Glue.{under_way_on};
 
-use vat_log::{Body, VatLog};
-use vat_rules::VatFinding;
+use link_check::{LinkFinding, LinkOutcome};
+use std::sync::Arc;
+use vat_log::VatLog;
+use vat_rules::{Outcome, VatFinding};
 
-/// A kind of record that is counted.
-#[derive(Clone, Copy)]
-pub enum Kind {
-    /// It delivers a call.
-    Delivery,
-    /// It sends a frame.
-    Sending,
-    /// It receives a frame.
-    Receipt,
-}
-
-/// Whether a record is of a kind.
-fn is_kind(kind: Kind, body: &Body) -> bool
-    ensures { result ≡ is_of kind body.now }
-{
-    match (kind, body) {
-        (Kind::Delivery, Body::Deliver { .. }) => true,
-        (Kind::Sending, Body::Send { .. }) => true,
-        (Kind::Receipt, Body::Receive { .. }) => true,
-        _ => false,
-    }
-}
-
-/// How many records of a log are of a kind.
-fn count_in(log: &VatLog, kind: Kind) -> u64
-    ensures count { result ≡ count_by (is_of kind) log.now.records }
-    ensures few { result ≤ 1048576 }
-{
-    let mut count = 0;
-    for index in 0..log.len() {
-        if let Some(record) = log.get(index) {
-            if is_kind(kind, record.body()) {
-                count += 1;
-            }
-        }
-    }
-    count
-}
-
-/// How many records of all logs are of a kind.
-pub fn count_of(vats: &[VatFinding], kind: Kind) -> u64
-    requires { length vats.now ≤ 64 }
-    ensures { result ≡ count_all (is_of kind) (logs_of vats.now) }
-{
-    let mut count = 0;
-    for found in vats {
-        count += count_in(found.log(), kind);
-    }
-    count
-}
-
-/// How many records all logs have.
-pub fn count_records(vats: &[VatFinding]) -> u64
-    requires { length vats.now ≤ 64 }
-    ensures count { result ≡ records_in (logs_of vats.now) }
+/// How many records the logs have.
+pub fn count_records(logs: &[Arc<VatLog>]) -> u64
+    requires { length logs.now ≤ 64 }
+    ensures count { result ≡ records_in (map arc_value logs.now) }
     ensures few { result ≤ 67108864 }
 {
     let mut count = 0;
+    for log in logs {
+        count += log.len() as u64;
+    }
+    count
+}
+
+/// How many calls a good log delivers, as its audit counted them.
+fn delivered_in(found: &VatFinding) -> u64
+    requires { IsGoodFinding found.now }
+    ensures { result ≡ count_by delivers found.now.log.records }
+{
+    match found.outcome() {
+        Outcome::Good(story) => story.delivered(),
+        Outcome::Broken { .. } | Outcome::Outside { .. } => unreachable!(),
+    }
+}
+
+/// How many calls good logs deliver.
+pub fn count_delivered(vats: &[VatFinding]) -> u64
+    requires good { HoldsOfEach IsGoodFinding vats.now }
+    requires few { records_in (logs_of vats.now) ≤ 67108864 }
+    ensures { result ≡ count_all delivers (logs_of vats.now) }
+{
+    let mut count = 0;
     for found in vats {
-        count += found.log().len() as u64;
+        count += delivered_in(found);
+    }
+    count
+}
+
+/// How many frames are under way on a good link, as the comparison of its ends counted them.
+fn under_way_on(found: &LinkFinding) -> u64
+    requires { AreGoodEnds found.now }
+    ensures { result ≡ under_way_on found.now }
+{
+    match found.outcome() {
+        LinkOutcome::Good { in_flight, .. } => in_flight,
+        LinkOutcome::Broken { .. } => unreachable!(),
+    }
+}
+
+/// How many frames are under way on good links.
+pub fn count_under_way(links: &[LinkFinding]) -> u64
+    requires good { HoldsOfEach AreGoodEnds links.now }
+    requires few { sum_by under_way_on links.now ≤ 67108864 }
+    ensures { result ≡ sum_by under_way_on links.now }
+{
+    let mut count = 0;
+    for found in links {
+        count += under_way_on(found);
     }
     count
 }

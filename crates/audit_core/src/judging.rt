@@ -2,11 +2,10 @@
 
 ghost use Rattle.std.specs.Prelude.{◌≡◌, ◌≤◌, ◌-◌, List, ℕ, Option, Some, None, IfOk, MatchOption, length};
 ghost use Rattle.merge_order.specs.Fits.{IsFitting};
-ghost use Rattle.call_trace.specs.Findings.{logs_of};
 ghost use Rattle.audit_core.specs.Headline.{YesMeansHeadline};
 ghost use Rattle.audit_core.specs.Report.{IsReport, IsOrderFor, delivers, sends, receives, count_all, records_in, AreGoodFindings};
 
-use crate::counts::{Kind, count_of, count_records};
+use crate::counts::{count_delivered, count_records, count_under_way};
 use crate::first_bad::{link_line, vat_line};
 use crate::report::{Breach, Report};
 use call_trace::{name_run, order_fault};
@@ -14,7 +13,6 @@ use case_book::Findings;
 use merge_order::{Order, OrderFinding, check_order, make_order};
 use run_model::Run;
 use std::alloc::{AllocError, Global};
-use vat_rules::VatFinding;
 
 /// The line of the first vat, or else of the first link, that isn't good. It is the same whatever the order.
 fn line_of(findings: &Findings) -> Option<Report>
@@ -27,21 +25,20 @@ fn line_of(findings: &Findings) -> Option<Report>
     }
 }
 
-/// The yes to findings with so many records, and with their run.
-fn yes(vats: &[VatFinding], records: u64, run: Run) -> Report
-    requires few { length vats.now ≤ 64 }
-    requires all { records ≡ records_in (logs_of vats.now) }
-    ensures { result ≡ Report.Yes (length vats.now) (records_in (logs_of vats.now))
-        (count_all delivers (logs_of vats.now))
-        (count_all sends (logs_of vats.now) - count_all receives (logs_of vats.now)) run }
+/// The yes to good findings with so many records, and with their run.
+fn yes(findings: &Findings, records: u64, run: Run) -> Report
+    requires good { AreGoodFindings findings.now }
+    requires all { records ≡ records_in findings.now.case.logs }
+    requires few { records ≤ 67108864 }
+    ensures { result ≡ Report.Yes (length findings.now.case.logs) (records_in findings.now.case.logs)
+        (count_all delivers findings.now.case.logs)
+        (count_all sends findings.now.case.logs - count_all receives findings.now.case.logs) run }
 {
-    let sent = count_of(vats, Kind::Sending);
-    let received = count_of(vats, Kind::Receipt);
     Report::Yes {
-        vats: vats.len() as u64,
+        vats: findings.case().logs().len() as u64,
         records,
-        delivered: count_of(vats, Kind::Delivery),
-        under_way: sent.saturating_sub(received),
+        delivered: count_delivered(findings.vats()),
+        under_way: count_under_way(findings.links()),
         run,
     }
 }
@@ -54,16 +51,15 @@ fn by_order(alloc: Global, findings: &Findings, order: &Order) -> Result<Report,
         (λ answer. (given : Option (List ℕ)) → IsOrderFor findings.now.case.logs given order.now
         → IsReport findings.now.case given answer) }
 {
-    let vats = findings.vats();
-    let records = count_records(vats);
-    let run = name_run(alloc, vats, order)?;
+    let records = count_records(findings.case().logs());
+    let run = name_run(alloc, findings.vats(), order)?;
     match order_fault(alloc, &run)? {
         Some((vat, at)) => Ok(Report::Vat {
             vat,
             at: at as u64,
             rule: Breach::Order,
         }),
-        None => Ok(yes(vats, records, run)),
+        None => Ok(yes(findings, records, run)),
     }
 }
 

@@ -1,7 +1,7 @@
-use Rattle.std.proofs.Common.{◌≡◌, ◌≤◌, ◌*◌, take}
-use Rattle.call_trace.specs.Findings.{logs_of}
+use Rattle.std.proofs.Common.{◌≡◌, ◌≤◌, ◌*◌, map, take}
+use Rattle.std.specs.Arc.{arc_value}
 use Rattle.audit_core.specs.Report.{records_in}
 use Rattle.audit_core.proofs.counts.count_records.Given as goal
 
-abbrev pub invariant-loop-found : goal.invariant-loop-found
-invariant-loop-found l = (l.count ≡ records_in (logs_of (take l.found-index l.vats))) × (l.count ≤ l.found-index * 1048576)
+abbrev pub invariant-loop-log : goal.invariant-loop-log
+invariant-loop-log l = (l.count ≡ records_in (map arc_value (take l.log-index l.logs))) × (l.count ≤ l.log-index * 1048576)

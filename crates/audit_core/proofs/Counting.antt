@@ -1,9 +1,9 @@
 -- What the findings of good logs have counted.
-use Rattle.std.proofs.Common.{◌≡◌, ℕ, zero, suc, ◌+◌, ◌<◌, ◌≤◌, Bool, true, false, cond, List, [], ◌∷◌, length, get_or, take, Some, Result, Ok, Err, refl, ap, ◌∙◌, subst, arith}
+use Rattle.std.proofs.Common.{◌≡◌, ℕ, ◌+◌, ◌<◌, ◌≤◌, Bool, true, false, cond, List, [], ◌∷◌, length, get_or, take, Some, Result, Ok, Err, refl, sym, ap, ◌∙◌, subst, arith}
 use Rattle.std.specs.Prelude.{count_by}
 use Rattle.std.specs.List.{filter_map, cons_option}
-use Rattle.std.proofs.lemmas.List.{take_all}
-use Rattle.std.proofs.lemmas.List.Sums.{sum_by-cons, count_by-le-length}
+use Rattle.std.proofs.lemmas.List.{length-map, get_or-map, take-map, take_all}
+use Rattle.std.proofs.lemmas.List.Sums.{sum_by-cons, sum_by_more_le_part, count_by-le-length}
 use Rattle.cap_reader.specs.declared.limits.Limits.{Limits}
 use Rattle.vat_log.specs.Log.{Log}
 use Rattle.vat_log.specs.declared.body.Body.{Body}
@@ -18,7 +18,6 @@ use Rattle.vat_rules.specs.declared.outcome.Outcome.TheVariants.{Good}
 use Rattle.vat_rules.specs.declared.outcome.Why.{Why}
 use Rattle.call_trace.specs.Findings.{logs_of}
 use Rattle.audit_core.specs.Report.{delivers, count_all, records_in}
-use Rattle.audit_core.proofs.Sums.{no_greater}
 
 -- ---- the deliveries of a good log
 
@@ -59,17 +58,12 @@ delivered_is log limits outcome story means is =
     ∙ deliveries (reads_within limits) log.records
 
 -- so many so far, and those of the next log
-so_far : (test : Body → Bool) (vats : List Found) (i : ℕ) (found : Found) → found ≡ get_or vats i found → i < length vats
-    → count_all test (logs_of (take i vats)) + count_by test found.log.records ≤ count_all test (logs_of vats)
-so_far test [] i found is lt = absurd (omega arith)
-so_far test (first ∷ vats) zero found is lt =
-    omega (arith, sum_by-cons (λ (log : Log). count_by test log.records) first.log (logs_of vats), ap (λ (f : Found). count_by test f.log.records) is)
-so_far test (first ∷ vats) (suc i) found is lt =
-    omega (arith, so_far test vats i found is (omega arith), sum_by-cons (λ (log : Log). count_by test log.records) first.log (logs_of vats),
-    sum_by-cons (λ (log : Log). count_by test log.records) first.log (logs_of (take i vats)))
-
 pub delivered_so_far : (vats : List Found) (i : ℕ) (found : Found) → found ≡ get_or vats i found → i < length vats
     → count_all delivers (logs_of (take i vats)) + count_by delivers found.log.records ≤ records_in (logs_of vats)
 delivered_so_far vats i found is lt =
-    let no_more = no_greater (λ (log : Log). count_by delivers log.records) (λ (log : Log). length log.records) (logs_of vats) (λ k log at. count_by-le-length delivers log.records) in
-    omega (arith, so_far delivers vats i found is lt, no_more)
+    let within = length-map vats (λ (f : Found). f.log) in
+    let next : get_or (logs_of vats) i found.log ≡ found.log = get_or-map (λ (f : Found). f.log) vats i found found.log lt ∙ sym (ap (λ (f : Found). f.log) is) in
+    let few = sum_by_more_le_part (λ (log : Log). count_by delivers log.records) (λ (log : Log). length log.records) (logs_of vats) i found.log (omega (arith, within, lt))
+    (λ log. count_by-le-length delivers log.records) in
+    let so_far = ap (count_all delivers) (take-map (λ (f : Found). f.log) i vats) in
+    omega (arith, few, so_far, ap (λ (log : Log). length log.records) next, count_by-le-length delivers found.log.records)

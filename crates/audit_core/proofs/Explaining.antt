@@ -26,7 +26,7 @@ use Rattle.audit_core.specs.declared.report.Report.TheVariants as report
 use Rattle.audit_core.proofs.FirstLine.{good_case}
 use Rattle.run_model.specs.Early.{IsOrderFault}
 use Rattle.audit_core.proofs.Places.{each_at, each_so, contained}
-use Rattle.audit_core.proofs.Whole.{as_log, vats_len, logs_are, has_finding}
+use Rattle.audit_core.proofs.Whole.{as_log, logs_are, has_finding}
 
 pub or_later : (a b c : Bool) → (b ≡ true → c ≡ true) → (a || b) ≡ true → (a || c) ≡ true
 or_later true b c so e = refl

@@ -1,8 +1,8 @@
 -- Sums over lists: added, taken from each other, swapped, and with one or two terms that aren't 0.
-use Rattle.std.proofs.Common.{◌≡◌, ◌≢◌, ℕ, zero, suc, ◌+◌, ◌-◌, ◌<◌, ◌≤◌, true, cond, List, [], ◌∷◌, length, get_or, take, take-suc, Some, refl, sym, ap, ◌∙◌, inl, inr, arith}
+use Rattle.std.proofs.Common.{◌≡◌, ◌≢◌, ℕ, zero, suc, ◌+◌, ◌-◌, ◌≤◌, true, cond, List, [], ◌∷◌, Some, refl, sym, ap, ◌∙◌, inl, inr, arith}
 use Rattle.std.specs.Prelude.{◌==◌, sum_by, slice_get}
 use Rattle.std.proofs.lemmas.Bool.{cases_eq, eq-eqb, ne_eqb}
-use Rattle.std.proofs.lemmas.List.Sums.{sum_by-cons, sum_by_push}
+use Rattle.std.proofs.lemmas.List.Sums.{sum_by-cons}
 
 -- ---- term by term
 
@@ -35,18 +35,6 @@ taken_away f g (x ∷ xs) less =
 
 pub no_greater : {X : Type 0} (f g : X → ℕ) (xs : List X) → ((i : ℕ) (x : X) → slice_get xs i ≡ Some x → f x ≤ g x) → sum_by f xs ≤ sum_by g xs
 no_greater f g xs less = omega (arith, taken_away g f xs less)
-
--- a sum so far, and the next term
-pub sum_so_far : {X : Type 0} (f : X → ℕ) (xs : List X) (i : ℕ) (x : X) → x ≡ get_or xs i x → i < length xs → sum_by f (take i xs) + f x ≤ sum_by f xs
-sum_so_far f [] i x is lt = absurd (omega arith)
-sum_so_far f (y ∷ ys) zero x is lt = omega (arith, sum_by-cons f y ys, ap f is)
-sum_so_far f (y ∷ ys) (suc i) x is lt = omega (arith, sum_so_far f ys i x is (omega arith), sum_by-cons f y ys, sum_by-cons f y (take i ys))
-
-pub sum_one_more : {X : Type 0} (f : X → ℕ) (xs : List X) (i : ℕ) (x : X) → x ≡ get_or xs i x → i < length xs → sum_by f (take i xs) + f x ≡ sum_by f (take (i + 1) xs)
-sum_one_more f xs i x is lt =
-    let next : i + 1 ≡ suc i = omega arith in
-    let all = sum_by_push f (take i xs) (get_or xs i x) in
-    rw (next, take-suc xs i x lt) (omega (arith, all, ap f is))
 
 -- ---- the order of two sums
 

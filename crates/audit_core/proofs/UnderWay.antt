@@ -15,12 +15,11 @@ use Rattle.link_check.proofs.Faults.{length_prefix}
 use Rattle.merge_order.specs.Fits.{sends_frame, receives_frame}
 use Rattle.case_book.specs.Books.{AllFound, AreAll}
 use Rattle.case_book.specs.Case.{vats_of, connections_of}
-use Rattle.case_book.specs.Ties.{used_by}
 use Rattle.case_book.specs.declared.link.Link.{Link}
 use Rattle.case_book.proofs.Numbers.{bool_cases}
 use Rattle.case_book.proofs.Numbered.{stands_once, under}
 use Rattle.case_book.proofs.Tied.{has_ends}
-use Rattle.audit_core.specs.Report.{sends, receives, count_all, records_in, HoldsOfEach, AreGoodEnds, AreGoodFindings}
+use Rattle.audit_core.specs.Report.{sends, receives, count_all, records_in, AreGoodEnds, AreGoodFindings}
 use Rattle.audit_core.specs.Glue.{sent_on, received_on, under_way_on}
 use Rattle.audit_core.proofs.Places.{place_of, contained, one_of_number}
 use Rattle.audit_core.proofs.Sums.{same_sums, sum_of_none, sum_of_one, sum_of_two, swapped, taken_away, no_greater, AreApart}
@@ -179,7 +178,7 @@ module _ (all : AllFound) (whole : AreAll all) (frame_on : ℕ → Body → Opti
             let same : own.0.connection ≡ k.0 = own.2.connection ∙ end.number in
             let here : on own.0.connection b ≡ true = subst (λ (n : ℕ). on n b ≡ true) (sym same) k.1 in
             let one : sum_by (adds b) all.links ≡ adds b own.0 = sum_of_one (λ (ends : Ends). ends.connection) (adds b) all.links end.place own.0 links_apart own.1
-                (λ j ends there other. adds_none b ends (λ on_it. other (one_used b ends.connection k.0 (kind.anywhere b ends.connection on_it).1 used_k ∙ sym same))) in
+            (λ j ends there other. adds_none b ends (λ on_it. other (one_used b ends.connection k.0 (kind.anywhere b ends.connection on_it).1 used_k ∙ sym same))) in
             rw (so, one, here) refl
         | inr not_so ↦
             ap (λ (passes : Bool). cond passes 1 0) not_so
@@ -198,10 +197,10 @@ module _ (all : AllFound) (whole : AreAll all) (frame_on : ℕ → Body → Opti
   no_user j ends at k log there apart also =
       let own = link_own all whole j ends at in
       sum_of_none (λ (b : Body). adds b ends) log.records (λ i b here. adds_none b ends (λ so. (
-        let end = user_is_end all.case whole.tied log ends.connection (contained all.case.logs k log there) (log_uses log i ends.connection b here (kind.anywhere b ends.connection so).1) in
-        let same : end.link ≡ own.0 = one_of_number (λ (link : Link). link.conn) all.case.links whole.holds.rising_links end.place j end.link own.0 end.there own.1 (end.number ∙ own.2.connection) in
-        let side = subst (λ (link : Link). (link.a ≡ log.vat) ⊎ (link.b ≡ log.vat)) same end.end in
-        no_third own.0.a own.0.b ends.first.vat ends.second.vat log.vat own.2.smaller own.2.greater side apart also
+      let end = user_is_end all.case whole.tied log ends.connection (contained all.case.logs k log there) (log_uses log i ends.connection b here (kind.anywhere b ends.connection so).1) in
+      let same : end.link ≡ own.0 = one_of_number (λ (link : Link). link.conn) all.case.links whole.holds.rising_links end.place j end.link own.0 end.there own.1 (end.number ∙ own.2.connection) in
+      let side = subst (λ (link : Link). (link.a ≡ log.vat) ⊎ (link.b ≡ log.vat)) same end.end in
+      no_third own.0.a own.0.b ends.first.vat ends.second.vat log.vat own.2.smaller own.2.greater side apart also
       )))
 
   at_ends : (j : ℕ) (ends : Ends) → slice_get all.links j ≡ Some ends

@@ -1,7 +1,7 @@
-use Rattle.std.proofs.Common.{arith}
+use Rattle.std.proofs.Common.{ap, arith}
+use Rattle.std.proofs.lemmas.List.Sums.{sum_by_more, sum_by_more_le}
 use Rattle.audit_core.specs.Glue.{under_way_on}
 use Rattle.audit_core.proofs.Places.{at_index}
-use Rattle.audit_core.proofs.Sums.{sum_so_far, sum_one_more}
 use Rattle.audit_core.proofs.counts.count_under_way.Goals as goal
 
 pub under_way_on-count-requires : goal.under_way_on-count-requires
@@ -9,10 +9,10 @@ under_way_on-count-requires c = c.requires.good c.loop-found.found-index c.found
 
 pub overflow_add-count : goal.overflow_add-count
 overflow_add-count c =
-    let le = sum_so_far under_way_on c.args.links.now c.loop-found.found-index c.found-item.result c.found-item.is c.loop-found-test.true in
-    omega (arith, le, c.requires.few, c.under_way_on-count.ensures, c.loop-found.invariant)
+    let le = sum_by_more_le under_way_on c.args.links.now c.loop-found.found-index c.found-item.result c.loop-found-test.true in
+    omega (arith, le, ap under_way_on c.found-item.is, c.requires.few, c.under_way_on-count.ensures, c.loop-found.invariant)
 
 pub loop-found-preserved : goal.loop-found-preserved
 loop-found-preserved c =
-    let more = sum_one_more under_way_on c.args.links.now c.loop-found.found-index c.found-item.result c.found-item.is c.loop-found-test.true in
-    omega (arith, more, c.under_way_on-count.ensures, c.loop-found.invariant)
+    let more = sum_by_more under_way_on c.args.links.now c.loop-found.found-index c.found-item.result c.loop-found-test.true in
+    omega (arith, more, ap under_way_on c.found-item.is, c.under_way_on-count.ensures, c.loop-found.invariant)

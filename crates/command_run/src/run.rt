@@ -139,6 +139,18 @@ pub struct NotedSource<S, N> {
     pub notes: N,
 }
 
+/// Writes the notes beside what was heard of a source. Where a write fails, or memory is refused for them, they are left out.
+fn write_notes<S: RememberingSource, N: Write>(
+    alloc: Global,
+    heard: Heard,
+    source: &S,
+    notes: &mut N,
+) {
+    if let Ok(text) = notes_of(alloc, heard, source) {
+        let _ = notes.write_all(text.as_bytes());
+    }
+}
+
 /// Runs a command over std's writers, as [`run_on`] does, and then writes notes: a line or two for people, beside
 /// a no, an outside, a file that can't be read or a log, an order or a case file that is bad (docs/FORMATS.md). No contract
 /// says what they tell. They change neither what is written elsewhere nor the exit status: where a write of them fails, or
@@ -159,8 +171,6 @@ pub fn run_with_notes<R: Threads + Wait + Sync, S: RememberingSource, W: Write, 
     let mut heard = Heard::Nothing;
     let host = Host { rt, alloc };
     let answered = answer_heard(&host, command, &mut noted.source, &mut heard, out, file);
-    if let Ok(text) = notes_of(alloc, heard, &noted.source) {
-        let _ = noted.notes.write_all(text.as_bytes());
-    }
+    write_notes(alloc, heard, &noted.source, &mut noted.notes);
     answered.unwrap_or(FAILED)
 }

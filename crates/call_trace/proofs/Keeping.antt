@@ -1,6 +1,7 @@
 -- What is kept of a vat is that of its records and their steps, and names its calls and views as they do.
 use Rattle.std.proofs.Common.{◌≡◌, refl, sym, ◌∙◌, ap, ap₂, subst, ℕ, zero, suc, ◌==◌, List, [], ◌∷◌, ◌++◌, length, map, reverse, Bool, true, false, not, Option, Some, None, if◌then◌else◌, option_and_then, option_map, slice_get, is_some, append-nil, arith, eqb-true, inl, inr}
 use Rattle.std.specs.Option.{option_or}
+use Rattle.std.specs.Prelude.{IsSome, Result, Ok, Err, OnOk}
 use Rattle.std.proofs.lemmas.Bool.{cases_Bool, false≢true, eq-eqb}
 use Rattle.std.proofs.lemmas.List.{reverse-append, reverse-reverse, length-reverse}
 use Rattle.vat_view.specs.Past.{Past, Point, point, id, names, last_since}
@@ -336,6 +337,19 @@ received_binds v es own run k c references m message seen ledger kept is =
 
 -- ---- what a function that takes a step has to show
 
+pub not_none : {A : Type 0} (o : Option A) → IsSome o → o ≡ None → ⊥
+not_none (Some x) some none = let no : ⊥ = cc in no
+not_none None some none = let no : ⊥ = cc in no
+
+pub some_if : {A : Type 0} (o : Option A) → (o ≡ None → ⊥) → IsSome o
+some_if (Some x) not = refl
+some_if None not = absurd (not refl)
+
+-- what holds after an answer that isn't an error
+pub on_ok : {A E : Type 0} {P Q : Type 0} (r : Result A E) → (P → Q) → OnOk r P → OnOk r Q
+on_ok (Ok x) f p = f p
+on_ok (Err e) f p = p
+
 some_is : {A : Type 0} {x y : A} → Some x ≡ Some y → x ≡ y
 some_is e = cc
 
@@ -343,7 +357,7 @@ some_is e = cc
 pub own_taken : (v : ℕ) (es : Past) (own before run taken : List Step) (e : DecodedRecord) (seen : Sight) (number : ℕ) (old bound new : VatLedger) (s : Step) →
     IsKept v es own run old → is_received e ≡ false → seen ≡ seen_of es e → IsBound (call_bound_by old.vat e None) old bound →
     Some s ≡ step_by (names_in run bound) (late_in bound e) seen e → IsNoted number e bound new → number ≡ length run → taken ≡ run ++ s ∷ [] →
-    IsTaken v es e own (step_of v es own before e) run taken new true
+    IsTaken v es e own (step_of v es own before e) run taken new
 own_taken v es own before run taken e seen number old bound new s kept mine is b says n at more =
     let named : IsBound (call_bound_by v e None) old bound = subst (λ w. IsBound (call_bound_by w e None) old bound) kept.vat b in
     let step_is = own_step_is v es own run before e seen old bound kept mine is named in
@@ -389,7 +403,7 @@ pub received_taken : (v : ℕ) (es : Past) (own run pushed rest taken : List Ste
     IsKept v es own run old → seen ≡ seen_of es e → IsBound (call_bound_by old.vat e (Some message)) old bound → IsNoted number e bound new → number ≡ length run →
     w ≡ new.vat → pushed ≡ run ++ step.Receive w k message [] ∷ [] → Some caps ≡ named_said (names_in pushed new) seen.references →
     pushed ≡ rest ++ last ∷ [] → taken ≡ rest ++ with_bound caps last ∷ [] →
-    IsTaken v es e own (step_received v es own e k references message) run taken new true
+    IsTaken v es e own (step_received v es own e k references message) run taken new
 received_taken v es own run pushed rest taken k c references m message seen number old bound new w caps last kept is b n at whose more says popped again =
     let e = Wire false k c references m in
     let s : Step = step.Receive v k message caps in
@@ -413,7 +427,7 @@ abbrev Takes : DecodedRecord → ℕ → Type 0
 Takes e k = (v : ℕ) (es : Past) (own run pushed rest taken : List Step) (message : Message) (seen : Sight) (number : ℕ) (old bound new : VatLedger) (w : ℕ) (caps : List Cap)
     (last : Step) → IsKept v es own run old → seen ≡ seen_of es e → IsBound (call_bound_by old.vat e (Some message)) old bound → IsNoted number e bound new →
     number ≡ length run → w ≡ new.vat → pushed ≡ run ++ step.Receive w k message [] ∷ [] → Some caps ≡ named_said (names_in pushed new) seen.references →
-    pushed ≡ rest ++ last ∷ [] → taken ≡ rest ++ with_bound caps last ∷ [] → IsTaken v es e own (received_step v es own e message) run taken new true
+    pushed ≡ rest ++ last ∷ [] → taken ≡ rest ++ with_bound caps last ∷ [] → IsTaken v es e own (received_step v es own e message) run taken new
 
 pub takes : (e : DecodedRecord) → is_received e ≡ true → (sent : Bool) (k c : ℕ) (references : List ℕ) (m : RpcMessage) → Wire sent k c references m ≡ e → Takes e k
 takes e h sent k c references m is = subst (λ e. is_received e ≡ true → Takes e k) is (at sent) h

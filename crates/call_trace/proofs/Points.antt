@@ -1,5 +1,5 @@
 -- Each point of an order: the logs so far are linked, their ends agree, and their counts are balanced.
-use Rattle.std.proofs.Common.{◌≡◌, refl, sym, ◌∙◌, ap, subst, ℕ, ◌==◌, List, [], ◌∷◌, ◌++◌, length, take, drop, reverse, true, false, cond, Option, Some, None, option_map, arith, inl, inr}
+use Rattle.std.proofs.Common.{◌≡◌, refl, sym, ◌∙◌, ap, subst, ℕ, ◌==◌, List, [], ◌∷◌, ◌++◌, length, take, drop, reverse, cond, Option, Some, None, option_map, arith, inl, inr}
 use Rattle.std.specs.Prelude.{Contains}
 use Rattle.std.specs.List.{cons_option, count_by}
 use Rattle.std.proofs.lemmas.Bool.{cases_lt}

@@ -13,10 +13,11 @@ use Rattle.call_trace.specs.Glue.Ledgers.{IsKept}
 use Rattle.call_trace.specs.Named.{IsRunOf}
 use Rattle.call_trace.specs.Running.{steps_of_row}
 use Rattle.call_trace.specs.Taking.{finding_of, record_in, steps_counted_by, next_record, taken_by}
-use Rattle.call_trace.specs.Glue.Turns.{IsKeptOf, TakesTurn, vats_of_ledgers, AreKept, MayTurn, IsReached, IsTurned}
+use Rattle.call_trace.specs.Glue.Turns.{IsKeptOf, TakesTurn, vats_of_ledgers, AreKept, IsTurnOf, MayTurn, IsReached, GoesOnWith}
 use Rattle.call_trace.specs.Types.{Step}
 use Rattle.call_trace.proofs.Fitting.{Rises, rises}
 use Rattle.call_trace.proofs.Good.{good_run}
+use Rattle.call_trace.proofs.Keeping.{some_if}
 use Rattle.call_trace.proofs.Points.{rows_on}
 use Rattle.call_trace.proofs.Rowing.{row_stuck}
 use Rattle.call_trace.proofs.Sharing.{all_test, own_found}
@@ -159,11 +160,20 @@ placed findings ledgers turns v before i f l may is one its kept =
           (subst (λ (x : VatLedger). IsKeptOf (get_or findings i f).log.vat (taken_by findings turns) before x) (sym its) at);
     }
 
-pub turned : (findings : List Found) (turns : List ℕ) (v : ℕ) (ledgers : List VatLedger) (i : ℕ) (before : List Step) (now : VatLedger) (new : Turns) (taken : Bool) → MayTurn findings ledgers →
+-- its turn comes next
+pub turn_of : (findings : List Found) (turns : List ℕ) (v : ℕ) (f : Found) (l : VatLedger) (state : Turns) (reached : IsReached findings turns state) → IsPlaced findings turns v reached.before f l →
+    IsTurnOf findings turns v reached.before f state.trail l
+turn_of findings turns v f l state reached p = record {
+  found = p.found;
+  so_far = reached.steps;
+  trail = reached.trail;
+  kept = p.kept;
+}
+
+pub turned : (findings : List Found) (turns : List ℕ) (v : ℕ) (ledgers : List VatLedger) (i : ℕ) (before : List Step) (now : VatLedger) (new : Turns) → MayTurn findings ledgers →
     slice_get (vats_of_ledgers ledgers) i ≡ Some v → AreKept (taken_by findings turns) before findings ledgers → new.ledgers.items ≡ set ledgers i now →
-    TakesTurn v (taken_by findings turns) (taken_by findings (v ∷ turns)) before new.trail now taken → IsTurned findings (v ∷ turns) new taken
-turned findings turns v ledgers i before now new false may is kept items goes = goes
-turned findings turns v ledgers i before now new true may is kept items goes =
+    TakesTurn v (taken_by findings turns) (taken_by findings (v ∷ turns)) before new.trail now → IsReached findings (v ∷ turns) new
+turned findings turns v ledgers i before now new may is kept items goes =
     let all =
     kept_turned (taken_by findings turns) (taken_by findings (v ∷ turns)) before goes.0 v goes.4 findings ledgers i now (rises _ may.rising)
     (ap (λ vs. slice_get vs i) (sym may.vats) ∙ is) kept goes.3 in
@@ -192,7 +202,7 @@ module _ (findings : List Found) (order : List ℕ) (true_all : AreTrue findings
     vats = vats_kept (taken_by findings turns) reached.before findings state.ledgers.items reached.kept;
   }
 
-  pub never_stuck : (i : ℕ) → i < length order → steps_of_row (taken_by findings (get_or order i 0 ∷ reverse (take i order))) ≡ None → ⊥
+  never_stuck : (i : ℕ) → i < length order → steps_of_row (taken_by findings (get_or order i 0 ∷ reverse (take i order))) ≡ None → ⊥
   never_stuck i lt none =
       let later = reverse (drop (i + 1) order) in
       let whole : reverse order ≡ later ++ get_or order i 0 ∷ reverse (take i order) =
@@ -201,6 +211,14 @@ module _ (findings : List Found) (order : List ℕ) (true_all : AreTrue findings
       let has_none = ap (λ l. steps_of_row (taken_by findings l)) whole ∙ stuck findings later (get_or order i 0 ∷ reverse (take i order)) none in
       let no : ◌≡◌ {A = Option (List Step)} (Some (good_run findings order true_all asked).0) None = sym has ∙ has_none in
       let n : ⊥ = cc in n
+
+  -- the next turn of the order has a step
+  pub goes_on : (i : ℕ) (state : Turns) → i < length order → IsReached findings (reverse (take i order)) state → GoesOnWith findings (get_or order i 0) state
+  goes_on i state lt reached = record {
+    turns = reverse (take i order);
+    reached = reached;
+    goes_on = some_if _ (never_stuck i lt);
+  }
 
   pub run_named : (i : ℕ) (state : Turns) → length order ≤ i → IsReached findings (reverse (take i order)) state → IsRunOf findings order state.trail.steps.items
   run_named i state all reached =

@@ -72,7 +72,7 @@ row_stuck (r ∷ later) row none =
 
 -- of the vat whose record took a step
 pub kept_here : (v : ℕ) (e : DecodedRecord) (row : Row) (before taken : List Step) (new : VatLedger) → steps_of_row row ≡ Some before →
-    IsTaken v (log_of_vat v row) e (steps_by v before) (step_of v (log_of_vat v row) (steps_by v before) before e) (reverse before) taken new true →
+    IsTaken v (log_of_vat v row) e (steps_by v before) (step_of v (log_of_vat v row) (steps_by v before) before e) (reverse before) taken new →
     (s : Step) × (steps_of_row ((v, e) ∷ row) ≡ Some (s ∷ before)) × (step_of v (log_of_vat v row) (steps_by v before) before e ≡ Some s) × (taken ≡ reverse (s ∷ before)) × (vat_of s ≡ v) × IsKeptAt v ((v, e) ∷ row) (s ∷ before) new
 kept_here v e row before taken new so_far t =
     let s = t.0 in

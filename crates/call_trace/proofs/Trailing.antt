@@ -1,6 +1,8 @@
 -- The steps so far and what they sent, one record further.
 use Rattle.std.proofs.Common.{◌≡◌, refl, sym, ◌∙◌, ap, subst, ℕ, List, ◌∷◌, map, reverse, Bool, true, false, Option, Some, None, option_and_then, option_map}
+use Rattle.std.specs.Prelude.{IsSome}
 use Rattle.agree.specs.Rows.{Row, log_of_vat}
+use Rattle.vat_rules.specs.LogFacts.{Sight}
 use Rattle.vat_rules.specs.OfCaps.{is_received}
 use Rattle.vat_view.specs.Past.{Past}
 use Rattle.vat_view.specs.Views.{view_of_reference}
@@ -8,13 +10,14 @@ use Rattle.call_trace.specs.declared.records.vat_ledger.VatLedger.{VatLedger}
 use Rattle.call_trace.specs.declared.steps.channels.Channels.{Channels}
 use Rattle.call_trace.specs.declared.steps.run_builder.RunBuilder.{RunBuilder}
 use Rattle.call_trace.specs.Types.{RpcMessage, DecodedRecord, Host, Vow, Fulfil, Break, Make, Field, Deliver, Answer, Fault, Wire, Cap, Message, Step}
-use Rattle.call_trace.specs.Glue.Ledgers.{IsKept, IsTaken, received_step}
+use Rattle.call_trace.specs.Glue.Ledgers.{IsKept, HasStep, IsTaken, received_step}
 use Rattle.call_trace.specs.Glue.Channels.{AreLines}
 use Rattle.call_trace.specs.Naming.{naming, message_of_step}
 use Rattle.call_trace.specs.Part.{result_named, promise_in}
 use Rattle.call_trace.specs.Running.{coming_next, step_received, step_of, steps_by, steps_of_row}
 use Rattle.call_trace.specs.Said.{all_there}
-use Rattle.call_trace.specs.Glue.RunBuilder.{IsKeptAt, Comes}
+use Rattle.call_trace.specs.Glue.RunBuilder.{IsKeptAt, ComesNext, Comes}
+use Rattle.call_trace.proofs.Keeping.{not_none, some_if}
 use Rattle.call_trace.proofs.Passing.{other_more}
 use Rattle.call_trace.proofs.Rowing.{kept_here, row_none}
 use Rattle.run_model.specs.declared.cap.Cap.TheVariants as cap
@@ -75,12 +78,11 @@ none_comes v k c references m row before so_far none =
     (ap (option_and_then (step_received v (log_of_vat v row) (steps_by v before) (Wire false k c references m) k references)) none)
 
 -- a record took its step, where the table is that of the steps with it
-comes : (v : ℕ) (e : DecodedRecord) (row : Row) (before : List Step) (new : RunBuilder) (ledger : VatLedger) (taken : Bool) → steps_of_row row ≡ Some before →
+comes : (v : ℕ) (e : DecodedRecord) (row : Row) (before : List Step) (new : RunBuilder) (ledger : VatLedger) → steps_of_row row ≡ Some before →
     ((s : Step) → step_of v (log_of_vat v row) (steps_by v before) before e ≡ Some s → ledger.vat ≡ v → AreLines (s ∷ before) new.lines) →
-    IsTaken v (log_of_vat v row) e (steps_by v before) (step_of v (log_of_vat v row) (steps_by v before) before e) (reverse before) new.steps.items ledger taken →
-    Comes v e row before new ledger taken
-comes v e row before new ledger false so_far lines t = row_none v e row before so_far t
-comes v e row before new ledger true so_far lines t =
+    IsTaken v (log_of_vat v row) e (steps_by v before) (step_of v (log_of_vat v row) (steps_by v before) before e) (reverse before) new.steps.items ledger →
+    Comes v e row before new ledger
+comes v e row before new ledger so_far lines t =
     let k = kept_here v e row before new.steps.items ledger so_far t in
     (k.0, k.1, k.4, record { steps = k.3; lines = lines k.0 k.2 k.5.vat }, k.5)
 
@@ -96,41 +98,41 @@ own_of (Deliver c object) not = tt
 own_of (Answer c results) not = tt
 own_of (Fault c) not = tt
 
-abbrev Turned : ℕ → DecodedRecord → Row → List Step → RunBuilder → VatLedger → Bool → Type 0
-Turned v e row before new ledger taken =
-    IsTaken v (log_of_vat v row) e (steps_by v before) (step_of v (log_of_vat v row) (steps_by v before) before e) (reverse before) new.steps.items ledger taken
+abbrev Turned : ℕ → DecodedRecord → Row → List Step → RunBuilder → VatLedger → Type 0
+Turned v e row before new ledger =
+    IsTaken v (log_of_vat v row) e (steps_by v before) (step_of v (log_of_vat v row) (steps_by v before) before e) (reverse before) new.steps.items ledger
 
-pub own_comes : (v : ℕ) (e : DecodedRecord) (row : Row) (before : List Step) (old : Channels) (new : RunBuilder) (ledger : VatLedger) (taken : Bool) →
+pub own_comes : (v : ℕ) (e : DecodedRecord) (row : Row) (before : List Step) (old : Channels) (new : RunBuilder) (ledger : VatLedger) →
     ((sent : Bool) (k c : ℕ) (references : List ℕ) (m : RpcMessage) → e ≡ Wire sent k c references m → ⊥) → steps_of_row row ≡ Some before → AreLines before old → new.lines ≡ old →
-    Turned v e row before new ledger taken → Comes v e row before new ledger taken
-own_comes v e row before old new ledger taken own so_far lines same t =
-    comes v e row before new ledger taken so_far
+    Turned v e row before new ledger → Comes v e row before new ledger
+own_comes v e row before old new ledger own so_far lines same t =
+    comes v e row before new ledger so_far
     (λ s is whose. subst (λ table. AreLines (s ∷ before) table) (sym same) (other_more s before old (silent v (log_of_vat v row) (steps_by v before) before e s (own_of e own) is) lines)) t
 
-pub sent_comes : (v k c : ℕ) (references : List ℕ) (m : RpcMessage) (e : DecodedRecord) (row : Row) (before : List Step) (new : RunBuilder) (ledger : VatLedger) (taken : Bool) → e ≡ Wire true k c references m →
+pub sent_comes : (v k c : ℕ) (references : List ℕ) (m : RpcMessage) (e : DecodedRecord) (row : Row) (before : List Step) (new : RunBuilder) (ledger : VatLedger) → e ≡ Wire true k c references m →
     steps_of_row row ≡ Some before → ((message : Message) → AreLines (step.Send ledger.vat k message ∷ before) new.lines) →
-    Turned v e row before new ledger taken → Comes v e row before new ledger taken
-sent_comes v k c references m e row before new ledger taken same so_far lines t =
-    comes v e row before new ledger taken so_far
+    Turned v e row before new ledger → Comes v e row before new ledger
+sent_comes v k c references m e row before new ledger same so_far lines t =
+    comes v e row before new ledger so_far
     (λ s is whose.
     let sent = sends v k c references m (log_of_vat v row) (steps_by v before) before s (ap (step_of v (log_of_vat v row) (steps_by v before) before) (sym same) ∙ is) in
     subst (λ s. AreLines (s ∷ before) new.lines) (ap (λ w. step.Send w k sent.0) whose ∙ sym sent.1) (lines sent.0)) t
 
 abbrev GotBy : DecodedRecord → ℕ → Type 0
-GotBy e k = (v : ℕ) (message : Message) (row : Row) (before : List Step) (new : RunBuilder) (ledger : VatLedger) (taken : Bool) → steps_of_row row ≡ Some before →
+GotBy e k = (v : ℕ) (message : Message) (row : Row) (before : List Step) (new : RunBuilder) (ledger : VatLedger) → steps_of_row row ≡ Some before →
     coming_next v k before ≡ Some message → ((bound : List Cap) → AreLines (step.Receive v k message bound ∷ before) new.lines) →
-    IsTaken v (log_of_vat v row) e (steps_by v before) (received_step v (log_of_vat v row) (steps_by v before) e message) (reverse before) new.steps.items ledger taken →
-    Comes v e row before new ledger taken
+    IsTaken v (log_of_vat v row) e (steps_by v before) (received_step v (log_of_vat v row) (steps_by v before) e message) (reverse before) new.steps.items ledger →
+    Comes v e row before new ledger
 
 got_by : (k c : ℕ) (references : List ℕ) (m : RpcMessage) → GotBy (Wire false k c references m) k
-got_by k c references m v message row before new ledger taken so_far coming lines t =
+got_by k c references m v message row before new ledger so_far coming lines t =
     let e : DecodedRecord = Wire false k c references m in
     let es = log_of_vat v row in
     let own = steps_by v before in
     let same : step_of v es own before e ≡ received_step v es own e message = ap (option_and_then (step_received v es own e k references)) coming in
-    comes v e row before new ledger taken so_far
+    comes v e row before new ledger so_far
     (λ s is whose. let got = receives v k c references m message es own s (sym same ∙ is) in subst (λ s. AreLines (s ∷ before) new.lines) (sym got.1) (lines got.0))
-    (subst (λ o. IsTaken v es e own o (reverse before) new.steps.items ledger taken) (sym same) t)
+    (subst (λ o. IsTaken v es e own o (reverse before) new.steps.items ledger) (sym same) t)
 
 pub received_comes : (e : DecodedRecord) → is_received e ≡ true → (sent : Bool) (k c : ℕ) (references : List ℕ) (m : RpcMessage) → Wire sent k c references m ≡ e → GotBy e k
 received_comes e h sent k c references m is = subst (λ e. is_received e ≡ true → GotBy e k) is (at sent) h
@@ -150,9 +152,53 @@ nothing_taken e h sent k c references m is = subst (λ e. is_received e ≡ true
     at false h = λ v row before. none_comes v k c references m row before
 
 -- the steps before, as they stand in the trail
-pub with_steps : (v : ℕ) (es : Past) (e : DecodedRecord) (own run before : List Step) (o : Option Step) (taken_run : List Step) (ledger : VatLedger) (taken : Bool) → run ≡ reverse before →
-    IsTaken v es e own o run taken_run ledger taken → IsTaken v es e own o (reverse before) taken_run ledger taken
-with_steps v es e own run before o taken_run ledger taken same t = subst (λ r. IsTaken v es e own o r taken_run ledger taken) same t
+pub with_steps : (v : ℕ) (es : Past) (e : DecodedRecord) (own run before : List Step) (o : Option Step) (taken_run : List Step) (ledger : VatLedger) → run ≡ reverse before →
+    IsTaken v es e own o run taken_run ledger → IsTaken v es e own o (reverse before) taken_run ledger
+with_steps v es e own run before o taken_run ledger same t = subst (λ r. IsTaken v es e own o r taken_run ledger) same t
 
 pub kept_in : (v : ℕ) (row : Row) (before run : List Step) (ledger : VatLedger) → run ≡ reverse before → IsKeptAt v row before ledger → IsKept v (log_of_vat v row) (steps_by v before) run ledger
 kept_in v row before run ledger same kept = subst (λ r. IsKept v (log_of_vat v row) (steps_by v before) r ledger) (sym same) kept
+
+-- ---- the step is there
+
+step_there : (v : ℕ) (e : DecodedRecord) (row : Row) (before : List Step) → steps_of_row row ≡ Some before → IsSome (steps_of_row ((v, e) ∷ row)) →
+    IsSome (step_of v (log_of_vat v row) (steps_by v before) before e)
+step_there v e row before so_far on = some_if _ (λ none. not_none _ on (row_none v e row before so_far none))
+
+-- that of a record that isn't received
+pub own_there : (e : DecodedRecord) (seen : Sight) (trail : RunBuilder) (ledger : VatLedger) → ComesNext e seen trail ledger →
+    HasStep (λ v es own before. step_of v es own before e) e seen trail.steps.items ledger
+own_there e seen trail ledger on = record {
+  vat = on.vat;
+  past = log_of_vat on.vat on.row;
+  own = steps_by on.vat on.before;
+  before = on.before;
+  kept = kept_in on.vat on.row on.before trail.steps.items ledger on.next.trail.steps on.next.kept;
+  sight = on.next.sight;
+  there = step_there on.vat e on.row on.before on.next.so_far on.goes_on;
+}
+
+abbrev StepBy : DecodedRecord → ℕ → Type 0
+StepBy e k = (v : ℕ) (message : Message) (es : Past) (own before : List Step) → coming_next v k before ≡ Some message → IsSome (step_of v es own before e) → IsSome (received_step v es own e message)
+
+step_by_message : (e : DecodedRecord) → is_received e ≡ true → (sent : Bool) (k c : ℕ) (references : List ℕ) (m : RpcMessage) → Wire sent k c references m ≡ e → StepBy e k
+step_by_message e h sent k c references m is = subst (λ e. is_received e ≡ true → StepBy e k) is (at sent) h
+  where
+    at : (sent : Bool) → is_received (Wire sent k c references m) ≡ true → StepBy (Wire sent k c references m) k
+    at true h = absurd (let none : ⊥ = cc in none)
+    at false h = λ v message es own before coming there.
+        subst (λ o. IsSome o) (ap (option_and_then (step_received v es own (Wire false k c references m) k references)) coming) there
+
+-- that of a record that is received, by the message that comes
+pub received_there : (e : DecodedRecord) → is_received e ≡ true → (sent : Bool) (k c : ℕ) (references : List ℕ) (m : RpcMessage) → Wire sent k c references m ≡ e →
+    (seen : Sight) (trail : RunBuilder) (ledger : VatLedger) (message : Message) (on : ComesNext e seen trail ledger) → coming_next on.vat k on.before ≡ Some message →
+    HasStep (λ v es own before. received_step v es own e message) e seen trail.steps.items ledger
+received_there e h sent k c references m is seen trail ledger message on coming = record {
+  vat = on.vat;
+  past = log_of_vat on.vat on.row;
+  own = steps_by on.vat on.before;
+  before = on.before;
+  kept = kept_in on.vat on.row on.before trail.steps.items ledger on.next.trail.steps on.next.kept;
+  sight = on.next.sight;
+  there = step_by_message e h sent k c references m is on.vat message (log_of_vat on.vat on.row) (steps_by on.vat on.before) on.before coming (step_there on.vat e on.row on.before on.next.so_far on.goes_on);
+}

@@ -1,5 +1,6 @@
 -- The turns of an order, one further.
-use Rattle.std.proofs.Common.{◌≡◌, refl, sym, ◌∙◌, ap, subst, ℕ, zero, suc, ◌+◌, ◌≤◌, ◌==◌, List, ◌∷◌, length, reverse, Bool, true, false, Option, Some, None, option_and_then, option_map, slice_get, arith, inl, inr, ◌⊎◌}
+use Rattle.std.proofs.Common.{◌≡◌, refl, sym, ◌∙◌, ap, subst, ℕ, zero, suc, ◌+◌, ◌≤◌, ◌==◌, List, ◌∷◌, length, reverse, true, Option, Some, None, option_and_then, option_map, slice_get, arith, inl, inr, ◌⊎◌}
+use Rattle.std.specs.Prelude.{IsSome}
 use Rattle.std.specs.List.{cons_option, filter_map}
 use Rattle.std.proofs.lemmas.List.{take_all, length-map, length-reverse}
 use Rattle.std.proofs.lemmas.Option.{slice_get_past}
@@ -7,6 +8,7 @@ use Rattle.agree.specs.Rows.{Row, log_of_vat}
 use Rattle.vat_log.specs.declared.body.Body.{Body}
 use Rattle.vat_rules.specs.Audit.{Found, IsTrueOf}
 use Rattle.vat_rules.specs.LogFacts.{Sight}
+use Rattle.vat_rules.specs.Telling.{seen_of}
 use Rattle.vat_view.specs.Past.{Past}
 use Rattle.call_trace.specs.declared.records.vat_ledger.VatLedger.{VatLedger}
 use Rattle.call_trace.specs.declared.steps.run_builder.RunBuilder.{RunBuilder}
@@ -14,8 +16,8 @@ use Rattle.call_trace.specs.Findings.{is_good}
 use Rattle.call_trace.specs.Named.{past_before}
 use Rattle.call_trace.specs.Running.{steps_by as steps_of_vat, steps_of_row}
 use Rattle.call_trace.specs.Taking.{finding_of, event_in, record_in, steps_counted_by, next_record, taken_by}
-use Rattle.call_trace.specs.Glue.RunBuilder.{IsTrail, Comes}
-use Rattle.call_trace.specs.Glue.Turns.{IsKeptOf, TakesTurn}
+use Rattle.call_trace.specs.Glue.RunBuilder.{IsTrail, ComesNext, Comes}
+use Rattle.call_trace.specs.Glue.Turns.{IsKeptOf, HasTurn, TakesTurn}
 use Rattle.call_trace.specs.Types.{DecodedRecord, Step}
 use Rattle.call_trace.proofs.Carrying.{log_here, log_there, steps_here, steps_there}
 use Rattle.call_trace.proofs.Reading.{AllRecordsGood, records_good, good_more}
@@ -84,22 +86,34 @@ next_of findings turns v f number true_of good found many =
 
 pub skips : (findings : List Found) (turns : List ℕ) (v : ℕ) (before : List Step) (trail : RunBuilder) (ledger : VatLedger) → next_record findings turns v ≡ None →
     steps_of_row (taken_by findings turns) ≡ Some before → IsTrail before trail → IsKeptOf v (taken_by findings turns) before ledger →
-    TakesTurn v (taken_by findings turns) (taken_by findings (v ∷ turns)) before trail ledger true
+    TakesTurn v (taken_by findings turns) (taken_by findings (v ∷ turns)) before trail ledger
 skips findings turns v before trail ledger none so_far steps kept =
     let same : taken_by findings (v ∷ turns) ≡ taken_by findings turns = ap (λ o. cons_option (option_map (λ e. (v, e)) o) (taken_by findings turns)) none in
-    subst (λ row. TakesTurn v (taken_by findings turns) row before trail ledger true) (sym same) (before, so_far, steps, kept, λ w other apart k. k)
+    subst (λ row. TakesTurn v (taken_by findings turns) row before trail ledger) (sym same) (before, so_far, steps, kept, λ w other apart k. k)
 
-pub takes : (findings : List Found) (turns : List ℕ) (v : ℕ) (e : DecodedRecord) (before : List Step) (trail : RunBuilder) (ledger : VatLedger) (taken : Bool) → next_record findings turns v ≡ Some e →
-    length (steps_of_vat v before) ≡ length (log_of_vat v (taken_by findings turns)) → Comes v e (taken_by findings turns) before trail ledger taken →
-    TakesTurn v (taken_by findings turns) (taken_by findings (v ∷ turns)) before trail ledger taken
-takes findings turns v e before trail ledger taken next many c =
+longer : (findings : List Found) (turns : List ℕ) (v : ℕ) (e : DecodedRecord) → next_record findings turns v ≡ Some e → taken_by findings (v ∷ turns) ≡ (v, e) ∷ taken_by findings turns
+longer findings turns v e next = ap (λ o. cons_option (option_map (λ e. (v, e)) o) (taken_by findings turns)) next
+
+-- the record of a turn comes next
+pub comes_next : (f : Found) (e : DecodedRecord) (seen : Sight) (trail : RunBuilder) (ledger : VatLedger) (t : HasTurn f trail ledger) → next_record t.findings t.turns t.vat ≡ Some e →
+    seen ≡ seen_of (log_of_vat t.vat (taken_by t.findings t.turns)) e → ComesNext e seen trail ledger
+comes_next f e seen trail ledger t next sight = record {
+  vat = t.vat;
+  row = taken_by t.findings t.turns;
+  before = t.before;
+  next = record { so_far = t.turn.so_far; trail = t.turn.trail; kept = t.turn.kept.0; sight = sight };
+  goes_on = subst (λ row. IsSome (steps_of_row row)) (longer t.findings t.turns t.vat e next) t.goes_on;
+}
+
+pub takes : (findings : List Found) (turns : List ℕ) (v : ℕ) (e : DecodedRecord) (before : List Step) (trail : RunBuilder) (ledger : VatLedger) → next_record findings turns v ≡ Some e →
+    length (steps_of_vat v before) ≡ length (log_of_vat v (taken_by findings turns)) → Comes v e (taken_by findings turns) before trail ledger →
+    TakesTurn v (taken_by findings turns) (taken_by findings (v ∷ turns)) before trail ledger
+takes findings turns v e before trail ledger next many c =
     let row = taken_by findings turns in
-    let longer : taken_by findings (v ∷ turns) ≡ (v, e) ∷ row = ap (λ o. cons_option (option_map (λ e. (v, e)) o) row) next in
-    subst (λ r. TakesTurn v row r before trail ledger taken) (sym longer) (at row many taken c)
+    subst (λ r. TakesTurn v row r before trail ledger) (sym (longer findings turns v e next)) (at row many c)
   where
-    at : (row : Row) → length (steps_of_vat v before) ≡ length (log_of_vat v row) → (taken : Bool) → Comes v e row before trail ledger taken → TakesTurn v row ((v, e) ∷ row) before trail ledger taken
-    at row many false c = c
-    at row many true c = (
+    at : (row : Row) → length (steps_of_vat v before) ≡ length (log_of_vat v row) → Comes v e row before trail ledger → TakesTurn v row ((v, e) ∷ row) before trail ledger
+    at row many c = (
       c.0 ∷ before,
       c.1,
       c.3,

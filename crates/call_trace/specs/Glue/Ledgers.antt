@@ -1,6 +1,6 @@
 -- For the code's contracts, and no part of the meaning: the tables that are kept of each vat and of all connections, and
 -- how its calls and views are named by them.
-use Rattle.std.specs.Prelude.{◌≡◌, ◌==◌, ◌+◌, ◌++◌, ◌∷◌, ℕ, List, [], Bool, true, false, not, Option, Some, None, if◌then◌else◌, is_some, map, reverse, option_and_then, option_map, slice_get}
+use Rattle.std.specs.Prelude.{◌≡◌, ◌==◌, ◌+◌, ◌++◌, ◌∷◌, ℕ, List, [], Bool, true, false, not, Option, Some, None, if◌then◌else◌, is_some, IsSome, map, reverse, option_and_then, option_map, slice_get}
 use Rattle.std.specs.BTreeMap.{get}
 use Rattle.std.specs.Ordering.{nat_cmp}
 use Rattle.call_trace.specs.declared.records.call_names.CallNames.{CallNames}
@@ -15,6 +15,7 @@ use Rattle.run_model.specs.Has.{call_in_message}
 use Rattle.run_model.specs.Legal.{caps_brought}
 use Rattle.run_model.specs.Steps.{call}
 use Rattle.vat_rules.specs.LogFacts.{Sight, Told}
+use Rattle.vat_rules.specs.Telling.{seen_of}
 use Rattle.vat_rules.specs.declared.outcome.Outcome.{Outcome}
 use Rattle.vat_rules.specs.declared.outcome.Outcome.TheVariants as outcome
 use Rattle.vat_view.specs.Lives.{descriptors_of}
@@ -201,10 +202,20 @@ pub record IsKept (v : ℕ) (es : Past) (own run : List Step) (ledger : VatLedge
   pub calls : (c : ℕ) → call_name_in ledger c ≡ call_named v es own c
   pub released : (q : TableKey) → released_at ledger.released q ≡ is_released q es
 
--- a record took this step, if there is one: it stands behind those before, and what is kept of its vat goes on by it
-abbrev pub IsTaken : ℕ → Past → DecodedRecord → List Step → Option Step → List Step → List Step → VatLedger → Bool → Type 0
-IsTaken v es e own step old new ledger true = (s : Step) × (step ≡ Some s) × (new ≡ old ++ s ∷ []) × IsKept v (e ∷ es) (s ∷ own) new ledger
-IsTaken v es e own step old new ledger false = step ≡ None
+-- a record comes that has a step: what is kept of its vat is that of records and their steps, after which this was seen of
+-- it and it has one
+pub record HasStep (step : ℕ → Past → List Step → List Step → Option Step) (e : DecodedRecord) (seen : Sight) (run : List Step) (ledger : VatLedger) : Type 0 where
+  pub vat : ℕ
+  pub past : Past
+  pub own : List Step
+  pub before : List Step
+  pub kept : IsKept vat past own run ledger
+  pub sight : seen ≡ seen_of past e
+  pub there : IsSome (step vat past own before)
+
+-- a record took this step: it stands behind those before, and what is kept of its vat goes on by it
+abbrev pub IsTaken : ℕ → Past → DecodedRecord → List Step → Option Step → List Step → List Step → VatLedger → Type 0
+IsTaken v es e own step old new ledger = (s : Step) × (step ≡ Some s) × (new ≡ old ++ s ∷ []) × IsKept v (e ∷ es) (s ∷ own) new ledger
 
 -- a record is a Return that is late, by the table of questions whose results were given back
 abbrev pub late_in : VatLedger → DecodedRecord → Bool

@@ -1,10 +1,10 @@
 -- For the code's contracts, and no part of the meaning: a turn of an order, and what is kept of each vat after it.
-use Rattle.std.specs.Prelude.{◌≡◌, ◌==◌, ℕ, List, Bool, true, false, Some, None, length, map, IsTrue}
+use Rattle.std.specs.Prelude.{◌≡◌, ◌==◌, ◌∷◌, ℕ, List, false, Some, length, map, IsTrue, IsSome}
 use Rattle.std.specs.List.{AllZip, list_all}
 use Rattle.agree.specs.Rows.{Row, log_of_vat}
 use Rattle.call_trace.specs.Findings.{AreTrue, is_good, logs_of}
 use Rattle.call_trace.specs.Running.{steps_by, steps_of_row}
-use Rattle.call_trace.specs.Taking.{taken_by}
+use Rattle.call_trace.specs.Taking.{finding_of, taken_by}
 use Rattle.call_trace.specs.Glue.RunBuilder.{IsKeptAt, IsTrail}
 use Rattle.call_trace.specs.Types.{Step}
 use Rattle.call_trace.specs.declared.records.vat_ledger.VatLedger.{VatLedger}
@@ -17,12 +17,27 @@ use Rattle.vat_rules.specs.Audit.{Found}
 abbrev pub IsKeptOf : ℕ → Row → List Step → VatLedger → Type 0
 IsKeptOf v row before ledger = IsKeptAt v row before ledger × (length (steps_by v before) ≡ length (log_of_vat v row))
 
--- a vat's turn was taken: its record took its step, if it has one; what is kept of the others stays theirs
-abbrev pub TakesTurn : ℕ → Row → Row → List Step → RunBuilder → VatLedger → Bool → Type 0
-TakesTurn v row longer before trail ledger true =
+-- a vat's turn comes after these, whose records took these steps: this is its finding, and this is kept of it
+pub record IsTurnOf (findings : List Found) (turns : List ℕ) (v : ℕ) (before : List Step) (finding : Found) (builder : RunBuilder) (ledger : VatLedger) : Type 0 where
+  pub found : finding_of v findings ≡ Some finding
+  pub so_far : steps_of_row (taken_by findings turns) ≡ Some before
+  pub trail : IsTrail before builder
+  pub kept : IsKeptOf v (taken_by findings turns) before ledger
+
+-- it comes after such turns, and its record has a step
+pub record HasTurn (finding : Found) (builder : RunBuilder) (ledger : VatLedger) : Type 0 where
+  pub findings : List Found
+  pub turns : List ℕ
+  pub vat : ℕ
+  pub before : List Step
+  pub turn : IsTurnOf findings turns vat before finding builder ledger
+  pub goes_on : IsSome (steps_of_row (taken_by findings (vat ∷ turns)))
+
+-- a vat's turn was taken: its record took its step; what is kept of the others stays theirs
+abbrev pub TakesTurn : ℕ → Row → Row → List Step → RunBuilder → VatLedger → Type 0
+TakesTurn v row longer before trail ledger =
     (more : List Step) × (steps_of_row longer ≡ Some more) × IsTrail more trail × IsKeptOf v longer more ledger
     × ((w : ℕ) (other : VatLedger) → (v == w) ≡ false → IsKeptOf w row before other → IsKeptOf w longer more other)
-TakesTurn v row longer before trail ledger false = steps_of_row longer ≡ None
 
 -- the vats of which this is kept
 abbrev pub vats_of_ledgers : List VatLedger → List ℕ
@@ -47,7 +62,8 @@ pub record IsReached (findings : List Found) (turns : List ℕ) (state : Turns) 
   pub trail : IsTrail before state.trail
   pub kept : AreKept (taken_by findings turns) before findings state.ledgers.items
 
--- the last of these turns was taken now, if it could be
-abbrev pub IsTurned : List Found → List ℕ → Turns → Bool → Type 0
-IsTurned findings turns state true = IsReached findings turns state
-IsTurned findings turns state false = steps_of_row (taken_by findings turns) ≡ None
+-- turns were taken by which this is reached, and after them the record of this vat's turn has a step
+pub record GoesOnWith (findings : List Found) (v : ℕ) (state : Turns) : Type 0 where
+  pub turns : List ℕ
+  pub reached : IsReached findings turns state
+  pub goes_on : IsSome (steps_of_row (taken_by findings (v ∷ turns)))

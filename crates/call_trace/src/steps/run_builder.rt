@@ -1,14 +1,13 @@
 //! The steps that the records of all vats took so far, and what they sent.
 
-ghost use Rattle.std.specs.Prelude.{◌≡◌, [], List, ℕ, Some, true, IfOk, option_and_then, slice_get};
+ghost use Rattle.std.specs.Prelude.{◌≡◌, [], List, ℕ, true, IfOk, OnOk, option_and_then, slice_get};
 ghost use Rattle.std.specs.Option.{option_copied};
-ghost use Rattle.agree.specs.Rows.{Row, log_of_vat};
+ghost use Rattle.agree.specs.Rows.{Row};
 ghost use Rattle.call_trace.specs.Naming.{message_of_step};
-ghost use Rattle.call_trace.specs.Running.{coming_next, steps_of_row};
-ghost use Rattle.call_trace.specs.Glue.RunBuilder.{IsTrail, IsKeptAt, Comes};
+ghost use Rattle.call_trace.specs.Running.{coming_next};
+ghost use Rattle.call_trace.specs.Glue.RunBuilder.{IsTrail, IsNextIn, ComesNext, Comes};
 ghost use Rattle.call_trace.specs.Types.{Step as Steps};
 ghost use Rattle.vat_rules.specs.OfCaps.{is_received};
-ghost use Rattle.vat_rules.specs.Telling.{seen_of};
 
 use crate::records::vat_ledger::{VatLedger, message_of};
 use crate::steps::channels::Channels;
@@ -58,54 +57,52 @@ impl RunBuilder {
         }
     }
 
-    /// A record that is received takes its step, if it has one.
+    /// A record that is received takes its step.
     fn take_coming(
         &mut self,
         alloc: Global,
         ledger: &mut VatLedger,
         event: &DecodedRecord,
         seen: &RecordFacts,
-    ) -> Result<bool, AllocError>
-        requires { is_received event.now ≡ true }
-        ensures { IfOk result
-            (λ taken. (v : ℕ) (row : Row) (before : List Steps) → steps_of_row row ≡ Some before
-            → IsTrail before self.old → IsKeptAt v row before ledger.old
-            → seen.now ≡ seen_of (log_of_vat v row) event.now
-            → Comes v event.now row before self.new ledger.new taken) }
+    ) -> Result<(), AllocError>
+        requires received { is_received event.now ≡ true }
+        requires goes_on { ComesNext event.now seen.now self.old ledger.old }
+        ensures { OnOk result
+            ((v : ℕ) (row : Row) (before : List Steps)
+            → IsNextIn v row before event.now seen.now self.old ledger.old
+            → Comes v event.now row before self.new ledger.new) }
     {
         let DecodedRecord::Wire { connection, .. } = event else {
             unreachable!()
         };
         let vat = ledger.vat;
         let Some(message) = self.coming_next(vat, *connection)? else {
-            return Ok(false);
+            unreachable!()
         };
-        let taken = take_received(alloc, &mut self.steps, ledger, event, seen, message)?;
-        self.lines.note_received(vat, *connection)?;
-        Ok(taken)
+        take_received(alloc, &mut self.steps, ledger, event, seen, message)?;
+        self.lines.note_received(vat, *connection)
     }
 
-    /// A record takes its step, if it has one.
+    /// A record takes its step.
     pub(crate) fn take(
         &mut self,
         alloc: Global,
         ledger: &mut VatLedger,
         event: &DecodedRecord,
         seen: &RecordFacts,
-    ) -> Result<bool, AllocError>
-        ensures { IfOk result
-            (λ taken. (v : ℕ) (row : Row) (before : List Steps) → steps_of_row row ≡ Some before
-            → IsTrail before self.old → IsKeptAt v row before ledger.old
-            → seen.now ≡ seen_of (log_of_vat v row) event.now
-            → Comes v event.now row before self.new ledger.new taken) }
+    ) -> Result<(), AllocError>
+        requires { ComesNext event.now seen.now self.old ledger.old }
+        ensures { OnOk result
+            ((v : ℕ) (row : Row) (before : List Steps)
+            → IsNextIn v row before event.now seen.now self.old ledger.old
+            → Comes v event.now row before self.new ledger.new) }
     {
         match event {
             DecodedRecord::Wire { sent: false, .. } => self.take_coming(alloc, ledger, event, seen),
             DecodedRecord::Wire { connection, .. } => {
                 let number = self.steps.len();
-                let taken = take_own(alloc, &mut self.steps, ledger, event, seen)?;
-                self.lines.note_sent(ledger.vat, *connection, number)?;
-                Ok(taken)
+                take_own(alloc, &mut self.steps, ledger, event, seen)?;
+                self.lines.note_sent(ledger.vat, *connection, number)
             }
             _ => take_own(alloc, &mut self.steps, ledger, event, seen),
         }

@@ -28,9 +28,7 @@ pub fn name_run(alloc: Global, findings: &[VatFinding], order: &Order) -> Result
     let vats = order.as_slice();
     let mut turns = Turns::new(alloc, findings, vats.len())?;
     for vat in vats {
-        if !turns.turn(alloc, findings, *vat)? {
-            unreachable!()
-        }
+        turns.turn(alloc, findings, *vat)?;
     }
     Ok(turns.into_run())
 }

@@ -2,7 +2,7 @@
 
 ghost use Rattle.std.specs.Prelude.{◌≡◌, ℕ, List, None, true, false, IfOk, OnOk};
 ghost use Rattle.std.specs.Option.{option_copied};
-ghost use Rattle.call_trace.specs.Glue.Ledgers.{call_bound_by, late_in, received_step, with_bound, names_in, step_by, IsBound, IsNoted, IsKept, IsTaken};
+ghost use Rattle.call_trace.specs.Glue.Ledgers.{call_bound_by, late_in, received_step, with_bound, names_in, step_by, IsBound, IsNoted, IsKept, HasStep, IsTaken};
 ghost use Rattle.call_trace.specs.Running.{step_of};
 ghost use Rattle.call_trace.specs.Types.{Step as Steps};
 ghost use Rattle.vat_rules.specs.OfCaps.{is_received};
@@ -115,29 +115,29 @@ fn own_step(
     step_said(alloc, ledger, steps, late, seen, event)
 }
 
-/// A record that isn't received takes its step, if it has one.
+/// A record that isn't received takes its step.
 pub(crate) fn take_own(
     alloc: Global,
     steps: &mut Vec<Step>,
     ledger: &mut VatLedger,
     event: &DecodedRecord,
     seen: &RecordFacts,
-) -> Result<bool, AllocError>
-    requires { is_received event.now ≡ false }
-    ensures { IfOk result
-        (λ taken. (v : ℕ) (es : Past) (own before : List Steps)
+) -> Result<(), AllocError>
+    requires own { is_received event.now ≡ false }
+    requires has_step { HasStep (λ v es own before. step_of v es own before event.now)
+        event.now seen.now steps.old.items ledger.old }
+    ensures { OnOk result
+        ((v : ℕ) (es : Past) (own before : List Steps)
         → IsKept v es own steps.old.items ledger.old → seen.now ≡ seen_of es event.now
         → IsTaken v es event.now own
-        (step_of v es own before event.now) steps.old.items steps.new.items ledger.new taken) }
+        (step_of v es own before event.now) steps.old.items steps.new.items ledger.new) }
 {
-    match own_step(alloc, steps, ledger, event, seen)? {
-        Some(step) => {
-            ledger.note(steps.len(), event)?;
-            steps.push(step)?;
-            Ok(true)
-        }
-        None => Ok(false),
-    }
+    let Some(step) = own_step(alloc, steps, ledger, event, seen)? else {
+        unreachable!()
+    };
+    ledger.note(steps.len(), event)?;
+    steps.push(step)?;
+    Ok(())
 }
 
 /// A step that receives, with these bound.
@@ -160,7 +160,7 @@ fn with_bound(step: Step, bound: Caps) -> Step
     }
 }
 
-/// A record that is received takes its step, if all that it names has a name: it receives this message.
+/// A record that is received takes its step: it receives this message.
 pub(crate) fn take_received(
     alloc: Global,
     steps: &mut Vec<Step>,
@@ -168,14 +168,15 @@ pub(crate) fn take_received(
     event: &DecodedRecord,
     seen: &RecordFacts,
     message: Message,
-) -> Result<bool, AllocError>
-    requires { is_received event.now ≡ true }
-    ensures { IfOk result
-        (λ taken. (v : ℕ) (es : Past) (own : List Steps)
+) -> Result<(), AllocError>
+    requires received { is_received event.now ≡ true }
+    requires has_step { HasStep (λ v es own before. received_step v es own event.now message)
+        event.now seen.now steps.old.items ledger.old }
+    ensures { OnOk result
+        ((v : ℕ) (es : Past) (own : List Steps)
         → IsKept v es own steps.old.items ledger.old → seen.now ≡ seen_of es event.now
         → IsTaken v es event.now own
-        (received_step v es own event.now message) steps.old.items steps.new.items ledger.new
-        taken) }
+        (received_step v es own event.now message) steps.old.items steps.new.items ledger.new) }
 {
     let DecodedRecord::Wire { connection, .. } = event else {
         unreachable!()
@@ -189,14 +190,12 @@ pub(crate) fn take_received(
         message,
         bound: Caps::new(Vec::new(alloc)),
     })?;
-    match named_said(alloc, ledger, steps, seen.references())? {
-        Some(bound) => {
-            let Some(step) = steps.pop() else {
-                unreachable!()
-            };
-            steps.push(with_bound(step, bound))?;
-            Ok(true)
-        }
-        None => Ok(false),
-    }
+    let Some(bound) = named_said(alloc, ledger, steps, seen.references())? else {
+        unreachable!()
+    };
+    let Some(step) = steps.pop() else {
+        unreachable!()
+    };
+    steps.push(with_bound(step, bound))?;
+    Ok(())
 }

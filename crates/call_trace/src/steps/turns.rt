@@ -1,13 +1,11 @@
 //! The turns of an order, each of which takes the next record of a finding's log.
 
-ghost use Rattle.std.specs.Prelude.{◌≡◌, ◌==◌, ◌∷◌, ℕ, [], List, Some, true, false, slice_get, IfOk, MatchOption};
+ghost use Rattle.std.specs.Prelude.{◌≡◌, ◌==◌, ◌∷◌, ℕ, [], List, Some, true, false, slice_get, IfOk, OnOk, MatchOption};
 ghost use Rattle.std.specs.List.{list_any};
 ghost use Rattle.std.specs.List.Sorted.{IsStrictlyIncreasing};
 ghost use Rattle.call_trace.specs.Findings.{is_good, AreTrue};
-ghost use Rattle.call_trace.specs.Running.{steps_of_row};
-ghost use Rattle.call_trace.specs.Taking.{finding_of, taken_by};
-ghost use Rattle.call_trace.specs.Glue.RunBuilder.{IsTrail};
-ghost use Rattle.call_trace.specs.Glue.Turns.{IsKeptOf, TakesTurn, vats_of_ledgers, MayTurn, IsReached, IsTurned};
+ghost use Rattle.call_trace.specs.Taking.{taken_by};
+ghost use Rattle.call_trace.specs.Glue.Turns.{IsTurnOf, HasTurn, TakesTurn, vats_of_ledgers, MayTurn, IsReached, GoesOnWith};
 ghost use Rattle.call_trace.specs.Types.{Step as Steps};
 ghost use Rattle.vat_rules.specs.Audit.{Found, IsTrueOf};
 
@@ -19,26 +17,25 @@ use std::alloc::{AllocError, Global};
 use vat_rules::VatFinding;
 
 impl RunBuilder {
-    /// The next record of a good finding's log takes its step, if there is one. False where it has none.
+    /// The next record of a good finding's log takes its step, if there is one. The step is there.
     pub(crate) fn turn(
         &mut self,
         alloc: Global,
         ledger: &mut VatLedger,
         finding: &VatFinding,
-    ) -> Result<bool, AllocError>
+    ) -> Result<(), AllocError>
         requires good { is_good finding.now.outcome ≡ true }
         requires of_the_log { IsTrueOf finding.now.log finding.now.limits finding.now.outcome }
-        ensures { IfOk result
-            (λ taken. (findings : List Found) (turns : List ℕ) (v : ℕ) (before : List Steps)
-            → finding_of v findings ≡ Some finding.now
-            → steps_of_row (taken_by findings turns) ≡ Some before → IsTrail before self.old
-            → IsKeptOf v (taken_by findings turns) before ledger.old
+        requires goes_on { HasTurn finding.now self.old ledger.old }
+        ensures { OnOk result
+            ((findings : List Found) (turns : List ℕ) (v : ℕ) (before : List Steps)
+            → IsTurnOf findings turns v before finding.now self.old ledger.old
             → TakesTurn v (taken_by findings turns)
-            (taken_by findings (v ∷ turns)) before self.new ledger.new taken) }
+            (taken_by findings (v ∷ turns)) before self.new ledger.new) }
     {
         let number = ledger.numbers.len();
         let (Some(event), Some(seen)) = (event_at(finding, number), seen_at(finding, number)) else {
-            return Ok(true);
+            return Ok(());
         };
         self.take(alloc, ledger, event, seen)
     }
@@ -82,23 +79,24 @@ impl Turns {
         Ok(Turns { trail, ledgers })
     }
 
-    /// This vat takes its turn: the next record of its log takes its step, if there is one. False where that has none.
+    /// This vat takes its turn: the next record of its log takes its step, if there is one. The step is there.
     pub(crate) fn turn(
         &mut self,
         alloc: Global,
         findings: &[VatFinding],
         vat: u32,
-    ) -> Result<bool, AllocError>
-        requires { MayTurn findings.now self.old.ledgers.items }
-        ensures { IfOk result
-            (λ taken. (turns : List ℕ) → IsReached findings.now turns self.old
-            → IsTurned findings.now (vat ∷ turns) self.new taken) }
+    ) -> Result<(), AllocError>
+        requires may_turn { MayTurn findings.now self.old.ledgers.items }
+        requires goes_on { GoesOnWith findings.now vat self.old }
+        ensures { OnOk result
+            ((turns : List ℕ) → IsReached findings.now turns self.old
+            → IsReached findings.now (vat ∷ turns) self.new) }
     {
         match place_of(&self.ledgers, vat) {
             Some(place) => self
                 .trail
                 .turn(alloc, &mut self.ledgers[place], &findings[place]),
-            None => Ok(true),
+            None => Ok(()),
         }
     }
 

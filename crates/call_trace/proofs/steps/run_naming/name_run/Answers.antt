@@ -1,33 +1,28 @@
-use Rattle.std.proofs.Common.{◌∷◌, sym, subst, get_or}
+use Rattle.std.proofs.Common.{sym, subst}
 use Rattle.std.specs.Prelude.{reverse, take}
 use Rattle.call_trace.specs.Findings.{MayBeNamed}
 use Rattle.call_trace.specs.Named.{IsRunOf}
-use Rattle.call_trace.specs.Glue.Turns.{IsReached, IsTurned}
-use Rattle.call_trace.proofs.Reaching.{turn_more, may_turn, never_stuck, run_named}
+use Rattle.call_trace.specs.Glue.Turns.{IsReached}
+use Rattle.call_trace.proofs.Reaching.{turn_more, may_turn, goes_on, run_named}
 use Rattle.call_trace.proofs.steps.run_naming.name_run.Goals as goal
 
-pub turn-requires : goal.turn-requires
-turn-requires c =
+pub turn-requires-clause-may_turn : goal.turn-requires-clause-may_turn
+turn-requires-clause-may_turn c =
     may_turn c.args.findings.now c.args.order.now c.in_ok-turns.ensures.outcomes c.requires (reverse (take c.loop-vat.vat-index c.as_slice-vats.result.now)) c.loop-vat.turns c.loop-vat.invariant
 
-pub unreachable-requires : goal.unreachable-requires
-unreachable-requires c =
+pub turn-requires-clause-goes_on : goal.turn-requires-clause-goes_on
+turn-requires-clause-goes_on c =
     let findings = c.args.findings.now in
     let vats = c.as_slice-vats.result.now in
-    let i = c.loop-vat.vat-index in
-    let before = reverse (take i vats) in
     let asked = subst (MayBeNamed findings) (sym c.as_slice-vats.ensures) c.requires in
-    never_stuck findings vats c.in_ok-turns.ensures.outcomes asked i c.loop-vat-test.true
-    (subst (IsTurned findings (get_or vats i 0 ∷ before) c.turn.new.self) c.if-not-branch.true (c.in_ok-turn.ensures before c.loop-vat.invariant))
+    goes_on findings vats c.in_ok-turns.ensures.outcomes asked c.loop-vat.vat-index c.loop-vat.turns c.loop-vat-test.true c.loop-vat.invariant
 
 pub loop-vat-preserved : goal.loop-vat-preserved
 loop-vat-preserved c =
     let findings = c.args.findings.now in
     let vats = c.as_slice-vats.result.now in
     let i = c.loop-vat.vat-index in
-    let before = reverse (take i vats) in
-    subst (λ turns. IsReached findings turns c.turn.new.self) (sym (turn_more vats i c.loop-vat-test.true))
-    (subst (IsTurned findings (get_or vats i 0 ∷ before) c.turn.new.self) c.if-not-branch.false (c.in_ok-turn.ensures before c.loop-vat.invariant))
+    subst (λ turns. IsReached findings turns c.turn.new.self) (sym (turn_more vats i c.loop-vat-test.true)) (c.in_ok-turn.ensures (reverse (take i vats)) c.loop-vat.invariant)
 
 pub returns : goal.returns
 returns c =

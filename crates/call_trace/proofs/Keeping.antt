@@ -1,13 +1,11 @@
 -- What is kept of a vat is that of its records and their steps, and names its calls and views as they do.
-use Rattle.std.proofs.Common.{◌≡◌, refl, sym, ◌∙◌, ap, ap₂, subst, ℕ, zero, suc, ◌==◌, List, [], ◌∷◌, ◌++◌, length, map, reverse, Bool, true, false, not, Option, Some, None, if◌then◌else◌, option_and_then, option_map, slice_get, is_some, append-nil, arith, eqb-true, inl, inr}
+use Rattle.std.proofs.Common.{◌≡◌, refl, sym, ◌∙◌, ap, ap₂, subst, ℕ, zero, suc, ◌==◌, List, [], ◌∷◌, ◌++◌, length, map, reverse, Bool, true, false, not, Option, Some, None, if◌then◌else◌, option_and_then, option_map, slice_get, append-nil, arith, eqb-true, inl, inr}
 use Rattle.std.specs.Option.{option_or}
 use Rattle.std.specs.Prelude.{IsSome, Result, Ok, Err, OnOk}
 use Rattle.std.proofs.lemmas.Bool.{cases_Bool, false≢true, eq-eqb}
 use Rattle.std.proofs.lemmas.List.{reverse-append, reverse-reverse, length-reverse}
-use Rattle.vat_view.specs.Past.{Past, Point, point, id, names, last_since}
-use Rattle.vat_view.specs.Questions.{opens, releases, question_opened, question_released, is_released, is_late}
+use Rattle.vat_view.specs.Past.{Past}
 use Rattle.vat_view.specs.Views.{view_of_reference}
-use Rattle.vat_view.specs.declared.record.table_key.TableKey.{TableKey}
 use Rattle.vat_rules.specs.OfCaps.{is_received}
 use Rattle.vat_rules.specs.LogFacts.{Sight}
 use Rattle.vat_rules.specs.Telling.{seen_of}
@@ -17,7 +15,7 @@ use Rattle.call_trace.specs.Naming.{Naming, naming, cap_at, names_call, call_nam
 use Rattle.call_trace.specs.Part.{reference_named, step_said}
 use Rattle.call_trace.specs.Running.{step_received, step_of}
 use Rattle.call_trace.specs.Said.{all_there}
-use Rattle.call_trace.specs.Glue.Ledgers.{step_message_in, call_name_in, cap_in, names_in, call_bound_by, bound_call, released_at, released_after, late_in, named_said, with_bound, received_step, step_by, IsBound, IsNoted, IsKept, IsTaken}
+use Rattle.call_trace.specs.Glue.Ledgers.{step_message_in, call_name_in, cap_in, names_in, call_bound_by, bound_call, named_said, with_bound, received_step, step_by, IsBound, IsNoted, IsKept, IsTaken}
 use Rattle.call_trace.proofs.Naming.{message_within}
 use Rattle.call_trace.proofs.Seeing.{step_as}
 use Rattle.run_model.specs.Has.{call_in_message}
@@ -225,44 +223,13 @@ names_after v es own run ledger kept = λ i. record {
     caps (FieldOf c path) = ap (option_map (λ name. cap.Field name path)) (kept.calls c)
     caps (Import i place) = ap (option_and_then (λ m. cap_at place (caps_brought m))) (message_as run ledger.numbers.items own i kept.numbers)
 
--- a question is opened by no record that gives its results back
-apart : (e : DecodedRecord) (q : TableKey) → names q (question_opened e) ≡ true → names q (question_released e) ≡ false
-apart (Wire sent k c references (Bootstrap n)) q h = refl
-apart (Wire sent k c references (Call n target interface method params)) q h = refl
-apart (Wire sent k c references (Return n release outcome)) q h = refl
-apart (Wire sent k c references (Finish n release)) q h = absurd (let none : ⊥ = cc in none)
-apart (Wire sent k c references (Resolve n resolution)) q h = refl
-apart (Wire sent k c references (Release n count)) q h = refl
-apart (Wire sent k c references (Disembargo n loopback target)) q h = refl
-apart (Wire sent k c references Abort) q h = refl
-apart (Host r object) q h = refl
-apart (Vow r) q h = refl
-apart (Fulfil r to) q h = refl
-apart (Break r) q h = refl
-apart (Make c r interface method) q h = refl
-apart (Field r c path) q h = refl
-apart (Deliver c object) q h = refl
-apart (Answer c results) q h = refl
-apart (Fault c) q h = refl
-
-released_more : (e : DecodedRecord) (q : TableKey) (es : Past) → released_after e q (is_released q es) ≡ is_released q (e ∷ es)
-released_more e q es = at (names q (question_opened e)) (names q (question_released e)) (apart e q) (last_since (opens q) (releases q) es)
-  where
-    at : (o r : Bool) → (o ≡ true → r ≡ false) → (rest : Option Point) →
-        (if r then true else if o then false else is_some rest) ≡ is_some (if o then None else if r then Some (point es e) else rest)
-    at true true h rest = absurd (let none : true ≡ false = h refl in let no_more : ⊥ = cc in no_more)
-    at true false h rest = refl
-    at false true h rest = refl
-    at false false h rest = refl
-
 -- one record more with its step: its call is named, and it is noted under its step's number
 pub kept_more : (v : ℕ) (es : Past) (own run : List Step) (e : DecodedRecord) (s : Step) (old bound new : VatLedger) → IsKept v es own run old →
-    IsBound (call_bound_by v e (message_of_step s)) old bound → IsNoted (length run) e bound new → IsKept v (e ∷ es) (s ∷ own) (run ++ s ∷ []) new
+    IsBound (call_bound_by v e (message_of_step s)) old bound → IsNoted (length run) bound new → IsKept v (e ∷ es) (s ∷ own) (run ++ s ∷ []) new
 kept_more v es own run e s old bound new kept b n = record {
   vat = n.vat ∙ b.vat ∙ kept.vat;
   numbers = ap (map (slice_get (run ++ s ∷ []))) (n.numbers ∙ ap (λ ns. ns ++ length run ∷ []) b.numbers) ∙ numbers_more run s old.numbers.items own kept.numbers;
   calls = λ c. n.calls c ∙ b.calls c ∙ ap (bound_call (call_bound_by v e (message_of_step s)) c) (kept.calls c) ∙ binding_names v c e s (call_named v es own c);
-  released = λ q. n.released q ∙ ap (released_after e q) (b.released q ∙ kept.released q) ∙ released_more e q es;
 }
 
 -- a step of another vat
@@ -271,29 +238,9 @@ kept_beside v es own run s ledger kept = record {
   vat = kept.vat;
   numbers = map_longer run s ledger.numbers.items (reverse own) kept.numbers;
   calls = kept.calls;
-  released = kept.released;
 }
 
 -- ---- the step of a record that isn't received
-
-late_as : (es : Past) (ledger : VatLedger) (e : DecodedRecord) → ((q : TableKey) → released_at ledger.released q ≡ is_released q es) → late_in ledger e ≡ is_late es e
-late_as es ledger (Wire sent k c references (Bootstrap n)) h = refl
-late_as es ledger (Wire sent k c references (Call n target interface method params)) h = refl
-late_as es ledger (Wire sent k c references (Return n release outcome)) h = h (id k (not sent) n)
-late_as es ledger (Wire sent k c references (Finish n release)) h = refl
-late_as es ledger (Wire sent k c references (Resolve n resolution)) h = refl
-late_as es ledger (Wire sent k c references (Release n count)) h = refl
-late_as es ledger (Wire sent k c references (Disembargo n loopback target)) h = refl
-late_as es ledger (Wire sent k c references Abort) h = refl
-late_as es ledger (Host r object) h = refl
-late_as es ledger (Vow r) h = refl
-late_as es ledger (Fulfil r to) h = refl
-late_as es ledger (Break r) h = refl
-late_as es ledger (Make c r interface method) h = refl
-late_as es ledger (Field r c path) h = refl
-late_as es ledger (Deliver c object) h = refl
-late_as es ledger (Answer c results) h = refl
-late_as es ledger (Fault c) h = refl
 
 own_step_of : (v : ℕ) (es : Past) (own before : List Step) (e : DecodedRecord) → is_received e ≡ false → step_said (naming v (e ∷ es) (step.Host v 0 ∷ own)) es e ≡ step_of v es own before e
 own_step_of v es own before (Host r object) mine = refl
@@ -310,11 +257,9 @@ own_step_of v es own before (Wire false k c references m) mine = absurd (let non
 
 -- what it says by the tables and by what was seen of it is its step
 pub own_step_is : (v : ℕ) (es : Past) (own run before : List Step) (e : DecodedRecord) (seen : Sight) (old new : VatLedger) → IsKept v es own run old → is_received e ≡ false →
-    seen ≡ seen_of es e → IsBound (call_bound_by v e None) old new → step_by (names_in run new) (late_in new e) seen e ≡ step_of v es own before e
+    seen ≡ seen_of es e → IsBound (call_bound_by v e None) old new → step_by (names_in run new) seen e ≡ step_of v es own before e
 own_step_is v es own run before e seen old new kept mine is bound =
-    ap₂ (λ names late. step_by names late seen e) (names_are v es own run e (step.Host v 0) old new kept mine bound)
-    (late_as es new e (λ q. bound.released q ∙ kept.released q))
-    ∙ ap (λ sight. step_by (naming v (e ∷ es) (step.Host v 0 ∷ own)) (is_late es e) sight e) is
+    ap₂ (λ names sight. step_by names sight e) (names_are v es own run e (step.Host v 0) old new kept mine bound) is
     ∙ step_as (naming v (e ∷ es) (step.Host v 0 ∷ own)) es e mine ∙ own_step_of v es own before e mine
 
 -- ---- the step of a record that is received
@@ -356,19 +301,19 @@ some_is e = cc
 -- a record that isn't received took its step
 pub own_taken : (v : ℕ) (es : Past) (own before run taken : List Step) (e : DecodedRecord) (seen : Sight) (number : ℕ) (old bound new : VatLedger) (s : Step) →
     IsKept v es own run old → is_received e ≡ false → seen ≡ seen_of es e → IsBound (call_bound_by old.vat e None) old bound →
-    Some s ≡ step_by (names_in run bound) (late_in bound e) seen e → IsNoted number e bound new → number ≡ length run → taken ≡ run ++ s ∷ [] →
+    Some s ≡ step_by (names_in run bound) seen e → IsNoted number bound new → number ≡ length run → taken ≡ run ++ s ∷ [] →
     IsTaken v es e own (step_of v es own before e) run taken new
 own_taken v es own before run taken e seen number old bound new s kept mine is b says n at more =
     let named : IsBound (call_bound_by v e None) old bound = subst (λ w. IsBound (call_bound_by w e None) old bound) kept.vat b in
     let step_is = own_step_is v es own run before e seen old bound kept mine is named in
-    let here : IsNoted (length run) e bound new = subst (λ i. IsNoted i e bound new) at n in
+    let here : IsNoted (length run) bound new = subst (λ i. IsNoted i bound new) at n in
     let by_step : IsBound (call_bound_by v e (message_of_step s)) old bound = subst (λ o. IsBound o old bound) (sym (binding_own v e (message_of_step s) mine)) named in
     (s, sym (says ∙ step_is), more, subst (λ xs. IsKept v (e ∷ es) (s ∷ own) xs new) (sym more) (kept_more v es own run e s old bound new kept by_step here))
 
 -- it has none
 pub own_none : (v : ℕ) (es : Past) (own before run : List Step) (e : DecodedRecord) (seen : Sight) (old bound : VatLedger) →
     IsKept v es own run old → is_received e ≡ false → seen ≡ seen_of es e → IsBound (call_bound_by old.vat e None) old bound →
-    None ≡ step_by (names_in run bound) (late_in bound e) seen e → step_of v es own before e ≡ None
+    None ≡ step_by (names_in run bound) seen e → step_of v es own before e ≡ None
 own_none v es own before run e seen old bound kept mine is b says =
     sym (says ∙ own_step_is v es own run before e seen old bound kept mine is (subst (λ w. IsBound (call_bound_by w e None) old bound) kept.vat b))
 
@@ -382,7 +327,7 @@ last_one xs ys x y e =
 -- what a received record is bound to by the tables, where its step stands last and binds nothing yet
 received_said : (v : ℕ) (es : Past) (own run pushed : List Step) (k c : ℕ) (references : List ℕ) (m : RpcMessage) (message : Message) (seen : Sight) (number : ℕ)
     (old bound new : VatLedger) (w : ℕ) → let e = Wire false k c references m in
-    IsKept v es own run old → seen ≡ seen_of es e → IsBound (call_bound_by old.vat e (Some message)) old bound → IsNoted number e bound new → number ≡ length run →
+    IsKept v es own run old → seen ≡ seen_of es e → IsBound (call_bound_by old.vat e (Some message)) old bound → IsNoted number bound new → number ≡ length run →
     w ≡ new.vat → pushed ≡ run ++ step.Receive w k message [] ∷ [] →
     (pushed ≡ run ++ step.Receive v k message [] ∷ [])
     × (option_map (λ b. step.Receive v k message b) (named_said (names_in pushed new) seen.references) ≡ step_received v es own e k references message)
@@ -390,7 +335,7 @@ received_said : (v : ℕ) (es : Past) (own run pushed : List Step) (k c : ℕ) (
 received_said v es own run pushed k c references m message seen number old bound new w kept is b n at whose more =
     let e = Wire false k c references m in
     let named : IsBound (call_bound_by v e (Some message)) old bound = subst (λ u. IsBound (call_bound_by u e (Some message)) old bound) kept.vat b in
-    let here : IsNoted (length run) e bound new = subst (λ i. IsNoted i e bound new) at n in
+    let here : IsNoted (length run) bound new = subst (λ i. IsNoted i bound new) at n in
     let by : w ≡ v = whose ∙ n.vat ∙ b.vat ∙ kept.vat in
     let all : pushed ≡ run ++ step.Receive v k message [] ∷ [] = more ∙ ap (λ u. run ++ step.Receive u k message [] ∷ []) by in
     let keeps : (l : List Cap) → IsKept v (e ∷ es) (step.Receive v k message l ∷ own) (run ++ step.Receive v k message l ∷ []) new =
@@ -400,7 +345,7 @@ received_said v es own run pushed k c references m message seen number old bound
 -- a received record took its step
 pub received_taken : (v : ℕ) (es : Past) (own run pushed rest taken : List Step) (k c : ℕ) (references : List ℕ) (m : RpcMessage) (message : Message) (seen : Sight)
     (number : ℕ) (old bound new : VatLedger) (w : ℕ) (caps : List Cap) (last : Step) → let e = Wire false k c references m in
-    IsKept v es own run old → seen ≡ seen_of es e → IsBound (call_bound_by old.vat e (Some message)) old bound → IsNoted number e bound new → number ≡ length run →
+    IsKept v es own run old → seen ≡ seen_of es e → IsBound (call_bound_by old.vat e (Some message)) old bound → IsNoted number bound new → number ≡ length run →
     w ≡ new.vat → pushed ≡ run ++ step.Receive w k message [] ∷ [] → Some caps ≡ named_said (names_in pushed new) seen.references →
     pushed ≡ rest ++ last ∷ [] → taken ≡ rest ++ with_bound caps last ∷ [] →
     IsTaken v es e own (step_received v es own e k references message) run taken new
@@ -415,7 +360,7 @@ received_taken v es own run pushed rest taken k c references m message seen numb
 -- it has none
 pub received_none : (v : ℕ) (es : Past) (own run pushed : List Step) (k c : ℕ) (references : List ℕ) (m : RpcMessage) (message : Message) (seen : Sight)
     (number : ℕ) (old bound new : VatLedger) (w : ℕ) → let e = Wire false k c references m in
-    IsKept v es own run old → seen ≡ seen_of es e → IsBound (call_bound_by old.vat e (Some message)) old bound → IsNoted number e bound new → number ≡ length run →
+    IsKept v es own run old → seen ≡ seen_of es e → IsBound (call_bound_by old.vat e (Some message)) old bound → IsNoted number bound new → number ≡ length run →
     w ≡ new.vat → pushed ≡ run ++ step.Receive w k message [] ∷ [] → None ≡ named_said (names_in pushed new) seen.references →
     step_received v es own e k references message ≡ None
 received_none v es own run pushed k c references m message seen number old bound new w kept is b n at whose more says =
@@ -425,7 +370,7 @@ received_none v es own run pushed k c references m message seen number old bound
 -- the same of a record of either way that is known to be received
 abbrev Takes : DecodedRecord → ℕ → Type 0
 Takes e k = (v : ℕ) (es : Past) (own run pushed rest taken : List Step) (message : Message) (seen : Sight) (number : ℕ) (old bound new : VatLedger) (w : ℕ) (caps : List Cap)
-    (last : Step) → IsKept v es own run old → seen ≡ seen_of es e → IsBound (call_bound_by old.vat e (Some message)) old bound → IsNoted number e bound new →
+    (last : Step) → IsKept v es own run old → seen ≡ seen_of es e → IsBound (call_bound_by old.vat e (Some message)) old bound → IsNoted number bound new →
     number ≡ length run → w ≡ new.vat → pushed ≡ run ++ step.Receive w k message [] ∷ [] → Some caps ≡ named_said (names_in pushed new) seen.references →
     pushed ≡ rest ++ last ∷ [] → taken ≡ rest ++ with_bound caps last ∷ [] → IsTaken v es e own (received_step v es own e message) run taken new
 
@@ -439,7 +384,7 @@ takes e h sent k c references m is = subst (λ e. is_received e ≡ true → Tak
 
 abbrev TakesNone : DecodedRecord → ℕ → Type 0
 TakesNone e k = (v : ℕ) (es : Past) (own run pushed : List Step) (message : Message) (seen : Sight) (number : ℕ) (old bound new : VatLedger) (w : ℕ) →
-    IsKept v es own run old → seen ≡ seen_of es e → IsBound (call_bound_by old.vat e (Some message)) old bound → IsNoted number e bound new →
+    IsKept v es own run old → seen ≡ seen_of es e → IsBound (call_bound_by old.vat e (Some message)) old bound → IsNoted number bound new →
     number ≡ length run → w ≡ new.vat → pushed ≡ run ++ step.Receive w k message [] ∷ [] → None ≡ named_said (names_in pushed new) seen.references →
     received_step v es own e message ≡ None
 

@@ -68,7 +68,7 @@ question_as names es k c references q release outcome = ap (option_and_then name
 -- ---- messages
 
 sent_as : (names : Naming) (es : Past) (k c : ℕ) (references : List ℕ) (m : RpcMessage) → let e = Wire true k c references m in
-    sent_said names (is_late es e) (seen_of es e) c m ≡ message_of_record names es e
+    sent_said names (seen_of es e) c m ≡ message_of_record names es e
 sent_as names es k c references (Bootstrap q) = refl
 sent_as names es k c references (Call q target interface method params) =
     let e = Wire true k c references (Call q target interface method params) in
@@ -88,7 +88,7 @@ sent_as names es k c references Abort = refl
 
 -- ---- steps
 
-pub step_as : (names : Naming) (es : Past) (e : DecodedRecord) → is_received e ≡ false → step_by names (is_late es e) (seen_of es e) e ≡ step_said names es e
+pub step_as : (names : Naming) (es : Past) (e : DecodedRecord) → is_received e ≡ false → step_by names (seen_of es e) e ≡ step_said names es e
 step_as names es (Host r object) own = refl
 step_as names es (Vow r) own = refl
 step_as names es (Fulfil r to) own = refl

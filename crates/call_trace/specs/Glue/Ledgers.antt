@@ -1,11 +1,10 @@
 -- For the code's contracts, and no part of the meaning: the tables that are kept of each vat and of all connections, and
 -- how its calls and views are named by them.
-use Rattle.std.specs.Prelude.{◌≡◌, ◌==◌, ◌+◌, ◌++◌, ◌∷◌, ℕ, List, [], Bool, true, false, not, Option, Some, None, if◌then◌else◌, is_some, IsSome, map, reverse, option_and_then, option_map, slice_get}
+use Rattle.std.specs.Prelude.{◌≡◌, ◌==◌, ◌+◌, ◌++◌, ◌∷◌, ℕ, List, [], true, false, Option, Some, None, if◌then◌else◌, IsSome, map, reverse, option_and_then, option_map, slice_get}
 use Rattle.std.specs.BTreeMap.{get}
 use Rattle.std.specs.Ordering.{nat_cmp}
 use Rattle.call_trace.specs.declared.records.call_names.CallNames.{CallNames}
 use Rattle.call_trace.specs.declared.records.vat_ledger.VatLedger.{VatLedger}
-use Rattle.call_trace.specs.declared.records.released.Released.{Released}
 use Rattle.call_trace.specs.Naming.{Naming, message_of_step, call_named, cap_at}
 use Rattle.call_trace.specs.Part.{promise_in}
 use Rattle.call_trace.specs.Running.{step_received}
@@ -19,10 +18,7 @@ use Rattle.vat_rules.specs.Telling.{seen_of}
 use Rattle.vat_rules.specs.declared.outcome.Outcome.{Outcome}
 use Rattle.vat_rules.specs.declared.outcome.Outcome.TheVariants as outcome
 use Rattle.vat_view.specs.Lives.{descriptors_of}
-use Rattle.vat_view.specs.Past.{Past, id, names}
-use Rattle.vat_view.specs.Questions.{question_opened, question_released, is_released}
-use Rattle.vat_view.specs.Glue.Tables.{id_cmp}
-use Rattle.vat_view.specs.declared.record.table_key.TableKey.{TableKey}
+use Rattle.vat_view.specs.Past.{Past}
 use Rattle.run_model.specs.declared.cap.Cap.TheVariants as cap
 use Rattle.run_model.specs.declared.message.Message.TheVariants as message
 use Rattle.run_model.specs.declared.plain.Plain.TheVariants as plain
@@ -31,14 +27,6 @@ use Rattle.run_model.specs.declared.step.Step.TheVariants as step
 -- the name that the table has of a call
 abbrev pub name_at : CallNames → ℕ → Option Name
 name_at table c = get nat_cmp table.entries c
-
--- whether the table has a question
-abbrev pub released_at : Released → TableKey → Bool
-released_at table q = is_some (get id_cmp table.entries q)
-
--- whether a question's results are given back after a record, where it is known whether they were before
-abbrev pub released_after : DecodedRecord → TableKey → Bool → Bool
-released_after e q before = if names q (question_released e) then true else if names q (question_opened e) then false else before
 
 -- the step of the record of this number, by the numbers of the steps
 abbrev pub step_in : List Step → List ℕ → ℕ → Option Step
@@ -103,23 +91,23 @@ abbrev pub resolve_said : Option Cap → Option (List Cap) → Option Message
 resolve_said promise caps = option_and_then (λ promise. option_map (say_resolve promise) caps) promise
 
 -- the message that a record sends, by what its numbers stand for, its descriptors for these caps
-abbrev pub message_said : Naming → Bool → Sight → ℕ → Option (List Cap) → RpcMessage → Option Message
-message_said names late seen c caps (Bootstrap q) = option_map message.Boot (names.call c)
-message_said names late seen c caps (Call q target interface method params) =
+abbrev pub message_said : Naming → Sight → ℕ → Option (List Cap) → RpcMessage → Option Message
+message_said names seen c caps (Bootstrap q) = option_map message.Boot (names.call c)
+message_said names seen c caps (Call q target interface method params) =
     say_call interface method caps (names.call c) (option_and_then names.cap seen.target)
-message_said names late seen c caps (Return q release (Results payload)) =
-    option_and_then (λ name. say_return late payload.fields name caps) (answered_in names.call seen.question)
-message_said names late seen c caps (Return q release Exception) = option_map message.Failed (answered_in names.call seen.question)
-message_said names late seen c caps (Return q release Canceled) = option_map message.Failed (answered_in names.call seen.question)
-message_said names late seen c caps (Resolve n resolution) = resolve_said (option_and_then names.cap seen.promise) caps
-message_said names late seen c caps (Finish q release) = Some (message.Plain plain.Finish)
-message_said names late seen c caps (Release n count) = Some (message.Plain plain.Release)
-message_said names late seen c caps (Disembargo n loopback target) = Some (message.Plain plain.Disembargo)
-message_said names late seen c caps Abort = Some (message.Plain plain.Abort)
+message_said names seen c caps (Return q release (Results payload)) =
+    option_and_then (λ name. say_return seen.late payload.fields name caps) (answered_in names.call seen.question)
+message_said names seen c caps (Return q release Exception) = option_map message.Failed (answered_in names.call seen.question)
+message_said names seen c caps (Return q release Canceled) = option_map message.Failed (answered_in names.call seen.question)
+message_said names seen c caps (Resolve n resolution) = resolve_said (option_and_then names.cap seen.promise) caps
+message_said names seen c caps (Finish q release) = Some (message.Plain plain.Finish)
+message_said names seen c caps (Release n count) = Some (message.Plain plain.Release)
+message_said names seen c caps (Disembargo n loopback target) = Some (message.Plain plain.Disembargo)
+message_said names seen c caps Abort = Some (message.Plain plain.Abort)
 
 -- the same, with what its descriptors stand for looked up
-abbrev pub sent_said : Naming → Bool → Sight → ℕ → RpcMessage → Option Message
-sent_said names late seen c m = message_said names late seen c (caps_said names seen.caps (descriptors_of m)) m
+abbrev pub sent_said : Naming → Sight → ℕ → RpcMessage → Option Message
+sent_said names seen c m = message_said names seen c (caps_said names seen.caps (descriptors_of m)) m
 
 -- the results of a call, by what the references from a place on stand for
 abbrev pub results_from : Naming → List (Option View) → ℕ → List (ℕ × List ℕ) → List (Option (List ℕ × Cap))
@@ -160,12 +148,12 @@ own_said names seen (Answer c results) =
 own_said names seen _ = None
 
 -- the step that a record says, by what its numbers stand for
-abbrev pub step_by : Naming → Bool → Sight → DecodedRecord → Option Step
-step_by names late seen (Field r c path) = of_call_said names.vat names.call (Field r c path)
-step_by names late seen (Deliver c object) = of_call_said names.vat names.call (Deliver c object)
-step_by names late seen (Fault c) = of_call_said names.vat names.call (Fault c)
-step_by names late seen (Wire sent k c references m) = option_map (λ sent_message. step.Send names.vat k sent_message) (sent_said names late seen c m)
-step_by names late seen e = own_said names seen e
+abbrev pub step_by : Naming → Sight → DecodedRecord → Option Step
+step_by names seen (Field r c path) = of_call_said names.vat names.call (Field r c path)
+step_by names seen (Deliver c object) = of_call_said names.vat names.call (Deliver c object)
+step_by names seen (Fault c) = of_call_said names.vat names.call (Fault c)
+step_by names seen (Wire sent k c references m) = option_map (λ sent_message. step.Send names.vat k sent_message) (sent_said names seen c m)
+step_by names seen e = own_said names seen e
 
 -- the call to which a record gives a name, and the name: a call that the vat makes or boots is its own, one that it receives
 -- has the name that the message has
@@ -186,21 +174,18 @@ pub record IsBound (named : Option (ℕ × Name)) (old new : VatLedger) : Type 0
   pub vat : new.vat ≡ old.vat
   pub numbers : new.numbers.items ≡ old.numbers.items
   pub calls : (c : ℕ) → call_name_in new c ≡ bound_call named c (call_name_in old c)
-  pub released : (q : TableKey) → released_at new.released q ≡ released_at old.released q
 
 -- what is kept of a vat goes on by a record whose step has this number; the names of its calls stay
-pub record IsNoted (number : ℕ) (e : DecodedRecord) (old new : VatLedger) : Type 0 where
+pub record IsNoted (number : ℕ) (old new : VatLedger) : Type 0 where
   pub vat : new.vat ≡ old.vat
   pub numbers : new.numbers.items ≡ old.numbers.items ++ number ∷ []
   pub calls : (c : ℕ) → call_name_in new c ≡ call_name_in old c
-  pub released : (q : TableKey) → released_at new.released q ≡ released_after e q (released_at old.released q)
 
 -- what is kept of a vat is that of its records and their steps, where these are the steps of all vats, the oldest first
 pub record IsKept (v : ℕ) (es : Past) (own run : List Step) (ledger : VatLedger) : Type 0 where
   pub vat : ledger.vat ≡ v
   pub numbers : map (slice_get run) ledger.numbers.items ≡ map Some (reverse own)
   pub calls : (c : ℕ) → call_name_in ledger c ≡ call_named v es own c
-  pub released : (q : TableKey) → released_at ledger.released q ≡ is_released q es
 
 -- a record comes that has a step: what is kept of its vat is that of records and their steps, after which this was seen of
 -- it and it has one
@@ -216,11 +201,6 @@ pub record HasStep (step : ℕ → Past → List Step → List Step → Option S
 -- a record took this step: it stands behind those before, and what is kept of its vat goes on by it
 abbrev pub IsTaken : ℕ → Past → DecodedRecord → List Step → Option Step → List Step → List Step → VatLedger → Type 0
 IsTaken v es e own step old new ledger = (s : Step) × (step ≡ Some s) × (new ≡ old ++ s ∷ []) × IsKept v (e ∷ es) (s ∷ own) new ledger
-
--- a record is a Return that is late, by the table of questions whose results were given back
-abbrev pub late_in : VatLedger → DecodedRecord → Bool
-late_in ledger (Wire sent k c references (Return q release outcome)) = released_at ledger.released (id k (not sent) q)
-late_in ledger _ = false
 
 -- the step of a received record, by this message
 abbrev pub received_step : ℕ → Past → List Step → DecodedRecord → Message → Option Step

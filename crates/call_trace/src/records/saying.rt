@@ -203,12 +203,11 @@ fn resolve_said(
 }
 
 /// The message that a record sends, beside which this call is noted, where all that it names has a name. `caps` is what its
-/// descriptors stand for, `late` says whether it is a Return that is late.
+/// descriptors stand for.
 fn message_said(
     alloc: Global,
     ledger: &VatLedger,
     steps: &[Step],
-    late: bool,
     seen: &RecordFacts,
     call: u64,
     caps: Option<Caps>,
@@ -216,7 +215,7 @@ fn message_said(
 ) -> Result<Option<Message>, AllocError>
     ensures { IfOk result
         (λ sent. sent ≡ message_said
-        (names_in steps.now ledger.now) late seen.now call caps message.now) }
+        (names_in steps.now ledger.now) seen.now call caps message.now) }
 {
     match message {
         RpcMessage::Bootstrap { .. } => Ok(ledger.call(call).map(|name| Message::Boot(name))),
@@ -231,7 +230,11 @@ fn message_said(
         ) {
             (None, _) => Ok(None),
             (Some(name), Outcome::Results(payload)) => say_results(
-                alloc, late, payload, name, caps,
+                alloc,
+                seen.is_late(),
+                payload,
+                name,
+                caps,
             ),
             (Some(name), _) => Ok(Some(Message::Failed(name))),
         },
@@ -248,16 +251,15 @@ fn sent_said(
     alloc: Global,
     ledger: &VatLedger,
     steps: &[Step],
-    late: bool,
     seen: &RecordFacts,
     call: u64,
     message: &RpcMessage,
 ) -> Result<Option<Message>, AllocError>
     ensures { IfOk result
-        (λ sent. sent ≡ sent_said (names_in steps.now ledger.now) late seen.now call message.now) }
+        (λ sent. sent ≡ sent_said (names_in steps.now ledger.now) seen.now call message.now) }
 {
     let caps = caps_said(alloc, ledger, steps, descriptors_of(message), seen.caps())?;
-    message_said(alloc, ledger, steps, late, seen, call, caps, message)
+    message_said(alloc, ledger, steps, seen, call, caps, message)
 }
 
 /// The results of a call, where each has a name.
@@ -413,18 +415,16 @@ fn own_said(
     })
 }
 
-/// The step that a record says that isn't received, where all that it names has a name. `late` says whether it is a Return
-/// that is late.
+/// The step that a record says that isn't received, where all that it names has a name.
 pub(crate) fn step_said(
     alloc: Global,
     ledger: &VatLedger,
     steps: &[Step],
-    late: bool,
     seen: &RecordFacts,
     event: &DecodedRecord,
 ) -> Result<Option<Step>, AllocError>
     ensures { IfOk result
-        (λ step. step ≡ step_by (names_in steps.now ledger.now) late seen.now event.now) }
+        (λ step. step ≡ step_by (names_in steps.now ledger.now) seen.now event.now) }
 {
     match event {
         DecodedRecord::Wire {
@@ -433,7 +433,7 @@ pub(crate) fn step_said(
             message,
             ..
         } => {
-            let sent = sent_said(alloc, ledger, steps, late, seen, *call, message)?;
+            let sent = sent_said(alloc, ledger, steps, seen, *call, message)?;
             Ok(match sent {
                 Some(message) => Some(Step::Send {
                     vat: ledger.vat,

@@ -8,7 +8,6 @@ ghost use Rattle.run_model.specs.Legal.{caps_brought};
 ghost use Rattle.vat_rules.specs.Audit.{IsTrueOf};
 
 use crate::records::call_names::CallNames;
-use crate::records::released::Released;
 use run_model::{Cap, Message, Name, Step};
 use std::alloc::{AllocError, Global};
 use vat_rules::{Outcome, VatFinding};
@@ -23,8 +22,6 @@ pub(crate) struct VatLedger {
     pub(crate) numbers: Vec<usize>,
     /// The names of its calls.
     pub(crate) calls: CallNames,
-    /// The questions whose results were given back.
-    pub(crate) released: Released,
 }
 
 /// The message that a step sends or receives.
@@ -66,7 +63,6 @@ impl VatLedger {
             vat: finding.log().vat(),
             numbers: Vec::with_capacity(alloc, records)?,
             calls: CallNames::new(alloc),
-            released: Released::new(alloc),
         })
     }
 

@@ -2,7 +2,7 @@
 
 ghost use Rattle.std.specs.Prelude.{◌≡◌, ℕ, List, None, true, false, IfOk, OnOk};
 ghost use Rattle.std.specs.Option.{option_copied};
-ghost use Rattle.call_trace.specs.Glue.Ledgers.{call_bound_by, late_in, received_step, with_bound, names_in, step_by, IsBound, IsNoted, IsKept, HasStep, IsTaken};
+ghost use Rattle.call_trace.specs.Glue.Ledgers.{call_bound_by, received_step, with_bound, names_in, step_by, IsBound, IsNoted, IsKept, HasStep, IsTaken};
 ghost use Rattle.call_trace.specs.Running.{step_of};
 ghost use Rattle.call_trace.specs.Types.{Step as Steps};
 ghost use Rattle.vat_rules.specs.OfCaps.{is_received};
@@ -16,7 +16,7 @@ use rpc_view::RpcMessage;
 use run_model::{Caps, Message, Name, Step};
 use std::alloc::{AllocError, Global};
 use vat_rules::RecordFacts;
-use vat_view::{DecodedRecord, TableKey};
+use vat_view::DecodedRecord;
 
 /// The name of the call that a message is, if it is one.
 fn call_named_in(message: &Message) -> Option<Name>
@@ -56,25 +56,6 @@ fn call_bound_by(vat: u32, event: &DecodedRecord, message: Option<&Message>) -> 
     }
 }
 
-/// Whether a record is a Return that is late, by the table of questions whose results were given back.
-fn is_late(ledger: &VatLedger, event: &DecodedRecord) -> bool
-    ensures { result ≡ late_in ledger.now event.now }
-{
-    match event {
-        DecodedRecord::Wire {
-            sent,
-            connection,
-            message: RpcMessage::Return { answer, .. },
-            ..
-        } => ledger.released.has(TableKey {
-            connection: *connection,
-            ours: !*sent,
-            number: *answer,
-        }),
-        _ => false,
-    }
-}
-
 impl VatLedger {
     /// This call has this name.
     fn bind(&mut self, named: Option<(u64, Name)>) -> Result<(), AllocError>
@@ -87,10 +68,9 @@ impl VatLedger {
     }
 
     /// A record comes whose step has this number.
-    fn note(&mut self, number: usize, event: &DecodedRecord) -> Result<(), AllocError>
-        ensures { OnOk result (IsNoted number event.now self.old self.new) }
+    fn note(&mut self, number: usize) -> Result<(), AllocError>
+        ensures { OnOk result (IsNoted number self.old self.new) }
     {
-        self.released.note(event)?;
         self.numbers.push(number)?;
         Ok(())
     }
@@ -105,14 +85,12 @@ fn own_step(
     seen: &RecordFacts,
 ) -> Result<Option<Step>, AllocError>
     ensures step { IfOk result
-        (λ step. step ≡ step_by (names_in steps.now ledger.new)
-        (late_in ledger.new event.now) seen.now event.now) }
+        (λ step. step ≡ step_by (names_in steps.now ledger.new) seen.now event.now) }
     ensures named { OnOk result
         (IsBound (call_bound_by ledger.old.vat event.now None) ledger.old ledger.new) }
 {
     ledger.bind(call_bound_by(ledger.vat, event, None))?;
-    let late = is_late(ledger, event);
-    step_said(alloc, ledger, steps, late, seen, event)
+    step_said(alloc, ledger, steps, seen, event)
 }
 
 /// A record that isn't received takes its step.
@@ -135,7 +113,7 @@ pub(crate) fn take_own(
     let Some(step) = own_step(alloc, steps, ledger, event, seen)? else {
         unreachable!()
     };
-    ledger.note(steps.len(), event)?;
+    ledger.note(steps.len())?;
     steps.push(step)?;
     Ok(())
 }
@@ -183,7 +161,7 @@ pub(crate) fn take_received(
     };
     let number = steps.len();
     ledger.bind(call_bound_by(ledger.vat, event, Some(&message)))?;
-    ledger.note(number, event)?;
+    ledger.note(number)?;
     steps.push(Step::Receive {
         vat: ledger.vat,
         connection: *connection,

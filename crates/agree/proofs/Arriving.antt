@@ -56,8 +56,8 @@ three_follow P Q a b c x y z f g h all =
 -- the questions that a message uses, at its sender and at its receiver
 module _ (k c d : ℕ) (rs ss : List ℕ) (P Q : TableKey → Bool) (same : (n : ℕ) → P (id k true n) ≡ true → Q (id k false n) ≡ true) where
   targets_follow : (m : RpcMessage) → Follows P Q (option_to_list (question_targeted (Wire true k c rs m))) (option_to_list (question_targeted (Wire false k d ss m)))
-  targets_follow (Call q (Promised n path) i x b) = one_follows P Q (id k true n) (id k false n) (same n)
-  targets_follow (Call q (Imported n) i x b) = λ h. h
+  targets_follow (Call q (Promised n path) i x b yourself) = one_follows P Q (id k true n) (id k false n) (same n)
+  targets_follow (Call q (Imported n) i x b yourself) = λ h. h
   targets_follow (Disembargo q loopback (Promised n path)) = one_follows P Q (id k true n) (id k false n) (same n)
   targets_follow (Disembargo q loopback (Imported n)) = λ h. h
   targets_follow (Bootstrap q) = λ h. h
@@ -81,8 +81,8 @@ module _ (k c d : ℕ) (rs ss : List ℕ) (P Q : TableKey → Bool) (same : (n :
 -- the numbers that it uses
 module _ (k c d : ℕ) (rs ss : List ℕ) (P Q : TableKey → Bool) (same : (n : ℕ) → P (id k false n) ≡ true → Q (id k true n) ≡ true) where
   number_targets_follow : (m : RpcMessage) → Follows P Q (option_to_list (number_targeted (Wire true k c rs m))) (option_to_list (number_targeted (Wire false k d ss m)))
-  number_targets_follow (Call q (Imported n) i x b) = one_follows P Q (id k false n) (id k true n) (same n)
-  number_targets_follow (Call q (Promised n path) i x b) = λ h. h
+  number_targets_follow (Call q (Imported n) i x b yourself) = one_follows P Q (id k false n) (id k true n) (same n)
+  number_targets_follow (Call q (Promised n path) i x b yourself) = λ h. h
   number_targets_follow (Disembargo q loopback (Imported n)) = one_follows P Q (id k false n) (id k true n) (same n)
   number_targets_follow (Disembargo q loopback (Promised n path)) = λ h. h
   number_targets_follow (Bootstrap q) = λ h. h
@@ -144,7 +144,7 @@ module _ (k : ℕ) (from to : Past) (linked : AreLinked k from to) (same : strea
 
   opens_there : (c d : ℕ) (rs ss : List ℕ) (m : RpcMessage) → OpensFree from (Wire true k c rs m) → OpensFree to (Wire false k d ss m)
   opens_there c d rs ss (Bootstrap q) h = free_there q h
-  opens_there c d rs ss (Call q target i x b) h = free_there q h
+  opens_there c d rs ss (Call q target i x b yourself) h = free_there q h
   opens_there c d rs ss _ h = tt
 
   numbers_there : (c d : ℕ) (rs ss : List ℕ) (m : RpcMessage) → UsesNumbers from (Wire true k c rs m) → UsesNumbers to (Wire false k d ss m)
@@ -157,7 +157,7 @@ module _ (k : ℕ) (from to : Past) (linked : AreLinked k from to) (same : strea
   }
     where
       once : (m : RpcMessage) → ((q : ℕ) (release : Bool) → answers q m ≡ true → is_unreturned (id k true q) to ≡ true) → IfSome (question_returned (Wire false k d ss m)) (λ q. is_unreturned q to ≡ true)
-      once (Return q release outcome) due = due q release (eq-eqb q q refl)
+      once (Return q release outcome light) due = due q release (eq-eqb q q refl)
       once (Bootstrap q) due = tt
       once _ due = tt
 

@@ -15,12 +15,12 @@ use Rattle.agree.specs.Streams.{passing, stream, opening_number}
 -- a message opens the question of this number of its sender's
 abbrev pub asks : ℕ → RpcMessage → Bool
 asks n (Bootstrap q) = n == q
-asks n (Call q target interface method params) = n == q
+asks n (Call q target interface method params yourself) = n == q
 asks n _ = false
 
 -- returns one of its receiver's
 abbrev pub answers : ℕ → RpcMessage → Bool
-answers n (Return q release outcome) = n == q
+answers n (Return q release outcome light) = n == q
 answers n _ = false
 
 -- gives back the results of one of its sender's
@@ -69,7 +69,7 @@ not_asked false test m e = refl
 
 pub opens_is : (q : TableKey) (e : DecodedRecord) → names q (question_opened e) ≡ passes (asks q.number) (passing q.connection q.ours e)
 opens_is q (Wire t j c rs (Bootstrap n)) = as_asked ((q.connection == j) && beq q.ours t) (asks q.number) (Bootstrap n)
-opens_is q (Wire t j c rs (Call n target i m b)) = as_asked ((q.connection == j) && beq q.ours t) (asks q.number) (Call n target i m b)
+opens_is q (Wire t j c rs (Call n target i m b yourself)) = as_asked ((q.connection == j) && beq q.ours t) (asks q.number) (Call n target i m b yourself)
 opens_is q (Wire t j c rs m) = not_asked ((q.connection == j) && beq q.ours t) (asks q.number) m refl
 opens_is q (Host r o) = refl
 opens_is q _ = refl
@@ -91,7 +91,7 @@ turn : (a o t b : Bool) → (a && beq o (not t) && b) ≡ (a && beq (not o) t &&
 turn a o t b = grind (arith, nat_tests)
 
 pub returns_is : (q : TableKey) (e : DecodedRecord) → names q (question_returned e) ≡ passes (answers q.number) (passing q.connection (not q.ours) e)
-returns_is q (Wire t j c rs (Return n release outcome)) = turn (q.connection == j) q.ours t (q.number == n) ∙ as_asked ((q.connection == j) && beq (not q.ours) t) (answers q.number) (Return n release outcome)
+returns_is q (Wire t j c rs (Return n release outcome light)) = turn (q.connection == j) q.ours t (q.number == n) ∙ as_asked ((q.connection == j) && beq (not q.ours) t) (answers q.number) (Return n release outcome light)
 returns_is q (Wire t j c rs (Bootstrap n)) = not_asked ((q.connection == j) && beq (not q.ours) t) (answers q.number) (Bootstrap n) refl
 returns_is q (Wire t j c rs m) = not_asked ((q.connection == j) && beq (not q.ours) t) (answers q.number) m refl
 returns_is q (Host r o) = refl
@@ -212,7 +212,7 @@ waits q t e before = waits_by (opens q before e) (t before e) (point before e) (
 
 -- what opens a question neither returns nor finishes it
 pub opens_no_return : (q : TableKey) (e : DecodedRecord) → names q (question_opened e) ≡ true → names q (question_returned e) ≡ false
-opens_no_return q (Wire s j c rs (Return n release outcome)) h = absurd (false≢true h)
+opens_no_return q (Wire s j c rs (Return n release outcome light)) h = absurd (false≢true h)
 opens_no_return q (Wire s j c rs _) h = refl
 opens_no_return q (Host r o) h = refl
 opens_no_return q _ h = refl
@@ -222,7 +222,7 @@ abbrev pub EndsOnce : Past → DecodedRecord → Type 0
 EndsOnce before e = IfSome (question_returned e) (λ q. is_unreturned q before ≡ true) × IfSome (question_finished e) (λ q. is_unfinished q before ≡ true)
 
 pub ends_once : (before : Past) (e : DecodedRecord) → UsesQuestions before e → EndsOnce before e
-ends_once before (Wire s k c rs (Return n release outcome)) uses = (uses.returned_once, tt)
+ends_once before (Wire s k c rs (Return n release outcome light)) uses = (uses.returned_once, tt)
 ends_once before (Wire s k c rs (Finish n release)) uses = (tt, (and_parts (is_unfinished (id k s n) before) true uses.used).0)
 ends_once before (Wire s k c rs (Bootstrap n)) uses = (tt, tt)
 ends_once before (Wire s k c rs _) uses = (tt, tt)

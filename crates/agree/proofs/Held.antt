@@ -75,10 +75,10 @@ gives_of k o n past c rs (Release r count) each uses =
     let none = dies_none n (tellings k (not o) past) (tellings k o past) in
     let same : gives_back (id k o n) past (Wire (not o) k c rs (Release r count)) ≡ releases_in n (Release r count) = ap (λ b. if b then count else 0) (self k n r o) in
     omega (arith, none, same)
-gives_of k o n past c rs (Return q true outcome) each uses =
+gives_of k o n past c rs (Return q true outcome light) each uses =
     only _ _ (sym (subst (λ b. is_unreturned (id k b q) past ≡ true → dies n (tellings k (not o) past) (option_map by_return (opening_number (id k b q) past)) (tellings k o past)
     ≡ count_by (same_id (id k o n)) (introductions_at (opening (id k b q) past))) (sym (not_not o)) (return_died k o n q past) uses.0))
-gives_of k o n past c rs (Return q false outcome) each uses = only _ _ (sym (dies_none n (tellings k (not o) past) (tellings k o past)))
+gives_of k o n past c rs (Return q false outcome light) each uses = only _ _ (sym (dies_none n (tellings k (not o) past) (tellings k o past)))
 gives_of k o n past c rs (Finish q true) each uses = only _ _ (sym (finish_died k o n q past each uses.1))
 gives_of k o n past c rs (Finish q false) each uses = only _ _ (sym (dies_none n (tellings k (not o) past) (tellings k o past)))
 gives_of k o n past c rs (Bootstrap q) each uses = only _ _ (sym (dies_none n (tellings k (not o) past) (tellings k o past)))
@@ -125,8 +125,8 @@ not_that g b count e = ap (λ x. if x && b then count else 0) e
 
 gives_no : (k : ℕ) (o : Bool) (n : ℕ) (past : Past) (t : Bool) (j c : ℕ) (rs : List ℕ) (m : RpcMessage) → ((k == j) && beq (not o) t) ≡ false → gives_back (id k o n) past (Wire t j c rs m) ≡ 0
 gives_no k o n past t j c rs (Release r count) h = not_that ((k == j) && beq o (not t)) (n == r) count (ways (k == j) o t h)
-gives_no k o n past t j c rs (Return q true outcome) h = other_opening k o n j (not t) q past (ways (k == j) o t h)
-gives_no k o n past t j c rs (Return q false outcome) h = refl
+gives_no k o n past t j c rs (Return q true outcome light) h = other_opening k o n j (not t) q past (ways (k == j) o t h)
+gives_no k o n past t j c rs (Return q false outcome light) h = refl
 gives_no k o n past t j c rs (Finish q true) h = other_return k o n j t q past (ways (k == j) o t h)
 gives_no k o n past t j c rs (Finish q false) h = refl
 gives_no k o n past t j c rs (Bootstrap q) h = refl

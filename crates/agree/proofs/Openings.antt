@@ -38,15 +38,15 @@ passing_is k s m (Wire t j c rs n) h =
 passing_is k s m (Host r o) h = absurd (let no : ⊥ = cc in no)
 passing_is k s m _ h = absurd (let no : ⊥ = cc in no)
 
-late_is : (k : ℕ) (s : Bool) (q : ℕ) (release : Bool) (outcome : Outcome) (before : Past) (e : DecodedRecord) → passing k s e ≡ Some (Return q release outcome) →
+late_is : (k : ℕ) (s : Bool) (q : ℕ) (release : Bool) (outcome : Outcome) (light : Bool) (before : Past) (e : DecodedRecord) → passing k s e ≡ Some (Return q release outcome light) →
     is_late before e ≡ is_released (id k (not s) q) before
-late_is k s q release outcome before e h = ap (λ x. is_late before x) (passing_is k s (Return q release outcome) e h).2
+late_is k s q release outcome light before e h = ap (λ x. is_late before x) (passing_is k s (Return q release outcome light) e h).2
 
 small : (b : Bool) → one_if b ≤ 1
 small b = grind (arith, nat_tests)
 
-module _ (k q : ℕ) (release : Bool) (outcome : Outcome) (one other from to : Past) (sent received : DecodedRecord) (uses : Each (ReturnsDue (id k false q)) one) (free : Each (OpensIdle (id k true q)) other)
-    (p : IsPassed k (Return q release outcome) one other from to sent received) (met : IsMet k from to) where
+module _ (k q : ℕ) (release : Bool) (outcome : Outcome) (light : Bool) (one other from to : Past) (sent received : DecodedRecord) (uses : Each (ReturnsDue (id k false q)) one) (free : Each (OpensIdle (id k true q)) other)
+    (p : IsPassed k (Return q release outcome light) one other from to sent received) (met : IsMet k from to) where
   -- where a Return left and came, no opening of its question is on its way to the one who returns
   none_opened : count (asks q) met.cut.to_one.0 ≡ 0
   none_opened =
@@ -67,10 +67,10 @@ module _ (k q : ℕ) (release : Bool) (outcome : Outcome) (one other from to : P
   -- a Return late at its sender is late at its receiver
   pub late_agree : is_late from sent ≡ true → is_late to received ≡ true
   late_agree late =
-      late_is k false q release outcome to received p.receives ∙ released_stream (id k true q) to
+      late_is k false q release outcome light to received p.receives ∙ released_stream (id k true q) to
       ∙ ap (λ l. came_since (asks q) (frees q) l) met.cut.to_one.1
       ∙ since_more (asks q) (frees q) met.cut.to_one.0 (stream k false from) none_opened
-      (sym (released_stream (id k false q) from) ∙ sym (late_is k true q release outcome from sent p.sends) ∙ late)
+      (sym (released_stream (id k false q) from) ∙ sym (late_is k true q release outcome light from sent p.sends) ∙ late)
 
 -- ---- of logs that are linked
 
@@ -85,8 +85,8 @@ module _ (k : ℕ) (one other : Past) (linked : AreLinked k one other) where
 
   module _ (uses : (q : ℕ) → Each (ReturnsDue (id k false q)) one) (free : (q : ℕ) → Each (OpensIdle (id k true q)) other) where
     pub openings_so : AgreeOnOpenings k one other
-    openings_so q release outcome from to sent received p =
-        returns_agree k q release outcome one other from to sent received (uses q) (free q) p (met (Return q release outcome) from to sent received p)
+    openings_so q release outcome light from to sent received p =
+        returns_agree k q release outcome light one other from to sent received (uses q) (free q) p (met (Return q release outcome light) from to sent received p)
 
     never : (m : RpcMessage) (from to : Past) (sent received : DecodedRecord) → IsPassed k m one other from to sent received → ((c : ℕ) (rs : List ℕ) → is_late from (Wire true k c rs m) ≡ false) →
         is_late from sent ≡ true → is_late to received ≡ true
@@ -94,8 +94,8 @@ module _ (k : ℕ) (one other : Past) (linked : AreLinked k one other) where
         let s = passing_is k true m sent p.sends in absurd (false≢true (sym (not_late s.0 s.1) ∙ sym (ap (λ x. is_late from x) s.2) ∙ late))
 
     pub late_so : AgreeOnLate k one other
-    late_so (Return q release outcome) from to sent received p late =
-        late_agree k q release outcome one other from to sent received (uses q) (free q) p (met (Return q release outcome) from to sent received p) late
+    late_so (Return q release outcome light) from to sent received p late =
+        late_agree k q release outcome light one other from to sent received (uses q) (free q) p (met (Return q release outcome light) from to sent received p) late
     late_so (Bootstrap q) from to sent received p late = never (Bootstrap q) from to sent received p (λ c rs. refl) late
     late_so m from to sent received p late = never m from to sent received p (λ c rs. refl) late
 

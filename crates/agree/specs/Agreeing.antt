@@ -18,8 +18,8 @@ pub record AreLinked (k : ℕ) (one other : Past) : Type 0 where
 
 -- a Return that one sent the other belongs to one opening at both ends
 abbrev pub AgreeOnOpenings : ℕ → Past → Past → Type 0
-AgreeOnOpenings k one other = (q : ℕ) (release : Bool) (outcome : Outcome) (from to : Past) (sent received : DecodedRecord) →
-    IsPassed k (Return q release outcome) one other from to sent received → opening_number (id k false q) from ≡ opening_number (id k true q) to
+AgreeOnOpenings k one other = (q : ℕ) (release : Bool) (outcome : Outcome) (light : Bool) (from to : Past) (sent received : DecodedRecord) →
+    IsPassed k (Return q release outcome light) one other from to sent received → opening_number (id k false q) from ≡ opening_number (id k true q) to
 
 -- a message that is a Return late at its sender is late at its receiver
 abbrev pub AgreeOnLate : ℕ → Past → Past → Type 0

@@ -148,8 +148,8 @@ may_bind m bound h = h
 -- nothing, where a Return comes late
 late_binds : (names : Naming) (es : Past) (k c : ℕ) (rs : List ℕ) (m : RpcMessage) (M : Message) (before : Past) (d : ℕ) (references : List ℕ) → is_late before (Wire false k d references m) ≡ true →
     message_of_record names es (Wire true k c rs m) ≡ Some M → MayBind M []
-late_binds names es k c rs (Return q release (Results payload)) M before d references late h =
-    let e = Wire true k c rs (Return q release (Results payload)) in
+late_binds names es k c rs (Return q release (Results payload) light) M before d references late h =
+    let e = Wire true k c rs (Return q release (Results payload) light) in
     let name = then_is (λ name. say_return (is_late es e) payload.fields name (caps_named names es e)) (call_answered names es k true q) M h in
     at (is_late es e) name.0 (caps_named names es e) name.2
   where
@@ -157,7 +157,7 @@ late_binds names es k c rs (Return q release (Results payload)) M before d refer
     at true name caps h = let same : message.Late name ≡ M = cc in subst (λ M. MayBind M []) same refl
     at false name None h = absurd (let no : ⊥ = cc in no)
     at false name (Some caps) h = let same : message.Return name (caps_at_paths caps payload.fields) caps ≡ M = cc in subst (λ M. MayBind M []) same (inr refl)
-late_binds names es k c rs (Return q release _) M before d references late h =
+late_binds names es k c rs (Return q release _ light) M before d references late h =
     let name = mapped_is message.Failed (call_answered names es k true q) M h in subst (λ M. MayBind M []) name.2 refl
 late_binds names es k c rs m M before d references late h = absurd (false≢true late)
 

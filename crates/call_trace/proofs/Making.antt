@@ -272,14 +272,14 @@ resolve_said promise (c ∷ rest) = refl
 
 no_boot_said : (names : Naming) (es : Past) (sent : Bool) (k c : ℕ) (rs : List ℕ) (m : RpcMessage) (M : Message) → opens_boot m ≡ false → message_of_record names es (Wire sent k c rs m) ≡ Some M → is_boot M ≡ false
 no_boot_said names es sent k c rs (Bootstrap q) M other h = absurd (let no : ⊥ = cc in no)
-no_boot_said names es sent k c rs (Call q target interface method params) M other h =
-    let e = Wire sent k c rs (Call q target interface method params) in
+no_boot_said names es sent k c rs (Call q target interface method params yourself) M other h =
+    let e = Wire sent k c rs (Call q target interface method params yourself) in
     call_said interface method (caps_named names es e) (names.call c) (option_and_then names.cap (view_of_target es e)) M h
-no_boot_said names es sent k c rs (Return q release (Results payload)) M other h =
-    let e = Wire sent k c rs (Return q release (Results payload)) in
+no_boot_said names es sent k c rs (Return q release (Results payload) light) M other h =
+    let e = Wire sent k c rs (Return q release (Results payload) light) in
     let name = then_is (λ name. say_return (is_late es e) payload.fields name (caps_named names es e)) (call_answered names es k sent q) M h in
     return_said (is_late es e) payload.fields name.0 (caps_named names es e) M name.2
-no_boot_said names es sent k c rs (Return q release outcome) M other h =
+no_boot_said names es sent k c rs (Return q release outcome light) M other h =
     let name = mapped_is message.Failed (call_answered names es k sent q) M h in ap is_boot (sym name.2)
 no_boot_said names es sent k c rs (Resolve n resolution) M other h =
     let e = Wire sent k c rs (Resolve n resolution) in

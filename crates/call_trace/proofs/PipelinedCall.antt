@@ -20,21 +20,21 @@ log_1 =
     (Wire true 0 1 [] (Bootstrap 0)) ∷
     (Field 1 1 []) ∷
     (Make 2 1 4660 2) ∷
-    (Wire true 0 2 [] (Call 1 (Promised 0 []) 4660 2 (record { descriptors = []; fields = [] }))) ∷
-    (Wire false 0 0 (2 ∷ []) (Return 0 true (Results (record { descriptors = ((SenderHosted 0) ∷ []); fields = (([], 0) ∷ []) })))) ∷
-    (Wire false 0 0 [] (Return 1 true (Results (record { descriptors = []; fields = [] })))) ∷
+    (Wire true 0 2 [] (Call 1 (Promised 0 []) 4660 2 (record { descriptors = []; fields = [] }) false)) ∷
+    (Wire false 0 0 (2 ∷ []) (Return 0 true (Results (record { descriptors = ((SenderHosted 0) ∷ []); fields = (([], 0) ∷ []) })) false)) ∷
+    (Wire false 0 0 [] (Return 1 true (Results (record { descriptors = []; fields = [] })) false)) ∷
     []
 
 abbrev pub log_2 : List DecodedRecord
 log_2 =
     (Host 1 7) ∷
     (Wire false 0 1 [] (Bootstrap 0)) ∷
-    (Wire false 0 2 [] (Call 1 (Promised 0 []) 4660 2 (record { descriptors = []; fields = [] }))) ∷
+    (Wire false 0 2 [] (Call 1 (Promised 0 []) 4660 2 (record { descriptors = []; fields = [] }) false)) ∷
     (Answer 1 ((1, []) ∷ [])) ∷
     (Deliver 2 7) ∷
-    (Wire true 0 0 (1 ∷ []) (Return 0 true (Results (record { descriptors = ((SenderHosted 0) ∷ []); fields = (([], 0) ∷ []) })))) ∷
+    (Wire true 0 0 (1 ∷ []) (Return 0 true (Results (record { descriptors = ((SenderHosted 0) ∷ []); fields = (([], 0) ∷ []) })) false)) ∷
     (Answer 2 []) ∷
-    (Wire true 0 0 [] (Return 1 true (Results (record { descriptors = []; fields = [] })))) ∷
+    (Wire true 0 0 [] (Return 1 true (Results (record { descriptors = []; fields = [] })) false)) ∷
     []
 
 abbrev pub run : List Step

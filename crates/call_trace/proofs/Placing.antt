@@ -15,7 +15,7 @@ use Rattle.vat_rules.specs.Judged.{IsGood}
 use Rattle.vat_rules.specs.Ways.{LeadsTo}
 use Rattle.vat_rules.specs.declared.rule.Rule.TheVariants as rule
 use Rattle.rpc_view.specs.declared.message.Payload.{Payload}
-use Rattle.call_trace.specs.Types.{RpcMessage, Target, Results, Exception, Canceled, Bootstrap, Call, Return, Finish, Resolve, Release, Disembargo, Abort, DecodedRecord, Host, Vow, Fulfil, Break, Make, Field, Deliver, Answer, Fault, Wire, View, Object, Name, Cap, Message, Step}
+use Rattle.call_trace.specs.Types.{RpcMessage, Target, Results, Exception, Canceled, Elsewhere, TakeFrom, Bootstrap, Call, Return, Finish, Resolve, Release, Disembargo, Abort, DecodedRecord, Host, Vow, Fulfil, Break, Make, Field, Deliver, Answer, Fault, Wire, View, Object, Name, Cap, Message, Step}
 use Rattle.call_trace.specs.Naming.{Naming, naming, call_named, cap_named}
 use Rattle.call_trace.specs.Said.{message_of_record, say_call, say_return, say_resolve, caps_named, promise_named, call_answered, all_there, caps_at_paths}
 use Rattle.call_trace.specs.Part.{reference_named, promise_in, result_named, resolves_released, Says, PairsOff}
@@ -275,7 +275,7 @@ receive_stays v k (message.Call c target interface method caps) bound h name = a
 receive_stays v k m bound h name = refl
 
 abbrev carries_call : RpcMessage → Bool
-carries_call (Call q target interface method params) = true
+carries_call (Call q target interface method params yourself) = true
 carries_call m = false
 
 return_no_call : (late : Bool) (fields : List (List ℕ × ℕ)) (name : Name) (caps : Option (List Cap)) (m : Message) → say_return late fields name caps ≡ Some m → call_in m ≡ false
@@ -291,13 +291,15 @@ resolve_no_call promise [] = refl
 said_no_call : (names : Naming) (es : Past) (sent : Bool) (k c : ℕ) (rs : List ℕ) (m : RpcMessage) (sent_message : Message) → carries_call m ≡ false →
     message_of_record names es (Wire sent k c rs m) ≡ Some sent_message → call_in sent_message ≡ false
 said_no_call names es sent k c rs (Bootstrap q) M isnt h = ap call_in (sym (mapped_is message.Boot (names.call c) M h).2)
-said_no_call names es sent k c rs (Call q target interface method params) M isnt h = absurd (false≢true (sym isnt))
-said_no_call names es sent k c rs (Return q release (Results payload)) M isnt h =
-    let e = Wire sent k c rs (Return q release (Results payload)) in
+said_no_call names es sent k c rs (Call q target interface method params yourself) M isnt h = absurd (false≢true (sym isnt))
+said_no_call names es sent k c rs (Return q release (Results payload) light) M isnt h =
+    let e = Wire sent k c rs (Return q release (Results payload) light) in
     let name = then_is (λ name. say_return (is_late es e) payload.fields name (caps_named names es e)) (call_answered names es k sent q) M h in
     return_no_call (is_late es e) payload.fields name.0 (caps_named names es e) M name.2
-said_no_call names es sent k c rs (Return q release Exception) M isnt h = ap call_in (sym (mapped_is message.Failed (call_answered names es k sent q) M h).2)
-said_no_call names es sent k c rs (Return q release Canceled) M isnt h = ap call_in (sym (mapped_is message.Failed (call_answered names es k sent q) M h).2)
+said_no_call names es sent k c rs (Return q release Exception light) M isnt h = ap call_in (sym (mapped_is message.Failed (call_answered names es k sent q) M h).2)
+said_no_call names es sent k c rs (Return q release Canceled light) M isnt h = ap call_in (sym (mapped_is message.Failed (call_answered names es k sent q) M h).2)
+said_no_call names es sent k c rs (Return q release Elsewhere light) M isnt h = ap call_in (sym (mapped_is message.Failed (call_answered names es k sent q) M h).2)
+said_no_call names es sent k c rs (Return q release (TakeFrom n) light) M isnt h = ap call_in (sym (mapped_is message.Failed (call_answered names es k sent q) M h).2)
 said_no_call names es sent k c rs (Resolve n resolution) M isnt h =
     let e = Wire sent k c rs (Resolve n resolution) in
     let promise = then_is (λ promise. option_map (say_resolve promise) (caps_named names es e)) (promise_named names es k sent n) M h in
@@ -357,20 +359,20 @@ module _ (v : ℕ) (es : Past) (steps earlier : List Step) (w : IsWithin v es st
             inr (subst (λ n. at_vat steps n v ≡ None) (one_answer a.0 name.0 (call_named v es steps d) a.1 name.1) (nowhere_more a.0 (arrived_spent earlier w.linked a.0 v a.2)))
       ])
 
-  call_sent_effect : (k d : ℕ) (rs : List ℕ) (q : ℕ) (target : Target) (interface method : ℕ) (params : Payload) (s : Step) → is_at_vat d es ≡ true →
-      Says v es steps (Wire true k d rs (Call q target interface method params)) s → Effect v es steps (Wire true k d rs (Call q target interface method params)) s
-  call_sent_effect k d rs q target interface method params s here says =
-      let e = Wire true k d rs (Call q target interface method params) in
+  call_sent_effect : (k d : ℕ) (rs : List ℕ) (q : ℕ) (target : Target) (interface method : ℕ) (params : Payload) (yourself : Bool) (s : Step) → is_at_vat d es ≡ true →
+      Says v es steps (Wire true k d rs (Call q target interface method params yourself)) s → Effect v es steps (Wire true k d rs (Call q target interface method params yourself)) s
+  call_sent_effect k d rs q target interface method params yourself s here says =
+      let e = Wire true k d rs (Call q target interface method params yourself) in
       let names = naming v (e ∷ es) (s ∷ steps) in
       let sent = mapped_is (λ m. step.Send v k m) (message_of_record names es e) s says in
       let call_is = call_said interface method (caps_named names es e) (names.call d) (option_and_then names.cap (view_of_target es e)) sent.0 sent.1 in
       let is : s ≡ step.Send v k (message.Call call_is.call call_is.to interface method call_is.caps) = sym sent.2 ∙ ap (λ m. step.Send v k m) call_is.is in
       goes d call_is.call (λ c. refl) (λ c. refl) call_is.named (λ other. ap (move_of other v) is) (inl here)
 
-  call_received_effect : (k d : ℕ) (rs : List ℕ) (q : ℕ) (target : Target) (interface method : ℕ) (params : Payload) (s : Step) → IsLinked earlier s →
-      Says v es steps (Wire false k d rs (Call q target interface method params)) s → Effect v es steps (Wire false k d rs (Call q target interface method params)) s
-  call_received_effect k d rs q target interface method params s linked says =
-      let e = Wire false k d rs (Call q target interface method params) in
+  call_received_effect : (k d : ℕ) (rs : List ℕ) (q : ℕ) (target : Target) (interface method : ℕ) (params : Payload) (yourself : Bool) (s : Step) → IsLinked earlier s →
+      Says v es steps (Wire false k d rs (Call q target interface method params yourself)) s → Effect v es steps (Wire false k d rs (Call q target interface method params yourself)) s
+  call_received_effect k d rs q target interface method params yourself s linked says =
+      let e = Wire false k d rs (Call q target interface method params yourself) in
       let names = naming v (e ∷ es) (s ∷ steps) in
       let goal = view_of_target es e in
       let call_is = call_said interface method (caps_named names es e) (names.call d) (option_and_then names.cap goal) (read es e says.message) (says_read says) in
@@ -419,9 +421,9 @@ module _ (v : ℕ) (es : Past) (steps earlier : List Step) (w : IsWithin v es st
       let caps = mapped_is (λ caps. step.Answer v name.0 caps) (all_there (map (result_named names es) results)) s name.2 in
       quiet (λ c. refl) (λ name. ap (move_of name v) (sym caps.2))
   effect (Fault d) s legal linked good says = fault_effect d s (and_parts (is_at_vat d es || is_served d es) (not (is_settled d es)) (good rule.Answer)).0 says
-  effect (Wire true k d rs (Call q target interface method params)) s legal linked good says = call_sent_effect k d rs q target interface method params s (good rule.Here) says
+  effect (Wire true k d rs (Call q target interface method params yourself)) s legal linked good says = call_sent_effect k d rs q target interface method params yourself s (good rule.Here) says
   effect (Wire true k d rs m) s legal linked good says = sent_effect k d rs m s refl says
-  effect (Wire false k d rs (Call q target interface method params)) s legal linked good says = call_received_effect k d rs q target interface method params s linked says
+  effect (Wire false k d rs (Call q target interface method params yourself)) s legal linked good says = call_received_effect k d rs q target interface method params yourself s linked says
   effect (Wire false k d rs m) s legal linked good says = received_effect k d rs m s refl (λ c. refl) says
 
 -- ---- one record more
@@ -612,10 +614,10 @@ goes_by : (names : View → Option Cap) (es : Past) (here : Asked) (interface me
 goes_by names es here interface method to None said goal = absurd said
 goes_by names es here interface method to (Some a) said goal = (goal.0, goal.1 ∙ sym said.1, goal.2 ∙ sym said.2)
 
-pub sent_call_may_come : (v : ℕ) (es : Past) (steps before : List Step) (k c : ℕ) (rs : List ℕ) (q : ℕ) (target : Target) (interface method : ℕ) (params : Payload) (s : Step) →
-    IsWithin v es steps before → Each IsGood es → IsGood es (Wire true k c rs (Call q target interface method params)) → Says v es steps (Wire true k c rs (Call q target interface method params)) s → MayCome before s
-sent_call_may_come v es steps before k c rs q target interface method params s w goods good says =
-    let e = Wire true k c rs (Call q target interface method params) in
+pub sent_call_may_come : (v : ℕ) (es : Past) (steps before : List Step) (k c : ℕ) (rs : List ℕ) (q : ℕ) (target : Target) (interface method : ℕ) (params : Payload) (yourself : Bool) (s : Step) →
+    IsWithin v es steps before → Each IsGood es → IsGood es (Wire true k c rs (Call q target interface method params yourself)) → Says v es steps (Wire true k c rs (Call q target interface method params yourself)) s → MayCome before s
+sent_call_may_come v es steps before k c rs q target interface method params yourself s w goods good says =
+    let e = Wire true k c rs (Call q target interface method params yourself) in
     let names = naming v (e ∷ es) (s ∷ steps) in
     let sent = mapped_is (λ m. step.Send v k m) (message_of_record names es e) s says in
     let m = call_said interface method (caps_named names es e) (names.call c) (option_and_then names.cap (view_of_target es e)) sent.0 sent.1 in

@@ -16,7 +16,7 @@ use Rattle.vat_view.specs.Lives.{begins, is_in_life}
 use Rattle.vat_view.specs.Questions.{is_late, is_unreturned, call_of}
 use Rattle.vat_view.specs.Views.{view_of_reference, view_of_number, view_of_target, view_given}
 use Rattle.rpc_view.specs.declared.message.Payload.{Payload}
-use Rattle.call_trace.specs.Types.{Target, Outcome, Results, Exception, Canceled, Resolution, RpcMessage, Bootstrap, Call, Return, Finish, Resolve, Release, Disembargo, Abort, DecodedRecord, Wire, Name, Cap, Message, Step}
+use Rattle.call_trace.specs.Types.{Target, Outcome, Results, Exception, Canceled, Elsewhere, TakeFrom, Resolution, RpcMessage, Bootstrap, Call, Return, Finish, Resolve, Release, Disembargo, Abort, DecodedRecord, Wire, Name, Cap, Message, Step}
 use Rattle.call_trace.specs.Naming.{Naming, naming, cap_named, call_named, message_at}
 use Rattle.call_trace.specs.Said.{message_of_record, say_call, say_return, say_resolve, caps_named, promise_named, call_answered, caps_at_paths}
 use Rattle.call_trace.specs.Part.{resolves_released, ReadsAsSent}
@@ -79,7 +79,7 @@ pub record IsReadAlike (mine : Naming) (from : Past) (sent : DecodedRecord) (the
   pub caps : is_late other e ≡ false → (cs : List Cap) → caps_named mine from sent ≡ Some cs → caps_named theirs other e ≡ Some cs
   pub target : (t : Cap) → option_and_then mine.cap (view_of_target from sent) ≡ Some t → option_and_then theirs.cap (view_of_target other e) ≡ Some t
   pub late : is_late from sent ≡ true → is_late other e ≡ true
-  pub answers : (q : ℕ) (release : Bool) (outcome : Outcome) → m ≡ Return q release outcome → (name : Name) → call_answered mine from k true q ≡ Some name → call_answered theirs other k false q ≡ Some name
+  pub answers : (q : ℕ) (release : Bool) (outcome : Outcome) (light : Bool) → m ≡ Return q release outcome light → (name : Name) → call_answered mine from k true q ≡ Some name → call_answered theirs other k false q ≡ Some name
   pub promise : (n : ℕ) (x : Cap) → promise_named mine from k true n ≡ Some x → promise_named theirs other k false n ≡ Some (if not (is_in_life (id k false n) other) then cap.Nothing else x)
 
 module _ (mine : Naming) (from : Past) (theirs : Naming) (other : Past) (k d c : ℕ) (noted references : List ℕ) (M : Message) where
@@ -95,30 +95,30 @@ module _ (mine : Naming) (from : Past) (theirs : Naming) (other : Past) (k d c :
       let name = mapped_is message.Boot (mine.call d) M h in
       ap (λ o. option_map message.Boot o) (alike.calls name.0 (ap call_in_message (sym name.2)) q (eq-eqb q q refl)) ∙ ap (λ m. Some (read other e m)) name.2
 
-  call_read : (q : ℕ) (target : Target) (interface method : ℕ) (params : Payload) → Alike (Call q target interface method params) → IsRead (Call q target interface method params)
-  call_read q target interface method params alike h =
-      let m = Call q target interface method params in
+  call_read : (q : ℕ) (target : Target) (interface method : ℕ) (params : Payload) (yourself : Bool) → Alike (Call q target interface method params yourself) → IsRead (Call q target interface method params yourself)
+  call_read q target interface method params yourself alike h =
+      let m = Call q target interface method params yourself in
       let sent = Wire true k d noted m in
       let e = Wire false k c references m in
       let p = call_parts interface method (caps_named mine from sent) (mine.call d) (option_and_then mine.cap (view_of_target from sent)) M h in
       ap₂ (λ caps name. say_call interface method caps name (option_and_then theirs.cap (view_of_target other e))) (alike.caps refl p.0 p.3) (alike.calls p.1 (ap call_in_message (sym p.6)) q (eq-eqb q q refl))
       ∙ ap (λ t. say_call interface method (Some p.0) (Some p.1) t) (alike.target p.2 p.5) ∙ ap (λ m. Some (read other e m)) p.6
 
-  results_read : (q : ℕ) (release : Bool) (payload : Payload) → Alike (Return q release (Results payload)) → IsRead (Return q release (Results payload))
-  results_read q release payload alike h =
-      let m = Return q release (Results payload) in
+  results_read : (q : ℕ) (release : Bool) (payload : Payload) (light : Bool) → Alike (Return q release (Results payload) light) → IsRead (Return q release (Results payload) light)
+  results_read q release payload light alike h =
+      let m = Return q release (Results payload) light in
       let sent = Wire true k d noted m in
       let e = Wire false k c references m in
       let name = then_is (λ name. say_return (is_late from sent) payload.fields name (caps_named mine from sent)) (call_answered mine from k true q) M h in
-      ap (λ o. option_and_then (λ name. say_return (is_late other e) payload.fields name (caps_named theirs other e)) o) (alike.answers q release (Results payload) refl name.0 name.1)
+      ap (λ o. option_and_then (λ name. say_return (is_late other e) payload.fields name (caps_named theirs other e)) o) (alike.answers q release (Results payload) light refl name.0 name.1)
       ∙ return_read other e (is_late from sent) (is_late other e) payload.fields name.0 (caps_named mine from sent) (caps_named theirs other e) M alike.late alike.caps refl name.2
 
-  failed_read : (q : ℕ) (release : Bool) (outcome : Outcome) → Alike (Return q release outcome) → option_map message.Failed (call_answered mine from k true q) ≡ Some M →
-      option_map message.Failed (call_answered theirs other k false q) ≡ Some (read other (Wire false k c references (Return q release outcome)) M)
-  failed_read q release outcome alike h =
-      let e = Wire false k c references (Return q release outcome) in
+  failed_read : (q : ℕ) (release : Bool) (outcome : Outcome) (light : Bool) → Alike (Return q release outcome light) → option_map message.Failed (call_answered mine from k true q) ≡ Some M →
+      option_map message.Failed (call_answered theirs other k false q) ≡ Some (read other (Wire false k c references (Return q release outcome light)) M)
+  failed_read q release outcome light alike h =
+      let e = Wire false k c references (Return q release outcome light) in
       let name = mapped_is message.Failed (call_answered mine from k true q) M h in
-      ap (λ o. option_map message.Failed o) (alike.answers q release outcome refl name.0 name.1) ∙ ap (λ m. Some (read other e m)) name.2
+      ap (λ o. option_map message.Failed o) (alike.answers q release outcome light refl name.0 name.1) ∙ ap (λ m. Some (read other e m)) name.2
 
   resolved_read : (n : ℕ) (resolution : Resolution) → Alike (Resolve n resolution) → IsRead (Resolve n resolution)
   resolved_read n resolution alike h =
@@ -135,10 +135,12 @@ module _ (mine : Naming) (from : Past) (theirs : Naming) (other : Past) (k d c :
 
   pub read_as_said : (m : RpcMessage) → Alike m → IsRead m
   read_as_said (Bootstrap q) alike h = boot_read q alike h
-  read_as_said (Call q target interface method params) alike h = call_read q target interface method params alike h
-  read_as_said (Return q release (Results payload)) alike h = results_read q release payload alike h
-  read_as_said (Return q release Exception) alike h = failed_read q release Exception alike h
-  read_as_said (Return q release Canceled) alike h = failed_read q release Canceled alike h
+  read_as_said (Call q target interface method params yourself) alike h = call_read q target interface method params yourself alike h
+  read_as_said (Return q release (Results payload) light) alike h = results_read q release payload light alike h
+  read_as_said (Return q release Exception light) alike h = failed_read q release Exception light alike h
+  read_as_said (Return q release Canceled light) alike h = failed_read q release Canceled light alike h
+  read_as_said (Return q release Elsewhere light) alike h = failed_read q release Elsewhere light alike h
+  read_as_said (Return q release (TakeFrom n) light) alike h = failed_read q release (TakeFrom n) light alike h
   read_as_said (Resolve n resolution) alike h = resolved_read n resolution alike h
   read_as_said (Finish q release) alike h = plain_read (Wire false k c references (Finish q release)) (message.Plain plain.Finish) refl h
   read_as_said (Release n count) alike h = plain_read (Wire false k c references (Release n count)) (message.Plain plain.Release) refl h
@@ -184,20 +186,20 @@ module _ (k v : ℕ) (one : Past) (its_steps : List Step) (w : ℕ) (other : Pas
   ]
 
   -- the call that a Return answers is named alike
-  answers_alike : (r : Step) (q : ℕ) (release : Bool) (outcome : Outcome) → m ≡ Return q release outcome → is_unreturned (id k true q) other ≡ true → (name : Name) →
+  answers_alike : (r : Step) (q : ℕ) (release : Bool) (outcome : Outcome) (light : Bool) → m ≡ Return q release outcome light → is_unreturned (id k true q) other ≡ true → (name : Name) →
       call_answered (naming v (sent ∷ from) (s ∷ its_from)) from k true q ≡ Some name → call_answered (naming w (e ∷ other) (r ∷ steps)) other k false q ≡ Some name
-  answers_alike r q release outcome is used name named =
+  answers_alike r q release outcome light is used name named =
       let c = then_is (call_named v (sent ∷ from) (s ∷ its_from)) (call_of (id k false q) from) name named in
       let lasts =
       call_lasts v one (sent ∷ from) its_steps (s ∷ its_from) h.passed.sent_there (h.added, h.whole) (pairs_as_long v one its_steps h.met.one_paired)
       (pairs_as_long v (sent ∷ from) (s ∷ its_from) h.paired) (all_refer one h.met.one_good) c.0 name c.2 in
-      let d = answer_is_one k v w one its_steps other steps m from sent e h.met h.linked h.good h.passed q release outcome c.0 name is used c.1 lasts in
+      let d = answer_is_one k v w one its_steps other steps m from sent e h.met h.linked h.good h.passed q release outcome light c.0 name is used c.1 lasts in
       ap (λ o. option_and_then (call_named w (e ∷ other) (r ∷ steps)) o) d.1 ∙ call_keeps w (e ∷ []) other (r ∷ []) steps refl (h.good rule.Ref, tt) d.0 name d.2
 
 -- ---- together
 
-returns_waiting : (k c q : ℕ) (references : List ℕ) (release : Bool) (outcome : Outcome) (es : Past) → IsGood es (Wire false k c references (Return q release outcome)) → is_unreturned (id k true q) es ≡ true
-returns_waiting k c q references release outcome es good = (good rule.QUse).returned_once
+returns_waiting : (k c q : ℕ) (references : List ℕ) (release : Bool) (outcome : Outcome) (light : Bool) (es : Past) → IsGood es (Wire false k c references (Return q release outcome light)) → is_unreturned (id k true q) es ≡ true
+returns_waiting k c q references release outcome light es good = (good rule.QUse).returned_once
 
 module _ (k v w c : ℕ) (one : Past) (its_steps : List Step) (other : Past) (steps : List Step) (references : List ℕ) (m : RpcMessage) (from : Past) (sent : DecodedRecord) (message : Message) where
   abbrev received : DecodedRecord
@@ -217,8 +219,8 @@ module _ (k v w c : ℕ) (one : Past) (its_steps : List Step) (other : Past) (st
         caps = λ in_time cs named. caps_are_one k v one its_steps w other steps c references m from its_from s message sent bound in_time h cs named;
         target = λ t named. targets_are_one k v one its_steps w other steps c references m from its_from s message sent bound h t named;
         late = late;
-        answers = λ q release outcome is name named. answers_alike k v one its_steps w other steps received m from its_from sent s message h r q release outcome is
-            (returns_waiting k c q references release outcome other (subst (λ m. IsGood other (Wire false k c references m)) is h.good)) name named;
+        answers = λ q release outcome light is name named. answers_alike k v one its_steps w other steps received m from its_from sent s message h r q release outcome light is
+            (returns_waiting k c q references release outcome light other (subst (λ m. IsGood other (Wire false k c references m)) is h.good)) name named;
         promise = promise_alike k v one its_steps w other steps received m from its_from sent s message h r;
       } in
       read_as_said mine from theirs other k went.0 c went.1 references message m (subst (λ x. IsReadAlike mine from x theirs other received k c m message) went.2 alike)

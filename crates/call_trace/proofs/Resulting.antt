@@ -74,11 +74,11 @@ answer_told v es steps c results s says =
     let caps = mapped_is (λ caps. step.Answer v name.0 caps) (all_there (map (result_named names es) results)) s name.2 in
     (name.0, name.1, inl (ap (answers_call name.0) (sym caps.2) ∙ own_same name.0))
 
-results_told : (v call : ℕ) (es : Past) (steps : List Step) (k c : ℕ) (rs : List ℕ) (q : ℕ) (release : Bool) (payload : Payload) (s : Step) → Says v es steps (Wire false k c rs (Return q release (Results payload))) s →
-    is call (call_at (opening (id k true q) es)) ≡ true → is_late es (Wire false k c rs (Return q release (Results payload))) ≡ false →
-    (name : Name) × (call_named v (Wire false k c rs (Return q release (Results payload)) ∷ es) (s ∷ steps) call ≡ Some name) × TellsResults name s
-results_told v call es steps k c rs q release payload s says own late =
-    let e = Wire false k c rs (Return q release (Results payload)) in
+results_told : (v call : ℕ) (es : Past) (steps : List Step) (k c : ℕ) (rs : List ℕ) (q : ℕ) (release : Bool) (payload : Payload) (light : Bool) (s : Step) → Says v es steps (Wire false k c rs (Return q release (Results payload) light)) s →
+    is call (call_at (opening (id k true q) es)) ≡ true → is_late es (Wire false k c rs (Return q release (Results payload) light)) ≡ false →
+    (name : Name) × (call_named v (Wire false k c rs (Return q release (Results payload) light) ∷ es) (s ∷ steps) call ≡ Some name) × TellsResults name s
+results_told v call es steps k c rs q release payload light s says own late =
+    let e = Wire false k c rs (Return q release (Results payload) light) in
     let names = naming v (e ∷ es) (s ∷ steps) in
     let caps = caps_named names es e in
     let name = then_is (λ name. say_return (is_late es e) payload.fields name caps) (call_answered names es k false q) (read es e says.message) (says_read says) in
@@ -91,10 +91,10 @@ results_told v call es steps k c rs q release payload s says own late =
 known_told : (v call : ℕ) (es : Past) (steps : List Step) (e : DecodedRecord) (s : Step) → Says v es steps e s → knows call es e ≡ true → (name : Name) × (call_named v (e ∷ es) (s ∷ steps) call ≡ Some name) × TellsResults name s
 known_told v call es steps (Answer c results) s says h =
     subst (λ call. (name : Name) × (call_named v (Answer c results ∷ es) (s ∷ steps) call ≡ Some name) × TellsResults name s) (eqb-true c call h) (answer_told v es steps c results s says)
-known_told v call es steps (Wire false k c rs (Return q release (Results payload))) s says h =
-    let e = Wire false k c rs (Return q release (Results payload)) in
+known_told v call es steps (Wire false k c rs (Return q release (Results payload) light)) s says h =
+    let e = Wire false k c rs (Return q release (Results payload) light) in
     let parts = and_parts (is call (call_at (opening (id k true q) es))) (not (is_late es e)) h in
-    results_told v call es steps k c rs q release payload s says parts.0 (not-true (is_late es e) parts.1)
+    results_told v call es steps k c rs q release payload light s says parts.0 (not-true (is_late es e) parts.1)
 known_told v call es steps e s says h = absurd (false≢true h)
 
 told_answered : (before : List Step) (name : Name) (s : Step) → EachStep IsLegal before → EachStep IsLinked before → StandsIn before s → TellsResults name s → list_any (answers_call name) before ≡ true
@@ -179,9 +179,9 @@ module _ (v : ℕ) (es : Past) (steps before : List Step) (w : IsWithin v es ste
   sent_is : (m : RpcMessage) (s : Step) → Says v es steps (Wire true k c rs m) s → (M : Message) × (message_of_record (naming v (Wire true k c rs m ∷ es) (s ∷ steps)) es (Wire true k c rs m) ≡ Some M) × (step.Send v k M ≡ s)
   sent_is m s says = mapped_is (λ M. step.Send v k M) (message_of_record (naming v (Wire true k c rs m ∷ es) (s ∷ steps)) es (Wire true k c rs m)) s says
 
-  module _ (q : ℕ) (release : Bool) (payload : Payload) (s : Step) (g : IsGood es (Wire true k c rs (Return q release (Results payload)))) where
+  module _ (q : ℕ) (release : Bool) (payload : Payload) (light : Bool) (s : Step) (g : IsGood es (Wire true k c rs (Return q release (Results payload) light))) where
     abbrev giving : DecodedRecord
-    giving = Wire true k c rs (Return q release (Results payload))
+    giving = Wire true k c rs (Return q release (Results payload) light)
 
     abbrev names : Naming
     names = naming v (giving ∷ es) (s ∷ steps)
@@ -198,18 +198,18 @@ module _ (v : ℕ) (es : Past) (steps before : List Step) (w : IsWithin v es ste
 
     results_come : Says v es steps giving s → MayCome before s
     results_come says =
-        let M = sent_is (Return q release (Results payload)) s says in
+        let M = sent_is (Return q release (Results payload) light) s says in
         let name = then_is (λ name. say_return (is_late es giving) payload.fields name (caps_named names es giving)) (call_answered names es k true q) M.0 M.1 in
         let asked = then_is names.call (call_of (id k false q) es) name.0 name.1 in
         subst (MayCome before) M.2 (results_sent (is_late es giving) refl M.0 name.0 asked.0 (call_here (is_free (id k false q) es) (call_at (opening (id k false q) es)) asked.0 asked.1) asked.2 name.2)
 
-  failed_comes : (q : ℕ) (release : Bool) (outcome : Outcome) (s : Step) (M : Message) → option_map message.Failed (call_answered (naming v (Wire true k c rs (Return q release outcome) ∷ es) (s ∷ steps)) es k true q) ≡ Some M → MaySend before v M
-  failed_comes q release outcome s M h =
-      let name = mapped_is message.Failed (call_answered (naming v (Wire true k c rs (Return q release outcome) ∷ es) (s ∷ steps)) es k true q) M h in subst (MaySend before v) name.2 tt
+  failed_comes : (q : ℕ) (release : Bool) (outcome : Outcome) (light : Bool) (s : Step) (M : Message) → option_map message.Failed (call_answered (naming v (Wire true k c rs (Return q release outcome light) ∷ es) (s ∷ steps)) es k true q) ≡ Some M → MaySend before v M
+  failed_comes q release outcome light s M h =
+      let name = mapped_is message.Failed (call_answered (naming v (Wire true k c rs (Return q release outcome light) ∷ es) (s ∷ steps)) es k true q) M h in subst (MaySend before v) name.2 tt
 
-  pub return_comes : (q : ℕ) (release : Bool) (outcome : Outcome) (s : Step) → IsGood es (Wire true k c rs (Return q release outcome)) → Says v es steps (Wire true k c rs (Return q release outcome)) s → MayCome before s
-  return_comes q release (Results payload) s g says = results_come q release payload s g says
-  return_comes q release outcome s g says = let M = sent_is (Return q release outcome) s says in subst (MayCome before) M.2 (failed_comes q release outcome s M.0 M.1)
+  pub return_comes : (q : ℕ) (release : Bool) (outcome : Outcome) (light : Bool) (s : Step) → IsGood es (Wire true k c rs (Return q release outcome light)) → Says v es steps (Wire true k c rs (Return q release outcome light)) s → MayCome before s
+  return_comes q release (Results payload) light s g says = results_come q release payload light s g says
+  return_comes q release outcome light s g says = let M = sent_is (Return q release outcome light) s says in subst (MayCome before) M.2 (failed_comes q release outcome light s M.0 M.1)
 
   promise_leads : (n : ℕ) (resolution : Resolution) (s : Step) (promise : Cap) (cs : List Cap) → IsGood es (Wire true k c rs (Resolve n resolution)) →
       promise_named (naming v (Wire true k c rs (Resolve n resolution) ∷ es) (s ∷ steps)) es k true n ≡ Some promise → caps_named (naming v (Wire true k c rs (Resolve n resolution) ∷ es) (s ∷ steps)) es (Wire true k c rs (Resolve n resolution)) ≡ Some cs →

@@ -265,15 +265,15 @@ module _ (v : ℕ) (es : Past) (steps before : List Step) (w : IsWithin v es ste
     used = tt;
   }
 
-  call_says : (q : ℕ) (target : Target) (interface method : ℕ) (params : Payload) → IsGood es (Wire true k c rs (Call q target interface method params)) →
-      SaysMessage v es steps before (Wire true k c rs (Call q target interface method params))
-  call_says q target interface method params g =
-      let m = Call q target interface method params in
+  call_says : (q : ℕ) (target : Target) (interface method : ℕ) (params : Payload) (yourself : Bool) → IsGood es (Wire true k c rs (Call q target interface method params yourself)) →
+      SaysMessage v es steps before (Wire true k c rs (Call q target interface method params yourself))
+  call_says q target interface method params yourself g =
+      let m = Call q target interface method params yourself in
       let e = Wire true k c rs m in
       let refers = g rule.Ref in
       let caps = caps_usable m g refl in
       let name = call_usable v es steps before w good e refers c (first_bound (is_bound_call es) c [] refers.bound_call) in
-      let to = view_usable v es steps before w good e refers (view_of_target es e) (target_known es k c rs q target interface method params (sound_all m g)) in
+      let to = view_usable v es steps before w good e refers (view_of_target es e) (target_known es k c rs q target interface method params yourself (sound_all m g)) in
       record {
         sent = message.Call name.0 to.0 interface method caps.0;
         says = λ s.
@@ -285,22 +285,22 @@ module _ (v : ℕ) (es : Past) (steps before : List Step) (w : IsWithin v es ste
       }
 
   -- the call that a Return answers
-  answered_named : (q : ℕ) (release : Bool) (outcome : Outcome) → IsGood es (Wire true k c rs (Return q release outcome)) →
-      (name : Name) × ((s : Step) → call_answered (naming v (Wire true k c rs (Return q release outcome) ∷ es) (s ∷ steps)) es k true q ≡ Some name)
-  answered_named q release outcome g =
-      let e = Wire true k c rs (Return q release outcome) in
+  answered_named : (q : ℕ) (release : Bool) (outcome : Outcome) (light : Bool) → IsGood es (Wire true k c rs (Return q release outcome light)) →
+      (name : Name) × ((s : Step) → call_answered (naming v (Wire true k c rs (Return q release outcome light) ∷ es) (s ∷ steps)) es k true q ≡ Some name)
+  answered_named q release outcome light g =
+      let e = Wire true k c rs (Return q release outcome light) in
       let uses = g rule.QUse in
       let asked = unreturned_bound es w.refers (id k false q) uses.returned_once in
       let name = call_usable v es steps before w good e (g rule.Ref) asked.0 asked.2 in
       (name.0, λ s. ap (λ o. option_and_then (call_named v (e ∷ es) (s ∷ steps)) o) asked.1 ∙ name.1 s)
 
-  module _ (q : ℕ) (release : Bool) (payload : Payload) (g : IsGood es (Wire true k c rs (Return q release (Results payload)))) where
+  module _ (q : ℕ) (release : Bool) (payload : Payload) (light : Bool) (g : IsGood es (Wire true k c rs (Return q release (Results payload) light))) where
     abbrev giving : DecodedRecord
-    giving = Wire true k c rs (Return q release (Results payload))
+    giving = Wire true k c rs (Return q release (Results payload) light)
 
     results_say : (late : Bool) → is_late es giving ≡ late → SaysMessage v es steps before giving
     results_say true late =
-        let name = answered_named q release (Results payload) g in
+        let name = answered_named q release (Results payload) light g in
         record {
           sent = message.Late name.0;
           says = λ s.
@@ -310,8 +310,8 @@ module _ (v : ℕ) (es : Past) (steps before : List Step) (w : IsWithin v es ste
           used = tt;
         }
     results_say false late =
-        let name = answered_named q release (Results payload) g in
-        let caps = caps_usable (Return q release (Results payload)) g late in
+        let name = answered_named q release (Results payload) light g in
+        let caps = caps_usable (Return q release (Results payload) light) g late in
         record {
           sent = message.Return name.0 (caps_at_paths caps.0 payload.fields) caps.0;
           says = λ s.
@@ -340,10 +340,10 @@ module _ (v : ℕ) (es : Past) (steps before : List Step) (w : IsWithin v es ste
 
   message_says : (m : RpcMessage) → IsGood es (Wire true k c rs m) → SaysMessage v es steps before (Wire true k c rs m)
   message_says (Bootstrap q) g = boot_says q
-  message_says (Call q target interface method params) g = call_says q target interface method params g
-  message_says (Return q release (Results payload)) g = results_say q release payload g (is_late es (Wire true k c rs (Return q release (Results payload)))) refl
-  message_says (Return q release outcome) g =
-      let name = answered_named q release outcome g in record { sent = message.Failed name.0; says = λ s. ap (λ o. option_map message.Failed o) (name.1 s); used = tt }
+  message_says (Call q target interface method params yourself) g = call_says q target interface method params yourself g
+  message_says (Return q release (Results payload) light) g = results_say q release payload light g (is_late es (Wire true k c rs (Return q release (Results payload) light))) refl
+  message_says (Return q release outcome light) g =
+      let name = answered_named q release outcome light g in record { sent = message.Failed name.0; says = λ s. ap (λ o. option_map message.Failed o) (name.1 s); used = tt }
   message_says (Finish q release) g = record { sent = message.Plain plain.Finish; says = λ s. refl; used = tt }
   message_says (Resolve n resolution) g = resolve_says n resolution g
   message_says (Release n count) g = record { sent = message.Plain plain.Release; says = λ s. refl; used = tt }

@@ -6,7 +6,7 @@ use Rattle.vat_view.specs.Questions.{is_late, call_of}
 use Rattle.vat_view.specs.Views.{view_of_reference, descriptor_view}
 use Rattle.vat_rules.specs.OfCaps.{is_received}
 use Rattle.vat_rules.specs.Telling.{seen_of, seen_question}
-use Rattle.call_trace.specs.Types.{Descriptor, NoCap, SenderHosted, SenderPromise, ReceiverHosted, ReceiverAnswer, Outcome, Results, Exception, Canceled, RpcMessage, Bootstrap, Call, Return, Finish, Resolve, Release, Disembargo, Abort, DecodedRecord, Host, Vow, Fulfil, Break, Make, Field, Deliver, Answer, Fault, Wire, View, FieldOf}
+use Rattle.call_trace.specs.Types.{Descriptor, NoCap, SenderHosted, SenderPromise, ReceiverHosted, ReceiverAnswer, Outcome, Results, Exception, Canceled, Elsewhere, TakeFrom, RpcMessage, Bootstrap, Call, Return, Finish, Resolve, Release, Disembargo, Abort, DecodedRecord, Host, Vow, Fulfil, Break, Make, Field, Deliver, Answer, Fault, Wire, View, FieldOf}
 use Rattle.call_trace.specs.Naming.{Naming}
 use Rattle.call_trace.specs.Said.{all_there, descriptor_named, caps_named, call_answered, say_call, say_return, say_resolve, message_of_record}
 use Rattle.call_trace.specs.Part.{result_named, step_said}
@@ -61,23 +61,25 @@ called_field : (o : Option ℕ) → call_of_question (option_map (λ c. FieldOf 
 called_field None = refl
 called_field (Some c) = refl
 
-question_as : (names : Naming) (es : Past) (k c : ℕ) (references : List ℕ) (q : ℕ) (release : Bool) (outcome : Outcome) →
-    answered_in names.call (seen_question es (Wire true k c references (Return q release outcome))) ≡ call_answered names es k true q
-question_as names es k c references q release outcome = ap (option_and_then names.call) (called_field (call_of (id k false q) es))
+question_as : (names : Naming) (es : Past) (k c : ℕ) (references : List ℕ) (q : ℕ) (release : Bool) (outcome : Outcome) (light : Bool) →
+    answered_in names.call (seen_question es (Wire true k c references (Return q release outcome light))) ≡ call_answered names es k true q
+question_as names es k c references q release outcome light = ap (option_and_then names.call) (called_field (call_of (id k false q) es))
 
 -- ---- messages
 
 sent_as : (names : Naming) (es : Past) (k c : ℕ) (references : List ℕ) (m : RpcMessage) → let e = Wire true k c references m in
     sent_said names (seen_of es e) c m ≡ message_of_record names es e
 sent_as names es k c references (Bootstrap q) = refl
-sent_as names es k c references (Call q target interface method params) =
-    let e = Wire true k c references (Call q target interface method params) in
+sent_as names es k c references (Call q target interface method params yourself) =
+    let e = Wire true k c references (Call q target interface method params yourself) in
     ap (λ caps. say_call interface method caps (names.call c) (option_and_then names.cap (seen_of es e).target)) (caps_are names es e)
-sent_as names es k c references (Return q release (Results payload)) =
-    let e = Wire true k c references (Return q release (Results payload)) in
-    ap₂ (λ o caps. option_and_then (λ name. say_return (is_late es e) payload.fields name caps) o) (question_as names es k c references q release (Results payload)) (caps_are names es e)
-sent_as names es k c references (Return q release Exception) = ap (option_map message.Failed) (question_as names es k c references q release Exception)
-sent_as names es k c references (Return q release Canceled) = ap (option_map message.Failed) (question_as names es k c references q release Canceled)
+sent_as names es k c references (Return q release (Results payload) light) =
+    let e = Wire true k c references (Return q release (Results payload) light) in
+    ap₂ (λ o caps. option_and_then (λ name. say_return (is_late es e) payload.fields name caps) o) (question_as names es k c references q release (Results payload) light) (caps_are names es e)
+sent_as names es k c references (Return q release Exception light) = ap (option_map message.Failed) (question_as names es k c references q release Exception light)
+sent_as names es k c references (Return q release Canceled light) = ap (option_map message.Failed) (question_as names es k c references q release Canceled light)
+sent_as names es k c references (Return q release Elsewhere light) = ap (option_map message.Failed) (question_as names es k c references q release Elsewhere light)
+sent_as names es k c references (Return q release (TakeFrom n) light) = ap (option_map message.Failed) (question_as names es k c references q release (TakeFrom n) light)
 sent_as names es k c references (Resolve n resolution) =
     let e = Wire true k c references (Resolve n resolution) in
     ap (λ caps. option_and_then (λ promise. option_map (say_resolve promise) caps) (option_and_then names.cap (seen_of es e).promise)) (caps_are names es e)

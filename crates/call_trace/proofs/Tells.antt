@@ -207,11 +207,11 @@ call_is true o call c own h = absurd (let no : ⊥ = cc in no)
 call_is false (Some d) call c own h = let same : d ≡ c = cc in sym same ∙ eqb-true d call own
 call_is false None call c own h = absurd (let no : ⊥ = cc in no)
 
-return_tells : (v call : ℕ) (path : List ℕ) (es : Past) (steps : List Step) (k c : ℕ) (rs : List ℕ) (q : ℕ) (release : Bool) (outcome : Outcome) (s : Step) (b : View) →
-    Says v es steps (Wire false k c rs (Return q release outcome)) s → is call (call_at (opening (id k true q) es)) ≡ true → is_late es (Wire false k c rs (Return q release outcome)) ≡ false →
-    result_at path es (Wire false k c rs (Return q release outcome)) outcome ≡ Some b → TurnsNames (naming v (Wire false k c rs (Return q release outcome) ∷ es) (s ∷ steps)) (FieldOf call path) b s
-return_tells v call path es steps k c rs q release (Results payload) s b says own late there =
-    let e = Wire false k c rs (Return q release (Results payload)) in
+return_tells : (v call : ℕ) (path : List ℕ) (es : Past) (steps : List Step) (k c : ℕ) (rs : List ℕ) (q : ℕ) (release : Bool) (outcome : Outcome) (light : Bool) (s : Step) (b : View) →
+    Says v es steps (Wire false k c rs (Return q release outcome light)) s → is call (call_at (opening (id k true q) es)) ≡ true → is_late es (Wire false k c rs (Return q release outcome light)) ≡ false →
+    result_at path es (Wire false k c rs (Return q release outcome light)) outcome ≡ Some b → TurnsNames (naming v (Wire false k c rs (Return q release outcome light) ∷ es) (s ∷ steps)) (FieldOf call path) b s
+return_tells v call path es steps k c rs q release (Results payload) light s b says own late there =
+    let e = Wire false k c rs (Return q release (Results payload) light) in
     let names = naming v (e ∷ es) (s ∷ steps) in
     let caps = caps_named names es e in
     let name = then_is (λ name. say_return (is_late es e) payload.fields name caps) (call_answered names es k false q) (read es e says.message) (says_read says) in
@@ -227,7 +227,7 @@ return_tells v call path es steps k c rs q release (Results payload) s b says ow
       to_named = y.1;
       turned = inr (subst (Tells (cap.Field name.0 path) y.0) (sym (says.step ∙ ap (λ m. step.Receive v k m says.bound) came)) y.2);
     }
-return_tells v call path es steps k c rs q release outcome s b says own late there = absurd (let no : ⊥ = cc in no)
+return_tells v call path es steps k c rs q release outcome light s b says own late there = absurd (let no : ⊥ = cc in no)
 
 resolved_one : (names : Naming) (es : Past) (k c : ℕ) (rs : List ℕ) (n : ℕ) (resolution : Resolution) (x : Cap) (m : Message) (b : View) → ((view : View) (x : Cap) → names.cap view ≡ Some x → is_present x ≡ true) →
     option_map (say_resolve x) (caps_named names es (Wire false k c rs (Resolve n resolution))) ≡ Some m → view_of_descriptor es (Wire false k c rs (Resolve n resolution)) 0 ≡ Some b → (y : Cap) × (names.cap b ≡ Some y) × (m ≡ message.Resolve x y)
@@ -289,11 +289,11 @@ of_call v call path es steps (Answer c results) s b says h =
     let t = turned_is (c == call) (on_to (answer_view_at path es results)) b h in
     answer_tells v call path es steps c results s b says (eqb-true c call t.0) (on_is (answer_view_at path es results) b t.1)
 of_call v call path es steps (Fault c) s b says h = absurd (no_stop b (turned_is (c == call) stops b h).1)
-of_call v call path es steps (Wire false k c rs (Return q release outcome)) s b says h =
-    let e = Wire false k c rs (Return q release outcome) in
+of_call v call path es steps (Wire false k c rs (Return q release outcome light)) s b says h =
+    let e = Wire false k c rs (Return q release outcome light) in
     let t = turned_is (is call (call_at (opening (id k true q) es))) (if is_late es e then stops else on_to (result_at path es e outcome)) b h in
     let on = not_late_on (is_late es e) (result_at path es e outcome) b t.1 in
-    return_tells v call path es steps k c rs q release outcome s b says t.0 on.0 on.1
+    return_tells v call path es steps k c rs q release outcome light s b says t.0 on.0 on.1
 of_call v call path es steps e s b says h = absurd (let no : ⊥ = cc in no)
 
 pub of_import : (v i place : ℕ) (es : Past) (steps : List Step) (e : DecodedRecord) (s : Step) (b : View) (x : Cap) → Says v es steps e s → resolves i place es e ≡ Some (turns b) →

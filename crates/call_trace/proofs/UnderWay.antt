@@ -5,7 +5,7 @@ use Rattle.call_trace.specs.Types.{RpcMessage, SenderHosted, Results, Bootstrap,
 use Rattle.call_trace.specs.Balance.{IsBalanced}
 
 abbrev pub returned : RpcMessage
-returned = Return 0 true (Results (record { descriptors = SenderHosted 0 ∷ []; fields = ([], 0) ∷ [] }))
+returned = Return 0 true (Results (record { descriptors = SenderHosted 0 ∷ []; fields = ([], 0) ∷ [] })) false
 
 -- vat 2, the exporter, has received the Bootstrap and sent its Return; the newest record first
 abbrev pub exporter : Past

@@ -41,8 +41,8 @@ none_some e = cc
 -- the call noted beside a record that opens a question is bound
 noted_bound : (before : Past) (e : DecodedRecord) (q : TableKey) → Refers before e → opens q before e ≡ true → is_bound_call (e ∷ before) (noted_call e) ≡ true
 noted_bound before (Wire s k d rs (Bootstrap n)) q refers new = or_left ((d == d) || false) (is_bound_call before d) (or_left (d == d) false (eq-eqb d d refl))
-noted_bound before (Wire false k d rs (Call n t f m p)) q refers new = or_left ((d == d) || false) (is_bound_call before d) (or_left (d == d) false (eq-eqb d d refl))
-noted_bound before (Wire true k d rs (Call n t f m p)) q refers new = (and_parts (is_bound_call before d) true refers.bound_call).0
+noted_bound before (Wire false k d rs (Call n t f m p yourself)) q refers new = or_left ((d == d) || false) (is_bound_call before d) (or_left (d == d) false (eq-eqb d d refl))
+noted_bound before (Wire true k d rs (Call n t f m p yourself)) q refers new = (and_parts (is_bound_call before d) true refers.bound_call).0
 noted_bound before _ q refers new = absurd (false≢true new)
 
 opening_bound : (past : Past) → Each Refers past → (q : TableKey) (p : Point) → opening q past ≡ Some p → is_bound_call past (noted_call p.event) ≡ true
@@ -254,10 +254,10 @@ module _ (es : Past) (k c : ℕ) (rs : List ℕ) (m : RpcMessage) (sound : Each 
       inr (field_known es refers_all (id k true q) path (kept_at (question_described e) test (descriptors e) j (ReceiverAnswer q path) (id k true q) kept.1 at refl))
 
 -- what the target of a Call that is sent stands for
-pub target_known : (es : Past) (k c : ℕ) (rs : List ℕ) (q : ℕ) (target : Target) (interface method : ℕ) (params : Payload) → Each IsSound (Wire true k c rs (Call q target interface method params) ∷ es) →
-    StandsKnown es (view_of_target es (Wire true k c rs (Call q target interface method params)))
-target_known es k c rs q (Imported n) interface method params sound = number_known es k false n sound.1 (and_parts (is_in_life (id k false n) es) _ sound.0.uses_numbers).0
-target_known es k c rs q (Promised n path) interface method params sound =
+pub target_known : (es : Past) (k c : ℕ) (rs : List ℕ) (q : ℕ) (target : Target) (interface method : ℕ) (params : Payload) (yourself : Bool) → Each IsSound (Wire true k c rs (Call q target interface method params yourself) ∷ es) →
+    StandsKnown es (view_of_target es (Wire true k c rs (Call q target interface method params yourself)))
+target_known es k c rs q (Imported n) interface method params yourself sound = number_known es k false n sound.1 (and_parts (is_in_life (id k false n) es) _ sound.0.uses_numbers).0
+target_known es k c rs q (Promised n path) interface method params yourself sound =
     field_known es (each_so IsSound Refers (λ b e s. s.refers) es sound.1) (id k true n) path (and_parts (is_unfinished (id k true n) es) _ sound.0.uses_questions.used).0
 
 -- ---- what a log knows has a name in the run, and is had there

@@ -2,7 +2,7 @@
 -- for, no message is said; only the promise of a received Resolve is Nothing then.
 use Rattle.std.specs.Prelude.{ℕ, List, [], Bool, true, false, not, Option, Some, None, filter_map, map, option_and_then, option_map, unwrap_or, ◌∷◌}
 use Rattle.call_trace.specs.Naming.{Naming, cap_at}
-use Rattle.call_trace.specs.Types.{Descriptor, NoCap, Results, Exception, Canceled, RpcMessage, Bootstrap, Call, Return, Finish, Resolve, Release, Disembargo, Abort, DecodedRecord, Wire, Name, Cap, Message}
+use Rattle.call_trace.specs.Types.{Descriptor, NoCap, Results, Exception, Canceled, Elsewhere, TakeFrom, RpcMessage, Bootstrap, Call, Return, Finish, Resolve, Release, Disembargo, Abort, DecodedRecord, Wire, Name, Cap, Message}
 use Rattle.vat_view.specs.Lives.{descriptors}
 use Rattle.vat_view.specs.Past.{Past, id}
 use Rattle.vat_view.specs.Questions.{is_late, call_of}
@@ -58,12 +58,14 @@ call_answered names es k sent q = option_and_then names.call (call_of (id k (not
 -- the message of a record, which is sent or received on this connection with this call noted
 abbrev pub message_named : Naming → Past → DecodedRecord → Bool → ℕ → ℕ → RpcMessage → Option Message
 message_named names es e sent k c (Bootstrap q) = option_map message.Boot (names.call c)
-message_named names es e sent k c (Call q target interface method params) =
+message_named names es e sent k c (Call q target interface method params yourself) =
     say_call interface method (caps_named names es e) (names.call c) (option_and_then names.cap (view_of_target es e))
-message_named names es e sent k c (Return q release (Results payload)) =
+message_named names es e sent k c (Return q release (Results payload) light) =
     option_and_then (λ name. say_return (is_late es e) payload.fields name (caps_named names es e)) (call_answered names es k sent q)
-message_named names es e sent k c (Return q release Exception) = option_map message.Failed (call_answered names es k sent q)
-message_named names es e sent k c (Return q release Canceled) = option_map message.Failed (call_answered names es k sent q)
+message_named names es e sent k c (Return q release Exception light) = option_map message.Failed (call_answered names es k sent q)
+message_named names es e sent k c (Return q release Canceled light) = option_map message.Failed (call_answered names es k sent q)
+message_named names es e sent k c (Return q release Elsewhere light) = option_map message.Failed (call_answered names es k sent q)
+message_named names es e sent k c (Return q release (TakeFrom n) light) = option_map message.Failed (call_answered names es k sent q)
 message_named names es e sent k c (Resolve n resolution) =
     option_and_then (λ promise. option_map (say_resolve promise) (caps_named names es e)) (promise_named names es k sent n)
 message_named names es e sent k c (Finish q release) = Some (message.Plain plain.Finish)

@@ -6,7 +6,7 @@ pub use Rattle.rpc_view.specs.declared.message.Descriptor.TheVariants.{NoCap, Se
 pub use Rattle.rpc_view.specs.declared.message.Target.{Target}
 pub use Rattle.rpc_view.specs.declared.message.Target.TheVariants.{Imported, Promised}
 pub use Rattle.rpc_view.specs.declared.message.Outcome.{Outcome}
-pub use Rattle.rpc_view.specs.declared.message.Outcome.TheVariants.{Results, Exception, Canceled}
+pub use Rattle.rpc_view.specs.declared.message.Outcome.TheVariants.{Results, Exception, Canceled, Elsewhere, TakeFrom}
 pub use Rattle.rpc_view.specs.declared.message.Resolution.{Resolution}
 pub use Rattle.rpc_view.specs.declared.message.Resolution.TheVariants.{Cap as Capped, Exception as Unkept}
 pub use Rattle.rpc_view.specs.declared.message.Loopback.{Loopback}

@@ -168,9 +168,9 @@ pub fn what_is_used_is_had()
 pub fn returns_follow_answers()
     ensures returned { (v : ℕ) (es : Past) (steps before : List Step) → IsWithin v es steps before
         → Each IsGood es → (k c : ℕ) (references : List ℕ) (q : ℕ) (release : Bool)
-        (outcome : Outcome) (s : Step)
-        → IsGood es (Wire true k c references (Return q release outcome))
-        → Says v es steps (Wire true k c references (Return q release outcome)) s
+        (outcome : Outcome) (light : Bool) (s : Step)
+        → IsGood es (Wire true k c references (Return q release outcome light))
+        → Says v es steps (Wire true k c references (Return q release outcome light)) s
         → MayCome before s }
     ensures resolved { (v : ℕ) (es : Past) (steps before : List Step) → IsWithin v es steps before
         → Each IsGood es → (k c : ℕ) (references : List ℕ) (n : ℕ) (resolution : Resolution)
@@ -192,10 +192,10 @@ pub fn calls_go_where_they_lead()
         → IsWithin v es steps before → Each IsGood es → IsGood es (Deliver c object)
         → Says v es steps (Deliver c object) s → MayCome before s }
     ensures sent { (v : ℕ) (es : Past) (steps before : List Step) (k c : ℕ) (references : List ℕ)
-        (q : ℕ) (target : Target) (interface method : ℕ) (params : Payload) (s : Step)
+        (q : ℕ) (target : Target) (interface method : ℕ) (params : Payload) (yourself : Bool) (s : Step)
         → IsWithin v es steps before → Each IsGood es
-        → IsGood es (Wire true k c references (Call q target interface method params))
-        → Says v es steps (Wire true k c references (Call q target interface method params)) s
+        → IsGood es (Wire true k c references (Call q target interface method params yourself))
+        → Says v es steps (Wire true k c references (Call q target interface method params yourself)) s
         → MayCome before s }
 {}
 
@@ -225,8 +225,8 @@ pub fn questions_have_one_call()
         (steps : List Step) (m : RpcMessage) (from : Past) (sent e : DecodedRecord)
         → AreMet k v one its_steps w other steps → AreLinked k one (e ∷ other) → IsGood other e
         → IsPassed k m one (e ∷ other) from other sent e
-        → (q : ℕ) (release : Bool) (outcome : Outcome) (c : ℕ) (name : Name)
-        → m ≡ Return q release outcome → is_unreturned (id k true q) other ≡ true
+        → (q : ℕ) (release : Bool) (outcome : Outcome) (light : Bool) (c : ℕ) (name : Name)
+        → m ≡ Return q release outcome light → is_unreturned (id k true q) other ≡ true
         → call_of (id k false q) from ≡ Some c → call_named v one its_steps c ≡ Some name
         → (d : ℕ) × (call_of (id k true q) other ≡ Some d)
         × (call_named w other steps d ≡ Some name) }

@@ -54,6 +54,8 @@ abbrev pub outcome_text : Outcome → List ℕ
 outcome_text (outcomes.Results results) = codes "results " ++ payload_text results
 outcome_text outcomes.Exception = codes "exception"
 outcome_text outcomes.Canceled = codes "canceled"
+outcome_text outcomes.Elsewhere = codes "resultsSentElsewhere"
+outcome_text (outcomes.TakeFrom question) = codes "takeFromOtherQuestion " ++ decimal question
 
 -- what a promise came to
 abbrev pub resolution_text : Resolution → List ℕ
@@ -64,12 +66,16 @@ abbrev pub loopback_text : Loopback → List ℕ
 loopback_text Sender = codes "senderLoopback"
 loopback_text Receiver = codes "receiverLoopback"
 
--- a message: its kind, and each of its fields behind its name
+-- at the end of a Call whose results stay with their answerer
+abbrev pub yourself_text : Bool → List ℕ
+yourself_text yourself = if yourself then codes " yourself" else []
+
+-- a message: its kind, and each of its fields behind its name; of a Return it isn't said whether a Finish follows
 abbrev pub message_text : RpcMessage → List ℕ
 message_text (Bootstrap question) = codes "bootstrap question " ++ decimal question
-message_text (Call question target interface method params) = codes "call question " ++ (decimal question ++ (codes " target " ++ (target_text target
-    ++ (codes " interface " ++ (hexadecimal interface ++ (codes " method " ++ (decimal method ++ (codes " " ++ payload_text params))))))))
-message_text (Return answer releases outcome) = codes "return answer " ++ (decimal answer
+message_text (Call question target interface method params yourself) = codes "call question " ++ (decimal question ++ (codes " target " ++ (target_text target
+    ++ (codes " interface " ++ (hexadecimal interface ++ (codes " method " ++ (decimal method ++ (codes " " ++ (payload_text params ++ yourself_text yourself)))))))))
+message_text (Return answer releases outcome light) = codes "return answer " ++ (decimal answer
     ++ (codes " releaseParamCaps " ++ (bool_text releases ++ (codes " " ++ outcome_text outcome))))
 message_text (Finish question releases) = codes "finish question " ++ (decimal question ++ (codes " releaseResultCaps " ++ bool_text releases))
 message_text (Resolve promise resolution) = codes "resolve promise " ++ (decimal promise ++ (codes " " ++ resolution_text resolution))

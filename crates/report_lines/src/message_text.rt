@@ -3,7 +3,7 @@
 ghost use Rattle.std.specs.Prelude.{◌≡◌, Some, codes};
 ghost use Rattle.std.specs.Fmt.{WritesOnOk, decimal};
 ghost use Rattle.std.specs.List.{join_by};
-ghost use Rattle.report_lines.specs.MessageText.{path_text, target_text, descriptor_text, field_text, payload_text, outcome_text, resolution_text, loopback_text, hexadecimal, message_text};
+ghost use Rattle.report_lines.specs.MessageText.{path_text, target_text, descriptor_text, field_text, payload_text, outcome_text, resolution_text, loopback_text, hexadecimal, yourself_text, message_text};
 
 use crate::shown::Shown;
 use cap_frame::Path;
@@ -106,6 +106,8 @@ impl Display for Shown<&Outcome> {
             Outcome::Results(results) => write!(f, "results {}", Shown(results)),
             Outcome::Exception => f.write_str("exception"),
             Outcome::Canceled => f.write_str("canceled"),
+            Outcome::Elsewhere => f.write_str("resultsSentElsewhere"),
+            Outcome::TakeFrom(question) => write!(f, "takeFromOtherQuestion {question}"),
         }
     }
 }
@@ -144,28 +146,40 @@ impl Display for Interface {
     }
 }
 
-/// Writes a Call: its question, where it goes, what it calls there, and its parameters.
+/// What the line of a Call says of where its results go: nothing where they go to its caller.
+fn yourself_text(yourself: bool) -> &'static str
+    ensures { result.now ≡ yourself_text yourself }
+{
+    if yourself { " yourself" } else { "" }
+}
+
+/// Writes a Call: its question, where it goes, the interface and the method that it calls there, its parameters, and
+/// whether its results stay with their answerer.
 fn put_call<W: fmt::Write>(
     f: &mut Formatter<W>,
     question: u32,
     target: &Target,
-    interface: u64,
-    method: u16,
+    asked: (u64, u16),
     params: &Payload,
+    yourself: bool,
 ) -> fmt::Result
     ensures { WritesOnOk W.write_str_gives f.old result
-        (message_text (RpcMessage.Call question target.now interface method params.now)) f.new }
+        (message_text (RpcMessage.Call
+        question target.now asked.0 asked.1 params.now yourself)) f.new }
 {
+    let (interface, method) = asked;
     let target = Shown(target);
     let interface = Interface(interface);
     let params = Shown(params);
+    let results = yourself_text(yourself);
     write!(
         f,
-        "call question {question} target {target} interface {interface} method {method} {params}"
+        "call question {question} target {target} interface {interface} method {method} {params}{results}"
     )
 }
 
-/// Writes a Return: its answer, whether it gives back the parameters' capabilities, and what came of the call.
+/// Writes a Return: its answer, whether it gives back the parameters' capabilities, and what came of the call. The line
+/// doesn't say whether a Finish follows.
 fn put_return<W: fmt::Write>(
     f: &mut Formatter<W>,
     answer: u32,
@@ -173,7 +187,7 @@ fn put_return<W: fmt::Write>(
     outcome: &Outcome,
 ) -> fmt::Result
     ensures { WritesOnOk W.write_str_gives f.old result
-        (message_text (RpcMessage.Return answer releases outcome.now)) f.new }
+        (message_text (RpcMessage.Return answer releases outcome.now false)) f.new }
 {
     let outcome = Shown(outcome);
     write!(
@@ -209,11 +223,20 @@ impl Display for Shown<&RpcMessage> {
                 interface,
                 method,
                 params,
-            } => put_call(f, *question, target, *interface, *method, params),
+                yourself,
+            } => put_call(
+                f,
+                *question,
+                target,
+                (*interface, *method),
+                params,
+                *yourself,
+            ),
             RpcMessage::Return {
                 answer,
                 release_param_caps,
                 outcome,
+                ..
             } => put_return(f, *answer, *release_param_caps, outcome),
             RpcMessage::Finish {
                 question,

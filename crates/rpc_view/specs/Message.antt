@@ -2,7 +2,7 @@
 -- number that this profile doesn't list first, then what belongs to another level, then unimplemented, which only
 -- Message's tag says, then tail calls, then what later editions use. The data of a body is judged whole before its
 -- pointers are followed; pointers that a union doesn't select are unread.
-use Rattle.std.specs.Prelude.{◌≡◌, ℕ, ◌<◌, ◌≤◌, ◌==◌, Bool, ◌||◌, List, [], ◌∷◌, Result, Ok, Err, nat_lt, if◌then◌else◌}
+use Rattle.std.specs.Prelude.{◌≡◌, ℕ, ◌<◌, ◌≤◌, ◌==◌, Bool, false, ◌||◌, List, [], ◌∷◌, Result, Ok, Err, nat_lt, if◌then◌else◌}
 use Rattle.cap_frame.specs.declared.frame_error.FrameError.{FrameError}
 use Rattle.cap_frame.specs.Segments.{segments_of}
 use Rattle.cap_reader.specs.declared.limits.Limits.{Limits}
@@ -103,12 +103,12 @@ bootstrap_in tree = do
   bootstrap ← struct_in tree
   done (messages.Bootstrap (bootstrap_question bootstrap))
 
--- what the pointers of a Call hold
+-- what the pointers of a Call hold; its results go to the caller, since a Call that says otherwise is refused
 unfoldable pub called_in : Sections → Reading ViewError RpcMessage
 called_in call = do
   target ← target_in (call_target call)
   params ← payload_in (call_params call)
-  done (messages.Call (call_question call) target (call_interface call) (call_method call) params)
+  done (messages.Call (call_question call) target (call_interface call) (call_method call) params false)
 
 -- why the data of a Call is refused, by whom its results are wanted: 0 the caller, 1 yourself, 2 a third party
 abbrev pub call_refusals : Sections → List (Bool × ViewError)
@@ -133,11 +133,11 @@ outcome_in answer =
     else (if return_tag answer == 2 then done outcomes.Canceled
     else fault errors.BadTag))
 
--- what the pointer of a Return holds
+-- what the pointer of a Return holds; a Finish follows it, since a Return that says otherwise is refused
 unfoldable pub returned_in : Sections → Reading ViewError RpcMessage
 returned_in answer = do
   outcome ← outcome_in answer
-  done (messages.Return (return_answer answer) (return_release_param_caps answer) outcome)
+  done (messages.Return (return_answer answer) (return_release_param_caps answer) outcome false)
 
 -- why the data of a Return is refused, by its tag: 3 and 4 are tail calls, 5 is of a third party
 abbrev pub return_refusals : Sections → List (Bool × ViewError)

@@ -56,6 +56,7 @@ fn read_call_parts(
         interface: u64_of(frame, call, CALL_INTERFACE),
         method: u16_of(frame, call, CALL_METHOD),
         params,
+        yourself: false,
     })
 }
 
@@ -122,6 +123,7 @@ fn read_return_parts(
         answer: u32_of(frame, answer, RETURN_ANSWER),
         release_param_caps: !bit_of(frame, answer, RETURN_RELEASE_PARAM_CAPS),
         outcome,
+        light: false,
     })
 }
 

@@ -82,6 +82,11 @@ pub enum Outcome {
     Exception,
     /// `canceled`.
     Canceled,
+    /// `resultsSentElsewhere`: the results stay with their answerer, as its caller asked. It isn't read for now.
+    Elsewhere,
+    /// `takeFromOtherQuestion`: the results are those of this other question of the Return's sender. It isn't read for
+    /// now.
+    TakeFrom(u32),
 }
 
 /// What a promise was resolved to: the union of rpc.capnp's `Resolve`.
@@ -122,6 +127,9 @@ pub enum RpcMessage {
         method: u16,
         /// `params`.
         params: Payload,
+        /// `sendResultsTo` is `yourself`: the results stay with their answerer, to be taken from there. For now false of
+        /// all that is read.
+        yourself: bool,
     },
     /// Answers a Bootstrap or a Call.
     Return {
@@ -131,6 +139,8 @@ pub enum RpcMessage {
         release_param_caps: bool,
         /// The union of results and what may stand in their place.
         outcome: Outcome,
+        /// `noFinishNeeded`: no Finish follows this Return. For now false of all that is read.
+        light: bool,
     },
     /// Says that a question's answer isn't needed any more.
     Finish {

@@ -5,7 +5,7 @@ use Rattle.std.specs.List.{list_all}
 use Rattle.std.specs.Option.{option_or}
 use Rattle.std.proofs.lemmas.Bool.{cases_Bool, and_parts, or_left, or_right, not-true, false≢true, eqb-true}
 use Rattle.vat_rules.specs.declared.rule.Rule.TheVariants as rule
-use Rattle.vat_rules.specs.Types.{Bootstrap, Call, Return, Exception, Canceled, Resolve, DecodedRecord, Fulfil, Break, Make, Deliver, Answer, Fault, Wire, View, Object, Promise, FieldOf, Import}
+use Rattle.vat_rules.specs.Types.{Bootstrap, Call, Return, Exception, Canceled, Elsewhere, TakeFrom, Resolve, DecodedRecord, Fulfil, Break, Make, Deliver, Answer, Fault, Wire, View, Object, Promise, FieldOf, Import}
 use Rattle.vat_rules.specs.Judged.{IsGood}
 use Rattle.vat_rules.specs.OfCalls.{distinct_paths}
 use Rattle.vat_rules.specs.OfPromises.{IsUnkept, is_unresolved}
@@ -77,12 +77,12 @@ module _ (c : ℕ) where
   -- a record asks another vat for the call: it sends a Bootstrap or a Call of it
   abbrev asks : Past → DecodedRecord → Bool
   asks before (Wire true k d rs (Bootstrap q)) = d == c
-  asks before (Wire true k d rs (Call q t f m p)) = d == c
+  asks before (Wire true k d rs (Call q t f m p yourself)) = d == c
   asks before _ = false
 
   -- a received Return ends what was asked for
   abbrev comes_back : Past → DecodedRecord → Bool
-  comes_back before (Wire false k d rs (Return q release outcome)) = is c (call_at (opening (id k true q) before))
+  comes_back before (Wire false k d rs (Return q release outcome light)) = is c (call_at (opening (id k true q) before))
   comes_back before _ = false
 
   -- ---- what a record does to a call
@@ -152,18 +152,22 @@ module _ (c : ℕ) where
     | inl same ↦ booted (fresh before d (good rule.Ref).unused_call same) refl refl refl
     | inr apart ↦ quiet refl refl apart refl (λ h. h)
   ]
-  effect before (Wire true k d rs (Call q t f m p)) good = elim (cases_Bool (d == c)) [
+  effect before (Wire true k d rs (Call q t f m p yourself)) good = elim (cases_Bool (d == c)) [
     | inl same ↦ sends (named (λ x. is_at_vat x before) d (good rule.Here) same) refl refl refl (left_if (d == c) (last_answer (moves c) before) same)
     | inr apart ↦ quiet apart refl refl refl (stayed_if (d == c) (last_answer (moves c) before))
   ]
-  effect before (Wire false k d rs (Call q t f m p)) good = elim (cases_Bool (d == c)) [
+  effect before (Wire false k d rs (Call q t f m p yourself)) good = elim (cases_Bool (d == c)) [
     | inl same ↦ makes (fresh before d (good rule.Ref).unused_call same) refl refl refl refl
     | inr apart ↦ quiet refl refl refl refl
-        (let a : Asked = record { goal = view_of_target before (Wire false k d rs (Call q t f m p)); interface = f; method = m } in came_if a (d == c) (last_answer (moves c) before) apart)
+        (let a : Asked = record { goal = view_of_target before (Wire false k d rs (Call q t f m p yourself)); interface = f; method = m } in came_if a (d == c) (last_answer (moves c) before) apart)
   ]
-  effect before (Wire true k d rs (Return q release Exception)) good =
+  effect before (Wire true k d rs (Return q release Exception light)) good =
       quiet refl refl refl refl (stayed_if (is c (call_at (opening (id k false q) before))) (last_answer (moves c) before))
-  effect before (Wire true k d rs (Return q release Canceled)) good =
+  effect before (Wire true k d rs (Return q release Canceled light)) good =
+      quiet refl refl refl refl (stayed_if (is c (call_at (opening (id k false q) before))) (last_answer (moves c) before))
+  effect before (Wire true k d rs (Return q release Elsewhere light)) good =
+      quiet refl refl refl refl (stayed_if (is c (call_at (opening (id k false q) before))) (last_answer (moves c) before))
+  effect before (Wire true k d rs (Return q release (TakeFrom n) light)) good =
       quiet refl refl refl refl (stayed_if (is c (call_at (opening (id k false q) before))) (last_answer (moves c) before))
   effect before _ good = quiet refl refl refl refl (λ h. h)
 
@@ -171,7 +175,7 @@ module _ (c : ℕ) where
 
   asks_bound : (before : Past) (e : DecodedRecord) → IsGood before e → asks before e ≡ true → is_bound_call (e ∷ before) c ≡ true
   asks_bound before (Wire true k d rs (Bootstrap q)) good same = or_left ((d == c) || false) (is_bound_call before c) (or_left (d == c) false same)
-  asks_bound before (Wire true k d rs (Call q t f m p)) good same =
+  asks_bound before (Wire true k d rs (Call q t f m p yourself)) good same =
       named (λ x. is_bound_call before x) d (and_parts (is_bound_call before d) true (good rule.Ref).bound_call).0 same
   asks_bound before _ good h = absurd (false≢true h)
 
@@ -295,15 +299,15 @@ module _ (c : ℕ) where
 
   asks_once : (before : Past) (e : DecodedRecord) → Each IsGood before → IsGood before e → asks before e ≡ true → has_passed asks before ≡ false
   asks_once before (Wire true k d rs (Bootstrap q)) past good same = unasked before past (fresh before d (good rule.Ref).unused_call same)
-  asks_once before (Wire true k d rs (Call q t f m p)) past good same = (placed before past).here_unasked (named (λ x. is_at_vat x before) d (good rule.Here) same)
+  asks_once before (Wire true k d rs (Call q t f m p yourself)) past good same = (placed before past).here_unasked (named (λ x. is_at_vat x before) d (good rule.Here) same)
   asks_once before _ past good h = absurd (false≢true h)
 
   -- an own question that is opened for the call asks for it
   opens_asks : (k n : ℕ) (before : Past) (e : DecodedRecord) → opens (id k true n) before e ≡ true → is c (call_at (Some (point before e))) ≡ true → asks before e ≡ true
   opens_asks k n before (Wire true j d rs (Bootstrap q)) new same = same
-  opens_asks k n before (Wire true j d rs (Call q t f m p)) new same = same
+  opens_asks k n before (Wire true j d rs (Call q t f m p yourself)) new same = same
   opens_asks k n before (Wire false j d rs (Bootstrap q)) new same = absurd (false≢true (sym (ap (λ i. i.ours) (same_id_is (id k true n) (id j false q) new))))
-  opens_asks k n before (Wire false j d rs (Call q t f m p)) new same = absurd (false≢true (sym (ap (λ i. i.ours) (same_id_is (id k true n) (id j false q) new))))
+  opens_asks k n before (Wire false j d rs (Call q t f m p yourself)) new same = absurd (false≢true (sym (ap (λ i. i.ours) (same_id_is (id k true n) (id j false q) new))))
   opens_asks k n before _ new same = absurd (false≢true new)
 
   opening_now : (q : TableKey) (before : Past) (e : DecodedRecord) → opens q before e ≡ true → opening q (e ∷ before) ≡ Some (point before e)
@@ -349,7 +353,7 @@ module _ (c : ℕ) where
   -- ---- what was asked for comes back once
 
   back_asked : (before : Past) (e : DecodedRecord) → comes_back before e ≡ true → has_passed asks before ≡ true
-  back_asked before (Wire false k d rs (Return q release outcome)) h = opening_asked k q before h
+  back_asked before (Wire false k d rs (Return q release outcome light)) h = opening_asked k q before h
   back_asked before _ h = absurd (false≢true h)
 
   came_asked : (past : Past) → has_passed comes_back past ≡ true → has_passed asks past ≡ true
@@ -370,12 +374,12 @@ module _ (c : ℕ) where
       ]
 
   back_returns : (k n : ℕ) (before : Past) (e : DecodedRecord) → Each IsGood before → comes_back before e ≡ true → of_call (id k true n) before ≡ true → returns (id k true n) before e ≡ true
-  back_returns k n before (Wire false j d rs (Return q release outcome)) past h g =
+  back_returns k n before (Wire false j d rs (Return q release outcome light)) past h g =
       subst (λ i. same_id i (id j true q) ≡ true) (sym (one_question k n j q before past g h)) (same_id_self (id j true q))
   back_returns k n before _ past h g = absurd (false≢true h)
 
   opens_not_back : (k n : ℕ) (before : Past) (e : DecodedRecord) → opens (id k true n) before e ≡ true → comes_back before e ≡ true → ⊥
-  opens_not_back k n before (Wire false j d rs (Return q release outcome)) new h = false≢true new
+  opens_not_back k n before (Wire false j d rs (Return q release outcome light)) new h = false≢true new
   opens_not_back k n before _ new h = false≢true h
 
   -- the question of a call that came back is returned
@@ -404,7 +408,7 @@ module _ (c : ℕ) where
     no_turn : (before : Past) (e : DecodedRecord) → settles c before e ≡ false → comes_back before e ≡ false → answers c path before e ≡ None
     no_turn before (Answer d results) s b = quiet_if _ (d == c) s
     no_turn before (Fault d) s b = quiet_if _ (d == c) s
-    no_turn before (Wire false k d rs (Return q release outcome)) s b = quiet_if _ (is c (call_at (opening (id k true q) before))) b
+    no_turn before (Wire false k d rs (Return q release outcome light)) s b = quiet_if _ (is c (call_at (opening (id k true q) before))) b
     no_turn before _ s b = refl
 
     passed_parts : (test : Past → DecodedRecord → Bool) (before : Past) (e : DecodedRecord) → has_passed test (e ∷ before) ≡ false → (test before e ≡ false) × (has_passed test before ≡ false)
@@ -446,7 +450,7 @@ module _ (c : ℕ) where
         let both = and_parts (is_at_vat d before || is_served d before) (not (is_settled d before)) (good rule.Answer) in
         field_stays before (not-true (is_settled c before) (named (λ x. not (is_settled x before)) d both.1 same))
         (never_back before past (no_fault before past (placed before past) (named (λ x. is_at_vat x before || is_served x before) d both.0 same)))
-    field_turns_once before (Wire false k d rs (Return q release outcome)) past good turned =
+    field_turns_once before (Wire false k d rs (Return q release outcome light)) past good turned =
         let here : of_call (id k true q) before ≡ true = turned_if _ (is c (call_at (opening (id k true q) before))) turned in
         let unreturned = not-true (is_returned (id k true q) before) (and_parts (is_opened (id k true q) before) (not (is_returned (id k true q) before)) (good rule.QUse).returned_once).1 in
         field_stays before ((placed before past).asked_unsettled (opening_asked k q before here)) (elim (cases_Bool (has_passed comes_back before)) [

@@ -12,7 +12,7 @@ use Rattle.vat_rules.specs.Ways.{LeadsTo}
 -- HERE: a call that is delivered or sent on is at the vat
 abbrev pub IsHere : Past → DecodedRecord → Type 0
 IsHere before (Deliver call object) = IsTrue (is_at_vat call before)
-IsHere before (Wire true k call references (Call q target interface method params)) = IsTrue (is_at_vat call before)
+IsHere before (Wire true k call references (Call q target interface method params yourself)) = IsTrue (is_at_vat call before)
 IsHere before _ = ⊤
 
 -- (rpc.capnp, Call.target, interfaceId and methodId)
@@ -20,8 +20,8 @@ IsHere before _ = ⊤
 -- interface and method are the call's
 abbrev pub GoesToGoal : Past → DecodedRecord → Type 0
 GoesToGoal before (Deliver call object) = LeadsTo before (goal_of call before) (Some (Object object))
-GoesToGoal before (Wire true k call references (Call q target interface method params)) =
-    let there = view_of_target before (Wire true k call references (Call q target interface method params)) in
+GoesToGoal before (Wire true k call references (Call q target interface method params yourself)) =
+    let there = view_of_target before (Wire true k call references (Call q target interface method params yourself)) in
     IsSomeAnd (request_of call before) (λ a. LeadsTo before a.goal there × (interface ≡ a.interface) × (method ≡ a.method))
 GoesToGoal before _ = ⊤
 

@@ -24,8 +24,8 @@ ReturnsFields before e fields call = IsTrue (is_known call before) × AllByRecur
 -- index is a descriptor that isn't none, the known result leads to what that descriptor stands for. With canceled, a
 -- Finish was received
 abbrev pub ReturnsKnown : Past → DecodedRecord → Type 0
-ReturnsKnown before (Wire true k c rs (Return q release (Results payload))) =
-    let e = Wire true k c rs (Return q release (Results payload)) in
+ReturnsKnown before (Wire true k c rs (Return q release (Results payload) light)) =
+    let e = Wire true k c rs (Return q release (Results payload) light) in
     is_late before e ≡ false → IsSomeAnd (call_at (opening (id k false q) before)) (ReturnsFields before e payload.fields)
-ReturnsKnown before (Wire true k c rs (Return q release Canceled)) = IsTrue (is_finished (id k false q) before)
+ReturnsKnown before (Wire true k c rs (Return q release Canceled light)) = IsTrue (is_finished (id k false q) before)
 ReturnsKnown before _ = ⊤

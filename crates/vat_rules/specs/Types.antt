@@ -2,7 +2,7 @@
 pub use Rattle.rpc_view.specs.declared.message.Descriptor.{Descriptor}
 pub use Rattle.rpc_view.specs.declared.message.Descriptor.TheVariants.{NoCap, SenderHosted, SenderPromise, ReceiverHosted, ReceiverAnswer}
 pub use Rattle.rpc_view.specs.declared.message.Outcome.{Outcome}
-pub use Rattle.rpc_view.specs.declared.message.Outcome.TheVariants.{Results, Exception, Canceled}
+pub use Rattle.rpc_view.specs.declared.message.Outcome.TheVariants.{Results, Exception, Canceled, Elsewhere, TakeFrom}
 pub use Rattle.rpc_view.specs.declared.message.Loopback.{Loopback}
 pub use Rattle.rpc_view.specs.declared.message.Loopback.TheVariants.{Sender, Receiver}
 pub use Rattle.rpc_view.specs.declared.message.RpcMessage.{RpcMessage}

@@ -53,7 +53,7 @@ call_of_opening q past None = refl
 -- ---- what was never opened was never returned or finished
 
 returns_opened : (q : TableKey) (before : Past) (e : DecodedRecord) → UsesQuestions before e → returns q before e ≡ true → is_opened q before ≡ true
-returns_opened q before (Wire s k c rs (Return n release outcome)) uses h =
+returns_opened q before (Wire s k c rs (Return n release outcome light)) uses h =
     (and_parts (is_opened q before) (not (is_returned q before)) (subst (λ x. is_unreturned x before ≡ true) (sym (same_id_is q (id k (not s) n) h)) uses.returned_once)).0
 returns_opened q before _ uses h = absurd (false≢true h)
 
@@ -125,7 +125,7 @@ module _ (past : Past) (questions : Questions) (lives : ExportsImports) (bound :
       ∙ released_at q past (opening q past) (λ h. ap (λ o. is_some o) (unopened q (releases q) (releases_opened q) past kept.sound h))
 
   pub late_is : (e : DecodedRecord) → late_by (question_at questions) e ≡ is_late past e
-  late_is (Wire s k c rs (Return q release outcome)) = released_known (id k (not s) q)
+  late_is (Wire s k c rs (Return q release outcome light)) = released_known (id k (not s) q)
   late_is _ = refl
 
   pub alive_known : (i : TableKey) (count : ℕ) → count ≡ count_at lives i → count ≡ held i past
@@ -172,7 +172,7 @@ module _ (past : Past) (questions : Questions) (lives : ExportsImports) (bound :
   -- ---- what is given back
 
   closed_is : (e : DecodedRecord) → given_back_by (question_at questions) e ≡ introductions_at (closes past e)
-  closed_is (Wire s k c rs (Return q true outcome)) = let i : TableKey = id k (not s) q in ap (λ o. params_introduced_in o) (kept.tabled.tabled.known i) ∙ asked_at i past (opening i past)
+  closed_is (Wire s k c rs (Return q true outcome light)) = let i : TableKey = id k (not s) q in ap (λ o. params_introduced_in o) (kept.tabled.tabled.known i) ∙ asked_at i past (opening i past)
   closed_is (Wire s k c rs (Finish q true)) = let i : TableKey = id k s q in
       ap (λ o. results_introduced_in o) (kept.tabled.tabled.known i) ∙ brought_at i past (opening i past) (λ h. unopened i (returns i) (returns_opened i) past kept.sound h)
   closed_is _ = refl

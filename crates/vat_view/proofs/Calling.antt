@@ -8,7 +8,7 @@ use Rattle.vat_view.specs.declared.tables.call_state.CallState.{CallState}
 use Rattle.vat_view.specs.declared.tables.call_state.CallChange.{CallChange}
 use Rattle.vat_view.specs.declared.tables.call_state.CallChange.TheVariants.{Left, Delivered, Faulted, Answered, Known}
 use Rattle.vat_view.specs.declared.tables.call_state.CallEffect.TheVariants.{Nothing, Begins}
-use Rattle.vat_view.specs.Types.{Bootstrap, Call, Return, Results, Exception, Canceled, DecodedRecord, Make, Deliver, Answer, Fault, Wire, View, Asked, TableKey}
+use Rattle.vat_view.specs.Types.{Bootstrap, Call, Return, Results, Exception, Canceled, Elsewhere, TakeFrom, DecodedRecord, Make, Deliver, Answer, Fault, Wire, View, Asked, TableKey}
 use Rattle.vat_view.specs.Past.{Past, Point, point, id, is, last_answer, last_where, Each}
 use Rattle.vat_view.specs.Questions.{opening, call_at, is_late}
 use Rattle.vat_view.specs.Views.{view_of_reference, view_of_target}
@@ -21,14 +21,16 @@ use Rattle.vat_view.proofs.Unbound.{IsUnknown, unknown}
 -- ---- news by the tables
 
 sent_same : (opened other : TableKey → Option ℕ) → ((q : TableKey) → opened q ≡ other q) → (e : DecodedRecord) → sent_effect opened e ≡ sent_effect other e
-sent_same opened other same (Wire true k c rs (Return q release Exception)) = ap (λ o. change_of_call Left o) (same (id k false q))
-sent_same opened other same (Wire true k c rs (Return q release Canceled)) = ap (λ o. change_of_call Left o) (same (id k false q))
+sent_same opened other same (Wire true k c rs (Return q release Exception light)) = ap (λ o. change_of_call Left o) (same (id k false q))
+sent_same opened other same (Wire true k c rs (Return q release Canceled light)) = ap (λ o. change_of_call Left o) (same (id k false q))
+sent_same opened other same (Wire true k c rs (Return q release Elsewhere light)) = ap (λ o. change_of_call Left o) (same (id k false q))
+sent_same opened other same (Wire true k c rs (Return q release (TakeFrom n) light)) = ap (λ o. change_of_call Left o) (same (id k false q))
 sent_same opened other same _ = refl
 
 received_same : (target goal : Option View) (late tardy : Bool) (opened other : TableKey → Option ℕ) → target ≡ goal → late ≡ tardy → ((q : TableKey) → opened q ≡ other q) →
     (e : DecodedRecord) → received_effect target late opened e ≡ received_effect goal tardy other e
-received_same target goal late tardy opened other same when named (Wire false k c rs (Call q t f m p)) = ap (λ v. Begins c (arriving_call v f m)) same
-received_same target goal late tardy opened other same when named (Wire false k c rs (Return q release (Results payload))) =
+received_same target goal late tardy opened other same when named (Wire false k c rs (Call q t f m p yourself)) = ap (λ v. Begins c (arriving_call v f m)) same
+received_same target goal late tardy opened other same when named (Wire false k c rs (Return q release (Results payload) light)) =
     ap (λ b. if b then Nothing else change_of_call Known (opened (id k true q))) when ∙ ap (λ o. if tardy then Nothing else change_of_call Known o) (named (id k true q))
 received_same target goal late tardy opened other same when named _ = refl
 
@@ -174,16 +176,18 @@ progress_step c before sound (Answer d results) refers = answered_step c before 
 progress_step c before sound (Fault d) refers = faulted_step c before (point before (Fault d)) (d == c) (is_bound_call before c)
 progress_step c before sound (Wire true k d rs (Bootstrap q)) refers =
     booted_step c before (point before (Wire true k d rs (Bootstrap q))) false (d == c) (was_unknown before sound c d refers.unused_call)
-progress_step c before sound (Wire true k d rs (Call q t f m p)) refers = left_step c before (d == c) (is_bound_call before c)
-progress_step c before sound (Wire true k d rs (Return q release Exception)) refers = left_by c before (call_at (opening (id k false q) before))
-progress_step c before sound (Wire true k d rs (Return q release Canceled)) refers = left_by c before (call_at (opening (id k false q) before))
+progress_step c before sound (Wire true k d rs (Call q t f m p yourself)) refers = left_step c before (d == c) (is_bound_call before c)
+progress_step c before sound (Wire true k d rs (Return q release Exception light)) refers = left_by c before (call_at (opening (id k false q) before))
+progress_step c before sound (Wire true k d rs (Return q release Canceled light)) refers = left_by c before (call_at (opening (id k false q) before))
+progress_step c before sound (Wire true k d rs (Return q release Elsewhere light)) refers = left_by c before (call_at (opening (id k false q) before))
+progress_step c before sound (Wire true k d rs (Return q release (TakeFrom n) light)) refers = left_by c before (call_at (opening (id k false q) before))
 progress_step c before sound (Wire false k d rs (Bootstrap q)) refers =
     booted_step c before (point before (Wire false k d rs (Bootstrap q))) true (d == c) (was_unknown before sound c d refers.unused_call)
-progress_step c before sound (Wire false k d rs (Call q t f m p)) refers =
-    let e : DecodedRecord = Wire false k d rs (Call q t f m p) in
+progress_step c before sound (Wire false k d rs (Call q t f m p yourself)) refers =
+    let e : DecodedRecord = Wire false k d rs (Call q t f m p yourself) in
     brought_step c before (record { goal = view_of_target before e; interface = f; method = m }) (d == c) (was_unknown before sound c d refers.unused_call)
-progress_step c before sound (Wire false k d rs (Return q release (Results payload))) refers =
-    let e : DecodedRecord = Wire false k d rs (Return q release (Results payload)) in known_by c before (point before e) (is_late before e) (call_at (opening (id k true q) before))
+progress_step c before sound (Wire false k d rs (Return q release (Results payload) light)) refers =
+    let e : DecodedRecord = Wire false k d rs (Return q release (Results payload) light) in known_by c before (point before e) (is_late before e) (call_at (opening (id k true q) before))
 progress_step c before sound _ refers = refl
 
 -- what is newly bound wasn't
@@ -205,9 +209,11 @@ pub begins_unbound : (before : Past) (e : DecodedRecord) → Refers before e →
 begins_unbound before (Make c r f m) refers d p h = fresh before c d refers.unused_call (begins_same c d _ p h)
 begins_unbound before (Wire true k c rs (Bootstrap q)) refers d p h = fresh before c d refers.unused_call (begins_same c d _ p h)
 begins_unbound before (Wire false k c rs (Bootstrap q)) refers d p h = fresh before c d refers.unused_call (begins_same c d _ p h)
-begins_unbound before (Wire false k c rs (Call q t f m params)) refers d p h = fresh before c d refers.unused_call (begins_same c d _ p h)
-begins_unbound before (Wire true k c rs (Return q release Exception)) refers d p h = absurd (step_begins Left (call_at (opening (id k false q) before)) d p h)
-begins_unbound before (Wire true k c rs (Return q release Canceled)) refers d p h = absurd (step_begins Left (call_at (opening (id k false q) before)) d p h)
-begins_unbound before (Wire false k c rs (Return q release (Results payload))) refers d p h =
-    absurd (known_begins (is_late before (Wire false k c rs (Return q release (Results payload)))) (call_at (opening (id k true q) before)) d p h)
+begins_unbound before (Wire false k c rs (Call q t f m params yourself)) refers d p h = fresh before c d refers.unused_call (begins_same c d _ p h)
+begins_unbound before (Wire true k c rs (Return q release Exception light)) refers d p h = absurd (step_begins Left (call_at (opening (id k false q) before)) d p h)
+begins_unbound before (Wire true k c rs (Return q release Canceled light)) refers d p h = absurd (step_begins Left (call_at (opening (id k false q) before)) d p h)
+begins_unbound before (Wire true k c rs (Return q release Elsewhere light)) refers d p h = absurd (step_begins Left (call_at (opening (id k false q) before)) d p h)
+begins_unbound before (Wire true k c rs (Return q release (TakeFrom n) light)) refers d p h = absurd (step_begins Left (call_at (opening (id k false q) before)) d p h)
+begins_unbound before (Wire false k c rs (Return q release (Results payload) light)) refers d p h =
+    absurd (known_begins (is_late before (Wire false k c rs (Return q release (Results payload) light))) (call_at (opening (id k true q) before)) d p h)
 begins_unbound before _ refers d p h = absurd (let no : ⊥ = cc in no)

@@ -64,12 +64,12 @@ introduces_none i before s k c rs m other =
 
 opener : (i q : TableKey) (before : Past) (e : DecodedRecord) → i.ours ≡ not q.ours → opens q before e ≡ true → introduces i before e ≡ 0
 opener i q before (Wire s k c rs (Bootstrap n)) other h = introduces_none i before s k c rs (Bootstrap n) (other ∙ ap (λ x. not x.ours) (same_id_is q (id k s n) h))
-opener i q before (Wire s k c rs (Call n t f m p)) other h = introduces_none i before s k c rs (Call n t f m p) (other ∙ ap (λ x. not x.ours) (same_id_is q (id k s n) h))
+opener i q before (Wire s k c rs (Call n t f m p yourself)) other h = introduces_none i before s k c rs (Call n t f m p yourself) (other ∙ ap (λ x. not x.ours) (same_id_is q (id k s n) h))
 opener i q before _ other h = absurd (false≢true h)
 
 returner : (i q : TableKey) (before : Past) (e : DecodedRecord) → i.ours ≡ q.ours → returns q before e ≡ true → introduces i before e ≡ 0
-returner i q before (Wire s k c rs (Return n release outcome)) same h =
-    introduces_none i before s k c rs (Return n release outcome) (same ∙ ap (λ x. x.ours) (same_id_is q (id k (not s) n) h))
+returner i q before (Wire s k c rs (Return n release outcome light)) same h =
+    introduces_none i before s k c rs (Return n release outcome light) (same ∙ ap (λ x. x.ours) (same_id_is q (id k (not s) n) h))
 returner i q before _ same h = absurd (false≢true h)
 
 opening_none : (i q : TableKey) (past : Past) → i.ours ≡ not q.ours → count_by (same_id i) (introductions_at (opening q past)) ≡ 0
@@ -92,7 +92,7 @@ return_none i q (e ∷ before) same = elim (cases_Bool (opens q before e)) [
 
 pub sender_keeps : (i : TableKey) (before : Past) (s : Bool) (k c : ℕ) (rs : List ℕ) (m : RpcMessage) → i.ours ≡ s → gives_back i before (Wire s k c rs m) ≡ 0
 sender_keeps i before s k c rs (Release n count) same = ap (λ b. if b then count else 0) (other_side i (id k (not s) n) (same ∙ sym (not_not s)))
-sender_keeps i before s k c rs (Return q true outcome) same = opening_none i (id k (not s) q) before (same ∙ sym (not_not s))
+sender_keeps i before s k c rs (Return q true outcome light) same = opening_none i (id k (not s) q) before (same ∙ sym (not_not s))
 sender_keeps i before s k c rs (Finish q true) same = return_none i (id k s q) before same
 sender_keeps i before s k c rs _ same = refl
 

@@ -35,12 +35,12 @@ asked_at q past None = refl
 
 module _ (known : TableKey → Option Question) (before : Past) (same : (q : TableKey) → known q ≡ question_known q before) where
   pub late_known : (e : DecodedRecord) → UsesQuestions before e → late_by known e ≡ is_late before e
-  late_known (Wire s k c rs (Return q release outcome)) h = let i : TableKey = id k (not s) q in
+  late_known (Wire s k c rs (Return q release outcome light)) h = let i : TableKey = id k (not s) q in
       ap (λ o. results_released_in o) (same i) ∙ released_at i before (opening i before) (and_parts (is_opened i before) (not (is_returned i before)) h.returned_once).0
   late_known _ h = refl
 
   pub closed_known : (e : DecodedRecord) → UsesQuestions before e → given_back_by known e ≡ introductions_at (closes before e)
-  closed_known (Wire s k c rs (Return q true outcome)) h = let i : TableKey = id k (not s) q in ap (λ o. params_introduced_in o) (same i) ∙ asked_at i before (opening i before)
+  closed_known (Wire s k c rs (Return q true outcome light)) h = let i : TableKey = id k (not s) q in ap (λ o. params_introduced_in o) (same i) ∙ asked_at i before (opening i before)
   closed_known (Wire s k c rs (Finish q true)) h = let i : TableKey = id k s q in
       ap (λ o. results_introduced_in o) (same i)
       ∙ brought_at i before (opening i before) (and_parts (is_opened i before) (not (is_finished i before)) (and_parts (is_unfinished i before) true h.used).0).0

@@ -7,7 +7,7 @@ use Rattle.std.specs.Str.{bytes_eq as same_path}
 use Rattle.std.proofs.lemmas.List.Sums.{sum_by-cons}
 use Rattle.std.proofs.lemmas.Option.{slice_get_past}
 use Rattle.std.proofs.lemmas.Bool.{and_parts, or_left, or_right, or_parts, cases_Bool, not-true, eqb-true, eq-eqb, ne_eqb, both_ways}
-use Rattle.vat_view.specs.Types.{Descriptor, NoCap, SenderHosted, SenderPromise, ReceiverHosted, ReceiverAnswer, RpcMessage, Outcome, Return, Resolve, Results, Exception, Canceled, DecodedRecord, Fulfil, Break, Answer, Fault, Wire, View, Object, Promise, FieldOf, Import}
+use Rattle.vat_view.specs.Types.{Descriptor, NoCap, SenderHosted, SenderPromise, ReceiverHosted, ReceiverAnswer, RpcMessage, Outcome, Return, Resolve, Results, Exception, Canceled, Elsewhere, TakeFrom, DecodedRecord, Fulfil, Break, Answer, Fault, Wire, View, Object, Promise, FieldOf, Import}
 use Rattle.vat_view.specs.Past.{Past, Point, id, point, is, record_index, last_answer, last_where, Each}
 use Rattle.vat_view.specs.Questions.{is_late, call_at, opening}
 use Rattle.vat_view.specs.Lives.{Birth, birth, descriptors, descriptors_of}
@@ -236,8 +236,8 @@ turn_there path before e = on_to (option_and_then (view_of_reference (e ∷ befo
 promise_turns : (p : ℕ) (before : Past) (e : DecodedRecord) → keeps p before e ≡ (if is_this (PromiseToKeep p) (settlement_of before e) then Some (turn_there [] before e) else None)
 promise_turns p before (Fulfil r to) = ap (λ b. if b then Some (on_to (view_of_reference before to)) else None) (is_promise_this p (view_of_reference before r))
 promise_turns p before (Break r) = ap (λ b. if b then Some stops else None) (is_promise_this p (view_of_reference before r))
-promise_turns p before (Wire false k c rs (Return q release outcome)) =
-    unsettled (is_this (PromiseToKeep p) (option_map ResultsOf (call_at (opening (id k true q) before)))) (turn_there [] before (Wire false k c rs (Return q release outcome)))
+promise_turns p before (Wire false k c rs (Return q release outcome light)) =
+    unsettled (is_this (PromiseToKeep p) (option_map ResultsOf (call_at (opening (id k true q) before)))) (turn_there [] before (Wire false k c rs (Return q release outcome light)))
     (no_results (PromiseToKeep p) (λ call. refl) (call_at (opening (id k true q) before)))
 promise_turns p before (Wire false k c rs (Resolve n resolution)) =
     unsettled (is_this (PromiseToKeep p) (option_map import_at (birth (id k false n) before))) (turn_there [] before (Wire false k c rs (Resolve n resolution)))
@@ -246,35 +246,39 @@ promise_turns p before (Answer c results) = refl
 promise_turns p before (Fault c) = refl
 promise_turns p before _ = refl
 
-module _ (before : Past) (k c : ℕ) (rs : List ℕ) (q : ℕ) (release : Bool) where
-  brought : (path : List ℕ) (outcome : Outcome) → Refers before (Wire false k c rs (Return q release outcome)) → NotesEach before (Wire false k c rs (Return q release outcome)) →
-      is_late before (Wire false k c rs (Return q release outcome)) ≡ false →
-      on_to (result_at path before (Wire false k c rs (Return q release outcome)) outcome) ≡ turn_there path before (Wire false k c rs (Return q release outcome))
+module _ (before : Past) (k c : ℕ) (rs : List ℕ) (q : ℕ) (release light : Bool) where
+  brought : (path : List ℕ) (outcome : Outcome) → Refers before (Wire false k c rs (Return q release outcome light)) → NotesEach before (Wire false k c rs (Return q release outcome light)) →
+      is_late before (Wire false k c rs (Return q release outcome light)) ≡ false →
+      on_to (result_at path before (Wire false k c rs (Return q release outcome light)) outcome) ≡ turn_there path before (Wire false k c rs (Return q release outcome light))
   brought path Exception refers notes late = refl
   brought path Canceled refers notes late = refl
+  brought path Elsewhere refers notes late = refl
+  brought path (TakeFrom n) refers notes late = refl
   brought path (Results payload) refers notes late = ap (λ o. on_to o) (found (find (λ field. same_path field.0 path) payload.fields))
     where
-      found : (o : Option (List ℕ × ℕ)) → option_and_then (λ field. view_of_descriptor before (Wire false k c rs (Return q release (Results payload))) field.1) o
-          ≡ option_and_then (view_of_reference (Wire false k c rs (Return q release (Results payload)) ∷ before))
-          (option_and_then (λ field. reference_at (Wire false k c rs (Return q release (Results payload))) field.1) o)
-      found (Some field) = sym (noted_view before k c rs (Return q release (Results payload)) refers notes late field.1)
+      found : (o : Option (List ℕ × ℕ)) → option_and_then (λ field. view_of_descriptor before (Wire false k c rs (Return q release (Results payload) light)) field.1) o
+          ≡ option_and_then (view_of_reference (Wire false k c rs (Return q release (Results payload) light) ∷ before))
+          (option_and_then (λ field. reference_at (Wire false k c rs (Return q release (Results payload) light)) field.1) o)
+      found (Some field) = sym (noted_view before k c rs (Return q release (Results payload) light) refers notes late field.1)
       found None = refl
 
-  brought_late : (path : List ℕ) (outcome : Outcome) → Refers before (Wire false k c rs (Return q release outcome)) → NotesEach before (Wire false k c rs (Return q release outcome)) →
-      is_late before (Wire false k c rs (Return q release outcome)) ≡ true → stops ≡ turn_there path before (Wire false k c rs (Return q release outcome))
+  brought_late : (path : List ℕ) (outcome : Outcome) → Refers before (Wire false k c rs (Return q release outcome light)) → NotesEach before (Wire false k c rs (Return q release outcome light)) →
+      is_late before (Wire false k c rs (Return q release outcome light)) ≡ true → stops ≡ turn_there path before (Wire false k c rs (Return q release outcome light))
   brought_late path Exception refers notes late = refl
   brought_late path Canceled refers notes late = refl
+  brought_late path Elsewhere refers notes late = refl
+  brought_late path (TakeFrom n) refers notes late = refl
   brought_late path (Results payload) refers notes late =
-      let e : DecodedRecord = Wire false k c rs (Return q release (Results payload)) in
+      let e : DecodedRecord = Wire false k c rs (Return q release (Results payload) light) in
       ap (λ o. on_to (option_and_then (view_of_reference (e ∷ before)) o)) (sym (found (find (λ field. same_path field.0 path) payload.fields)))
     where
-      found : (o : Option (List ℕ × ℕ)) → option_and_then (λ field. reference_at (Wire false k c rs (Return q release (Results payload))) field.1) o ≡ None
-      found (Some field) = late_reference before k c rs (Return q release (Results payload)) refers notes late field.1
+      found : (o : Option (List ℕ × ℕ)) → option_and_then (λ field. reference_at (Wire false k c rs (Return q release (Results payload) light)) field.1) o ≡ None
+      found (Some field) = late_reference before k c rs (Return q release (Results payload) light) refers notes late field.1
       found None = refl
 
-  returned_turns : (path : List ℕ) (outcome : Outcome) → Refers before (Wire false k c rs (Return q release outcome)) → NotesEach before (Wire false k c rs (Return q release outcome)) →
-      (late : Bool) → is_late before (Wire false k c rs (Return q release outcome)) ≡ late →
-      (if late then stops else on_to (result_at path before (Wire false k c rs (Return q release outcome)) outcome)) ≡ turn_there path before (Wire false k c rs (Return q release outcome))
+  returned_turns : (path : List ℕ) (outcome : Outcome) → Refers before (Wire false k c rs (Return q release outcome light)) → NotesEach before (Wire false k c rs (Return q release outcome light)) →
+      (late : Bool) → is_late before (Wire false k c rs (Return q release outcome light)) ≡ late →
+      (if late then stops else on_to (result_at path before (Wire false k c rs (Return q release outcome light)) outcome)) ≡ turn_there path before (Wire false k c rs (Return q release outcome light))
   returned_turns path outcome refers notes true late = brought_late path outcome refers notes late
   returned_turns path outcome refers notes false late = brought path outcome refers notes late
 
@@ -283,9 +287,9 @@ field_turns : (call : ℕ) (path : List ℕ) (before : Past) (e : DecodedRecord)
 field_turns call path before (Answer c results) refers notes =
     ap (λ o. if c == call then Some (on_to o) else None) (answer_there (view_of_reference before) (find (λ answer. same_path answer.1 path) results))
 field_turns call path before (Fault c) refers notes = refl
-field_turns call path before (Wire false k c rs (Return q release outcome)) refers notes =
-    let e : DecodedRecord = Wire false k c rs (Return q release outcome) in
-    ap₂ (λ b x. if b then Some x else None) (is_results call (call_at (opening (id k true q) before))) (returned_turns before k c rs q release path outcome refers notes (is_late before e) refl)
+field_turns call path before (Wire false k c rs (Return q release outcome light)) refers notes =
+    let e : DecodedRecord = Wire false k c rs (Return q release outcome light) in
+    ap₂ (λ b x. if b then Some x else None) (is_results call (call_at (opening (id k true q) before))) (returned_turns before k c rs q release light path outcome refers notes (is_late before e) refl)
 field_turns call path before (Wire false k c rs (Resolve n resolution)) refers notes =
     unsettled (is_this (ResultsOf call) (option_map import_at (birth (id k false n) before))) (turn_there path before (Wire false k c rs (Resolve n resolution)))
     (no_import (ResultsOf call) (λ i place. refl) (birth (id k false n) before))
@@ -300,8 +304,8 @@ import_turns : (i place : ℕ) (before : Past) (e : DecodedRecord) → Refers be
 import_turns i place before (Wire false k c rs (Resolve n resolution)) refers notes =
     ap₂ (λ b o. if b then Some (on_to o) else None) (is_import i place (birth (id k false n) before))
     (sym (noted_view before k c rs (Resolve n resolution) refers notes refl 0))
-import_turns i place before (Wire false k c rs (Return q release outcome)) refers notes =
-    unsettled (is_this (ImportToResolve i place) (option_map ResultsOf (call_at (opening (id k true q) before)))) (turn_there [] before (Wire false k c rs (Return q release outcome)))
+import_turns i place before (Wire false k c rs (Return q release outcome light)) refers notes =
+    unsettled (is_this (ImportToResolve i place) (option_map ResultsOf (call_at (opening (id k true q) before)))) (turn_there [] before (Wire false k c rs (Return q release outcome light)))
     (no_results (ImportToResolve i place) (λ call. refl) (call_at (opening (id k true q) before)))
 import_turns i place before (Fulfil r to) refers notes =
     unsettled (is_this (ImportToResolve i place) (promise_of (view_of_reference before r))) (turn_there [] before (Fulfil r to))
@@ -336,15 +340,17 @@ lands_bound before (Answer c results) refers path x h = all_at (is_bound before)
       | inl here ↦ or_left _ _ (eq-eqb y.0 x (some_same (sym (ap (λ b. option_map (λ answer. answer.0) (if b then Some y else find (λ answer. same_path answer.1 path) rs)) here) ∙ h)))
       | inr apart ↦ or_right _ _ (named rs (sym (ap (λ b. option_map (λ answer. answer.0) (if b then Some y else find (λ answer. same_path answer.1 path) rs)) apart) ∙ h))
     ]
-lands_bound before (Wire s k c rs (Return q release (Results payload))) refers path x h = wire_lands before s k c rs (Return q release (Results payload)) refers x (field (find (λ field. same_path field.0 path) payload.fields) h)
+lands_bound before (Wire s k c rs (Return q release (Results payload) light)) refers path x h = wire_lands before s k c rs (Return q release (Results payload) light) refers x (field (find (λ field. same_path field.0 path) payload.fields) h)
   where
-    field : (o : Option (List ℕ × ℕ)) → option_and_then (λ field. reference_at (Wire s k c rs (Return q release (Results payload))) field.1) o ≡ Some x → contains x rs ≡ true
-    field (Some f) g = noted_there rs (places (Wire s k c rs (Return q release (Results payload)))) f.1 x g
+    field : (o : Option (List ℕ × ℕ)) → option_and_then (λ field. reference_at (Wire s k c rs (Return q release (Results payload) light)) field.1) o ≡ Some x → contains x rs ≡ true
+    field (Some f) g = noted_there rs (places (Wire s k c rs (Return q release (Results payload) light))) f.1 x g
     field None g = absurd (none_some g)
 lands_bound before (Wire s k c rs (Resolve n resolution)) refers path x h =
     wire_lands before s k c rs (Resolve n resolution) refers x (noted_there rs (places (Wire s k c rs (Resolve n resolution))) 0 x h)
-lands_bound before (Wire s k c rs (Return q release Exception)) refers path x h = absurd (none_some h)
-lands_bound before (Wire s k c rs (Return q release Canceled)) refers path x h = absurd (none_some h)
+lands_bound before (Wire s k c rs (Return q release Exception light)) refers path x h = absurd (none_some h)
+lands_bound before (Wire s k c rs (Return q release Canceled light)) refers path x h = absurd (none_some h)
+lands_bound before (Wire s k c rs (Return q release Elsewhere light)) refers path x h = absurd (none_some h)
+lands_bound before (Wire s k c rs (Return q release (TakeFrom n) light)) refers path x h = absurd (none_some h)
 lands_bound before _ refers path x h = absurd (none_some h)
 
 -- a bound reference keeps its view, or that it has none

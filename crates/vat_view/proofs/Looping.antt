@@ -10,7 +10,7 @@ use Rattle.vat_view.specs.declared.tables.waiting_calls.Receipt.{Receipt}
 use Rattle.vat_view.specs.declared.tables.loopbacks.Unechoed.{Unechoed}
 use Rattle.vat_view.specs.declared.tables.embargoes.Embargoes.{Embargoes}
 use Rattle.vat_view.specs.declared.tables.embargoes.Change.{Change}
-use Rattle.vat_view.specs.Types.{Return, Exception, Canceled, DecodedRecord, Wire, TableKey}
+use Rattle.vat_view.specs.Types.{Return, Exception, Canceled, Elsewhere, TakeFrom, DecodedRecord, Wire, TableKey}
 use Rattle.vat_view.specs.Past.{Past, Point, point, id, is, names, record_index}
 use Rattle.vat_view.specs.Questions.{call_at, opening}
 use Rattle.vat_view.specs.Views.{view_of_target}
@@ -54,8 +54,10 @@ looped_step p false false o = refl
 -- ---- the table of received calls after a record
 
 taken_same : (opened other : TableKey → Option ℕ) → ((q : TableKey) → opened q ≡ other q) → (e : DecodedRecord) → call_taken_by opened e ≡ call_taken_by other e
-taken_same opened other same (Wire true k c rs (Return q release Exception)) = same (id k false q)
-taken_same opened other same (Wire true k c rs (Return q release Canceled)) = same (id k false q)
+taken_same opened other same (Wire true k c rs (Return q release Exception light)) = same (id k false q)
+taken_same opened other same (Wire true k c rs (Return q release Canceled light)) = same (id k false q)
+taken_same opened other same (Wire true k c rs (Return q release Elsewhere light)) = same (id k false q)
+taken_same opened other same (Wire true k c rs (Return q release (TakeFrom n) light)) = same (id k false q)
 taken_same opened other same _ = refl
 
 -- ---- both

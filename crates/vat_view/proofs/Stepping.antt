@@ -74,9 +74,9 @@ finishes_step q before e false false o = refl
 pub known_step : (q : TableKey) (before : Past) (e : DecodedRecord) → question_known q (e ∷ before)
     ≡ noted_by e (introductions before e) q (if names q (question_opened e) then Some (just_opened (noted_call e) (introductions before e)) else question_known q before)
 known_step q before (Wire s k c rs (Bootstrap n)) = opens_step q before (Wire s k c rs (Bootstrap n)) (same_id q (id k s n))
-known_step q before (Wire s k c rs (Call n t f m p)) = opens_step q before (Wire s k c rs (Call n t f m p)) (same_id q (id k s n))
-known_step q before (Wire s k c rs (Return n release outcome)) =
-    returns_step q before (Wire s k c rs (Return n release outcome)) (same_id q (id k (not s) n)) (opening q before)
+known_step q before (Wire s k c rs (Call n t f m p yourself)) = opens_step q before (Wire s k c rs (Call n t f m p yourself)) (same_id q (id k s n))
+known_step q before (Wire s k c rs (Return n release outcome light)) =
+    returns_step q before (Wire s k c rs (Return n release outcome light)) (same_id q (id k (not s) n)) (opening q before)
 known_step q before (Wire s k c rs (Finish n true)) =
     finishes_step q before (Wire s k c rs (Finish n true)) (same_id q (id k s n)) (same_id q (id k s n)) (opening q before)
 known_step q before (Wire s k c rs (Finish n false)) = finishes_step q before (Wire s k c rs (Finish n false)) (same_id q (id k s n)) false (opening q before)
@@ -88,12 +88,12 @@ none_some e = cc
 -- a record that opens a question notes nothing of another, and gives nothing back
 opens_notes : (e : DecodedRecord) (i : TableKey) → question_opened e ≡ Some i → (ids : List TableKey) (q : TableKey) (known : Option Question) → noted_by e ids q known ≡ known
 opens_notes (Wire s k c rs (Bootstrap n)) i h ids q known = refl
-opens_notes (Wire s k c rs (Call n t f m p)) i h ids q known = refl
+opens_notes (Wire s k c rs (Call n t f m p yourself)) i h ids q known = refl
 opens_notes _ i h ids q known = absurd (none_some h)
 
 opens_gives : (e : DecodedRecord) (i : TableKey) → question_opened e ≡ Some i → (before : Past) (j : TableKey) → gives_back j before e ≡ 0
 opens_gives (Wire s k c rs (Bootstrap n)) i h before j = refl
-opens_gives (Wire s k c rs (Call n t f m p)) i h before j = refl
+opens_gives (Wire s k c rs (Call n t f m p yourself)) i h before j = refl
 opens_gives _ i h before j = absurd (none_some h)
 
 -- ---- counts
@@ -101,7 +101,7 @@ opens_gives _ i h before j = absurd (none_some h)
 -- what a record gives back is what it closes and what it lets go
 pub gives_parts : (i : TableKey) (before : Past) (e : DecodedRecord) → gives_back i before e ≡ count_by (same_id i) (introductions_at (closes before e)) + count_released i e
 gives_parts i before (Wire s k c rs (Release n count)) = omega arith
-gives_parts i before (Wire s k c rs (Return n release outcome)) = omega arith
+gives_parts i before (Wire s k c rs (Return n release outcome light)) = omega arith
 gives_parts i before (Wire s k c rs (Finish n release)) = omega arith
 gives_parts i before _ = omega arith
 

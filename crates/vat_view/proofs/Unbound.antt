@@ -4,7 +4,7 @@ use Rattle.std.specs.Prelude.{is_some}
 use Rattle.std.specs.List.{list_all}
 use Rattle.std.specs.Option.{option_or}
 use Rattle.std.proofs.lemmas.Bool.{cases_Bool, and_parts, or_parts, or_left, or_right, false≢true, eqb-true}
-use Rattle.vat_view.specs.Types.{Bootstrap, Call, Return, Results, Exception, Canceled, DecodedRecord, Make, Deliver, Answer, Fault, Wire, Asked, TableKey}
+use Rattle.vat_view.specs.Types.{Bootstrap, Call, Return, Results, Exception, Canceled, Elsewhere, TakeFrom, DecodedRecord, Make, Deliver, Answer, Fault, Wire, Asked, TableKey}
 use Rattle.vat_view.specs.Past.{Past, point, id, is, last_answer, last_where, Each}
 use Rattle.vat_view.specs.Questions.{opens, opening, call_at, is_late}
 use Rattle.vat_view.specs.Views.{view_of_reference, view_of_target}
@@ -40,8 +40,8 @@ named_bound before c d h same = subst (λ x. is_bound_call before x ≡ true) (e
 
 noted_bound : (before : Past) (e : DecodedRecord) (q : TableKey) (c : ℕ) → Refers before e → opens q before e ≡ true → is c (call_at (Some (point before e))) ≡ true → is_bound_call (e ∷ before) c ≡ true
 noted_bound before (Wire s k d rs (Bootstrap n)) q c refers new same = is_there c d (is_bound_call before c) same
-noted_bound before (Wire false k d rs (Call n t f m p)) q c refers new same = is_there c d (is_bound_call before c) same
-noted_bound before (Wire true k d rs (Call n t f m p)) q c refers new same = named_bound before c d refers.bound_call same
+noted_bound before (Wire false k d rs (Call n t f m p yourself)) q c refers new same = is_there c d (is_bound_call before c) same
+noted_bound before (Wire true k d rs (Call n t f m p yourself)) q c refers new same = named_bound before c d refers.bound_call same
 noted_bound before _ q c refers new same = absurd (false≢true new)
 
 opening_bound : (past : Past) → Each IsSound past → (q : TableKey) (c : ℕ) → is c (call_at (opening q past)) ≡ true → is_bound_call past c ≡ true
@@ -83,24 +83,26 @@ module _ (c : ℕ) (before : Past) (sound : Each IsSound before) (unbound : is_b
   nothing (Answer d results) refers h = record { brings = refl; takes = refl; delivers = refl; boots = refl; settles = not_named d refers.bound_call; knows = not_named d refers.bound_call }
   nothing (Fault d) refers h = record { brings = refl; takes = not_named d refers.bound_call; delivers = refl; boots = refl; settles = not_named d refers.bound_call; knows = refl }
   nothing (Wire false k d rs (Bootstrap q)) refers h = record { brings = refl; takes = refl; delivers = refl; boots = not_new d h; settles = refl; knows = refl }
-  nothing (Wire false k d rs (Call q t f m p)) refers h = record {
-    brings = (let a : Asked = record { goal = view_of_target before (Wire false k d rs (Call q t f m p)); interface = f; method = m } in ap (λ b. if b then Some a else None) (not_new d h));
+  nothing (Wire false k d rs (Call q t f m p yourself)) refers h = record {
+    brings = (let a : Asked = record { goal = view_of_target before (Wire false k d rs (Call q t f m p yourself)); interface = f; method = m } in ap (λ b. if b then Some a else None) (not_new d h));
     takes = refl;
     delivers = refl;
     boots = refl;
     settles = refl;
     knows = refl;
   }
-  nothing (Wire true k d rs (Call q t f m p)) refers h = record { brings = refl; takes = not_named d refers.bound_call; delivers = refl; boots = refl; settles = refl; knows = refl }
-  nothing (Wire true k d rs (Return q release Exception)) refers h = record { brings = refl; takes = not_opening (id k false q); delivers = refl; boots = refl; settles = refl; knows = refl }
-  nothing (Wire true k d rs (Return q release Canceled)) refers h = record { brings = refl; takes = not_opening (id k false q); delivers = refl; boots = refl; settles = refl; knows = refl }
-  nothing (Wire false k d rs (Return q release (Results payload))) refers h = record {
+  nothing (Wire true k d rs (Call q t f m p yourself)) refers h = record { brings = refl; takes = not_named d refers.bound_call; delivers = refl; boots = refl; settles = refl; knows = refl }
+  nothing (Wire true k d rs (Return q release Exception light)) refers h = record { brings = refl; takes = not_opening (id k false q); delivers = refl; boots = refl; settles = refl; knows = refl }
+  nothing (Wire true k d rs (Return q release Canceled light)) refers h = record { brings = refl; takes = not_opening (id k false q); delivers = refl; boots = refl; settles = refl; knows = refl }
+  nothing (Wire true k d rs (Return q release Elsewhere light)) refers h = record { brings = refl; takes = not_opening (id k false q); delivers = refl; boots = refl; settles = refl; knows = refl }
+  nothing (Wire true k d rs (Return q release (TakeFrom n) light)) refers h = record { brings = refl; takes = not_opening (id k false q); delivers = refl; boots = refl; settles = refl; knows = refl }
+  nothing (Wire false k d rs (Return q release (Results payload) light)) refers h = record {
     brings = refl;
     takes = refl;
     delivers = refl;
     boots = refl;
     settles = refl;
-    knows = ap (λ b. b && not (is_late before (Wire false k d rs (Return q release (Results payload))))) (not_opening (id k true q));
+    knows = ap (λ b. b && not (is_late before (Wire false k d rs (Return q release (Results payload) light)))) (not_opening (id k true q));
   }
   nothing _ refers h = record { brings = refl; takes = refl; delivers = refl; boots = refl; settles = refl; knows = refl }
 

@@ -28,7 +28,7 @@ named_references _ = []
 abbrev pub new_calls : DecodedRecord → List ℕ
 new_calls (Make call r interface method) = call ∷ []
 new_calls (Wire sent k call noted (Bootstrap q)) = call ∷ []
-new_calls (Wire false k call noted (Call q target interface method params)) = call ∷ []
+new_calls (Wire false k call noted (Call q target interface method params yourself)) = call ∷ []
 new_calls _ = []
 
 -- the other calls that it names
@@ -37,7 +37,7 @@ named_calls (Field r call path) = call ∷ []
 named_calls (Deliver call object) = call ∷ []
 named_calls (Answer call results) = call ∷ []
 named_calls (Fault call) = call ∷ []
-named_calls (Wire true k call noted (Call q target interface method params)) = call ∷ []
+named_calls (Wire true k call noted (Call q target interface method params yourself)) = call ∷ []
 named_calls _ = []
 
 -- a number is in a list

@@ -1,7 +1,7 @@
 -- Calls at the vat, what they ask for, and what is known of their results (rpc.capnp, the comments of Call and
 -- Return).
 use Rattle.std.specs.Prelude.{ℕ, ◌==◌, Bool, true, false, not, ◌&&◌, ◌||◌, Option, Some, None, if◌then◌else◌, option_and_then, unwrap_or, is_some}
-use Rattle.vat_view.specs.Types.{Bootstrap, Call, Return, Results, Exception, Canceled, DecodedRecord, Make, Deliver, Answer, Fault, Wire, View, Asked}
+use Rattle.vat_view.specs.Types.{Bootstrap, Call, Return, Results, Exception, Canceled, Elsewhere, TakeFrom, DecodedRecord, Make, Deliver, Answer, Fault, Wire, View, Asked}
 use Rattle.vat_view.specs.Past.{Past, id, is, last_answer, last_where}
 use Rattle.vat_view.specs.Questions.{call_at, opening, is_late}
 use Rattle.vat_view.specs.Views.{view_of_reference, view_of_target}
@@ -11,8 +11,8 @@ use Rattle.vat_view.specs.Views.{view_of_reference, view_of_target}
 abbrev pub brings : ℕ → Past → DecodedRecord → Option Asked
 brings call before (Make c r interface method) =
     if c == call then Some record { goal = view_of_reference before r; interface = interface; method = method } else None
-brings call before (Wire false k c rs (Call q target interface method params)) =
-    let goal = view_of_target before (Wire false k c rs (Call q target interface method params)) in
+brings call before (Wire false k c rs (Call q target interface method params yourself)) =
+    let goal = view_of_target before (Wire false k c rs (Call q target interface method params yourself)) in
     if c == call then Some record { goal = goal; interface = interface; method = method } else None
 brings call before _ = None
 
@@ -29,9 +29,11 @@ goal_of call past = option_and_then (λ a. a.goal) (request_of call past)
 abbrev pub takes : ℕ → Past → DecodedRecord → Bool
 takes call before (Deliver c object) = c == call
 takes call before (Fault c) = c == call
-takes call before (Wire true k c rs (Call q target interface method params)) = c == call
-takes call before (Wire true k c rs (Return q release Exception)) = is call (call_at (opening (id k false q) before))
-takes call before (Wire true k c rs (Return q release Canceled)) = is call (call_at (opening (id k false q) before))
+takes call before (Wire true k c rs (Call q target interface method params yourself)) = c == call
+takes call before (Wire true k c rs (Return q release Exception light)) = is call (call_at (opening (id k false q) before))
+takes call before (Wire true k c rs (Return q release Canceled light)) = is call (call_at (opening (id k false q) before))
+takes call before (Wire true k c rs (Return q release Elsewhere light)) = is call (call_at (opening (id k false q) before))
+takes call before (Wire true k c rs (Return q release (TakeFrom n) light)) = is call (call_at (opening (id k false q) before))
 takes call before _ = false
 
 -- a record brings a call to the vat, or takes it away
@@ -73,8 +75,8 @@ is_settled call past = has_passed (settles call) past
 -- a record makes a call's results known: ANSWER, or a received Return with results that isn't late
 abbrev pub knows : ℕ → Past → DecodedRecord → Bool
 knows call before (Answer c results) = c == call
-knows call before (Wire false k c rs (Return q release (Results payload))) =
-    is call (call_at (opening (id k true q) before)) && not (is_late before (Wire false k c rs (Return q release (Results payload))))
+knows call before (Wire false k c rs (Return q release (Results payload) light)) =
+    is call (call_at (opening (id k true q) before)) && not (is_late before (Wire false k c rs (Return q release (Results payload) light)))
 knows call before _ = false
 
 -- a call's results are known

@@ -26,7 +26,7 @@ is_aborted connection past = has_passed (λ before e. aborts connection e) past
 -- the connection on which a record asks a question of this vat's for this call: a sent Bootstrap or Call
 abbrev pub asks : ℕ → DecodedRecord → Option ℕ
 asks call (Wire true k c rs (Bootstrap q)) = if c == call then Some k else None
-asks call (Wire true k c rs (Call q target interface method params)) = if c == call then Some k else None
+asks call (Wire true k c rs (Call q target interface method params yourself)) = if c == call then Some k else None
 asks call _ = None
 
 -- the connection on which this vat asked its question for a call

@@ -7,12 +7,12 @@ use Rattle.vat_view.specs.Past.{Past, Point, id, names, last_where, last_since}
 -- the question that a record opens: Bootstrap and Call go the way of the one who asks
 abbrev pub question_opened : DecodedRecord → Option TableKey
 question_opened (Wire sent k call references (Bootstrap q)) = Some (id k sent q)
-question_opened (Wire sent k call references (Call q target interface method params)) = Some (id k sent q)
+question_opened (Wire sent k call references (Call q target interface method params yourself)) = Some (id k sent q)
 question_opened _ = None
 
 -- the question that a record returns: a Return goes the other way
 abbrev pub question_returned : DecodedRecord → Option TableKey
-question_returned (Wire sent k call references (Return q release outcome)) = Some (id k (not sent) q)
+question_returned (Wire sent k call references (Return q release outcome light)) = Some (id k (not sent) q)
 question_returned _ = None
 
 -- the question that a record finishes: a Finish goes the way of the one who asks
@@ -96,12 +96,12 @@ call_of q past = if is_free q past then None else call_at (opening q past)
 
 -- a Return is late where a Finish with releaseResultCaps true passed before it, for the same opening of its question
 abbrev pub is_late : Past → DecodedRecord → Bool
-is_late before (Wire sent k call references (Return q release outcome)) = is_released (id k (not sent) q) before
+is_late before (Wire sent k call references (Return q release outcome light)) = is_released (id k (not sent) q) before
 is_late before _ = false
 
 -- the record whose introductions a record gives back: a Return with releaseParamCaps true its opening, which may be a
 -- Call; a Finish with releaseResultCaps true the Return of its opening, if that has passed
 abbrev pub closes : Past → DecodedRecord → Option Point
-closes before (Wire sent k call references (Return q true outcome)) = opening (id k (not sent) q) before
+closes before (Wire sent k call references (Return q true outcome light)) = opening (id k (not sent) q) before
 closes before (Wire sent k call references (Finish q true)) = return_of (id k sent q) before
 closes before _ = None

@@ -1,7 +1,7 @@
 -- Where views turn, and where that leads (rpc.capnp, the comments of PromisedAnswer, Payload and Resolve).
 use Rattle.std.specs.Prelude.{◌≡◌, ℕ, ◌==◌, List, Bool, true, false, ◌&&◌, Option, Some, None, if◌then◌else◌, unwrap_or, option_and_then, find, IsSome}
 use Rattle.std.specs.Str.{bytes_eq as same_path}
-use Rattle.vat_view.specs.Types.{Outcome, Results, Exception, Canceled, Bootstrap, Call, Return, Finish, Resolve, Release, Disembargo, Abort, DecodedRecord, Host, Vow, Fulfil, Break, Make, Field, Deliver, Answer, Fault, Wire, View, Object, Promise, FieldOf, Import}
+use Rattle.vat_view.specs.Types.{Outcome, Results, Exception, Canceled, Elsewhere, TakeFrom, Bootstrap, Call, Return, Finish, Resolve, Release, Disembargo, Abort, DecodedRecord, Host, Vow, Fulfil, Break, Make, Field, Deliver, Answer, Fault, Wire, View, Object, Promise, FieldOf, Import}
 use Rattle.vat_view.specs.Past.{Past, id, is, record_index, last_answer}
 use Rattle.vat_view.specs.Questions.{call_at, opening, is_late}
 use Rattle.vat_view.specs.Lives.{Birth, birth}
@@ -50,6 +50,8 @@ result_at path before e (Results payload) =
     option_and_then (λ field. view_of_descriptor before e field.1) (find (λ field. same_path field.0 path) payload.fields)
 result_at path before e Exception = None
 result_at path before e Canceled = None
+result_at path before e Elsewhere = None
+result_at path before e (TakeFrom n) = None
 
 -- a field turns to ANSWER's reference at its path, or to what a received Return that isn't late brought there;
 -- it stops where the call faulted, failed, came late or has nothing there. No other record turns it; each stands here
@@ -57,11 +59,11 @@ result_at path before e Canceled = None
 abbrev pub answers : ℕ → List ℕ → Past → DecodedRecord → Option Next
 answers call path before (Answer c results) = if c == call then Some (on_to (answer_view_at path before results)) else None
 answers call path before (Fault c) = if c == call then Some stops else None
-answers call path before (Wire false k c rs (Return q release outcome)) =
-    let e = Wire false k c rs (Return q release outcome) in
+answers call path before (Wire false k c rs (Return q release outcome light)) =
+    let e = Wire false k c rs (Return q release outcome light) in
     if is call (call_at (opening (id k true q) before)) then Some (if is_late before e then stops else on_to (result_at path before e outcome)) else None
 answers call path before (Wire false k c rs (Bootstrap q)) = None
-answers call path before (Wire false k c rs (Call q target interface method params)) = None
+answers call path before (Wire false k c rs (Call q target interface method params yourself)) = None
 answers call path before (Wire false k c rs (Finish q release)) = None
 answers call path before (Wire false k c rs (Resolve n resolution)) = None
 answers call path before (Wire false k c rs (Release n count)) = None

@@ -9,7 +9,7 @@ use Rattle.call_trace.specs.Naming.{Naming, message_of_step, call_named, cap_at}
 use Rattle.call_trace.specs.Part.{promise_in}
 use Rattle.call_trace.specs.Running.{step_received}
 use Rattle.call_trace.specs.Said.{all_there, say_call, say_return, say_resolve}
-use Rattle.call_trace.specs.Types.{Descriptor, NoCap, Results, Exception, Canceled, RpcMessage, Bootstrap, Call, Return, Finish, Resolve, Release, Disembargo, Abort, DecodedRecord, Host, Vow, Fulfil, Break, Make, Field, Deliver, Answer, Fault, Wire, View, Object, Promise, FieldOf, Import, Name, Cap, Message, Step}
+use Rattle.call_trace.specs.Types.{Descriptor, NoCap, Results, Exception, Canceled, Elsewhere, TakeFrom, RpcMessage, Bootstrap, Call, Return, Finish, Resolve, Release, Disembargo, Abort, DecodedRecord, Host, Vow, Fulfil, Break, Make, Field, Deliver, Answer, Fault, Wire, View, Object, Promise, FieldOf, Import, Name, Cap, Message, Step}
 use Rattle.run_model.specs.Has.{call_in_message}
 use Rattle.run_model.specs.Legal.{caps_brought}
 use Rattle.run_model.specs.Steps.{call}
@@ -93,12 +93,14 @@ resolve_said promise caps = option_and_then (λ promise. option_map (say_resolve
 -- the message that a record sends, by what its numbers stand for, its descriptors for these caps
 abbrev pub message_said : Naming → Sight → ℕ → Option (List Cap) → RpcMessage → Option Message
 message_said names seen c caps (Bootstrap q) = option_map message.Boot (names.call c)
-message_said names seen c caps (Call q target interface method params) =
+message_said names seen c caps (Call q target interface method params yourself) =
     say_call interface method caps (names.call c) (option_and_then names.cap seen.target)
-message_said names seen c caps (Return q release (Results payload)) =
+message_said names seen c caps (Return q release (Results payload) light) =
     option_and_then (λ name. say_return seen.late payload.fields name caps) (answered_in names.call seen.question)
-message_said names seen c caps (Return q release Exception) = option_map message.Failed (answered_in names.call seen.question)
-message_said names seen c caps (Return q release Canceled) = option_map message.Failed (answered_in names.call seen.question)
+message_said names seen c caps (Return q release Exception light) = option_map message.Failed (answered_in names.call seen.question)
+message_said names seen c caps (Return q release Canceled light) = option_map message.Failed (answered_in names.call seen.question)
+message_said names seen c caps (Return q release Elsewhere light) = option_map message.Failed (answered_in names.call seen.question)
+message_said names seen c caps (Return q release (TakeFrom n) light) = option_map message.Failed (answered_in names.call seen.question)
 message_said names seen c caps (Resolve n resolution) = resolve_said (option_and_then names.cap seen.promise) caps
 message_said names seen c caps (Finish q release) = Some (message.Plain plain.Finish)
 message_said names seen c caps (Release n count) = Some (message.Plain plain.Release)
@@ -161,7 +163,7 @@ abbrev pub call_bound_by : ℕ → DecodedRecord → Option Message → Option (
 call_bound_by v (Make d r interface method) m = Some (d, call v d)
 call_bound_by v (Wire true k d references (Bootstrap q)) m = Some (d, call v d)
 call_bound_by v (Wire false k d references (Bootstrap q)) m = option_map (λ name. (d, name)) (option_and_then call_in_message m)
-call_bound_by v (Wire false k d references (Call q target interface method params)) m = option_map (λ name. (d, name)) (option_and_then call_in_message m)
+call_bound_by v (Wire false k d references (Call q target interface method params yourself)) m = option_map (λ name. (d, name)) (option_and_then call_in_message m)
 call_bound_by v _ m = None
 
 -- the name of a call, where it is this one that is given a name, and else the one that it had

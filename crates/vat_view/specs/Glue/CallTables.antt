@@ -11,7 +11,7 @@ use Rattle.vat_view.specs.declared.tables.call_state.CallChange.{CallChange}
 use Rattle.vat_view.specs.declared.tables.call_state.CallChange.TheVariants.{Left, Delivered, Faulted, Answered, Known}
 use Rattle.vat_view.specs.declared.tables.call_state.CallEffect.{CallEffect}
 use Rattle.vat_view.specs.declared.tables.call_state.CallEffect.TheVariants.{Nothing, Begins, Moves}
-use Rattle.vat_view.specs.Types.{Bootstrap, Call, Return, Results, Exception, Canceled, DecodedRecord, Make, Deliver, Answer, Fault, Wire, View, Asked, TableKey}
+use Rattle.vat_view.specs.Types.{Bootstrap, Call, Return, Results, Exception, Canceled, Elsewhere, TakeFrom, DecodedRecord, Make, Deliver, Answer, Fault, Wire, View, Asked, TableKey}
 use Rattle.vat_view.specs.Past.{Past, id}
 use Rattle.vat_view.specs.Questions.{is_late, call_at, opening}
 use Rattle.vat_view.specs.Views.{view_of_reference, view_of_target}
@@ -101,16 +101,18 @@ change_of_call step None = Nothing
 -- what a sent record tells of calls, by the calls of questions
 abbrev pub sent_effect : (TableKey → Option ℕ) → DecodedRecord → CallEffect
 sent_effect opened (Wire true k c rs (Bootstrap q)) = Begins c (bootstrap_call false)
-sent_effect opened (Wire true k c rs (Call q target interface method params)) = Moves c Left
-sent_effect opened (Wire true k c rs (Return q release Exception)) = change_of_call Left (opened (id k false q))
-sent_effect opened (Wire true k c rs (Return q release Canceled)) = change_of_call Left (opened (id k false q))
+sent_effect opened (Wire true k c rs (Call q target interface method params yourself)) = Moves c Left
+sent_effect opened (Wire true k c rs (Return q release Exception light)) = change_of_call Left (opened (id k false q))
+sent_effect opened (Wire true k c rs (Return q release Canceled light)) = change_of_call Left (opened (id k false q))
+sent_effect opened (Wire true k c rs (Return q release Elsewhere light)) = change_of_call Left (opened (id k false q))
+sent_effect opened (Wire true k c rs (Return q release (TakeFrom n) light)) = change_of_call Left (opened (id k false q))
 sent_effect opened _ = Nothing
 
 -- what a received record tells of calls, by the views of targets, whether it is late, and the calls of questions
 abbrev pub received_effect : Option View → Bool → (TableKey → Option ℕ) → DecodedRecord → CallEffect
 received_effect target late opened (Wire false k c rs (Bootstrap q)) = Begins c (bootstrap_call true)
-received_effect target late opened (Wire false k c rs (Call q t interface method params)) = Begins c (arriving_call target interface method)
-received_effect target late opened (Wire false k c rs (Return q release (Results payload))) = if late then Nothing else change_of_call Known (opened (id k true q))
+received_effect target late opened (Wire false k c rs (Call q t interface method params yourself)) = Begins c (arriving_call target interface method)
+received_effect target late opened (Wire false k c rs (Return q release (Results payload) light)) = if late then Nothing else change_of_call Known (opened (id k true q))
 received_effect target late opened _ = Nothing
 
 -- what a record tells of calls

@@ -13,7 +13,7 @@ use Rattle.vat_view.specs.declared.tables.loopbacks.Unechoed.{Unechoed}
 use Rattle.vat_view.specs.declared.tables.loopbacks.Loopbacks.{Loopbacks}
 use Rattle.vat_view.specs.declared.tables.embargoes.Embargoes.{Embargoes}
 use Rattle.vat_view.specs.declared.tables.embargoes.Change.{Change}
-use Rattle.vat_view.specs.Types.{Call, Return, Exception, Canceled, DecodedRecord, Deliver, Fault, Wire, View, Object, Promise, FieldOf, Import, TableKey}
+use Rattle.vat_view.specs.Types.{Call, Return, Exception, Canceled, Elsewhere, TakeFrom, DecodedRecord, Deliver, Fault, Wire, View, Object, Promise, FieldOf, Import, TableKey}
 use Rattle.vat_view.specs.Past.{Past, Point, id, is, same_id, names, record_index, last_answer}
 use Rattle.vat_view.specs.Views.{view_of_target}
 use Rattle.vat_view.specs.Calls.{goal_of, is_at_vat}
@@ -59,7 +59,7 @@ put_by i None old = old
 
 -- where a record receives this call, if it does
 abbrev pub receipt : ℕ → Past → DecodedRecord → Option Receipt
-receipt call before (Wire false k c rs (Call q target interface method params)) = if c == call then Some (record { connection = k; number = length before }) else None
+receipt call before (Wire false k c rs (Call q target interface method params yourself)) = if c == call then Some (record { connection = k; number = length before }) else None
 receipt call before _ = None
 
 -- where a call was received, if it was
@@ -80,16 +80,18 @@ AreReceived past table = (call : ℕ) → receipt_at table call ≡ receipt_here
 
 -- the call that a record of this number receives
 abbrev pub call_received_by : ℕ → DecodedRecord → Option (ℕ × Receipt)
-call_received_by number (Wire false k c rs (Call q target interface method params)) = Some (c, record { connection = k; number = number })
+call_received_by number (Wire false k c rs (Call q target interface method params yourself)) = Some (c, record { connection = k; number = number })
 call_received_by number _ = None
 
 -- the call that a record takes from the vat, by the calls of questions
 abbrev pub call_taken_by : (TableKey → Option ℕ) → DecodedRecord → Option ℕ
 call_taken_by opened (Deliver c object) = Some c
 call_taken_by opened (Fault c) = Some c
-call_taken_by opened (Wire true k c rs (Call q target interface method params)) = Some c
-call_taken_by opened (Wire true k c rs (Return q release Exception)) = opened (id k false q)
-call_taken_by opened (Wire true k c rs (Return q release Canceled)) = opened (id k false q)
+call_taken_by opened (Wire true k c rs (Call q target interface method params yourself)) = Some c
+call_taken_by opened (Wire true k c rs (Return q release Exception light)) = opened (id k false q)
+call_taken_by opened (Wire true k c rs (Return q release Canceled light)) = opened (id k false q)
+call_taken_by opened (Wire true k c rs (Return q release Elsewhere light)) = opened (id k false q)
+call_taken_by opened (Wire true k c rs (Return q release (TakeFrom n) light)) = opened (id k false q)
 call_taken_by opened _ = None
 
 -- the table has room for a call, if there is one

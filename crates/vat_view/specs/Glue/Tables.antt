@@ -140,12 +140,12 @@ results_introduced_in None = []
 
 -- whether a Return is late, by a table of questions
 abbrev pub late_by : (TableKey → Option Question) → DecodedRecord → Bool
-late_by known (Wire sent k call references (Return q release outcome)) = results_released_in (known (id k (not sent) q))
+late_by known (Wire sent k call references (Return q release outcome light)) = results_released_in (known (id k (not sent) q))
 late_by known _ = false
 
 -- the introductions that a Return or a Finish gives back, by a table of questions
 abbrev pub given_back_by : (TableKey → Option Question) → DecodedRecord → List TableKey
-given_back_by known (Wire sent k call references (Return q true outcome)) = params_introduced_in (known (id k (not sent) q))
+given_back_by known (Wire sent k call references (Return q true outcome light)) = params_introduced_in (known (id k (not sent) q))
 given_back_by known (Wire sent k call references (Finish q true)) = results_introduced_in (known (id k sent q))
 given_back_by known _ = []
 

@@ -65,7 +65,7 @@ settlement_of before (Fulfil r to) = promise_of (view_of_reference before r)
 settlement_of before (Break r) = promise_of (view_of_reference before r)
 settlement_of before (Answer c results) = Some (ResultsOf c)
 settlement_of before (Fault c) = Some (ResultsOf c)
-settlement_of before (Wire false k c rs (Return q release outcome)) = option_map ResultsOf (call_at (opening (id k true q) before))
+settlement_of before (Wire false k c rs (Return q release outcome light)) = option_map ResultsOf (call_at (opening (id k true q) before))
 settlement_of before (Wire false k c rs (Resolve n resolution)) = option_map import_at (birth (id k false n) before)
 settlement_of before _ = None
 
@@ -83,7 +83,7 @@ settled_by named lives known (Fulfil r to) = promise_of (named r)
 settled_by named lives known (Break r) = promise_of (named r)
 settled_by named lives known (Answer c results) = Some (ResultsOf c)
 settled_by named lives known (Fault c) = Some (ResultsOf c)
-settled_by named lives known (Wire false k c rs (Return q release outcome)) = results_by (known (id k true q))
+settled_by named lives known (Wire false k c rs (Return q release outcome light)) = results_by (known (id k true q))
 settled_by named lives known (Wire false k c rs (Resolve n resolution)) = import_by (held_origin lives (id k false n))
 settled_by named lives known _ = None
 
@@ -97,8 +97,8 @@ reference_at e place = option_map (λ n. n.0) (find (λ n. n.1 == place) (placed
 abbrev pub turn_target : List ℕ → DecodedRecord → Option ℕ
 turn_target path (Fulfil r to) = Some to
 turn_target path (Answer c results) = option_map (λ answer. answer.0) (find (λ answer. same_path answer.1 path) results)
-turn_target path (Wire s k c rs (Return q release (Results payload))) =
-    option_and_then (λ field. reference_at (Wire s k c rs (Return q release (Results payload))) field.1) (find (λ field. same_path field.0 path) payload.fields)
+turn_target path (Wire s k c rs (Return q release (Results payload) light)) =
+    option_and_then (λ field. reference_at (Wire s k c rs (Return q release (Results payload) light)) field.1) (find (λ field. same_path field.0 path) payload.fields)
 turn_target path (Wire s k c rs (Resolve n resolution)) = reference_at (Wire s k c rs (Resolve n resolution)) 0
 turn_target path _ = None
 

@@ -79,7 +79,10 @@ fn sent_effect(questions: &Questions, event: &DecodedRecord) -> CallEffect
         RpcMessage::Call { .. } => CallEffect::Moves(*call, CallChange::Left),
         RpcMessage::Return {
             answer: number,
-            outcome: Outcome::Exception | Outcome::Canceled,
+            outcome: Outcome::Exception
+            | Outcome::Canceled
+            | Outcome::Elsewhere
+            | Outcome::TakeFrom(_),
             ..
         } => {
             let question = TableKey {

@@ -94,7 +94,10 @@ pub(crate) fn call_taken_by(questions: &Questions, event: &DecodedRecord) -> Opt
             connection,
             message: RpcMessage::Return {
                 answer: number,
-                outcome: Outcome::Exception | Outcome::Canceled,
+                outcome: Outcome::Exception
+                | Outcome::Canceled
+                | Outcome::Elsewhere
+                | Outcome::TakeFrom(_),
                 ..
             },
             ..

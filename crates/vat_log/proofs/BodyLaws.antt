@@ -6,16 +6,33 @@ use Rattle.vat_log.specs.declared.error.LogError.{LogError}
 use Rattle.vat_log.specs.declared.kind.RecordKind.{RecordKind}
 use Rattle.vat_log.specs.declared.kind.RecordKind.TheVariants.{Host, Vow, Fulfil, Break, Make, Field, Deliver, Answer, Fault, Send, Receive}
 use Rattle.vat_log.specs.declared.passage.Passage.{Passage}
-use Rattle.vat_log.specs.Fits.{IsWide, Fits}
+use Rattle.vat_log.specs.declared.version.LogVersion.{LogVersion}
+use Rattle.vat_log.specs.Fits.{count_reach, IsCounted, IsWide, IsListed, Fits}
+use Rattle.vat_log.specs.Log.{written_version}
 use Rattle.vat_log.specs.Reading.{◌>>=◌, passage_at, host_at, vow_at, fulfil_at, break_at, make_at, field_at, deliver_at, answer_at, fault_at, send_at, receive_at, fields_at}
 use Rattle.vat_log.specs.Spelling.{passage_bytes, kind_in, fields_bytes}
 use Rattle.vat_log.proofs.Spans.{IsBytes, ok_is, Spans, Spans-join, Spans-first, Spans-second, IsField, then_takes}
 use Rattle.vat_log.proofs.FieldLaws.{IsNumber, IsList, IsFrame, u16_field, u32_field, u64_field, nonzero_field, path_field, references_field, results_field, frame_field}
 
--- what a record can say, with numbers of the width of their fields
-pub record FitsWide (said : Body) : Type 0 where
+-- what a record can say, with numbers and counts of the width of their fields
+pub record FitsWide (version : LogVersion) (said : Body) : Type 0 where
   pub fits : Fits said
   pub wide : IsWide said
+  pub listed : IsListed version said
+
+-- the version that is written spells each count within the limit
+pub listed_as_written : (said : Body) → IsCounted said → IsListed written_version said
+listed_as_written (body.Host reference object) h = tt
+listed_as_written (body.Vow reference) h = tt
+listed_as_written (body.Fulfil reference to) h = tt
+listed_as_written (body.Break reference) h = tt
+listed_as_written (body.Make call reference interface method) h = tt
+listed_as_written (body.Field reference call path) h = omega (arith, h)
+listed_as_written (body.Deliver call object) h = tt
+listed_as_written (body.Answer call results) h = (omega (arith, h.0), λ k d lt. omega (arith, h.1 k d lt))
+listed_as_written (body.Fault call) h = tt
+listed_as_written (body.Send connection call references frame) h = omega (arith, h.0)
+listed_as_written (body.Receive connection call references frame) h = omega (arith, h.0)
 
 -- ---- fields that follow one another
 
@@ -107,101 +124,102 @@ four_again {A} {B} {C} {D} {E} {bytes} {ra} {sa} {FA} {rb} {sb} {FB} {rc} {sc} {
 
 -- ---- a frame with what is noted beside it
 
-pub record IsPassage (x : Passage) : Type 0 where
+pub record IsPassage (version : LogVersion) (x : Passage) : Type 0 where
   pub connection : x.connection < 2 ^ 32
   pub call : x.call < 2 ^ 64
-  pub references : IsList IsNumber x.references
+  pub references : IsList version IsNumber x.references
   pub frame : IsFrame x.frame
 
 abbrev passage : ℕ → ℕ → List ℕ → List ℕ → Passage
 passage connection call references frame = record { connection = connection; call = call; references = references; frame = frame }
 
-abbrev passage_spelling : Passage → List ℕ
-passage_spelling x = passage_bytes x.connection x.call x.references x.frame
+abbrev passage_spelling : LogVersion → Passage → List ℕ
+passage_spelling version x = passage_bytes version x.connection x.call x.references x.frame
 
-passage_takes : (bytes : List ℕ) → IsBytes bytes → (at : ℕ) (x : Passage) (after : ℕ) → at ≤ length bytes → passage_at bytes at ≡ Ok (x, after) → Spans bytes at (passage_spelling x) after × IsPassage x
+passage_takes : (version : LogVersion) (bytes : List ℕ) → IsBytes bytes → (at : ℕ) (x : Passage) (after : ℕ) → at ≤ length bytes → passage_at version bytes at ≡ Ok (x, after) → Spans bytes at (passage_spelling version x) after × IsPassage version x
 unfolding passage_at
-passage_takes bytes fits at x after le e =
-    let t = four_take (u32_field bytes) (u64_field bytes) (references_field bytes) (frame_field bytes) fits passage at (x, after) le e in
-    subst (λ y. Spans bytes at (passage_spelling y) after × IsPassage y) t.9 (t.4, record { connection = t.5; call = t.6; references = t.7; frame = t.8 })
+passage_takes version bytes fits at x after le e =
+    let t = four_take (u32_field bytes) (u64_field bytes) (references_field version bytes) (frame_field bytes) fits passage at (x, after) le e in
+    subst (λ y. Spans bytes at (passage_spelling version y) after × IsPassage version y) t.9 (t.4, record { connection = t.5; call = t.6; references = t.7; frame = t.8 })
 
-passage_again : (bytes : List ℕ) (at : ℕ) (x : Passage) (after : ℕ) → IsPassage x → Spans bytes at (passage_spelling x) after → passage_at bytes at ≡ Ok (x, after)
+passage_again : (version : LogVersion) (bytes : List ℕ) (at : ℕ) (x : Passage) (after : ℕ) → IsPassage version x → Spans bytes at (passage_spelling version x) after → passage_at version bytes at ≡ Ok (x, after)
 unfolding passage_at
-passage_again bytes at x after is p =
-    four_again (u32_field bytes) (u64_field bytes) (references_field bytes) (frame_field bytes) passage at x.connection x.call x.references x.frame after is.connection is.call is.references is.frame p
+passage_again version bytes at x after is p =
+    four_again (u32_field bytes) (u64_field bytes) (references_field version bytes) (frame_field bytes) passage at x.connection x.call x.references x.frame after is.connection is.call is.references is.frame p
 
-passage_field : (bytes : List ℕ) → IsField Passage bytes (passage_at bytes) passage_spelling IsPassage
-passage_field bytes = record {
-  takes = λ fits at x after le e. passage_takes bytes fits at x after le e;
-  again = λ at x after is p. passage_again bytes at x after is p;
+passage_field : (version : LogVersion) (bytes : List ℕ) → IsField Passage bytes (passage_at version bytes) (passage_spelling version) (IsPassage version)
+passage_field version bytes = record {
+  takes = λ fits at x after le e. passage_takes version bytes fits at x after le e;
+  again = λ at x after is p. passage_again version bytes at x after is p;
 }
 
 -- ---- each kind
 
-abbrev Taken : List ℕ → ℕ → ℕ → RecordKind → Body → Type 0
-Taken bytes at after kind said = Spans bytes at (fields_bytes said) after × FitsWide said × (kind_in said ≡ kind)
+abbrev Taken : LogVersion → List ℕ → ℕ → ℕ → RecordKind → Body → Type 0
+Taken version bytes at after kind said = Spans bytes at (fields_bytes version said) after × FitsWide version said × (kind_in said ≡ kind)
 
-host_takes : (bytes : List ℕ) → IsBytes bytes → (at : ℕ) (x : Body × ℕ) → at ≤ length bytes → host_at bytes at ≡ Ok x → Taken bytes at x.1 Host x.0
+host_takes : (version : LogVersion) (bytes : List ℕ) → IsBytes bytes → (at : ℕ) (x : Body × ℕ) → at ≤ length bytes → host_at bytes at ≡ Ok x → Taken version bytes at x.1 Host x.0
 unfolding host_at
-host_takes bytes fits at x le e =
+host_takes version bytes fits at x le e =
     let t = two_take (nonzero_field bytes) (u64_field bytes) fits (λ a b. body.Host a b) at x le e in
-    subst (Taken bytes at x.1 Host) t.5 (t.2, record { fits = record { numbered = t.3.0; counted = tt }; wide = (t.3.1, t.4) }, refl)
+    subst (Taken version bytes at x.1 Host) t.5 (t.2, record { fits = record { numbered = t.3.0; counted = tt }; listed = tt; wide = (t.3.1, t.4) }, refl)
 
-vow_takes : (bytes : List ℕ) → IsBytes bytes → (at : ℕ) (x : Body × ℕ) → at ≤ length bytes → vow_at bytes at ≡ Ok x → Taken bytes at x.1 Vow x.0
+vow_takes : (version : LogVersion) (bytes : List ℕ) → IsBytes bytes → (at : ℕ) (x : Body × ℕ) → at ≤ length bytes → vow_at bytes at ≡ Ok x → Taken version bytes at x.1 Vow x.0
 unfolding vow_at
-vow_takes bytes fits at x le e =
+vow_takes version bytes fits at x le e =
     let t = one_take (nonzero_field bytes) fits (λ a. body.Vow a) at x le e in
-    subst (Taken bytes at x.1 Vow) t.3 (t.1, record { fits = record { numbered = t.2.0; counted = tt }; wide = t.2.1 }, refl)
+    subst (Taken version bytes at x.1 Vow) t.3 (t.1, record { fits = record { numbered = t.2.0; counted = tt }; listed = tt; wide = t.2.1 }, refl)
 
-fulfil_takes : (bytes : List ℕ) → IsBytes bytes → (at : ℕ) (x : Body × ℕ) → at ≤ length bytes → fulfil_at bytes at ≡ Ok x → Taken bytes at x.1 Fulfil x.0
+fulfil_takes : (version : LogVersion) (bytes : List ℕ) → IsBytes bytes → (at : ℕ) (x : Body × ℕ) → at ≤ length bytes → fulfil_at bytes at ≡ Ok x → Taken version bytes at x.1 Fulfil x.0
 unfolding fulfil_at
-fulfil_takes bytes fits at x le e =
+fulfil_takes version bytes fits at x le e =
     let t = two_take (nonzero_field bytes) (nonzero_field bytes) fits (λ a b. body.Fulfil a b) at x le e in
-    subst (Taken bytes at x.1 Fulfil) t.5 (t.2, record { fits = record { numbered = (t.3.0, t.4.0); counted = tt }; wide = (t.3.1, t.4.1) }, refl)
+    subst (Taken version bytes at x.1 Fulfil) t.5 (t.2, record { fits = record { numbered = (t.3.0, t.4.0); counted = tt }; listed = tt; wide = (t.3.1, t.4.1) }, refl)
 
-break_takes : (bytes : List ℕ) → IsBytes bytes → (at : ℕ) (x : Body × ℕ) → at ≤ length bytes → break_at bytes at ≡ Ok x → Taken bytes at x.1 Break x.0
+break_takes : (version : LogVersion) (bytes : List ℕ) → IsBytes bytes → (at : ℕ) (x : Body × ℕ) → at ≤ length bytes → break_at bytes at ≡ Ok x → Taken version bytes at x.1 Break x.0
 unfolding break_at
-break_takes bytes fits at x le e =
+break_takes version bytes fits at x le e =
     let t = one_take (nonzero_field bytes) fits (λ a. body.Break a) at x le e in
-    subst (Taken bytes at x.1 Break) t.3 (t.1, record { fits = record { numbered = t.2.0; counted = tt }; wide = t.2.1 }, refl)
+    subst (Taken version bytes at x.1 Break) t.3 (t.1, record { fits = record { numbered = t.2.0; counted = tt }; listed = tt; wide = t.2.1 }, refl)
 
-make_takes : (bytes : List ℕ) → IsBytes bytes → (at : ℕ) (x : Body × ℕ) → at ≤ length bytes → make_at bytes at ≡ Ok x → Taken bytes at x.1 Make x.0
+make_takes : (version : LogVersion) (bytes : List ℕ) → IsBytes bytes → (at : ℕ) (x : Body × ℕ) → at ≤ length bytes → make_at bytes at ≡ Ok x → Taken version bytes at x.1 Make x.0
 unfolding make_at
-make_takes bytes fits at x le e =
+make_takes version bytes fits at x le e =
     let t = four_take (nonzero_field bytes) (nonzero_field bytes) (u64_field bytes) (u16_field bytes) fits (λ a b c d. body.Make a b c d) at x le e in
-    subst (Taken bytes at x.1 Make) t.9 (t.4, record { fits = record { numbered = (t.5.0, t.6.0); counted = tt }; wide = (t.5.1, t.6.1, t.7, t.8) }, refl)
+    subst (Taken version bytes at x.1 Make) t.9 (t.4, record { fits = record { numbered = (t.5.0, t.6.0); counted = tt }; listed = tt; wide = (t.5.1, t.6.1, t.7, t.8) }, refl)
 
-field_takes : (bytes : List ℕ) → IsBytes bytes → (at : ℕ) (x : Body × ℕ) → at ≤ length bytes → field_at bytes at ≡ Ok x → Taken bytes at x.1 Field x.0
+field_takes : (version : LogVersion) (bytes : List ℕ) → IsBytes bytes → (at : ℕ) (x : Body × ℕ) → at ≤ length bytes → field_at version bytes at ≡ Ok x → Taken version bytes at x.1 Field x.0
 unfolding field_at
-field_takes bytes fits at x le e =
-    let t = three_take (nonzero_field bytes) (nonzero_field bytes) (path_field bytes) fits (λ a b c. body.Field a b c) at x le e in
-    subst (Taken bytes at x.1 Field) t.7 (t.3, record { fits = record { numbered = (t.4.0, t.5.0); counted = omega (arith, t.6.0) }; wide = (t.4.1, t.5.1, t.6.1) }, refl)
+field_takes version bytes fits at x le e =
+    let t = three_take (nonzero_field bytes) (nonzero_field bytes) (path_field version bytes) fits (λ a b c. body.Field a b c) at x le e in
+    subst (Taken version bytes at x.1 Field) t.7 (t.3, record { fits = record { numbered = (t.4.0, t.5.0); counted = t.6.0.0 }; listed = t.6.0.1; wide = (t.4.1, t.5.1, t.6.1) }, refl)
 
-deliver_takes : (bytes : List ℕ) → IsBytes bytes → (at : ℕ) (x : Body × ℕ) → at ≤ length bytes → deliver_at bytes at ≡ Ok x → Taken bytes at x.1 Deliver x.0
+deliver_takes : (version : LogVersion) (bytes : List ℕ) → IsBytes bytes → (at : ℕ) (x : Body × ℕ) → at ≤ length bytes → deliver_at bytes at ≡ Ok x → Taken version bytes at x.1 Deliver x.0
 unfolding deliver_at
-deliver_takes bytes fits at x le e =
+deliver_takes version bytes fits at x le e =
     let t = two_take (nonzero_field bytes) (u64_field bytes) fits (λ a b. body.Deliver a b) at x le e in
-    subst (Taken bytes at x.1 Deliver) t.5 (t.2, record { fits = record { numbered = t.3.0; counted = tt }; wide = (t.3.1, t.4) }, refl)
+    subst (Taken version bytes at x.1 Deliver) t.5 (t.2, record { fits = record { numbered = t.3.0; counted = tt }; listed = tt; wide = (t.3.1, t.4) }, refl)
 
-answer_takes : (bytes : List ℕ) → IsBytes bytes → (at : ℕ) (x : Body × ℕ) → at ≤ length bytes → answer_at bytes at ≡ Ok x → Taken bytes at x.1 Answer x.0
+answer_takes : (version : LogVersion) (bytes : List ℕ) → IsBytes bytes → (at : ℕ) (x : Body × ℕ) → at ≤ length bytes → answer_at version bytes at ≡ Ok x → Taken version bytes at x.1 Answer x.0
 unfolding answer_at
-answer_takes bytes fits at x le e =
-    let t = two_take (nonzero_field bytes) (results_field bytes) fits (λ a b. body.Answer a b) at x le e in
+answer_takes version bytes fits at x le e =
+    let t = two_take (nonzero_field bytes) (results_field version bytes) fits (λ a b. body.Answer a b) at x le e in
     let results = t.4.1 in
-    subst (Taken bytes at x.1 Answer) t.5 (
+    subst (Taken version bytes at x.1 Answer) t.5 (
       t.2,
       record {
-        fits = record { numbered = (t.3.0, λ k d lt. (results k d lt).0.0); counted = (omega (arith, t.4.0), λ k d lt. omega (arith, (results k d lt).1.0)) };
+        fits = record { numbered = (t.3.0, λ k d lt. (results k d lt).0.0); counted = (t.4.0.0, λ k d lt. (results k d lt).1.0.0) };
+        listed = (t.4.0.1, λ k d lt. (results k d lt).1.0.1);
         wide = (t.3.1, λ k d lt. ((results k d lt).0.1, (results k d lt).1.1));
       },
       refl,
     )
 
-fault_takes : (bytes : List ℕ) → IsBytes bytes → (at : ℕ) (x : Body × ℕ) → at ≤ length bytes → fault_at bytes at ≡ Ok x → Taken bytes at x.1 Fault x.0
+fault_takes : (version : LogVersion) (bytes : List ℕ) → IsBytes bytes → (at : ℕ) (x : Body × ℕ) → at ≤ length bytes → fault_at bytes at ≡ Ok x → Taken version bytes at x.1 Fault x.0
 unfolding fault_at
-fault_takes bytes fits at x le e =
+fault_takes version bytes fits at x le e =
     let t = one_take (nonzero_field bytes) fits (λ a. body.Fault a) at x le e in
-    subst (Taken bytes at x.1 Fault) t.3 (t.1, record { fits = record { numbered = t.2.0; counted = tt }; wide = t.2.1 }, refl)
+    subst (Taken version bytes at x.1 Fault) t.3 (t.1, record { fits = record { numbered = t.2.0; counted = tt }; listed = tt; wide = t.2.1 }, refl)
 
 abbrev sent : Passage → Body
 sent x = body.Send x.connection x.call x.references x.frame
@@ -209,74 +227,74 @@ sent x = body.Send x.connection x.call x.references x.frame
 abbrev received : Passage → Body
 received x = body.Receive x.connection x.call x.references x.frame
 
-passage_fits : (x : Passage) → IsPassage x → FitsWide (sent x) × FitsWide (received x)
-passage_fits x is =
-    let counted : (length x.references ≤ 65535) × (length x.frame ≤ 67108864) = (omega (arith, is.references.0), is.frame) in (
-      record { fits = record { numbered = λ k d lt. (is.references.1 k d lt).0; counted = counted }; wide = (is.connection, is.call, λ k d lt. (is.references.1 k d lt).1) },
-      record { fits = record { numbered = λ k d lt. (is.references.1 k d lt).0; counted = counted }; wide = (is.connection, is.call, λ k d lt. (is.references.1 k d lt).1) },
+passage_fits : (version : LogVersion) (x : Passage) → IsPassage version x → FitsWide version (sent x) × FitsWide version (received x)
+passage_fits version x is =
+    let counted : (length x.references ≤ 1048576) × (length x.frame ≤ 67108864) = (is.references.0.0, is.frame) in (
+      record { fits = record { numbered = λ k d lt. (is.references.1 k d lt).0; counted = counted }; listed = is.references.0.1; wide = (is.connection, is.call, λ k d lt. (is.references.1 k d lt).1) },
+      record { fits = record { numbered = λ k d lt. (is.references.1 k d lt).0; counted = counted }; listed = is.references.0.1; wide = (is.connection, is.call, λ k d lt. (is.references.1 k d lt).1) },
     )
 
-send_takes : (bytes : List ℕ) → IsBytes bytes → (at : ℕ) (x : Body × ℕ) → at ≤ length bytes → send_at bytes at ≡ Ok x → Taken bytes at x.1 Send x.0
+send_takes : (version : LogVersion) (bytes : List ℕ) → IsBytes bytes → (at : ℕ) (x : Body × ℕ) → at ≤ length bytes → send_at version bytes at ≡ Ok x → Taken version bytes at x.1 Send x.0
 unfolding send_at
-send_takes bytes fits at x le e =
-    let a = then_takes bytes (passage_at bytes) passage_spelling IsPassage (passage_field bytes) fits at (λ p. Ok (sent p.0, p.1)) x le e in
+send_takes version bytes fits at x le e =
+    let a = then_takes bytes (passage_at version bytes) (passage_spelling version) (IsPassage version) (passage_field version bytes) fits at (λ p. Ok (sent p.0, p.1)) x le e in
     let made : Body × ℕ = (sent a.0.0, a.0.1) in
-    subst (λ (y : Body × ℕ). Taken bytes at y.1 Send y.0) (ok_is made x a.3) (a.1, (passage_fits a.0.0 a.2).0, refl)
+    subst (λ (y : Body × ℕ). Taken version bytes at y.1 Send y.0) (ok_is made x a.3) (a.1, (passage_fits version a.0.0 a.2).0, refl)
 
-receive_takes : (bytes : List ℕ) → IsBytes bytes → (at : ℕ) (x : Body × ℕ) → at ≤ length bytes → receive_at bytes at ≡ Ok x → Taken bytes at x.1 Receive x.0
+receive_takes : (version : LogVersion) (bytes : List ℕ) → IsBytes bytes → (at : ℕ) (x : Body × ℕ) → at ≤ length bytes → receive_at version bytes at ≡ Ok x → Taken version bytes at x.1 Receive x.0
 unfolding receive_at
-receive_takes bytes fits at x le e =
-    let a = then_takes bytes (passage_at bytes) passage_spelling IsPassage (passage_field bytes) fits at (λ p. Ok (received p.0, p.1)) x le e in
+receive_takes version bytes fits at x le e =
+    let a = then_takes bytes (passage_at version bytes) (passage_spelling version) (IsPassage version) (passage_field version bytes) fits at (λ p. Ok (received p.0, p.1)) x le e in
     let made : Body × ℕ = (received a.0.0, a.0.1) in
-    subst (λ (y : Body × ℕ). Taken bytes at y.1 Receive y.0) (ok_is made x a.3) (a.1, (passage_fits a.0.0 a.2).1, refl)
+    subst (λ (y : Body × ℕ). Taken version bytes at y.1 Receive y.0) (ok_is made x a.3) (a.1, (passage_fits version a.0.0 a.2).1, refl)
 
 -- what is read of a kind is a body of that kind, spelled so
-pub fields_take : (kind : RecordKind) (bytes : List ℕ) → IsBytes bytes → (at : ℕ) (x : Body × ℕ) → at ≤ length bytes → fields_at kind bytes at ≡ Ok x → Taken bytes at x.1 kind x.0
-fields_take Host bytes fits at x le e = host_takes bytes fits at x le e
-fields_take Vow bytes fits at x le e = vow_takes bytes fits at x le e
-fields_take Fulfil bytes fits at x le e = fulfil_takes bytes fits at x le e
-fields_take Break bytes fits at x le e = break_takes bytes fits at x le e
-fields_take Make bytes fits at x le e = make_takes bytes fits at x le e
-fields_take Field bytes fits at x le e = field_takes bytes fits at x le e
-fields_take Deliver bytes fits at x le e = deliver_takes bytes fits at x le e
-fields_take Answer bytes fits at x le e = answer_takes bytes fits at x le e
-fields_take Fault bytes fits at x le e = fault_takes bytes fits at x le e
-fields_take Send bytes fits at x le e = send_takes bytes fits at x le e
-fields_take Receive bytes fits at x le e = receive_takes bytes fits at x le e
+pub fields_take : (version : LogVersion) (kind : RecordKind) (bytes : List ℕ) → IsBytes bytes → (at : ℕ) (x : Body × ℕ) → at ≤ length bytes → fields_at version kind bytes at ≡ Ok x → Taken version bytes at x.1 kind x.0
+fields_take version Host bytes fits at x le e = host_takes version bytes fits at x le e
+fields_take version Vow bytes fits at x le e = vow_takes version bytes fits at x le e
+fields_take version Fulfil bytes fits at x le e = fulfil_takes version bytes fits at x le e
+fields_take version Break bytes fits at x le e = break_takes version bytes fits at x le e
+fields_take version Make bytes fits at x le e = make_takes version bytes fits at x le e
+fields_take version Field bytes fits at x le e = field_takes version bytes fits at x le e
+fields_take version Deliver bytes fits at x le e = deliver_takes version bytes fits at x le e
+fields_take version Answer bytes fits at x le e = answer_takes version bytes fits at x le e
+fields_take version Fault bytes fits at x le e = fault_takes version bytes fits at x le e
+fields_take version Send bytes fits at x le e = send_takes version bytes fits at x le e
+fields_take version Receive bytes fits at x le e = receive_takes version bytes fits at x le e
 
 -- ---- what is spelled so is read
 
-passage_is : (connection call : ℕ) (references frame : List ℕ) → All (λ reference. 0 < reference) references → (length references ≤ 65535) × (length frame ≤ 67108864)
-    → (connection < 2 ^ 32) × (call < 2 ^ 64) × All (λ reference. reference < 2 ^ 64) references → IsPassage (passage connection call references frame)
-passage_is connection call references frame numbered counted wide = record {
+passage_is : (version : LogVersion) (connection call : ℕ) (references frame : List ℕ) → All (λ reference. 0 < reference) references → (length references ≤ 1048576) × (length frame ≤ 67108864)
+    → (connection < 2 ^ 32) × (call < 2 ^ 64) × All (λ reference. reference < 2 ^ 64) references → length references < count_reach version → IsPassage version (passage connection call references frame)
+passage_is version connection call references frame numbered counted wide listed = record {
   connection = wide.0;
   call = wide.1;
-  references = (omega (arith, counted.0), λ k d lt. (numbered k d lt, wide.2 k d lt));
+  references = ((counted.0, listed), λ k d lt. (numbered k d lt, wide.2 k d lt));
   frame = counted.1;
 }
 
-pub fields_again : (said : Body) (bytes : List ℕ) (at after : ℕ) → FitsWide said → Spans bytes at (fields_bytes said) after → fields_at (kind_in said) bytes at ≡ Ok (said, after)
+pub fields_again : (version : LogVersion) (said : Body) (bytes : List ℕ) (at after : ℕ) → FitsWide version said → Spans bytes at (fields_bytes version said) after → fields_at version (kind_in said) bytes at ≡ Ok (said, after)
 unfolding host_at vow_at fulfil_at break_at make_at field_at deliver_at answer_at fault_at send_at receive_at
-fields_again (body.Host reference object) bytes at after is p =
+fields_again version (body.Host reference object) bytes at after is p =
     two_again (nonzero_field bytes) (u64_field bytes) (λ a b. body.Host a b) at reference object after (is.fits.numbered, is.wide.0) is.wide.1 p
-fields_again (body.Vow reference) bytes at after is p =
+fields_again version (body.Vow reference) bytes at after is p =
     one_again (nonzero_field bytes) (λ a. body.Vow a) at reference after (is.fits.numbered, is.wide) p
-fields_again (body.Fulfil reference to) bytes at after is p =
+fields_again version (body.Fulfil reference to) bytes at after is p =
     two_again (nonzero_field bytes) (nonzero_field bytes) (λ a b. body.Fulfil a b) at reference to after (is.fits.numbered.0, is.wide.0) (is.fits.numbered.1, is.wide.1) p
-fields_again (body.Break reference) bytes at after is p =
+fields_again version (body.Break reference) bytes at after is p =
     one_again (nonzero_field bytes) (λ a. body.Break a) at reference after (is.fits.numbered, is.wide) p
-fields_again (body.Make call reference interface method) bytes at after is p =
+fields_again version (body.Make call reference interface method) bytes at after is p =
     four_again (nonzero_field bytes) (nonzero_field bytes) (u64_field bytes) (u16_field bytes) (λ a b c d. body.Make a b c d) at call reference interface method after (is.fits.numbered.0, is.wide.0) (is.fits.numbered.1, is.wide.1) is.wide.2 is.wide.3 p
-fields_again (body.Field reference call path) bytes at after is p =
-    three_again (nonzero_field bytes) (nonzero_field bytes) (path_field bytes) (λ a b c. body.Field a b c) at reference call path after (is.fits.numbered.0, is.wide.0) (is.fits.numbered.1, is.wide.1) (omega (arith, is.fits.counted), is.wide.2) p
-fields_again (body.Deliver call object) bytes at after is p =
+fields_again version (body.Field reference call path) bytes at after is p =
+    three_again (nonzero_field bytes) (nonzero_field bytes) (path_field version bytes) (λ a b c. body.Field a b c) at reference call path after (is.fits.numbered.0, is.wide.0) (is.fits.numbered.1, is.wide.1) ((is.fits.counted, is.listed), is.wide.2) p
+fields_again version (body.Deliver call object) bytes at after is p =
     two_again (nonzero_field bytes) (u64_field bytes) (λ a b. body.Deliver a b) at call object after (is.fits.numbered, is.wide.0) is.wide.1 p
-fields_again (body.Answer call results) bytes at after is p =
-    two_again (nonzero_field bytes) (results_field bytes) (λ a b. body.Answer a b) at call results after (is.fits.numbered.0, is.wide.0)
-    (omega (arith, is.fits.counted.0), λ k d lt. ((is.fits.numbered.1 k d lt, (is.wide.1 k d lt).0), (omega (arith, is.fits.counted.1 k d lt), (is.wide.1 k d lt).1))) p
-fields_again (body.Fault call) bytes at after is p =
+fields_again version (body.Answer call results) bytes at after is p =
+    two_again (nonzero_field bytes) (results_field version bytes) (λ a b. body.Answer a b) at call results after (is.fits.numbered.0, is.wide.0)
+    ((is.fits.counted.0, is.listed.0), λ k d lt. ((is.fits.numbered.1 k d lt, (is.wide.1 k d lt).0), ((is.fits.counted.1 k d lt, is.listed.1 k d lt), (is.wide.1 k d lt).1))) p
+fields_again version (body.Fault call) bytes at after is p =
     one_again (nonzero_field bytes) (λ a. body.Fault a) at call after (is.fits.numbered, is.wide) p
-fields_again (body.Send connection call references frame) bytes at after is p =
-    rw (passage_again bytes at (passage connection call references frame) after (passage_is connection call references frame is.fits.numbered is.fits.counted is.wide) p) refl
-fields_again (body.Receive connection call references frame) bytes at after is p =
-    rw (passage_again bytes at (passage connection call references frame) after (passage_is connection call references frame is.fits.numbered is.fits.counted is.wide) p) refl
+fields_again version (body.Send connection call references frame) bytes at after is p =
+    rw (passage_again version bytes at (passage connection call references frame) after (passage_is version connection call references frame is.fits.numbered is.fits.counted is.wide is.listed) p) refl
+fields_again version (body.Receive connection call references frame) bytes at after is p =
+    rw (passage_again version bytes at (passage connection call references frame) after (passage_is version connection call references frame is.fits.numbered is.fits.counted is.wide is.listed) p) refl

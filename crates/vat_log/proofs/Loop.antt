@@ -8,6 +8,7 @@ use Rattle.vat_log.specs.declared.error.LogError.{LogError}
 use Rattle.vat_log.specs.declared.error.LogError.TheVariants.{BadMagic, Short, BadKind, ZeroNumber, TooLong, OutOfMemory}
 use Rattle.vat_log.specs.declared.body.Body.{Body}
 use Rattle.vat_log.specs.declared.kind.RecordKind.{RecordKind}
+use Rattle.vat_log.specs.declared.version.LogVersion.{LogVersion}
 use Rattle.vat_log.specs.Reading.{◌>>=◌, Fails, many_at, kind_at, fields_at, records_at}
 
 -- a step that failed, whatever follows it
@@ -79,50 +80,50 @@ regroup_records : (front : List Body) (x : Body) (read : Result (List Body) LogE
 regroup_records front x (Ok xs) = ap (λ (ys : List Body). Ok ys) (simp append_assoc)
 regroup_records front x (Err e) = refl
 
-pub record_goes_on : (bytes : List ℕ) (front : List Body) (limit at : ℕ) (kind : RecordKind) (x : Body) (after : ℕ) (total : Result (List Body) LogError) → at < length bytes → length front < limit
-    → kind_at bytes at ≡ Ok kind → fields_at kind bytes (at + 1) ≡ Ok (x, after)
-    → with_records front (records_at bytes (limit - length front) at) ≡ total → with_records (front ++ x ∷ []) (records_at bytes (limit - length (front ++ x ∷ [])) after) ≡ total
+pub record_goes_on : (version : LogVersion) (bytes : List ℕ) (front : List Body) (limit at : ℕ) (kind : RecordKind) (x : Body) (after : ℕ) (total : Result (List Body) LogError) → at < length bytes → length front < limit
+    → kind_at bytes at ≡ Ok kind → fields_at version kind bytes (at + 1) ≡ Ok (x, after)
+    → with_records front (records_at version bytes (limit - length front) at) ≡ total → with_records (front ++ x ∷ []) (records_at version bytes (limit - length (front ++ x ∷ [])) after) ≡ total
 unfolding records_at
-record_goes_on bytes front limit at kind x after total lt room k f so_far =
+record_goes_on version bytes front limit at kind x after total lt room k f so_far =
     let n : limit - length front ≡ suc (limit - length (front ++ x ∷ [])) = omega (arith, length-append front (x ∷ [])) in
     let test : ltb at (length bytes) ≡ true = lt-ltb _ _ lt in
-    let one : with_records front (records_at bytes (limit - length front) at) ≡ with_records (front ++ x ∷ []) (records_at bytes (limit - length (front ++ x ∷ [])) after) =
-    rw (n, test, k, f) (regroup_records front x (records_at bytes (limit - length (front ++ x ∷ [])) after)) in
+    let one : with_records front (records_at version bytes (limit - length front) at) ≡ with_records (front ++ x ∷ []) (records_at version bytes (limit - length (front ++ x ∷ [])) after) =
+    rw (n, test, k, f) (regroup_records front x (records_at version bytes (limit - length (front ++ x ∷ [])) after)) in
     sym one ∙ so_far
 
-kind_stops : (e : LogError) (bytes : List ℕ) (left at : ℕ) → at < length bytes → Fails e (kind_at bytes at) → Fails e (records_at bytes left at)
+kind_stops : (version : LogVersion) (e : LogError) (bytes : List ℕ) (left at : ℕ) → at < length bytes → Fails e (kind_at bytes at) → Fails e (records_at version bytes left at)
 unfolding records_at
-kind_stops e bytes zero at lt h = rw (lt-ltb _ _ lt) (Fails-then e (kind_at bytes at) _ h)
-kind_stops e bytes (suc left) at lt h = rw (lt-ltb _ _ lt) (Fails-then e (kind_at bytes at) _ h)
+kind_stops version e bytes zero at lt h = rw (lt-ltb _ _ lt) (Fails-then e (kind_at bytes at) _ h)
+kind_stops version e bytes (suc left) at lt h = rw (lt-ltb _ _ lt) (Fails-then e (kind_at bytes at) _ h)
 
-pub kind_ends : (e : LogError) (bytes : List ℕ) (front : List Body) (limit at : ℕ) (total : Result (List Body) LogError) → at < length bytes → Fails e (kind_at bytes at)
-    → with_records front (records_at bytes (limit - length front) at) ≡ total → Fails e total
-kind_ends e bytes front limit at total lt h so_far = subst (Fails e) so_far (Fails-then e _ _ (kind_stops e bytes (limit - length front) at lt h))
+pub kind_ends : (version : LogVersion) (e : LogError) (bytes : List ℕ) (front : List Body) (limit at : ℕ) (total : Result (List Body) LogError) → at < length bytes → Fails e (kind_at bytes at)
+    → with_records front (records_at version bytes (limit - length front) at) ≡ total → Fails e total
+kind_ends version e bytes front limit at total lt h so_far = subst (Fails e) so_far (Fails-then e _ _ (kind_stops version e bytes (limit - length front) at lt h))
 
-pub record_ends : (e : LogError) (bytes : List ℕ) (front : List Body) (limit at : ℕ) (kind : RecordKind) (total : Result (List Body) LogError) → at < length bytes → length front < limit
-    → kind_at bytes at ≡ Ok kind → Fails e (fields_at kind bytes (at + 1)) → with_records front (records_at bytes (limit - length front) at) ≡ total → Fails e total
+pub record_ends : (version : LogVersion) (e : LogError) (bytes : List ℕ) (front : List Body) (limit at : ℕ) (kind : RecordKind) (total : Result (List Body) LogError) → at < length bytes → length front < limit
+    → kind_at bytes at ≡ Ok kind → Fails e (fields_at version kind bytes (at + 1)) → with_records front (records_at version bytes (limit - length front) at) ≡ total → Fails e total
 unfolding records_at
-record_ends e bytes front limit at kind total lt room k f so_far =
+record_ends version e bytes front limit at kind total lt room k f so_far =
     let n : limit - length front ≡ suc (limit - (length front + 1)) = omega arith in
     let test : ltb at (length bytes) ≡ true = lt-ltb _ _ lt in
-    subst (Fails e) so_far (rw (n, test, k) (Fails-then e _ _ (Fails-then e (fields_at kind bytes (at + 1)) _ f)))
+    subst (Fails e) so_far (rw (n, test, k) (Fails-then e _ _ (Fails-then e (fields_at version kind bytes (at + 1)) _ f)))
 
-pub limit_ends : (bytes : List ℕ) (front : List Body) (limit at : ℕ) (kind : RecordKind) (total : Result (List Body) LogError) → at < length bytes → limit ≤ length front
-    → kind_at bytes at ≡ Ok kind → with_records front (records_at bytes (limit - length front) at) ≡ total → total ≡ Err TooLong
+pub limit_ends : (version : LogVersion) (bytes : List ℕ) (front : List Body) (limit at : ℕ) (kind : RecordKind) (total : Result (List Body) LogError) → at < length bytes → limit ≤ length front
+    → kind_at bytes at ≡ Ok kind → with_records front (records_at version bytes (limit - length front) at) ≡ total → total ≡ Err TooLong
 unfolding records_at
-limit_ends bytes front limit at kind total lt full k so_far =
+limit_ends version bytes front limit at kind total lt full k so_far =
     let n : limit - length front ≡ 0 = omega arith in
     let test : ltb at (length bytes) ≡ true = lt-ltb _ _ lt in
-    let one : with_records front (records_at bytes (limit - length front) at) ≡ Err TooLong = rw (n, test, k) refl in
+    let one : with_records front (records_at version bytes (limit - length front) at) ≡ Err TooLong = rw (n, test, k) refl in
     sym so_far ∙ one
 
-records_stop : (bytes : List ℕ) (left at : ℕ) → length bytes ≤ at → records_at bytes left at ≡ Ok []
+records_stop : (version : LogVersion) (bytes : List ℕ) (left at : ℕ) → length bytes ≤ at → records_at version bytes left at ≡ Ok []
 unfolding records_at
-records_stop bytes zero at past = rw (le-ltb _ _ past) refl
-records_stop bytes (suc left) at past = rw (le-ltb _ _ past) refl
+records_stop version bytes zero at past = rw (le-ltb _ _ past) refl
+records_stop version bytes (suc left) at past = rw (le-ltb _ _ past) refl
 
-pub records_are_done : (bytes : List ℕ) (front : List Body) (limit at : ℕ) (total : Result (List Body) LogError) → length bytes ≤ at
-    → with_records front (records_at bytes (limit - length front) at) ≡ total → total ≡ Ok front
-records_are_done bytes front limit at total past so_far =
-    let one : with_records front (records_at bytes (limit - length front) at) ≡ Ok front = rw (records_stop bytes (limit - length front) at past) (ap (λ (xs : List Body). Ok xs) (append-nil front)) in
+pub records_are_done : (version : LogVersion) (bytes : List ℕ) (front : List Body) (limit at : ℕ) (total : Result (List Body) LogError) → length bytes ≤ at
+    → with_records front (records_at version bytes (limit - length front) at) ≡ total → total ≡ Ok front
+records_are_done version bytes front limit at total past so_far =
+    let one : with_records front (records_at version bytes (limit - length front) at) ≡ Ok front = rw (records_stop version bytes (limit - length front) at past) (ap (λ (xs : List Body). Ok xs) (append-nil front)) in
     sym so_far ∙ one

@@ -5,11 +5,18 @@ use Rattle.vat_log.specs.declared.body.Body.{Body}
 use Rattle.vat_log.specs.declared.body.Body.TheVariants.{Host, Vow, Fulfil, Break, Make, Field, Deliver, Answer, Fault, Send, Receive}
 use Rattle.vat_log.specs.declared.error.LogError.{LogError}
 use Rattle.vat_log.specs.declared.error.LogError.TheVariants.{ZeroNumber, TooLong, OutOfMemory}
+use Rattle.vat_log.specs.declared.version.LogVersion.{LogVersion}
+use Rattle.vat_log.specs.declared.version.LogVersion.TheVariants.{One, Two}
 use Rattle.vat_log.specs.Log.{Log}
 
 -- how many references, results or path elements a list may have
 abbrev pub count_limit : ℕ
-count_limit = 65535
+count_limit = 1048576
+
+-- how many of its counts a version tells apart, from 0 on
+abbrev pub count_reach : LogVersion → ℕ
+count_reach One = 2 ^ 16
+count_reach Two = 2 ^ 32
 
 -- how many bytes a frame may have
 abbrev pub frame_limit : ℕ
@@ -45,6 +52,15 @@ IsCounted (Send connection call references frame) =
 IsCounted (Receive connection call references frame) =
     (length references ≤ count_limit) × (length frame ≤ frame_limit)
 IsCounted _ = Unit {0}
+
+-- The count of each list is one that this version can spell.
+abbrev pub IsListed : LogVersion → Body → Type 0
+IsListed version (Field reference call path) = length path < count_reach version
+IsListed version (Answer call results) =
+    (length results < count_reach version) × All (λ answered. length answered.1 < count_reach version) results
+IsListed version (Send connection call references frame) = length references < count_reach version
+IsListed version (Receive connection call references frame) = length references < count_reach version
+IsListed version _ = Unit {0}
 
 -- Each number is within the width of its field, as the types of the fields keep it.
 abbrev pub IsWide : Body → Type 0
@@ -82,6 +98,7 @@ pub record LogFits (limit : ℕ) (log : Log) : Type 0 where
   pub counted : length log.records ≤ limit
   pub fit : All Fits log.records
   pub wide : All IsWide log.records
+  pub listed : All (IsListed log.version) log.records
 
 -- What is written: the log that is handed in, unless it has too many records.
 abbrev pub stored_log : Log → Result Log LogError

@@ -5,3 +5,4 @@ pub mod Reading
 pub mod Parsed
 pub mod Glue
 pub mod Ends
+pub mod Migrated

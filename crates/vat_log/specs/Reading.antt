@@ -10,9 +10,11 @@ use Rattle.vat_log.specs.declared.error.LogError.TheVariants.{BadMagic, Short, B
 use Rattle.vat_log.specs.declared.kind.RecordKind.{RecordKind}
 use Rattle.vat_log.specs.declared.kind.RecordKind.TheVariants.{Host, Vow, Fulfil, Break, Make, Field, Deliver, Answer, Fault, Send, Receive}
 use Rattle.vat_log.specs.declared.passage.Passage.{Passage}
-use Rattle.vat_log.specs.Fits.{frame_limit, record_limit}
+use Rattle.vat_log.specs.declared.version.LogVersion.{LogVersion}
+use Rattle.vat_log.specs.declared.version.LogVersion.TheVariants.{One, Two}
+use Rattle.vat_log.specs.Fits.{count_limit, frame_limit, record_limit}
 use Rattle.vat_log.specs.Log.{Log}
-use Rattle.vat_log.specs.Spelling.{log_magic}
+use Rattle.vat_log.specs.Spelling.{log_magic, count_width}
 
 infixl 10 ◌>>=◌
 abbrev pub ◌>>=◌ : {A B : Type 0} → Result A LogError → (A → Result B LogError) → Result B LogError
@@ -49,21 +51,27 @@ many_at item (suc count) at = do
   others ← many_at item count first.1
   Ok (first.0 ∷ others.0, others.1)
 
+-- a count: a number of the version's width, within its limit
+unfoldable pub count_at : LogVersion → List ℕ → ℕ → Result (ℕ × ℕ) LogError
+count_at version bytes at = do
+  count ← number_at (count_width version) bytes at
+  if nat_lt count_limit count.0 then Err TooLong else Ok count
+
 -- a list: its count, and so many of them
-unfoldable pub list_at : {A : Type 0} → (ℕ → Result (A × ℕ) LogError) → List ℕ → ℕ → Result (List A × ℕ) LogError
-list_at item bytes at = do
-  count ← number_at w16 bytes at
+unfoldable pub list_at : {A : Type 0} → LogVersion → (ℕ → Result (A × ℕ) LogError) → List ℕ → ℕ → Result (List A × ℕ) LogError
+list_at version item bytes at = do
+  count ← count_at version bytes at
   many_at item count.0 count.1
 
 -- a path: a list of pointer field numbers
-abbrev pub path_at : List ℕ → ℕ → Result (List ℕ × ℕ) LogError
-path_at bytes at = list_at (number_at w16 bytes) bytes at
+abbrev pub path_at : LogVersion → List ℕ → ℕ → Result (List ℕ × ℕ) LogError
+path_at version bytes at = list_at version (number_at w16 bytes) bytes at
 
 -- a result: its reference, and the path at which it stands
-unfoldable pub answered_at : List ℕ → ℕ → Result ((ℕ × List ℕ) × ℕ) LogError
-answered_at bytes at = do
+unfoldable pub answered_at : LogVersion → List ℕ → ℕ → Result ((ℕ × List ℕ) × ℕ) LogError
+answered_at version bytes at = do
   reference ← nonzero_at bytes at
-  path ← path_at bytes reference.1
+  path ← path_at version bytes reference.1
   Ok ((reference.0, path.0), path.1)
 
 -- a frame: its length, and so many bytes, which are one field
@@ -75,11 +83,11 @@ frame_at bytes at = do
       else Ok (slice_range bytes size.1 (size.1 + size.0), size.1 + size.0)
 
 -- a frame on a connection, with what is noted beside it
-unfoldable pub passage_at : List ℕ → ℕ → Result (Passage × ℕ) LogError
-passage_at bytes at = do
+unfoldable pub passage_at : LogVersion → List ℕ → ℕ → Result (Passage × ℕ) LogError
+passage_at version bytes at = do
   connection ← number_at w32 bytes at
   call ← number_at w64 bytes connection.1
-  references ← list_at (nonzero_at bytes) bytes call.1
+  references ← list_at version (nonzero_at bytes) bytes call.1
   frame ← frame_at bytes references.1
   Ok (record { connection = connection.0; call = call.0; references = references.0; frame = frame.0 }, frame.1)
 
@@ -113,11 +121,11 @@ make_at bytes at = do
   method ← number_at w16 bytes interface.1
   Ok (body.Make call.0 reference.0 interface.0 method.0, method.1)
 
-unfoldable pub field_at : List ℕ → ℕ → Result (Body × ℕ) LogError
-field_at bytes at = do
+unfoldable pub field_at : LogVersion → List ℕ → ℕ → Result (Body × ℕ) LogError
+field_at version bytes at = do
   reference ← nonzero_at bytes at
   call ← nonzero_at bytes reference.1
-  path ← path_at bytes call.1
+  path ← path_at version bytes call.1
   Ok (body.Field reference.0 call.0 path.0, path.1)
 
 unfoldable pub deliver_at : List ℕ → ℕ → Result (Body × ℕ) LogError
@@ -126,10 +134,10 @@ deliver_at bytes at = do
   object ← number_at w64 bytes call.1
   Ok (body.Deliver call.0 object.0, object.1)
 
-unfoldable pub answer_at : List ℕ → ℕ → Result (Body × ℕ) LogError
-answer_at bytes at = do
+unfoldable pub answer_at : LogVersion → List ℕ → ℕ → Result (Body × ℕ) LogError
+answer_at version bytes at = do
   call ← nonzero_at bytes at
-  results ← list_at (answered_at bytes) bytes call.1
+  results ← list_at version (answered_at version bytes) bytes call.1
   Ok (body.Answer call.0 results.0, results.1)
 
 unfoldable pub fault_at : List ℕ → ℕ → Result (Body × ℕ) LogError
@@ -137,29 +145,29 @@ fault_at bytes at = do
   call ← nonzero_at bytes at
   Ok (body.Fault call.0, call.1)
 
-unfoldable pub send_at : List ℕ → ℕ → Result (Body × ℕ) LogError
-send_at bytes at = do
-  passage ← passage_at bytes at
+unfoldable pub send_at : LogVersion → List ℕ → ℕ → Result (Body × ℕ) LogError
+send_at version bytes at = do
+  passage ← passage_at version bytes at
   Ok (body.Send passage.0.connection passage.0.call passage.0.references passage.0.frame, passage.1)
 
-unfoldable pub receive_at : List ℕ → ℕ → Result (Body × ℕ) LogError
-receive_at bytes at = do
-  passage ← passage_at bytes at
+unfoldable pub receive_at : LogVersion → List ℕ → ℕ → Result (Body × ℕ) LogError
+receive_at version bytes at = do
+  passage ← passage_at version bytes at
   Ok (body.Receive passage.0.connection passage.0.call passage.0.references passage.0.frame, passage.1)
 
 -- the fields of a record of this kind
-abbrev pub fields_at : RecordKind → List ℕ → ℕ → Result (Body × ℕ) LogError
-fields_at Host bytes at = host_at bytes at
-fields_at Vow bytes at = vow_at bytes at
-fields_at Fulfil bytes at = fulfil_at bytes at
-fields_at Break bytes at = break_at bytes at
-fields_at Make bytes at = make_at bytes at
-fields_at Field bytes at = field_at bytes at
-fields_at Deliver bytes at = deliver_at bytes at
-fields_at Answer bytes at = answer_at bytes at
-fields_at Fault bytes at = fault_at bytes at
-fields_at Send bytes at = send_at bytes at
-fields_at Receive bytes at = receive_at bytes at
+abbrev pub fields_at : LogVersion → RecordKind → List ℕ → ℕ → Result (Body × ℕ) LogError
+fields_at version Host bytes at = host_at bytes at
+fields_at version Vow bytes at = vow_at bytes at
+fields_at version Fulfil bytes at = fulfil_at bytes at
+fields_at version Break bytes at = break_at bytes at
+fields_at version Make bytes at = make_at bytes at
+fields_at version Field bytes at = field_at version bytes at
+fields_at version Deliver bytes at = deliver_at bytes at
+fields_at version Answer bytes at = answer_at version bytes at
+fields_at version Fault bytes at = fault_at bytes at
+fields_at version Send bytes at = send_at version bytes at
+fields_at version Receive bytes at = receive_at version bytes at
 
 -- the kind that a byte stands for
 unfoldable pub kind_with : ℕ → Option RecordKind
@@ -186,28 +194,34 @@ unfoldable pub kind_at : List ℕ → ℕ → Result RecordKind LogError
 kind_at bytes at = known_kind (kind_with (slice_index bytes at)) at
 
 -- The records from this place to the end, of which there may be so many.
-unfoldable pub records_at : List ℕ → ℕ → ℕ → Result (List Body) LogError
-records_at bytes zero at =
+unfoldable pub records_at : LogVersion → List ℕ → ℕ → ℕ → Result (List Body) LogError
+records_at version bytes zero at =
     if nat_lt at (length bytes) then (do
       kind ← kind_at bytes at
       Err TooLong)
     else Ok []
-records_at bytes (suc left) at =
+records_at version bytes (suc left) at =
     if nat_lt at (length bytes) then (do
       kind ← kind_at bytes at
-      first ← fields_at kind bytes (at + 1)
-      others ← records_at bytes left first.1
+      first ← fields_at version kind bytes (at + 1)
+      others ← records_at version bytes left first.1
       Ok (first.0 ∷ others))
     else Ok []
 
+-- the version whose magic stands before all else
+unfoldable pub version_at : List ℕ → Result LogVersion LogError
+version_at bytes =
+    if starts_with nat_eq bytes (log_magic One) then Ok One
+    else if starts_with nat_eq bytes (log_magic Two) then Ok Two
+    else Err BadMagic
+
 -- The log that these bytes spell, of so many records at most, or the first fault.
 unfoldable pub log_within : ℕ → List ℕ → Result Log LogError
-log_within limit bytes =
-    if starts_with nat_eq bytes log_magic then (do
-      vat ← number_at w32 bytes 8
-      records ← records_at bytes limit vat.1
-      Ok (record { vat = vat.0; records = records }))
-    else Err BadMagic
+log_within limit bytes = do
+  version ← version_at bytes
+  vat ← number_at w32 bytes 8
+  records ← records_at version bytes limit vat.1
+  Ok (record { version = version; vat = vat.0; records = records })
 
 -- The log that these bytes spell, or the first fault.
 abbrev pub log_of : List ℕ → Result Log LogError

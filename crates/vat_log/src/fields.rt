@@ -3,11 +3,13 @@
 
 ghost use Rattle.std.specs.Prelude.{◌≤◌, length, IfOk};
 ghost use Rattle.std.specs.Int.{w16, w32, w64};
-ghost use Rattle.vat_log.specs.Reading.{GivesInMemory, number_at, nonzero_at, many_at, list_at, path_at, answered_at, frame_at};
+ghost use Rattle.vat_log.specs.Spelling.{count_width};
+ghost use Rattle.vat_log.specs.Reading.{GivesInMemory, number_at, nonzero_at, count_at, many_at, list_at, path_at, answered_at, frame_at};
 
 use crate::body::{References, ResultReferences};
 use crate::error::LogError;
-use crate::limits::MAX_FRAME;
+use crate::limits::{MAX_COUNT, MAX_FRAME};
+use crate::version::LogVersion;
 use bytes::Bytes;
 use cap_frame::Path;
 use std::alloc::Global;
@@ -69,9 +71,40 @@ pub(crate) fn nonzero_of(bytes: &[u8], at: usize) -> Result<(u64, usize), LogErr
     Ok((number, after))
 }
 
+/// A number of the width that a count has in this version.
+fn wide_count_at(version: LogVersion, bytes: &[u8], at: usize) -> Result<(u32, usize), LogError>
+    requires { at ≤ length bytes.now }
+    ensures gives { GivesInMemory (λ x. (x.0, x.1)) result
+        (number_at (count_width version) bytes.now at) }
+    ensures within { IfOk result (λ x. x.1 ≤ length bytes.now) }
+{
+    match version {
+        LogVersion::One => {
+            let (count, after) = u16_at(bytes, at)?;
+            Ok((count as u32, after))
+        }
+        LogVersion::Two => u32_at(bytes, at),
+    }
+}
+
+/// How many a list has.
+#[tactic(auto, unfolding(crate::specs::Reading::count_at))]
+fn count_of(version: LogVersion, bytes: &[u8], at: usize) -> Result<(usize, usize), LogError>
+    requires { at ≤ length bytes.now }
+    ensures gives { GivesInMemory (λ x. (x.0, x.1)) result (count_at version bytes.now at) }
+    ensures within { IfOk result (λ x. x.1 ≤ length bytes.now) }
+{
+    let (count, after) = wide_count_at(version, bytes, at)?;
+    let count = count as usize;
+    if count > MAX_COUNT {
+        return Err(LogError::TooLong);
+    }
+    Ok((count, after))
+}
+
 fn many_references(
     alloc: Global,
-    count: u16,
+    count: usize,
     bytes: &[u8],
     at: usize,
 ) -> Result<(Vec<u64>, usize), LogError>
@@ -80,7 +113,7 @@ fn many_references(
         (many_at (nonzero_at bytes.now) count at) }
     ensures within { IfOk result (λ x. x.1 ≤ length bytes.now) }
 {
-    let mut references = Vec::with_capacity(alloc, count as usize)?;
+    let mut references = Vec::with_capacity(alloc, count.min(bytes.len() - at))?;
     let mut place = at;
     for _ in 0..count {
         let (reference, after) = nonzero_of(bytes, place)?;
@@ -93,22 +126,23 @@ fn many_references(
 #[tactic(auto, unfolding(crate::specs::Reading::list_at))]
 pub(crate) fn references_of(
     alloc: Global,
+    version: LogVersion,
     bytes: &[u8],
     at: usize,
 ) -> Result<(References, usize), LogError>
     requires { at ≤ length bytes.now }
     ensures gives { GivesInMemory (λ x. (x.0, x.1)) result
-        (list_at (nonzero_at bytes.now) bytes.now at) }
+        (list_at version (nonzero_at bytes.now) bytes.now at) }
     ensures within { IfOk result (λ x. x.1 ≤ length bytes.now) }
 {
-    let (count, after) = u16_at(bytes, at)?;
+    let (count, after) = count_of(version, bytes, at)?;
     let (references, after) = many_references(alloc, count, bytes, after)?;
     Ok((References::new(references), after))
 }
 
 fn many_path_fields(
     alloc: Global,
-    count: u16,
+    count: usize,
     bytes: &[u8],
     at: usize,
 ) -> Result<(Vec<u16>, usize), LogError>
@@ -117,7 +151,7 @@ fn many_path_fields(
         (many_at (number_at w16 bytes.now) count at) }
     ensures within { IfOk result (λ x. x.1 ≤ length bytes.now) }
 {
-    let mut fields = Vec::with_capacity(alloc, count as usize)?;
+    let mut fields = Vec::with_capacity(alloc, count.min(bytes.len() - at))?;
     let mut place = at;
     for _ in 0..count {
         let (field, after) = u16_at(bytes, place)?;
@@ -128,42 +162,53 @@ fn many_path_fields(
 }
 
 #[tactic(auto, unfolding(crate::specs::Reading::list_at))]
-pub(crate) fn path_of(alloc: Global, bytes: &[u8], at: usize) -> Result<(Path, usize), LogError>
+pub(crate) fn path_of(
+    alloc: Global,
+    version: LogVersion,
+    bytes: &[u8],
+    at: usize,
+) -> Result<(Path, usize), LogError>
     requires { at ≤ length bytes.now }
-    ensures gives { GivesInMemory (λ x. (x.0, x.1)) result (path_at bytes.now at) }
+    ensures gives { GivesInMemory (λ x. (x.0, x.1)) result (path_at version bytes.now at) }
     ensures within { IfOk result (λ x. x.1 ≤ length bytes.now) }
 {
-    let (count, after) = u16_at(bytes, at)?;
+    let (count, after) = count_of(version, bytes, at)?;
     let (fields, after) = many_path_fields(alloc, count, bytes, after)?;
     Ok((Path::new(fields)?, after))
 }
 
 #[tactic(auto, unfolding(crate::specs::Reading::answered_at))]
-fn answered_of(alloc: Global, bytes: &[u8], at: usize) -> Result<((u64, Path), usize), LogError>
+fn answered_of(
+    alloc: Global,
+    version: LogVersion,
+    bytes: &[u8],
+    at: usize,
+) -> Result<((u64, Path), usize), LogError>
     requires { at ≤ length bytes.now }
-    ensures gives { GivesInMemory (λ x. (x.0, x.1)) result (answered_at bytes.now at) }
+    ensures gives { GivesInMemory (λ x. (x.0, x.1)) result (answered_at version bytes.now at) }
     ensures within { IfOk result (λ x. x.1 ≤ length bytes.now) }
 {
     let (reference, after) = nonzero_of(bytes, at)?;
-    let (path, after) = path_of(alloc, bytes, after)?;
+    let (path, after) = path_of(alloc, version, bytes, after)?;
     Ok(((reference, path), after))
 }
 
 fn many_results(
     alloc: Global,
-    count: u16,
+    version: LogVersion,
+    count: usize,
     bytes: &[u8],
     at: usize,
 ) -> Result<(Vec<(u64, Path)>, usize), LogError>
     requires { at ≤ length bytes.now }
     ensures gives { GivesInMemory (λ x. (x.0.items, x.1)) result
-        (many_at (answered_at bytes.now) count at) }
+        (many_at (answered_at version bytes.now) count at) }
     ensures within { IfOk result (λ x. x.1 ≤ length bytes.now) }
 {
-    let mut results = Vec::with_capacity(alloc, count as usize)?;
+    let mut results = Vec::with_capacity(alloc, count.min(bytes.len() - at))?;
     let mut place = at;
     for _ in 0..count {
-        let (answered, after) = answered_of(alloc, bytes, place)?;
+        let (answered, after) = answered_of(alloc, version, bytes, place)?;
         results.push(answered)?;
         place = after;
     }
@@ -173,16 +218,17 @@ fn many_results(
 #[tactic(auto, unfolding(crate::specs::Reading::list_at))]
 pub(crate) fn results_of(
     alloc: Global,
+    version: LogVersion,
     bytes: &[u8],
     at: usize,
 ) -> Result<(ResultReferences, usize), LogError>
     requires { at ≤ length bytes.now }
     ensures gives { GivesInMemory (λ x. (x.0, x.1)) result
-        (list_at (answered_at bytes.now) bytes.now at) }
+        (list_at version (answered_at version bytes.now) bytes.now at) }
     ensures within { IfOk result (λ x. x.1 ≤ length bytes.now) }
 {
-    let (count, after) = u16_at(bytes, at)?;
-    let (results, after) = many_results(alloc, count, bytes, after)?;
+    let (count, after) = count_of(version, bytes, at)?;
+    let (results, after) = many_results(alloc, version, count, bytes, after)?;
     Ok((ResultReferences::new(results), after))
 }
 

@@ -6,8 +6,8 @@ ghost use Rattle.vat_log.specs.Log.{Log};
 ghost use Rattle.vat_log.specs.Reading.{log_of};
 ghost use Rattle.vat_log.specs.Spelling.{log_bytes};
 
-/// A log has one spelling: what is read is spelled so, what is spelled so is read, and two logs with the same vat and
-/// records have the same bytes.
+/// A log has one spelling in each version: what is read is spelled so, what is spelled so is read, and two logs with the
+/// same version, vat and records have the same bytes.
 pub fn one_spelling()
     ensures read_is_spelled { (bytes : List ℕ) (log : Log) → All (λ octet. octet < 2 ^ 8) bytes
         → log_of bytes ≡ Ok log → bytes ≡ log_bytes log }

@@ -1,9 +1,10 @@
-//! Logs of one vat: their records, and their one spelling in bytes (docs/FORMATS.md).
+//! Logs of one vat: their records, and their one spelling in the bytes of each version (docs/FORMATS.md).
 //!
 //! It stands on `bytes`, from which frames are cut without copying, and on `cap_frame` for its paths. How a log is
 //! spelled is said in `specs/Spelling.antt`, how bytes are read and which fault is first in `specs/Reading.antt`, what
 //! a log can hold in `specs/Fits.antt`. [`parse_log`] and [`write_log`] answer exactly what these say, and a [`VatLog`]
-//! is what its bytes spell. A [`LogWriter`] is for a runtime of one thread, which writes its log record by record.
+//! is what its bytes spell. Both versions are read, version 2 is written, and [`migrate`] makes it of a version 1 log.
+//! A [`LogWriter`] is for a runtime of one thread, which writes its log record by record.
 #![tactic(auto)]
 
 mod body;
@@ -16,12 +17,13 @@ mod log;
 mod passage;
 mod reading;
 mod record;
+mod version;
 mod writer;
 mod writing;
 
 pub use body::{Body, References, ResultReferences};
 pub use error::LogError;
 pub use laws::one_spelling;
-pub use log::{VatLog, parse_log, write_lent_log, write_log};
+pub use log::{VatLog, migrate, parse_log, write_lent_log, write_log};
 pub use record::Record;
 pub use writer::LogWriter;

@@ -1,7 +1,7 @@
 //! What a log can hold at most.
 
 /// References, results or path elements in one list.
-pub(crate) const MAX_COUNT: usize = 65_535;
+pub(crate) const MAX_COUNT: usize = 1_048_576;
 
 /// Bytes in one frame.
 pub(crate) const MAX_FRAME: usize = 67_108_864;

@@ -1,12 +1,13 @@
 //! Logs.
 
-ghost use Rattle.std.specs.Prelude.{◌≡◌, ◌<◌, ◌≤◌, ◌^◌, Ok, true, false, nat_eq, length, map, slice_get, All, IfErr, IfOk};
+ghost use Rattle.std.specs.Prelude.{◌≡◌, ◌<◌, ◌≤◌, ◌^◌, Ok, true, false, nat_eq, length, map, slice_get, All, Err, IfErr, IfOk};
 ghost use Rattle.std.specs.List.{starts_with};
 ghost use Rattle.std.specs.Option.{option_copied};
-ghost use Rattle.vat_log.specs.Reading.{GivesInMemory, records_at, log_within, log_of};
+ghost use Rattle.vat_log.specs.Reading.{GivesInMemory, records_at, version_at, log_within, log_of};
 ghost use Rattle.vat_log.specs.Fits.{record_limit, Fits, IsWide, LogFits, stored_log};
 ghost use Rattle.vat_log.specs.Ends.{AreEnds};
-ghost use Rattle.vat_log.specs.Log.{Log};
+ghost use Rattle.vat_log.specs.Log.{Log, version_number, written_version};
+ghost use Rattle.vat_log.specs.Migrated.{migrated};
 ghost use Rattle.vat_log.specs.Spelling.{log_magic, log_bytes};
 
 use crate::error::LogError;
@@ -14,6 +15,7 @@ use crate::fields::u32_at;
 use crate::kind::read_kind;
 use crate::limits::MAX_RECORDS;
 use crate::record::Record;
+use crate::version::{LogVersion, read_version};
 use crate::writing::written_log;
 use bytes::Bytes;
 use std::alloc::{AllocError, Global};
@@ -23,6 +25,7 @@ use std::marker::Model;
 #[derive(Debug, Drop)]
 pub struct VatLog {
     bytes: Bytes,
+    version: LogVersion,
     vat: u32,
     records: Vec<Record>,
 }
@@ -34,13 +37,21 @@ impl Model for VatLog {
 
     ghost use Rattle.vat_log.specs.Parsed.{IsParsed};
 
-    ghost view = { λ log. record { vat = log.vat; records = log.records.items } };
+    ghost view = { λ log. record { version = log.version; vat = log.vat; records = log.records.items } };
 
-    ghost invariant = { λ log. IsParsed log.bytes (record { vat = log.vat; records = log.records.items }) };
+    ghost invariant = { λ log. IsParsed log.bytes
+        (record { version = log.version; vat = log.vat; records = log.records.items }) };
 }
 
 impl VatLog {
     ghost use Rattle.vat_log.specs.Parsed.{IsParsed};
+
+    /// The version of the format in which the log stands: 1 or 2.
+    pub fn version(&self) -> u32
+        ensures value { result ≡ version_number self.now.version }
+    {
+        self.version.number()
+    }
 
     /// The vat whose log this is.
     pub fn vat(&self) -> u32
@@ -64,7 +75,7 @@ impl VatLog {
         self.records.get(index)
     }
 
-    /// The bytes of the log: its one spelling, from which it was parsed or in which it was written.
+    /// The bytes of the log: its one spelling in its version, from which it was parsed or in which it was written.
     pub fn bytes(&self) -> &Bytes
         ensures spelled { result.now ≡ log_bytes self.now }
         ensures parsed { IsParsed result.now self.now }
@@ -73,25 +84,17 @@ impl VatLog {
     }
 }
 
-/// Whether the magic stands before all else.
-fn begins_log(bytes: &[u8]) -> bool
-    ensures test { result ≡ starts_with nat_eq bytes.now log_magic }
-    ensures octets { All (λ octet. octet < 2 ^ 8) bytes.now }
-    ensures long { result ≡ true → 8 ≤ length bytes.now }
-{
-    bytes.starts_with(b"VATLOG01")
-}
-
 /// The records from this place to the end, of which there may be so many.
 fn records_of(
     alloc: Global,
+    version: LogVersion,
     bytes: &Bytes,
     begin: usize,
     limit: usize,
 ) -> Result<Vec<Record>, LogError>
     requires octets { All (λ octet. octet < 2 ^ 8) bytes.now }
     requires within { begin ≤ length bytes.now }
-    ensures { GivesInMemory (λ v. v.items) result (records_at bytes.now limit begin) }
+    ensures { GivesInMemory (λ v. v.items) result (records_at version bytes.now limit begin) }
 {
     let mut records = Vec::new(alloc);
     let mut at = begin;
@@ -100,38 +103,41 @@ fn records_of(
         if records.len() >= limit {
             return Err(LogError::TooLong);
         }
-        let (entry, after) = Record::read(alloc, kind, bytes, at + 1)?;
+        let (entry, after) = Record::read(alloc, version, kind, bytes, at + 1)?;
         records.push(entry)?;
         at = after;
     }
     Ok(records)
 }
 
-/// The vat and the records that these bytes spell.
+/// The version, the vat and the records that these bytes spell.
 #[tactic(auto, unfolding(crate::specs::Reading::log_within))]
-fn parts_of(alloc: Global, bytes: &Bytes, limit: usize) -> Result<(u32, Vec<Record>), LogError>
-    ensures gives { GivesInMemory (λ x. record { vat = x.0; records = x.1.items }) result
+fn parts_of(
+    alloc: Global,
+    bytes: &Bytes,
+    limit: usize,
+) -> Result<(LogVersion, u32, Vec<Record>), LogError>
+    ensures gives { GivesInMemory
+        (λ x. record { version = x.0; vat = x.1; records = x.2.items }) result
         (log_within limit bytes.now) }
     ensures octets { All (λ octet. octet < 2 ^ 8) bytes.now }
-    ensures early { starts_with nat_eq bytes.now log_magic ≡ false
+    ensures early { version_at bytes.now ≡ Err LogError.BadMagic
         → IfErr result (λ e. e ≡ LogError.BadMagic) }
 {
-    if !begins_log(bytes.as_slice()) {
-        return Err(LogError::BadMagic);
-    }
+    let version = read_version(bytes.as_slice())?;
     let (vat, after) = u32_at(bytes.as_slice(), 8)?;
-    let records = records_of(alloc, bytes, after, limit)?;
-    Ok((vat, records))
+    let records = records_of(alloc, version, bytes, after, limit)?;
+    Ok((version, vat, records))
 }
 
-/// The log that these bytes spell: the magic `VATLOG01`, then the vat's number of 4 bytes, then the records one after
+/// The log that these bytes spell: the magic `VATLOG01` or `VATLOG02`, then the vat's number of 4 bytes, then the records one after
 /// another (docs/FORMATS.md).
 ///
 /// # Errors
 ///
 /// The first fault from the left: `BadMagic`, `Short`, `BadKind` and `ZeroNumber` with the offset of the field,
-/// `TooLong` at a record past 1,048,576 or at a frame above 67,108,864 bytes; or `OutOfMemory`, where a growth was
-/// refused.
+/// `TooLong` at a record past 1,048,576, at a count above that, or at a frame above 67,108,864 bytes; or `OutOfMemory`,
+/// where a growth was refused.
 #[tactic(auto, unfolding(crate::specs::Fits::record_limit))]
 pub fn parse_log(alloc: Global, bytes: Bytes) -> Result<VatLog, LogError>
     // Which log, or which fault.
@@ -142,12 +148,13 @@ pub fn parse_log(alloc: Global, bytes: Bytes) -> Result<VatLog, LogError>
     ensures only { (log : Log) → LogFits record_limit log → bytes ≡ log_bytes log
         → GivesInMemory (λ read. read) result (Ok log) }
     // Another magic is refused as such before memory is asked for.
-    ensures early { starts_with nat_eq bytes log_magic ≡ false
+    ensures early { version_at bytes ≡ Err LogError.BadMagic
         → IfErr result (λ e. e ≡ LogError.BadMagic) }
 {
-    let (vat, records) = parts_of(alloc, &bytes, MAX_RECORDS)?;
+    let (version, vat, records) = parts_of(alloc, &bytes, MAX_RECORDS)?;
     Ok(VatLog {
         bytes,
+        version,
         vat,
         records,
     })
@@ -165,12 +172,16 @@ fn cut_frames(records: &mut Vec<Record>, bytes: &Bytes, ends: &[usize]) -> Resul
     Ok(())
 }
 
-/// The one spelling of the log with this vat and these records, whose frames are taken out of it, so that no frame is kept
-/// twice. The records say the same as before, also where memory is refused.
+/// The one spelling, in version 2, of the log with this vat and these records, whose frames are taken out of it, so that
+/// no frame is kept twice. The records say the same as before, also where memory is refused.
 fn spelled(alloc: Global, vat: u32, records: &mut Vec<Record>) -> Result<Bytes, AllocError>
     ensures same { records.new.items ≡ records.old.items }
     ensures spelled { IfOk result (λ bytes.
-        bytes ≡ log_bytes (record { vat = vat; records = records.old.items })) }
+        bytes ≡ log_bytes (record {
+          version = written_version;
+          vat = vat;
+          records = records.old.items;
+        })) }
     ensures fit { IfOk result (λ bytes. All Fits records.old.items) }
     ensures wide { IfOk result (λ bytes. All IsWide records.old.items) }
 {
@@ -179,16 +190,18 @@ fn spelled(alloc: Global, vat: u32, records: &mut Vec<Record>) -> Result<Bytes, 
     Ok(written.bytes)
 }
 
-/// The log of this vat with these records, which are handed back where memory is refused.
+/// The version 2 log of this vat with these records, which are handed back where memory is refused.
 pub(crate) fn log_with(alloc: Global, vat: u32, records: Vec<Record>) -> Result<VatLog, Vec<Record>>
     requires { length records.items ≤ record_limit }
-    ensures ok { IfOk result (λ log. log ≡ record { vat = vat; records = records.items }) }
+    ensures ok { IfOk result (λ log. log
+        ≡ record { version = written_version; vat = vat; records = records.items }) }
     ensures err { IfErr result (λ refused. refused.items ≡ records.items) }
 {
     let mut records = records;
     match spelled(alloc, vat, &mut records) {
         Ok(bytes) => Ok(VatLog {
             bytes,
+            version: LogVersion::Two,
             vat,
             records,
         }),
@@ -218,18 +231,22 @@ fn copied_records(alloc: Global, records: &[&Record]) -> Result<Vec<Record>, All
     Ok(copied)
 }
 
-/// The log of this vat with the records that are lent. The only error is that memory ran out.
+/// The version 2 log of this vat with the records that are lent. The only error is that memory ran out.
 fn log_with_lent(alloc: Global, vat: u32, records: &[&Record]) -> Result<VatLog, LogError>
     requires { length records.now ≤ record_limit }
     ensures ok { IfOk result (λ log.
-        log ≡ record { vat = vat; records = map (λ entry. entry.now) records.now }) }
+        log ≡ record {
+          version = written_version;
+          vat = vat;
+          records = map (λ entry. entry.now) records.now;
+        }) }
     ensures err { IfErr result (λ e. e ≡ LogError.OutOfMemory) }
 {
     let copies = copied_records(alloc, records)?;
     log_with(alloc, vat, copies).map_err(|_| LogError::OutOfMemory)
 }
 
-/// The log of this vat with these records, in their order.
+/// The version 2 log of this vat with these records, in their order.
 ///
 /// # Errors
 ///
@@ -238,7 +255,7 @@ fn log_with_lent(alloc: Global, vat: u32, records: &[&Record]) -> Result<VatLog,
 pub fn write_log(alloc: Global, vat: u32, records: &[Record]) -> Result<VatLog, LogError>
     // Which log, or that there are too many records.
     ensures exact { GivesInMemory (λ log. log) result
-        (stored_log (record { vat = vat; records = records.now })) }
+        (stored_log (record { version = written_version; vat = vat; records = records.now })) }
     // Too many records are refused as such before memory is asked for.
     ensures too_many { record_limit < length records.now
         → IfErr result (λ e. e ≡ LogError.TooLong) }
@@ -259,7 +276,11 @@ pub fn write_log(alloc: Global, vat: u32, records: &[Record]) -> Result<VatLog, 
 pub fn write_lent_log(alloc: Global, vat: u32, records: &[&Record]) -> Result<VatLog, LogError>
     // Which log, or that there are too many records.
     ensures exact { GivesInMemory (λ log. log) result
-        (stored_log (record { vat = vat; records = map (λ entry. entry.now) records.now })) }
+        (stored_log (record {
+          version = written_version;
+          vat = vat;
+          records = map (λ entry. entry.now) records.now;
+        })) }
     // Too many records are refused as such before memory is asked for.
     ensures too_many { record_limit < length records.now
         → IfErr result (λ e. e ≡ LogError.TooLong) }
@@ -268,4 +289,19 @@ pub fn write_lent_log(alloc: Global, vat: u32, records: &[&Record]) -> Result<Va
         return Err(LogError::TooLong);
     }
     log_with_lent(alloc, vat, records)
+}
+
+/// The version 2 log with the same vat and records. Of a version 2 log it has the same bytes.
+///
+/// # Errors
+///
+/// `OutOfMemory` alone.
+pub fn migrate(alloc: Global, log: &VatLog) -> Result<VatLog, LogError>
+    ensures ok { IfOk result (λ made. made ≡ migrated log.now) }
+    // A log of that version stays as it is, and so do its bytes.
+    ensures same { log.now.version ≡ written_version → IfOk result (λ made. made ≡ log.now) }
+    ensures err { IfErr result (λ e. e ≡ LogError.OutOfMemory) }
+{
+    let lent = lend(alloc, &log.records)?;
+    log_with_lent(alloc, log.vat, &lent)
 }

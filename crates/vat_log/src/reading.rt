@@ -10,18 +10,24 @@ use crate::fields::{
 };
 use crate::kind::RecordKind;
 use crate::passage::Passage;
+use crate::version::LogVersion;
 use bytes::Bytes;
 use std::alloc::Global;
 
 #[tactic(auto, unfolding(crate::specs::Reading::passage_at))]
-fn passage_of(alloc: Global, bytes: &Bytes, at: usize) -> Result<(Passage, usize), LogError>
+fn passage_of(
+    alloc: Global,
+    version: LogVersion,
+    bytes: &Bytes,
+    at: usize,
+) -> Result<(Passage, usize), LogError>
     requires { at ≤ length bytes.now }
-    ensures gives { GivesInMemory (λ x. (x.0, x.1)) result (passage_at bytes.now at) }
+    ensures gives { GivesInMemory (λ x. (x.0, x.1)) result (passage_at version bytes.now at) }
     ensures within { IfOk result (λ x. x.1 ≤ length bytes.now) }
 {
     let (connection, after) = u32_at(bytes.as_slice(), at)?;
     let (call, after) = u64_at(bytes.as_slice(), after)?;
-    let (references, after) = references_of(alloc, bytes.as_slice(), after)?;
+    let (references, after) = references_of(alloc, version, bytes.as_slice(), after)?;
     let (frame, after) = frame_of(bytes, after)?;
     let passage = Passage {
         connection,
@@ -88,14 +94,19 @@ fn make_of(bytes: &[u8], at: usize) -> Result<(Body, usize), LogError>
 }
 
 #[tactic(auto, unfolding(crate::specs::Reading::field_at))]
-fn field_of(alloc: Global, bytes: &[u8], at: usize) -> Result<(Body, usize), LogError>
+fn field_of(
+    alloc: Global,
+    version: LogVersion,
+    bytes: &[u8],
+    at: usize,
+) -> Result<(Body, usize), LogError>
     requires { at ≤ length bytes.now }
-    ensures gives { GivesInMemory (λ x. (x.0, x.1)) result (field_at bytes.now at) }
+    ensures gives { GivesInMemory (λ x. (x.0, x.1)) result (field_at version bytes.now at) }
     ensures within { IfOk result (λ x. x.1 ≤ length bytes.now) }
 {
     let (reference, after) = nonzero_of(bytes, at)?;
     let (call, after) = nonzero_of(bytes, after)?;
-    let (path, after) = path_of(alloc, bytes, after)?;
+    let (path, after) = path_of(alloc, version, bytes, after)?;
     Ok((field_body(reference, call, path), after))
 }
 
@@ -111,13 +122,18 @@ fn deliver_of(bytes: &[u8], at: usize) -> Result<(Body, usize), LogError>
 }
 
 #[tactic(auto, unfolding(crate::specs::Reading::answer_at))]
-fn answer_of(alloc: Global, bytes: &[u8], at: usize) -> Result<(Body, usize), LogError>
+fn answer_of(
+    alloc: Global,
+    version: LogVersion,
+    bytes: &[u8],
+    at: usize,
+) -> Result<(Body, usize), LogError>
     requires { at ≤ length bytes.now }
-    ensures gives { GivesInMemory (λ x. (x.0, x.1)) result (answer_at bytes.now at) }
+    ensures gives { GivesInMemory (λ x. (x.0, x.1)) result (answer_at version bytes.now at) }
     ensures within { IfOk result (λ x. x.1 ≤ length bytes.now) }
 {
     let (call, after) = nonzero_of(bytes, at)?;
-    let (results, after) = results_of(alloc, bytes, after)?;
+    let (results, after) = results_of(alloc, version, bytes, after)?;
     Ok((Body::Answer { call, results }, after))
 }
 
@@ -132,34 +148,45 @@ fn fault_of(bytes: &[u8], at: usize) -> Result<(Body, usize), LogError>
 }
 
 #[tactic(auto, unfolding(crate::specs::Reading::send_at))]
-fn send_of(alloc: Global, bytes: &Bytes, at: usize) -> Result<(Body, usize), LogError>
+fn send_of(
+    alloc: Global,
+    version: LogVersion,
+    bytes: &Bytes,
+    at: usize,
+) -> Result<(Body, usize), LogError>
     requires { at ≤ length bytes.now }
-    ensures gives { GivesInMemory (λ x. (x.0, x.1)) result (send_at bytes.now at) }
+    ensures gives { GivesInMemory (λ x. (x.0, x.1)) result (send_at version bytes.now at) }
     ensures within { IfOk result (λ x. x.1 ≤ length bytes.now) }
 {
-    let (passage, after) = passage_of(alloc, bytes, at)?;
+    let (passage, after) = passage_of(alloc, version, bytes, at)?;
     Ok((passage.as_send(), after))
 }
 
 #[tactic(auto, unfolding(crate::specs::Reading::receive_at))]
-fn receive_of(alloc: Global, bytes: &Bytes, at: usize) -> Result<(Body, usize), LogError>
+fn receive_of(
+    alloc: Global,
+    version: LogVersion,
+    bytes: &Bytes,
+    at: usize,
+) -> Result<(Body, usize), LogError>
     requires { at ≤ length bytes.now }
-    ensures gives { GivesInMemory (λ x. (x.0, x.1)) result (receive_at bytes.now at) }
+    ensures gives { GivesInMemory (λ x. (x.0, x.1)) result (receive_at version bytes.now at) }
     ensures within { IfOk result (λ x. x.1 ≤ length bytes.now) }
 {
-    let (passage, after) = passage_of(alloc, bytes, at)?;
+    let (passage, after) = passage_of(alloc, version, bytes, at)?;
     Ok((passage.as_receive(), after))
 }
 
 /// The fields of a record of this kind.
 pub(crate) fn body_of(
     alloc: Global,
+    version: LogVersion,
     kind: RecordKind,
     bytes: &Bytes,
     at: usize,
 ) -> Result<(Body, usize), LogError>
     requires { at ≤ length bytes.now }
-    ensures gives { GivesInMemory (λ x. (x.0, x.1)) result (fields_at kind bytes.now at) }
+    ensures gives { GivesInMemory (λ x. (x.0, x.1)) result (fields_at version kind bytes.now at) }
     ensures within { IfOk result (λ x. x.1 ≤ length bytes.now) }
 {
     match kind {
@@ -168,11 +195,11 @@ pub(crate) fn body_of(
         RecordKind::Fulfil => fulfil_of(bytes.as_slice(), at),
         RecordKind::Break => break_of(bytes.as_slice(), at),
         RecordKind::Make => make_of(bytes.as_slice(), at),
-        RecordKind::Field => field_of(alloc, bytes.as_slice(), at),
+        RecordKind::Field => field_of(alloc, version, bytes.as_slice(), at),
         RecordKind::Deliver => deliver_of(bytes.as_slice(), at),
-        RecordKind::Answer => answer_of(alloc, bytes.as_slice(), at),
+        RecordKind::Answer => answer_of(alloc, version, bytes.as_slice(), at),
         RecordKind::Fault => fault_of(bytes.as_slice(), at),
-        RecordKind::Send => send_of(alloc, bytes, at),
-        RecordKind::Receive => receive_of(alloc, bytes, at),
+        RecordKind::Send => send_of(alloc, version, bytes, at),
+        RecordKind::Receive => receive_of(alloc, version, bytes, at),
     }
 }

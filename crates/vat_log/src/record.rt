@@ -3,6 +3,7 @@
 ghost use Rattle.std.specs.Prelude.{◌≡◌, ◌<◌, ◌≤◌, ◌^◌, ◌↔◌, length, All, IsTrue, IfOk, IfErr};
 ghost use Rattle.vat_log.specs.Fits.{count_limit, frame_limit, IsNumbered, IsCounted, RefusedFor};
 ghost use Rattle.vat_log.specs.Ends.{EndsWith};
+ghost use Rattle.vat_log.specs.Log.{written_version};
 ghost use Rattle.vat_log.specs.Reading.{GivesInMemory, fields_at};
 ghost use Rattle.vat_log.specs.Spelling.{record_bytes};
 
@@ -11,6 +12,7 @@ use crate::error::LogError;
 use crate::kind::RecordKind;
 use crate::limits::{MAX_COUNT, MAX_FRAME};
 use crate::reading::body_of;
+use crate::version::LogVersion;
 use bytes::Bytes;
 use cap_frame::Path;
 use std::alloc::{AllocError, Global};
@@ -42,7 +44,7 @@ impl Record {
     /// # Errors
     ///
     /// `ZeroNumber(0)` where a reference is 0, or a call that isn't noted beside a frame; else `TooLong` where a list
-    /// has more than 65,535 elements or a frame more than 67,108,864 bytes.
+    /// has more than 1,048,576 elements or a frame more than 67,108,864 bytes.
     pub fn new(body: Body) -> Result<Record, (LogError, Body)>
         ensures ok { IfOk result (λ stored. stored ≡ body) }
         ensures fits { IfOk result (λ stored. Fits body) }
@@ -60,16 +62,17 @@ impl Record {
     /// The record of this kind whose fields begin at this place, and the place after them.
     pub(crate) fn read(
         alloc: Global,
+        version: LogVersion,
         kind: RecordKind,
         bytes: &Bytes,
         at: usize,
     ) -> Result<(Record, usize), LogError>
         requires octets { All (λ octet. octet < 2 ^ 8) bytes.now }
         requires within { at ≤ length bytes.now }
-        ensures gives { GivesInMemory (λ x. (x.0, x.1)) result (fields_at kind bytes.now at) }
+        ensures gives { GivesInMemory (λ x. (x.0, x.1)) result (fields_at version kind bytes.now at) }
         ensures within { IfOk result (λ x. x.1 ≤ length bytes.now) }
     {
-        let (body, after) = body_of(alloc, kind, bytes, at)?;
+        let (body, after) = body_of(alloc, version, kind, bytes, at)?;
         Ok((Record { body }, after))
     }
 
@@ -85,7 +88,7 @@ impl Record {
     /// Takes the frame, where there is one, out of these bytes, in which the record ends at this place. The record says
     /// the same as before, also where memory is refused.
     pub(crate) fn cut_frame(&mut self, bytes: &Bytes, end: usize) -> Result<(), AllocError>
-        requires { EndsWith bytes.now end (record_bytes self.old) }
+        requires { EndsWith bytes.now end (record_bytes written_version self.old) }
         ensures { self.new ≡ self.old }
     {
         match &mut self.body {

@@ -2,6 +2,7 @@
 
 ghost use Rattle.std.specs.Prelude.{◌≡◌, ◌≤◌, ◌<◌, [], ◌∷◌, ◌++◌, length, OnOk, IfOk, IfErr};
 ghost use Rattle.vat_log.specs.Fits.{record_limit, NotPushed};
+ghost use Rattle.vat_log.specs.Log.{written_version};
 
 use crate::error::LogError;
 use crate::limits::MAX_RECORDS;
@@ -10,7 +11,7 @@ use crate::record::Record;
 use std::alloc::Global;
 use std::marker::Model;
 
-/// A log that one thread writes, record by record. To a contract it is the log with the records pushed so far.
+/// A log of version 2 that one thread writes, record by record. To a contract it is the log with the records pushed so far.
 #[derive(Debug, Drop)]
 pub struct LogWriter {
     vat: u32,
@@ -20,11 +21,11 @@ pub struct LogWriter {
 impl Model for LogWriter {
     ghost use Rattle.std.specs.Prelude.{◌≤◌, length};
     ghost use Rattle.vat_log.specs.Fits.{record_limit};
-    ghost use Rattle.vat_log.specs.Log.{Log};
+    ghost use Rattle.vat_log.specs.Log.{Log, written_version};
 
     ghost Value = { Log };
 
-    ghost view = { λ writer. record { vat = writer.vat; records = writer.records.items } };
+    ghost view = { λ writer. record { version = written_version; vat = writer.vat; records = writer.records.items } };
 
     ghost invariant = { λ writer. length writer.records.items ≤ record_limit };
 }
@@ -32,7 +33,7 @@ impl Model for LogWriter {
 impl LogWriter {
     /// A log of this vat, without records. It takes no memory.
     pub fn new(alloc: Global, vat: u32) -> LogWriter
-        ensures { result ≡ record { vat = vat; records = [] } }
+        ensures { result ≡ record { version = written_version; vat = vat; records = [] } }
     {
         LogWriter {
             vat,
@@ -48,6 +49,7 @@ impl LogWriter {
     #[tactic(auto, unfolding(crate::specs::Fits::record_limit))]
     pub fn push(&mut self, entry: Record) -> Result<(), (LogError, Record)>
         ensures vat { self.new.vat ≡ self.old.vat }
+        ensures version { self.new.version ≡ self.old.version }
         // What is pushed.
         ensures ok { OnOk result (self.new.records ≡ self.old.records ++ entry ∷ []) }
         // What is left of a refused push, and why it was refused.

@@ -4,7 +4,8 @@ ghost use Rattle.std.specs.Prelude.{◌≡◌, ◌<◌, ◌≤◌, ◌^◌, ◌+
 ghost use Rattle.std.specs.Int.{w16, w32, w64};
 ghost use Rattle.vat_log.specs.Fits.{count_limit, frame_limit, Fits, IsWide};
 ghost use Rattle.vat_log.specs.Ends.{AreEnds};
-ghost use Rattle.vat_log.specs.Spelling.{number_bytes, references_bytes, path_bytes, answered_bytes, counted_list, passage_bytes, kind_byte, kind_in, fields_bytes, record_bytes, log_bytes};
+ghost use Rattle.vat_log.specs.Log.{written_version};
+ghost use Rattle.vat_log.specs.Spelling.{count_width, number_bytes, references_bytes, path_bytes, answered_bytes, counted_list, passage_bytes, kind_byte, kind_in, fields_bytes, record_bytes, log_bytes};
 
 use crate::body::{Body, References, ResultReferences};
 use crate::record::Record;
@@ -33,12 +34,21 @@ fn put_u64(out: &mut Vec<u8>, n: u64) -> Result<(), AllocError>
     out.extend_from_slice(&n.to_le_bytes())
 }
 
+/// How many a list has.
+fn put_count(out: &mut Vec<u8>, count: usize) -> Result<(), AllocError>
+    requires { count ≤ count_limit }
+    ensures { OnOk result (out.new.items
+        ≡ out.old.items ++ number_bytes (count_width written_version) count) }
+{
+    put_u32(out, count as u32)
+}
+
 fn put_references(out: &mut Vec<u8>, references: &[u64]) -> Result<(), AllocError>
     requires { length references.now ≤ count_limit }
-    ensures ok { OnOk result (out.new.items ≡ out.old.items ++ references_bytes references.now) }
+    ensures ok { OnOk result (out.new.items ≡ out.old.items ++ references_bytes written_version references.now) }
     ensures wide { All (λ reference. reference < 2 ^ 64) references.now }
 {
-    put_u16(out, references.len() as u16)?;
+    put_count(out, references.len())?;
     for reference in references {
         put_u64(out, *reference)?;
     }
@@ -47,10 +57,10 @@ fn put_references(out: &mut Vec<u8>, references: &[u64]) -> Result<(), AllocErro
 
 fn put_path(out: &mut Vec<u8>, fields: &[u16]) -> Result<(), AllocError>
     requires { length fields.now ≤ count_limit }
-    ensures ok { OnOk result (out.new.items ≡ out.old.items ++ path_bytes fields.now) }
+    ensures ok { OnOk result (out.new.items ≡ out.old.items ++ path_bytes written_version fields.now) }
     ensures wide { All (λ field. field < 2 ^ 16) fields.now }
 {
-    put_u16(out, fields.len() as u16)?;
+    put_count(out, fields.len())?;
     for field in fields {
         put_u16(out, *field)?;
     }
@@ -59,7 +69,7 @@ fn put_path(out: &mut Vec<u8>, fields: &[u16]) -> Result<(), AllocError>
 
 fn put_answered(out: &mut Vec<u8>, answered: &(u64, Path)) -> Result<(), AllocError>
     requires { length answered.now.1 ≤ count_limit }
-    ensures ok { OnOk result (out.new.items ≡ out.old.items ++ answered_bytes answered.now) }
+    ensures ok { OnOk result (out.new.items ≡ out.old.items ++ answered_bytes written_version answered.now) }
     ensures wide { OnOk result ((answered.now.0 < 2 ^ 64)
         × All (λ field. field < 2 ^ 16) answered.now.1) }
 {
@@ -72,11 +82,11 @@ fn put_results(out: &mut Vec<u8>, results: &[(u64, Path)]) -> Result<(), AllocEr
     requires counted { length results.now ≤ count_limit }
     requires paths { All (λ answered. length answered.1 ≤ count_limit) results.now }
     ensures ok { OnOk result
-        (out.new.items ≡ out.old.items ++ counted_list answered_bytes results.now) }
+        (out.new.items ≡ out.old.items ++ counted_list written_version (answered_bytes written_version) results.now) }
     ensures wide { OnOk result (All (λ answered.
         (answered.0 < 2 ^ 64) × All (λ field. field < 2 ^ 16) answered.1) results.now) }
 {
-    put_u16(out, results.len() as u16)?;
+    put_count(out, results.len())?;
     for answered in results {
         put_answered(out, answered)?;
     }
@@ -94,7 +104,7 @@ fn put_passage(
     requires counted { length references.now ≤ count_limit }
     requires frame { length frame.now ≤ frame_limit }
     ensures ok { OnOk result (out.new.items
-        ≡ out.old.items ++ passage_bytes connection call references.now frame.now) }
+        ≡ out.old.items ++ passage_bytes written_version connection call references.now frame.now) }
     ensures wide { OnOk result ((connection < 2 ^ 32) × (call < 2 ^ 64)
         × All (λ reference. reference < 2 ^ 64) references.now) }
 {
@@ -123,7 +133,7 @@ fn put_make(
     method: u16,
 ) -> Result<(), AllocError>
     ensures { OnOk result (out.new.items
-        ≡ out.old.items ++ fields_bytes (Body.Make call reference interface method)) }
+        ≡ out.old.items ++ fields_bytes written_version (Body.Make call reference interface method)) }
 {
     put_pair(out, call, reference)?;
     put_u64(out, interface)?;
@@ -134,7 +144,7 @@ fn put_make(
 fn put_field(out: &mut Vec<u8>, reference: u64, call: u64, path: &Path) -> Result<(), AllocError>
     requires { length path.now ≤ count_limit }
     ensures ok { OnOk result (out.new.items
-        ≡ out.old.items ++ fields_bytes (Body.Field reference call path.now)) }
+        ≡ out.old.items ++ fields_bytes written_version (Body.Field reference call path.now)) }
     ensures wide { OnOk result (All (λ field. field < 2 ^ 16) path.now) }
 {
     put_pair(out, reference, call)?;
@@ -146,7 +156,7 @@ fn put_answer(out: &mut Vec<u8>, call: u64, results: &ResultReferences) -> Resul
     requires counted { length results.now ≤ count_limit }
     requires paths { All (λ answered. length answered.1 ≤ count_limit) results.now }
     ensures ok { OnOk result (out.new.items
-        ≡ out.old.items ++ fields_bytes (Body.Answer call results.now)) }
+        ≡ out.old.items ++ fields_bytes written_version (Body.Answer call results.now)) }
     ensures wide { OnOk result (All (λ answered.
         (answered.0 < 2 ^ 64) × All (λ field. field < 2 ^ 16) answered.1) results.now) }
 {
@@ -176,7 +186,7 @@ fn byte_of(body: &Body) -> u8
 /// The fields of a record of any kind.
 fn put_fields(out: &mut Vec<u8>, body: &Body) -> Result<(), AllocError>
     requires { Fits body.now }
-    ensures ok { OnOk result (out.new.items ≡ out.old.items ++ fields_bytes body.now) }
+    ensures ok { OnOk result (out.new.items ≡ out.old.items ++ fields_bytes written_version body.now) }
     ensures wide { OnOk result (IsWide body.now) }
 {
     match body {
@@ -214,7 +224,7 @@ fn put_fields(out: &mut Vec<u8>, body: &Body) -> Result<(), AllocError>
 
 fn put_body(out: &mut Vec<u8>, body: &Body) -> Result<(), AllocError>
     requires { Fits body.now }
-    ensures ok { OnOk result (out.new.items ≡ out.old.items ++ record_bytes body.now) }
+    ensures ok { OnOk result (out.new.items ≡ out.old.items ++ record_bytes written_version body.now) }
     ensures wide { OnOk result (IsWide body.now) }
 {
     out.push(byte_of(body))?;
@@ -228,14 +238,18 @@ pub(crate) struct LogBytes {
     pub(crate) ends: Vec<usize>,
 }
 
-/// The one spelling of the log with this vat and these records.
+/// The one spelling, in version 2, of the log with this vat and these records.
 pub(crate) fn written_log(
     alloc: Global,
     vat: u32,
     records: &[Record],
 ) -> Result<LogBytes, AllocError>
     ensures spelled { IfOk result (λ written.
-        written.bytes ≡ log_bytes (record { vat = vat; records = records.now })) }
+        written.bytes ≡ log_bytes (record {
+          version = written_version;
+          vat = vat;
+          records = records.now;
+        })) }
     ensures fit { IfOk result (λ written. All Fits records.now) }
     ensures wide { IfOk result (λ written. All IsWide records.now) }
     ensures count { IfOk result (λ written. length written.ends.items ≡ length records.now) }
@@ -244,7 +258,7 @@ pub(crate) fn written_log(
 {
     let mut ends = Vec::with_capacity(alloc, records.len())?;
     let mut out = Vec::new(alloc);
-    out.extend_from_slice(b"VATLOG01")?;
+    out.extend_from_slice(b"VATLOG02")?;
     put_u32(&mut out, vat)?;
     for entry in records {
         put_body(&mut out, entry.body())?;

@@ -6,5 +6,5 @@ use Rattle.vat_log.proofs.fields.many_results.Given as goal
 abbrev pub invariant-loop : goal.invariant-loop
 invariant-loop l = record {
   within : l.place ≤ length l.bytes;
-  so_far : with_front l.results.items (many_at (answered_at l.bytes) (l.count - l.counter) l.place) ≡ many_at (answered_at l.bytes) l.count l.at;
+  so_far : with_front l.results.items (many_at (answered_at l.version l.bytes) (l.count - l.counter) l.place) ≡ many_at (answered_at l.version l.bytes) l.count l.at;
 }

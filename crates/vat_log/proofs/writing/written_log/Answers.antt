@@ -2,6 +2,7 @@ use Rattle.std.proofs.Common.{◌≡◌, ℕ, List, [], ◌∷◌, ◌++◌, len
 use Rattle.std.proofs.lemmas.List.{length-append}
 use Rattle.std.specs.Int.{w32}
 use Rattle.vat_log.specs.Fits.{Fits, IsWide}
+use Rattle.vat_log.specs.Log.{written_version}
 use Rattle.vat_log.specs.Spelling.{number_bytes, record_bytes, log_magic}
 use Rattle.vat_log.specs.Ends.{AreEnds}
 use Rattle.vat_log.proofs.Ends.{ends_more}
@@ -11,11 +12,11 @@ use Rattle.vat_log.proofs.writing.written_log.Goals as goal
 pub loop-entry-preserved : goal.loop-entry-preserved
 loop-entry-preserved c =
     let same = c.body.ensures.value in
-    let step : c.put_body.new.out.items ≡ c.loop-entry.out.items ++ record_bytes c.entry-item.result = c.in_ok-put_body.ensures.ok ∙ ap (λ said. c.loop-entry.out.items ++ record_bytes said) same in
+    let step : c.put_body.new.out.items ≡ c.loop-entry.out.items ++ record_bytes written_version c.entry-item.result = c.in_ok-put_body.ensures.ok ∙ ap (λ said. c.loop-entry.out.items ++ record_bytes written_version said) same in
     let more = c.put_body.new.out.items in
     let pushed : c.push.new.self.items ≡ c.loop-entry.ends.items ++ length more ∷ [] = c.in_ok-push.ensures.items ∙ ap (λ (end : ℕ). c.loop-entry.ends.items ++ end ∷ []) (c.len.ensures ∙ c.put_body.new.out.ok.0) in
     record {
-      so_far = spelled_more record_bytes c.args.records.now c.loop-entry.entry-index c.entry-item.result log_magic (number_bytes w32 c.args.vat) c.loop-entry.out.items c.put_body.new.out.items c.loop-entry-test.true c.entry-item.is c.loop-entry.invariant.so_far step;
+      so_far = spelled_more (record_bytes written_version) c.args.records.now c.loop-entry.entry-index c.entry-item.result (log_magic written_version) (number_bytes w32 c.args.vat) c.loop-entry.out.items c.put_body.new.out.items c.loop-entry-test.true c.entry-item.is c.loop-entry.invariant.so_far step;
       fit = All-more Fits c.args.records.now c.loop-entry.entry-index c.entry-item.result c.loop-entry-test.true c.entry-item.is c.loop-entry.invariant.fit c.body.ensures.fits;
       wide = All-more IsWide c.args.records.now c.loop-entry.entry-index c.entry-item.result c.loop-entry-test.true c.entry-item.is c.loop-entry.invariant.wide (subst IsWide same c.in_ok-put_body.ensures.wide);
       count = omega (arith, ap length pushed, length-append c.loop-entry.ends.items (length more ∷ []), c.loop-entry.invariant.count);

@@ -3,7 +3,7 @@ use Rattle.std.proofs.Common.{◌≡◌, ◌≤◌, ◌⊎◌, inl, inr, refl, s
 use Rattle.std.specs.Prelude.{⊤}
 use Rattle.std.specs.List.{list_any}
 use Rattle.std.proofs.lemmas.Bool.{and_parts, or_left, or_right, or_from, false_from_ne_true, false≢true}
-use Rattle.run_model.specs.Types.{Name, Cap, Message, Boot, Step, Host, Deliver, Answer, Fault, Send, Receive}
+use Rattle.run_model.specs.Types.{Name, Cap, Message, Boot, Step, Host, Deliver, Answer, AnswerBy, Fault, Send, Receive}
 use Rattle.run_model.specs.Steps.{PastSteps, EachStep, count_steps, is_same_call}
 use Rattle.run_model.specs.Places.{at_vat}
 use Rattle.run_model.specs.Legal.{IsLegal, arrives, begins_call, answers_or_faults}
@@ -56,9 +56,9 @@ undelivered : (v : ℕ) (d : Name) (o : ℕ) (past : PastSteps) (c : Name) → I
 undelivered v d o past c legal place spent = false_from_ne_true (is_same_call d c)
     (λ e. clash spent (subst (λ x. list_any (spends x) past ≡ false) (names_same d c e) (fresh_there _ past d v place legal.1)))
 
-unanswered : (v : ℕ) (d : Name) (results : List (List ℕ × Cap)) (past : PastSteps) (c : Name) → IsLegal past (Answer v d results) → list_any (reaches c) past ≡ false → is_same_call d c ≡ false
-unanswered v d results past c legal new = false_from_ne_true (is_same_call d c)
-    (λ e. clash (subst (λ x. list_any (arrives x v) past ≡ true) (names_same d c e) legal.1.0) (not_arrived c v past new))
+unanswered : (v : ℕ) (d : Name) (past : PastSteps) (c : Name) → list_any (arrives d v) past ≡ true → list_any (reaches c) past ≡ false → is_same_call d c ≡ false
+unanswered v d past c there new = false_from_ne_true (is_same_call d c)
+    (λ e. clash (subst (λ x. list_any (arrives x v) past ≡ true) (names_same d c e) there) (not_arrived c v past new))
 
 unfaulted : (v : ℕ) (d : Name) (past : PastSteps) (c : Name) → IsLegal past (Fault v d) → Place d past → list_any (spends c) past ≡ true → list_any (reaches c) past ≡ false → is_same_call d c ≡ false
 unfaulted v d past c legal place spent new = false_from_ne_true (is_same_call d c) (λ e. elim (or_either (list_any (arrives d v) past) (is_some (at_vat past d v)) legal.1.0) [
@@ -74,7 +74,8 @@ next_booting (Receive v k (Boot d) bound) past c legal linked before links booti
 next_booting (Receive v k m bound) past c legal linked before links booting = quiet (Receive v k m bound) past c refl (λ e f. refl) booting
 next_booting (Deliver v d o) past c legal linked before links booting =
     quiet (Deliver v d o) past c refl (λ e f. undelivered v d o past c legal (place past d before links) e) booting
-next_booting (Answer v d results) past c legal linked before links booting = quiet (Answer v d results) past c refl (λ e f. unanswered v d results past c legal f) booting
+next_booting (Answer v d results) past c legal linked before links booting = quiet (Answer v d results) past c refl (λ e f. unanswered v d past c legal.1.0 f) booting
+next_booting (AnswerBy v d by) past c legal linked before links booting = quiet (AnswerBy v d by) past c refl (λ e f. unanswered v d past c legal.1.0 f) booting
 next_booting (Fault v d) past c legal linked before links booting = quiet (Fault v d) past c refl (λ e f. unfaulted v d past c legal (place past d before links) e f) booting
 next_booting (Host v o) past c legal linked before links booting = quiet (Host v o) past c refl (λ e f. refl) booting
 next_booting s past c legal linked before links booting = quiet s past c refl (λ e f. refl) booting

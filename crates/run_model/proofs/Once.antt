@@ -2,7 +2,7 @@
 use Rattle.std.proofs.Common.{◌≡◌, ◌≤◌, ◌⊎◌, ◌||◌, ap₂, inl, inr, refl, sym, ◌∙◌, subst, ℕ, suc, [], ◌∷◌, Bool, true, false, arith, if◌then◌else◌, eqb-true}
 use Rattle.std.specs.List.{list_any}
 use Rattle.std.proofs.lemmas.Bool.{and_parts, or_parts, or_left, or_right, false_from_ne_true, false≢true}
-use Rattle.run_model.specs.Types.{Name, Cap, Boot, Step, Host, Vow, Fulfil, Break, Make, Deliver, Answer, Fault, Send, Receive}
+use Rattle.run_model.specs.Types.{Name, Cap, Boot, Step, Host, Vow, Fulfil, Break, Make, Deliver, Answer, AnswerBy, Fault, Send, Receive}
 use Rattle.run_model.specs.Edges.{IsForeign}
 use Rattle.run_model.specs.Has.{Brings, Gets, Has}
 use Rattle.run_model.specs.Legal.{IsLegal, begins_call, ends, answers_or_faults}
@@ -56,6 +56,7 @@ ended_once v p before _ legal e = absurd (false≢true e)
 
 settled_once : (c : Name) (before : PastSteps) (s : Step) → IsLegal before s → answers_or_faults c s ≡ true → list_any (answers_or_faults c) before ≡ false
 settled_once c before (Answer v d results) legal e = subst (λ x. list_any (answers_or_faults x) before ≡ false) (names_same d c e) legal.1.1
+settled_once c before (AnswerBy v d by) legal e = subst (λ x. list_any (answers_or_faults x) before ≡ false) (names_same d c e) legal.1.1
 settled_once c before (Fault v d) legal e = subst (λ x. list_any (answers_or_faults x) before ≡ false) (names_same d c e) legal.1.1
 settled_once c before (Host w o) legal e = absurd (false≢true e)
 settled_once c before _ legal e = absurd (false≢true e)

@@ -2,7 +2,7 @@
 use Rattle.std.proofs.Common.{◌≡◌, ◌≤◌, ◌≢◌, ◌⊎◌, inl, inr, refl, sym, ◌∙◌, ap, subst, ℕ, ◌==◌, List, [], ◌∷◌, Bool, true, false, ◌&&◌, None, if◌then◌else◌, IsSomeAnd, IsSome, is_some, ne_eqb}
 use Rattle.std.specs.List.{list_any}
 use Rattle.std.proofs.lemmas.Bool.{and_from, and_left, and_right, or_left, or_right, or_from, false_from_ne_true, eq-eqb, false≢true, cases_eq}
-use Rattle.run_model.specs.Types.{Name, Cap, Boot, Call, Step, Host, Vow, Fulfil, Break, Make, Named, Deliver, Answer, Fault, Send, Receive}
+use Rattle.run_model.specs.Types.{Name, Cap, Boot, Call, Step, Host, Vow, Fulfil, Break, Make, Named, Deliver, Answer, AnswerBy, Fault, Send, Receive}
 use Rattle.run_model.proofs.Once.{names_same, none_of, once, or_either}
 use Rattle.run_model.proofs.Turning.{clash, same_to_itself}
 use Rattle.run_model.proofs.Goals.{begun}
@@ -140,10 +140,9 @@ fault_place v d past c spent legal true same (held u none all begun fresh) =
     (tt, all_grow (is_call c) (Fault v d) past past all)
 fault_place v d past c spent legal false same place = still (Fault v d) past c (λ w. other_call v w (is_same_call d c) takes_it_away same) refl (λ b f. same) place
 
-answer_spares : (v : ℕ) (d : Name) (results : List (List ℕ × Cap)) (past : PastSteps) (c : Name) → IsSpentWhereItArrived past → IsLegal past (Answer v d results) →
-    list_any (spends c) past ≡ false → is_same_call d c ≡ false
-answer_spares v d results past c spent legal f = false_from_ne_true (is_same_call d c)
-    (λ e. clash (subst (λ x. list_any (spends x) past ≡ true) (names_same d c e) (spent d v legal.1.0)) f)
+answer_spares : (v : ℕ) (d : Name) (past : PastSteps) (c : Name) → IsSpentWhereItArrived past → list_any (arrives d v) past ≡ true → list_any (spends c) past ≡ false → is_same_call d c ≡ false
+answer_spares v d past c spent there f = false_from_ne_true (is_same_call d c)
+    (λ e. clash (subst (λ x. list_any (spends x) past ≡ true) (names_same d c e) (spent d v there)) f)
 
 boot_spares : (v k : ℕ) (d : Name) (past : PastSteps) (c : Name) → IsLegal past (Send v k (Boot d)) → list_any (begins_call c) past ≡ true → is_same_call d c ≡ false
 boot_spares v k d past c legal b = false_from_ne_true (is_same_call d c)
@@ -164,7 +163,8 @@ next_place (Vow v p) past c legal linked spent unborn place = still (Vow v p) pa
 next_place (Fulfil v p to) past c legal linked spent unborn place = still (Fulfil v p to) past c (λ w. refl) refl (λ b f. refl) place
 next_place (Break v p) past c legal linked spent unborn place = still (Break v p) past c (λ w. refl) refl (λ b f. refl) place
 next_place (Named v x) past c legal linked spent unborn place = still (Named v x) past c (λ w. refl) refl (λ b f. refl) place
-next_place (Answer v d results) past c legal linked spent unborn place = still (Answer v d results) past c (λ w. refl) refl (λ b f. answer_spares v d results past c spent legal f) place
+next_place (Answer v d results) past c legal linked spent unborn place = still (Answer v d results) past c (λ w. refl) refl (λ b f. answer_spares v d past c spent legal.1.0 f) place
+next_place (AnswerBy v d by) past c legal linked spent unborn place = still (AnswerBy v d by) past c (λ w. refl) refl (λ b f. answer_spares v d past c spent legal.1.0 f) place
 
 -- wherever a run is, a call is in one place
 pub place : (past : PastSteps) (c : Name) → EachStep IsLegal past → EachStep IsLinked past → Place c past

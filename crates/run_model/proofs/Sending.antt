@@ -1,13 +1,14 @@
 -- What is received was sent before.
-use Rattle.std.proofs.Common.{◌≡◌, ◌≢◌, refl, sym, ◌∙◌, ap, subst, ℕ, zero, suc, ◌==◌, List, [], ◌∷◌, ◌++◌, Bool, true, false, not, ◌&&◌, Option, Some, None, reverse, slice_get, filter_map, if◌then◌else◌, append_assoc, true≢false, eqb-true}
+use Rattle.std.proofs.Common.{◌≡◌, ◌≢◌, inl, inr, refl, sym, ◌∙◌, ap, subst, ℕ, zero, suc, ◌==◌, List, [], ◌∷◌, ◌++◌, Bool, true, false, not, ◌&&◌, Option, Some, None, reverse, slice_get, filter_map, if◌then◌else◌, append_assoc, true≢false, eqb-true}
 use Rattle.std.proofs.lemmas.List.{reverse-append, reverse-reverse}
 use Rattle.std.proofs.lemmas.List.Folds.{list_any-append}
-use Rattle.std.proofs.lemmas.Bool.{and_parts, or_right, eq-eqb}
+use Rattle.std.proofs.lemmas.Bool.{and_parts, or_right, eq-eqb, false≢true}
 use Rattle.std.specs.List.{AllByRecursion, cons_option, list_any}
-use Rattle.run_model.specs.Types.{Name, Cap, FieldOf, Message, Return, Resolve, Step, Host, Send, Receive}
+use Rattle.run_model.specs.Types.{Name, Cap, FieldOf, Message, Return, Taken, Resolve, Step, Host, AnswerBy, Send, Receive}
 use Rattle.run_model.proofs.Growing.{leads_by_turns_grow}
-use Rattle.run_model.specs.Leads.{LeadsByTurns}
-use Rattle.run_model.specs.Legal.{IsLegal, answers_call}
+use Rattle.run_model.proofs.Once.{names_same, or_either}
+use Rattle.run_model.specs.Leads.{LeadsByTurns, MakesTurn, Turns}
+use Rattle.run_model.specs.Legal.{IsLegal, answers_call, hands}
 use Rattle.run_model.specs.Links.{IsLinked, receives_on, sent_to}
 use Rattle.run_model.specs.Steps.{EachStep, PastSteps, count_steps}
 
@@ -93,3 +94,24 @@ resolved_leads before legal v k promise cap bound linked =
     let there = legal_at s.1 s.2 (Send s.0 k (Resolve promise cap)) (subst (λ l. EachStep IsLegal l) s.4 legal) in
     subst (λ l. LeadsByTurns l promise cap) (sym s.4)
     (leads_by_turns_grow s.1 (Send s.0 k (Resolve promise cap) ∷ s.2) promise cap (leads_by_turns_grow (Send s.0 k (Resolve promise cap) ∷ []) s.2 promise cap there.1))
+
+pub received_taken : (before : PastSteps) → EachStep IsLegal before → (v k : ℕ) (c by : Name) (bound : List Cap) → IsLinked before (Receive v k (Taken c by) bound) → list_any (hands c by) before ≡ true
+received_taken before legal v k c by bound linked =
+    let m : Message = Taken c by in
+    let s = was_sent before v k m bound linked in
+    let there = legal_at s.1 s.2 (Send s.0 k m) (subst (λ l. EachStep IsLegal l) s.4 legal) in
+    subst (λ l. list_any (hands c by) l ≡ true) (sym s.4) (passes_later (hands c by) s.1 (Send s.0 k m ∷ s.2) there.1)
+
+-- a call that is answered by another turns to it at each path
+turned_by : (s : Step) (c by : Name) (path : List ℕ) → hands c by s ≡ true → MakesTurn (FieldOf c path) (FieldOf by path) s
+turned_by (AnswerBy v x y) c by path e =
+    let parts = and_parts _ _ e in (path, ap (λ name. FieldOf name path) (sym (names_same x c parts.0)), ap (λ name. FieldOf name path) (sym (names_same y by parts.1)))
+turned_by (Host v o) c by path e = absurd (false≢true e)
+turned_by _ c by path e = absurd (false≢true e)
+
+pub fields_turn : (before : PastSteps) (c by : Name) (path : List ℕ) → list_any (hands c by) before ≡ true → Turns before (FieldOf c path) (FieldOf by path)
+fields_turn [] c by path e = absurd (false≢true e)
+fields_turn (s ∷ before) c by path e = elim (or_either (hands c by s) (list_any (hands c by) before) e) [
+  | inl now ↦ inl (turned_by s c by path now)
+  | inr old ↦ inr (fields_turn before c by path old)
+]

@@ -3,7 +3,7 @@ use Rattle.std.proofs.Common.{◌≡◌, inl, inr, refl, sym, subst, ℕ, [], �
 use Rattle.std.specs.Prelude.{⊤}
 use Rattle.std.specs.List.{list_any}
 use Rattle.std.proofs.lemmas.Bool.{and_parts, or_left, or_right, false≢true}
-use Rattle.run_model.specs.Types.{Name, Boot, Step, Host, Deliver, Answer, Fault, Send, Receive}
+use Rattle.run_model.specs.Types.{Name, Boot, Step, Host, Deliver, Answer, AnswerBy, Fault, Send, Receive}
 use Rattle.run_model.specs.Steps.{EachStep, PastSteps, is_same_call}
 use Rattle.run_model.specs.Places.{Asked, at_vat}
 use Rattle.run_model.specs.Legal.{IsLegal, arrives, begins_call, delivers_call, answers_or_faults}
@@ -18,6 +18,7 @@ abbrev pub spends : Name → Step → Bool
 spends c (Send v k (Boot d)) = is_same_call d c
 spends c (Deliver v d o) = is_same_call d c
 spends c (Answer v d results) = is_same_call d c
+spends c (AnswerBy v d by) = is_same_call d c
 spends c (Fault v d) = is_same_call d c
 spends c _ = false
 
@@ -28,6 +29,7 @@ delivers_spends c _ e = absurd (false≢true e)
 
 pub settles_spends : (c : Name) (s : Step) → answers_or_faults c s ≡ true → spends c s ≡ true
 settles_spends c (Answer v d results) e = e
+settles_spends c (AnswerBy v d by) e = e
 settles_spends c (Fault v d) e = e
 settles_spends c (Host v o) e = absurd (false≢true e)
 settles_spends c _ e = absurd (false≢true e)
@@ -37,6 +39,7 @@ abbrev pub reaches : Name → Step → Bool
 reaches c (Deliver v d o) = is_same_call d c
 reaches c (Receive v k (Boot d) bound) = is_same_call d c
 reaches c (Answer v d results) = is_same_call d c
+reaches c (AnswerBy v d by) = is_same_call d c
 reaches c (Fault v d) = is_same_call d c
 reaches c _ = false
 
@@ -49,6 +52,7 @@ arrives_reaches c v _ e = absurd (false≢true e)
 
 pub settles_reaches : (c : Name) (s : Step) → answers_or_faults c s ≡ true → reaches c s ≡ true
 settles_reaches c (Answer v d results) e = e
+settles_reaches c (AnswerBy v d by) e = e
 settles_reaches c (Fault v d) e = e
 settles_reaches c (Host v o) e = absurd (false≢true e)
 settles_reaches c _ e = absurd (false≢true e)
@@ -61,6 +65,7 @@ boot_spent c later earlier w k = passes_later (spends c) later (Send w k (Boot c
 reached_at : (s : Step) (past : PastSteps) (c : Name) → IsLinked past s → reaches c s ≡ true → list_any (spends c) (s ∷ past) ≡ true
 reached_at (Deliver v d o) past c linked e = or_left (is_same_call d c) (list_any (spends c) past) e
 reached_at (Answer v d results) past c linked e = or_left (is_same_call d c) (list_any (spends c) past) e
+reached_at (AnswerBy v d by) past c linked e = or_left (is_same_call d c) (list_any (spends c) past) e
 reached_at (Fault v d) past c linked e = or_left (is_same_call d c) (list_any (spends c) past) e
 reached_at (Receive v k (Boot d) bound) past c linked e =
     let was = was_sent past v k (Boot d) bound linked in
@@ -101,6 +106,8 @@ begun_at (Send v k m) past c legal before linked rest e = absurd (false≢true e
 begun_at (Deliver v d o) past c legal before linked rest e =
     subst (λ x. list_any (begins_call x) past ≡ true) (names_same d c e) (here_begun past d v before linked _ (at_vat past d v) refl legal.1)
 begun_at (Answer v d results) past c legal before linked rest e =
+    subst (λ x. list_any (begins_call x) past ≡ true) (names_same d c e) (rest d (arrived_spent past linked d v legal.1.0))
+begun_at (AnswerBy v d by) past c legal before linked rest e =
     subst (λ x. list_any (begins_call x) past ≡ true) (names_same d c e) (rest d (arrived_spent past linked d v legal.1.0))
 begun_at (Fault v d) past c legal before linked rest e =
     subst (λ x. list_any (begins_call x) past ≡ true) (names_same d c e) (elim (or_either (list_any (arrives d v) past) (is_some (at_vat past d v)) legal.1.0) [

@@ -1,10 +1,10 @@
 -- Turns go one way, since what turns a cap comes once.
-use Rattle.std.proofs.Common.{◌≡◌, inl, inr, refl, sym, ◌∙◌, ℕ, List, [], ◌∷◌, Bool, true, false, not, subst, true≢false}
+use Rattle.std.proofs.Common.{◌≡◌, inl, inr, refl, sym, ◌∙◌, ap, ℕ, List, [], ◌∷◌, Bool, true, false, not, subst, true≢false}
 use Rattle.std.specs.List.{list_any}
 use Rattle.std.specs.Str.{bytes_eq as same_path}
 use Rattle.std.proofs.lemmas.Bool.{and_from, or_left, or_right, eq-eqb, or_parts, and_parts}
 use Rattle.std.proofs.lemmas.Slice.Eq.{bytes_eq-Decides}
-use Rattle.run_model.specs.Types.{Name, Cap, Object, Promise, FieldOf, Host, Fulfil, Answer, Step}
+use Rattle.run_model.specs.Types.{Name, Cap, Object, Promise, FieldOf, Host, Fulfil, Answer, AnswerBy, Step}
 use Rattle.run_model.specs.Leads.{Leads, MakesTurn, Turns, here, turn}
 use Rattle.run_model.specs.Legal.{IsLegal, has_distinct_paths, ends, answers_or_faults}
 use Rattle.run_model.specs.Steps.{EachStep, OneOf, PastSteps, is_same_call}
@@ -27,6 +27,7 @@ of_results a b c (r ∷ rs) (inr h) = of_results a b c rs h
 no_turn_of_object : (s : Step) (v o : ℕ) (b : Cap) → MakesTurn (Object v o) b s → ⊥
 no_turn_of_object (Fulfil w p to) v o b h = object_is_no_promise h.0
 no_turn_of_object (Answer w c results) v o b h = object_is_no_field (of_results (Object v o) b c results h).1
+no_turn_of_object (AnswerBy w c by) v o b h = object_is_no_field h.1
 no_turn_of_object (Host w n) v o b h = h
 no_turn_of_object _ v o b h = h
 
@@ -43,6 +44,7 @@ kept_at : (s : Step) (v p : ℕ) (b : Cap) → MakesTurn (Promise v p) b s → e
 kept_at (Fulfil w q to) v p b h = let v_same : v ≡ w = (let e = h.0 in cc) in let p_same : p ≡ q = (let e = h.0 in cc) in
     and_from _ _ (eq-eqb w v (sym v_same)) (eq-eqb q p (sym p_same))
 kept_at (Answer w c results) v p b h = absurd (promise_is_no_field (of_results (Promise v p) b c results h).1)
+kept_at (AnswerBy w c by) v p b h = absurd (promise_is_no_field h.1)
 kept_at (Host w n) v p b h = absurd h
 kept_at _ v p b h = absurd h
 
@@ -56,6 +58,7 @@ settled_at : (s : Step) (c : Name) (path : List ℕ) (b : Cap) → MakesTurn (Fi
 settled_at (Fulfil w q to) c path b h = absurd (promise_is_no_field (sym h.0))
 settled_at (Answer w d results) c path b h =
     let e = (of_results (FieldOf c path) b d results h).1 in let same : c ≡ d = cc in rw (sym same) (same_to_itself c)
+settled_at (AnswerBy w d by) c path b h = let e = h.1 in let same : c ≡ d = cc in rw (sym same) (same_to_itself c)
 settled_at (Host w n) c path b h = absurd h
 settled_at _ c path b h = absurd h
 
@@ -90,6 +93,8 @@ one_result a b d c (r ∷ rs) distinct (inr h) (inr k) = one_result a b d c rs (
 by_one_step : (before : PastSteps) (s : Step) → IsLegal before s → (a b c : Cap) → MakesTurn a b s → MakesTurn a c s → b ≡ c
 by_one_step before (Fulfil v p to) legal a b c h k = h.1 ∙ sym k.1
 by_one_step before (Answer v d results) legal a b c h k = one_result a b c d results legal.1.2 h k
+by_one_step before (AnswerBy v d by) legal a b c h k =
+    let e = h.1 in let f = k.1 in let same : h.0 ≡ k.0 = cc in h.2 ∙ ap (λ path. FieldOf by path) same ∙ sym k.2
 by_one_step before (Host v o) legal a b c h k = absurd h
 by_one_step before _ legal a b c h k = absurd h
 
@@ -97,6 +102,7 @@ not_again : (before : PastSteps) (s : Step) → IsLegal before s → (a b c : Ca
 not_again before (Fulfil v p to) legal a b c h k = clash (kept before v p c (subst (λ x. Turns before x c) h.0 k)) legal.1.1
 not_again before (Answer v d results) legal a b c h k =
     let e = of_results a b d results h in clash (settled before d e.0 c (subst (λ x. Turns before x c) e.1 k)) legal.1.1
+not_again before (AnswerBy v d by) legal a b c h k = clash (settled before d h.0 c (subst (λ x. Turns before x c) h.1 k)) legal.1.1
 not_again before (Host v o) legal a b c h k = h
 not_again before _ legal a b c h k = h
 

@@ -1,7 +1,7 @@
 -- Which caps a vat has: what it made itself, and what a message brought it (rpc.capnp, the comments of CapDescriptor and
 -- PromisedAnswer): only connectivity begets connectivity
-use Rattle.std.specs.Prelude.{ℕ, List, Option, Some, None, IsSomeAnd, ◌≡◌, ◌⊎◌}
-use Rattle.run_model.specs.Steps.{PastSteps, call, OneOf}
+use Rattle.std.specs.Prelude.{ℕ, List, Bool, false, Option, Some, None, IsSomeAnd, ◌≡◌, ◌⊎◌, ◌&&◌, ◌==◌}
+use Rattle.run_model.specs.Steps.{PastSteps, call, is_same_call, OneOf}
 use Rattle.run_model.specs.Types.{Name, Cap, Object, Promise, FieldOf, Message, Boot, Call, Step, Host, Vow, Make, Send, Receive}
 
 -- the call that a Bootstrap or a Call is
@@ -31,3 +31,11 @@ Gets v a _ = ⊥
 -- a vat has a cap by one of the steps before
 abbrev pub Has : PastSteps → ℕ → Cap → Type 0
 Has before v a = OneOf (Gets v a) before
+
+-- a call comes to a vat by a step: the vat makes it, sends its Bootstrap, or receives its Bootstrap or its Call
+abbrev pub comes_to : ℕ → Name → Step → Bool
+comes_to v c (Make w number cap reference interface method) = (w == v) && is_same_call (call w number) c
+comes_to v c (Send w connection (Boot d)) = (w == v) && is_same_call d c
+comes_to v c (Receive w connection (Boot d) bound) = (w == v) && is_same_call d c
+comes_to v c (Receive w connection (Call d target interface method caps) bound) = (w == v) && is_same_call d c
+comes_to v c _ = false

@@ -2,11 +2,11 @@
 use Rattle.std.specs.Prelude.{ℕ, List, [], Bool, true, false, not, ⊤, filter, map, is_some, IsTrue, IsFalse, IsSomeAnd, ◌≡◌, ◌⊎◌, ◌∷◌, ◌++◌, ◌&&◌, ◌||◌, ◌==◌}
 use Rattle.std.specs.List.{list_any, AllByRecursion}
 use Rattle.std.specs.Str.{bytes_eq as same_path}
-use Rattle.run_model.specs.Has.{Has}
+use Rattle.run_model.specs.Has.{Has, comes_to}
 use Rattle.run_model.specs.Leads.{Leads, LeadsByTurns}
 use Rattle.run_model.specs.Places.{at_vat}
 use Rattle.run_model.specs.Steps.{PastSteps, call, is_same_call, vat_of, EachOf}
-use Rattle.run_model.specs.Types.{Name, Cap, Object, Promise, FieldOf, Nothing, Message, Boot, Call, Return, Late, Failed, Resolve, Broken, Plain, Step, Host, Vow, Fulfil, Break, Make, Named, Deliver, Answer, Fault, Send, Receive}
+use Rattle.run_model.specs.Types.{Name, Cap, Object, Promise, FieldOf, Nothing, Message, Boot, Call, Return, Late, Failed, Taken, Elsewhere, Resolve, Broken, Plain, Step, Host, Vow, Fulfil, Break, Make, Named, Deliver, Answer, AnswerBy, Fault, Send, Receive}
 
 -- a cap is there: it isn't Nothing
 abbrev pub is_present : Cap → Bool
@@ -27,6 +27,8 @@ caps_brought (Resolve promise cap) = cap ∷ []
 caps_brought (Boot c) = []
 caps_brought (Late c) = []
 caps_brought (Failed c) = []
+caps_brought (Taken c by) = []
+caps_brought (Elsewhere c) = []
 caps_brought (Broken promise) = []
 caps_brought (Plain plain) = []
 
@@ -39,6 +41,8 @@ caps_of (Broken promise) = promise ∷ []
 caps_of (Boot c) = []
 caps_of (Late c) = []
 caps_of (Failed c) = []
+caps_of (Taken c by) = []
+caps_of (Elsewhere c) = []
 caps_of (Plain plain) = []
 
 -- the caps that a step uses; a Receive uses none
@@ -52,6 +56,7 @@ used_caps (Host v object) = []
 used_caps (Vow v promise) = []
 used_caps (Break v promise) = []
 used_caps (Deliver v c object) = []
+used_caps (AnswerBy v c by) = []
 used_caps (Fault v c) = []
 used_caps (Receive v connection m bound) = []
 
@@ -87,14 +92,16 @@ arrives c v (Deliver w d object) = (w == v) && is_same_call d c
 arrives c v (Receive w connection (Boot d) bound) = (w == v) && is_same_call d c
 arrives c v _ = false
 
--- a step answers the call
+-- a step answers the call, with results or by another call
 abbrev pub answers_call : Name → Step → Bool
 answers_call c (Answer v d results) = is_same_call d c
+answers_call c (AnswerBy v d by) = is_same_call d c
 answers_call c _ = false
 
 -- a step answers or faults the call
 abbrev pub answers_or_faults : Name → Step → Bool
 answers_or_faults c (Answer v d results) = is_same_call d c
+answers_or_faults c (AnswerBy v d by) = is_same_call d c
 answers_or_faults c (Fault v d) = is_same_call d c
 answers_or_faults c _ = false
 
@@ -111,6 +118,11 @@ IsNew before c = IsFalse (list_any (begins_call c) before)
 abbrev pub MayEnd : PastSteps → ℕ → ℕ → Type 0
 MayEnd before v p = IsTrue (list_any (vows v p) before) × IsFalse (list_any (ends v p) before)
 
+-- a step answers the first call by the second
+abbrev pub hands : Name → Name → Step → Bool
+hands c d (AnswerBy v x y) = is_same_call x c && is_same_call y d
+hands c d _ = false
+
 -- what a vat may send
 abbrev pub MaySend : PastSteps → ℕ → Message → Type 0
 -- a Bootstrap: it is the vat's own call, and new
@@ -123,9 +135,12 @@ MaySend before v (Return c results caps) =
     IsTrue (list_any (answers_call c) before) × AllByRecursion (λ result. LeadsByTurns before (FieldOf c result.0) result.1) results
 -- a Resolve: the promise leads by 1 or more turns to the cap
 MaySend before v (Resolve promise cap) = LeadsByTurns before promise cap
+-- a Return that takes the results of another call: the call was answered by that one
+MaySend before v (Taken c by) = IsTrue (list_any (hands c by) before)
 -- nothing is asked of the others
 MaySend before v (Late c) = ⊤
 MaySend before v (Failed c) = ⊤
+MaySend before v (Elsewhere c) = ⊤
 MaySend before v (Broken promise) = ⊤
 MaySend before v (Plain plain) = ⊤
 
@@ -146,6 +161,9 @@ MayCome before (Make v number cap reference interface method) = IsNew before (ca
 MayCome before (Deliver v c object) = IsSomeAnd (at_vat before c v) (λ asked. Leads before asked.goal (Object v object))
 -- a call is answered at the vat at which it was delivered or its Bootstrap received, and once; no path has two results
 MayCome before (Answer v c results) = IsTrue (list_any (arrives c v) before) × IsFalse (list_any (answers_or_faults c) before) × IsTrue (has_distinct_paths results)
+-- so it is answered by another call, one that came to the vat
+MayCome before (AnswerBy v c by) =
+    IsTrue (list_any (arrives c v) before) × IsFalse (list_any (answers_or_faults c) before) × IsTrue (list_any (comes_to v by) before)
 -- so it is faulted, or where it is at the vat
 MayCome before (Fault v c) = IsTrue (list_any (arrives c v) before || is_some (at_vat before c v)) × IsFalse (list_any (answers_or_faults c) before)
 MayCome before (Send v connection m) = MaySend before v m

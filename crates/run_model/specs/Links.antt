@@ -2,7 +2,7 @@
 use Rattle.std.specs.Prelude.{ℕ, List, [], Bool, true, false, not, Option, Some, None, ⊤, if◌then◌else◌, reverse, filter_map, slice_get, IsTrue, ◌≡◌, ◌∷◌, ◌&&◌, ◌==◌}
 use Rattle.std.specs.List.{list_all}
 use Rattle.run_model.specs.Steps.{PastSteps, EachOf, count_steps}
-use Rattle.run_model.specs.Types.{Message, Step, Host, Vow, Fulfil, Break, Make, Named, Deliver, Answer, Fault, Send, Receive}
+use Rattle.run_model.specs.Types.{Message, Step, Host, Vow, Fulfil, Break, Make, Named, Deliver, Answer, AnswerBy, Fault, Send, Receive}
 
 -- the message that another vat than this one sends on the connection
 abbrev pub sent_to : ℕ → ℕ → Step → Option Message
@@ -46,6 +46,7 @@ IsLinked before (Make v number cap reference interface method) = ⊤
 IsLinked before (Named v cap) = ⊤
 IsLinked before (Deliver v c object) = ⊤
 IsLinked before (Answer v c results) = ⊤
+IsLinked before (AnswerBy v c by) = ⊤
 IsLinked before (Fault v c) = ⊤
 
 -- a run over first-in first-out links

@@ -1,7 +1,7 @@
 -- At which vat a call is, and what it asks for there (rpc.capnp, the comments of Call).
 use Rattle.std.specs.Prelude.{ℕ, [], Option, Some, None, if◌then◌else◌, ◌∷◌, ◌&&◌, ◌==◌}
 use Rattle.run_model.specs.Steps.{PastSteps, call, is_same_call}
-use Rattle.run_model.specs.Types.{Name, Cap, Call, Step, Make, Deliver, Fault, Send, Receive}
+use Rattle.run_model.specs.Types.{Name, Cap, Boot, Call, Return, Late, Failed, Taken, Elsewhere, Resolve, Broken, Plain, Step, Host, Vow, Fulfil, Break, Make, Named, Deliver, Answer, AnswerBy, Fault, Send, Receive}
 
 -- where a call is to go, and which method of which interface it calls
 pub record Asked : Type 0 where
@@ -30,7 +30,31 @@ move_of c v (Receive w connection (Call d target interface method caps) bound) =
 move_of c v (Send w connection (Call d target interface method caps)) = if (w == v) && is_same_call d c then takes_it_away else leaves_it
 move_of c v (Deliver w d object) = if (w == v) && is_same_call d c then takes_it_away else leaves_it
 move_of c v (Fault w d) = if (w == v) && is_same_call d c then takes_it_away else leaves_it
-move_of c v _ = leaves_it
+move_of c v (Receive w connection (Boot d) bound) = leaves_it
+move_of c v (Receive w connection (Return d results caps) bound) = leaves_it
+move_of c v (Receive w connection (Late d) bound) = leaves_it
+move_of c v (Receive w connection (Failed d) bound) = leaves_it
+move_of c v (Receive w connection (Taken d by) bound) = leaves_it
+move_of c v (Receive w connection (Elsewhere d) bound) = leaves_it
+move_of c v (Receive w connection (Resolve promise cap) bound) = leaves_it
+move_of c v (Receive w connection (Broken promise) bound) = leaves_it
+move_of c v (Receive w connection (Plain plain) bound) = leaves_it
+move_of c v (Send w connection (Boot d)) = leaves_it
+move_of c v (Send w connection (Return d results caps)) = leaves_it
+move_of c v (Send w connection (Late d)) = leaves_it
+move_of c v (Send w connection (Failed d)) = leaves_it
+move_of c v (Send w connection (Taken d by)) = leaves_it
+move_of c v (Send w connection (Elsewhere d)) = leaves_it
+move_of c v (Send w connection (Resolve promise cap)) = leaves_it
+move_of c v (Send w connection (Broken promise)) = leaves_it
+move_of c v (Send w connection (Plain plain)) = leaves_it
+move_of c v (Host w object) = leaves_it
+move_of c v (Vow w promise) = leaves_it
+move_of c v (Fulfil w promise to) = leaves_it
+move_of c v (Break w promise) = leaves_it
+move_of c v (Named w cap) = leaves_it
+move_of c v (Answer w d results) = leaves_it
+move_of c v (AnswerBy w d by) = leaves_it
 
 -- what a call asks for at a vat after this, by what it asked for there before; none where the call isn't there
 abbrev pub asked_after : Move → Option Asked → Option Asked

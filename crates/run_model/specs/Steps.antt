@@ -1,7 +1,7 @@
 -- The steps of a run before a point, and how to look back over them.
 use Rattle.std.specs.Prelude.{ℕ, suc, List, [], Bool, Option, None, ⊤, if◌then◌else◌, reverse, filter, ◌⊎◌, ◌∷◌, ◌&&◌, ◌==◌}
 use Rattle.std.specs.Option.{option_or}
-use Rattle.run_model.specs.Types.{Name, Step, Host, Vow, Fulfil, Break, Make, Named, Deliver, Answer, Fault, Send, Receive}
+use Rattle.run_model.specs.Types.{Name, Step, Host, Vow, Fulfil, Break, Make, Named, Deliver, Answer, AnswerBy, Fault, Send, Receive}
 
 -- the steps before a point, the newest first
 abbrev pub PastSteps : Type 0
@@ -25,6 +25,7 @@ vat_of (Make v number cap reference interface method) = v
 vat_of (Named v cap) = v
 vat_of (Deliver v c object) = v
 vat_of (Answer v c results) = v
+vat_of (AnswerBy v c by) = v
 vat_of (Fault v c) = v
 vat_of (Send v connection message) = v
 vat_of (Receive v connection message bound) = v

@@ -11,6 +11,7 @@
 //! [`StepNumbers`] counts the steps of each vat, for the crates above (`specs/StepNumbers.antt`, which is no part of the
 //! meaning).
 //! What holds of all runs by these definitions is promised by the functions of `src/laws.rt`, which do nothing.
+//! `proofs/OneTailCall.antt` is an example of a run.
 #![tactic(auto)]
 
 mod cap;

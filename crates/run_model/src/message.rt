@@ -36,10 +36,16 @@ pub enum Message {
         /// The capabilities in its results.
         caps: Caps,
     },
-    /// A Return with results that was late when it was sent: a Finish that gives its results back had come before it.
+    /// A Return with results, or with those of another question, that was late when it was sent: a Finish that gives its
+    /// results back had come before it.
     Late(Name),
     /// A Return without results: an exception, or canceled.
     Failed(Name),
+    /// A Return that takes its results from another question (rpc.capnp, `Return.takeFromOtherQuestion`) and wasn't late when
+    /// it was sent: the results of the first call are those of the second.
+    Taken(Name, Name),
+    /// A Return, late or not, which says that the results were sent elsewhere (rpc.capnp, `Return.resultsSentElsewhere`).
+    Elsewhere(Name),
     /// A Resolve: the first capability, a promise, turned out to be the second, or leads there.
     Resolve(Cap, Cap),
     /// A Resolve with an exception, or with no capability: the promise is broken.
@@ -79,6 +85,8 @@ impl Message {
             }),
             Message::Late(call) => Ok(Message::Late(*call)),
             Message::Failed(call) => Ok(Message::Failed(*call)),
+            Message::Taken(call, by) => Ok(Message::Taken(*call, *by)),
+            Message::Elsewhere(call) => Ok(Message::Elsewhere(*call)),
             Message::Resolve(promise, cap) => Ok(Message::Resolve(promise.copy()?, cap.copy()?)),
             Message::Broken(promise) => Ok(Message::Broken(promise.copy()?)),
             Message::Plain(plain) => Ok(Message::Plain(*plain)),

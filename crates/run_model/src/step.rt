@@ -82,6 +82,15 @@ pub enum Step {
         /// The capabilities in its results.
         results: Results,
     },
+    /// A call is answered by another: its results are the other's, which may be still to come.
+    AnswerBy {
+        /// Whose step it is.
+        vat: u32,
+        /// The call.
+        call: Name,
+        /// The call whose results are its results.
+        by: Name,
+    },
     /// A call ends without results.
     Fault {
         /// Whose step it is.
@@ -124,6 +133,7 @@ pub fn vat_of(step: &Step) -> u32
         | Step::Name { vat, .. }
         | Step::Deliver { vat, .. }
         | Step::Answer { vat, .. }
+        | Step::AnswerBy { vat, .. }
         | Step::Fault { vat, .. }
         | Step::Send { vat, .. }
         | Step::Receive { vat, .. } => *vat,

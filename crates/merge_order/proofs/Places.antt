@@ -1,7 +1,6 @@
 -- Where a search by vat numbers ends, and which vats a progress has.
-use Rattle.std.proofs.Common.{◌≡◌, ℕ, suc, ◌+◌, ◌<◌, ◌≤◌, Bool, true, false, cond, List, [], ◌∷◌, length, get_or, take, drop, Option, Some, None, Result, Ok, Err, refl, sym, ap, subst, ◌∙◌, inl, inr, arith}
+use Rattle.std.proofs.Common.{◌≡◌, ℕ, suc, ◌<◌, ◌≤◌, Bool, true, false, cond, List, [], ◌∷◌, length, get_or, drop, Option, Some, None, Result, Ok, Err, refl, sym, ap, subst, ◌∙◌, inl, inr, arith}
 use Rattle.std.specs.Prelude.{◌≢◌, ◌==◌, ◌||◌, map, is_some, MatchOption, slice_index_or}
-use Rattle.std.specs.List.{list_any}
 use Rattle.std.specs.List.Sorted.{IsStrictlyIncreasing, IsSearchInRange, IsBinarySearchResult, IsNonDecreasingBy}
 use Rattle.std.specs.Ordering.{nat_cmp, ordering_index}
 use Rattle.std.specs.Result.{result_ok}
@@ -9,7 +8,6 @@ use Rattle.std.proofs.lemmas.Bool.{cases_lt, cases_eq}
 use Rattle.std.proofs.lemmas.Bool.Decides.{nat_tests}
 use Rattle.std.proofs.lemmas.Cmp.{ranked}
 use Rattle.std.proofs.lemmas.List.{drop_all, get_or-map, length-map}
-use Rattle.std.proofs.lemmas.List.Folds.{list_any_more}
 use Rattle.std.proofs.lemmas.Map.Keys.{sorted_from_strictly_increasing, below_from_sorted}
 use Rattle.merge_order.specs.Fits.{Part, part_of}
 use Rattle.merge_order.proofs.Greedy.{eqb_apart}
@@ -77,19 +75,3 @@ vats_more v p from rest x all now later front is more so_far =
 pub vats_all : (v : ℕ) (ps : List Part) (n : ℕ) (ready : Bool) → length ps ≤ n → is_some (part_of v ps) ≡ (ready || is_some (part_of v (drop n ps))) → ready ≡ is_some (part_of v ps)
 vats_all v ps n ready le so_far =
     sym (so_far ∙ ap (λ (l : List Part). ready || is_some (part_of v l)) (drop_all n ps le) ∙ or_false ready)
-
-one_more : (old before same : Bool) → cond same true (old || before) ≡ (old || (before || same))
-one_more true before true = refl
-one_more true before false = refl
-one_more false true true = refl
-one_more false true false = refl
-one_more false false true = refl
-one_more false false false = refl
-
--- one more of some vats is ready
-pub ready_more : (v : ℕ) (xs : List ℕ) (i x : ℕ) (old now later : Bool) → i < length xs → x ≡ get_or xs i 0 → later ≡ cond (x == v) true now → now ≡ (old || list_any (λ other. other == v) (take i xs)) → later ≡ (old || list_any (λ other. other == v) (take (i + 1) xs))
-ready_more v xs i x old now later lt is more so_far =
-    let same = λ (other : ℕ). other == v in
-    more ∙ ap (λ (n : ℕ). cond (n == v) true now) is ∙ ap (cond (same (get_or xs i 0)) true) so_far
-    ∙ one_more old (list_any same (take i xs)) (same (get_or xs i 0))
-    ∙ ap (λ (b : Bool). old || b) (sym (list_any_more same xs i 0 lt))

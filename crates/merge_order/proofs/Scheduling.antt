@@ -1,11 +1,9 @@
 -- A vat whose next record may come is ready, through each change of a schedule.
-use Rattle.std.proofs.Common.{◌≡◌, ℕ, zero, suc, ◌+◌, ◌<◌, ◌≤◌, Bool, true, false, cond, List, [], ◌∷◌, ◌++◌, length, take, Option, Some, None, refl, sym, ap, subst, ◌∙◌, inl, inr, arith}
+use Rattle.std.proofs.Common.{◌≡◌, ℕ, zero, suc, ◌+◌, ◌≤◌, Bool, true, false, cond, List, [], ◌∷◌, length, take, Option, Some, None, refl, sym, ap, subst, ◌∙◌, inl, inr, arith}
 use Rattle.std.specs.Prelude.{◌≢◌, ◌⊎◌, ◌==◌, ◌||◌, map, is_some, nat_lt, slice_get, count_by}
-use Rattle.std.specs.List.{list_any}
 use Rattle.std.specs.List.Sorted.{IsStrictlyIncreasing}
 use Rattle.std.proofs.lemmas.Bool.{false≢true, eq-eqb, cases_eq, or_cases}
 use Rattle.std.proofs.lemmas.List.{take_all}
-use Rattle.std.proofs.lemmas.List.Folds.{list_any-append}
 use Rattle.std.proofs.lemmas.Option.{same_Some}
 use Rattle.vat_log.specs.Log.{Log}
 use Rattle.vat_log.specs.declared.body.Body.{Body}
@@ -13,8 +11,8 @@ use Rattle.vat_log.specs.declared.body.Body.TheVariants.{Send, Receive}
 use Rattle.merge_order.specs.declared.ready_vats.ReadyVats.{ReadyVats}
 use Rattle.merge_order.specs.declared.waiting_vats.WaitingVats.{WaitingVats}
 use Rattle.merge_order.specs.Fits.{Part, sends_frame, sent_so_far, received_so_far, part_of, sent_by_the_others, may_follow, may_come_from, may_come, further, after}
-use Rattle.merge_order.specs.Waits.{is_ready, waiting_on, waits, next_from, next_of, awaited_by, sent_by, IsQueued, IsPutOff, IsWoken, IsScheduled}
-use Rattle.merge_order.proofs.Greedy.{bool_cases, eqb_apart, further_log, other_stays, own_moves, part_stays, others_own, others_more}
+use Rattle.merge_order.specs.Waits.{is_ready, waits, next_from, next_of, awaited_by, sent_by, IsQueued, IsPutOff, IsWoken}
+use Rattle.merge_order.proofs.Greedy.{eqb_apart, further_log, other_stays, own_moves, part_stays, others_own, others_more}
 use Rattle.merge_order.proofs.Steps.{rising_tail, rising_after}
 use Rattle.merge_order.proofs.Tables.{none_more, count_next}
 use Rattle.merge_order.proofs.Totals.{own_not_again, stays_all}
@@ -59,33 +57,6 @@ queued_begin ps ready waiting rising all = record {
 
 -- ---- a vat that was tried waits
 
-last_waits : (xs : List ℕ) (v : ℕ) (t : Bool) → t ≡ true → list_any (λ other. other == v) (cond t (xs ++ v ∷ []) xs) ≡ true
-last_waits xs v t is =
-    let same = λ (other : ℕ). other == v in
-    rw is (list_any-append same xs (v ∷ []) ∙ ap (λ (b : Bool). list_any same xs || (b || false)) (eq-eqb v v refl) ∙ or_true (list_any same xs))
-
-others_wait : (p : ℕ → Bool) (t : Bool) (xs : List ℕ) (v : ℕ) → list_any p xs ≡ true → list_any p (cond t (xs ++ v ∷ []) xs) ≡ true
-others_wait p true xs v e = list_any-append p xs (v ∷ []) ∙ ap (λ (b : Bool). b || list_any p (v ∷ [])) e
-others_wait p false xs v e = e
-
-pub put_off_at : (ps : List Part) (v connection : ℕ) (old new : WaitingVats) → Some connection ≡ awaited_by (next_of v ps)
-    → ((on : ℕ) → waiting_on new on ≡ cond (connection == on) (waiting_on old on ++ v ∷ []) (waiting_on old on)) → IsPutOff ps v old new
-put_off_at ps v connection old new next more = record {
-  stays = λ on u e. ap (list_any (λ other. other == u)) (more on) ∙ others_wait (λ other. other == u) (connection == on) (waiting_on old on) v e;
-  own = λ on e.
-      subst (λ (c : ℕ). waits new c v ≡ true) (same_Some connection on (next ∙ e))
-      (ap (list_any (λ other. other == v)) (more connection) ∙ last_waits (waiting_on old connection) v (connection == connection) (eq-eqb connection connection refl));
-}
-
-none_awaits : (connection : ℕ) (o : Option ℕ) → None ≡ o → o ≡ Some connection → ⊥
-none_awaits connection o none e = let no : None ≡ Some connection = none ∙ e in cc
-
-pub put_off_none : (ps : List Part) (v : ℕ) (waiting : WaitingVats) → None ≡ awaited_by (next_of v ps) → IsPutOff ps v waiting waiting
-put_off_none ps v waiting none = record {
-  stays = λ on u e. e;
-  own = λ on e. absurd (none_awaits on (awaited_by (next_of v ps)) none e);
-}
-
 ready_kept : (v u : ℕ) (old new : Bool) → v ≢ u → new ≡ cond (v == u) false old → old ≡ true → new ≡ true
 ready_kept v u old new apart left e = left ∙ ap (λ (t : Bool). cond t false old) (eqb_apart v u apart) ∙ e
 
@@ -109,26 +80,6 @@ queued_tried ps ready later waiting left v queued not off removed = record {
             or_grows (is_ready ready u) (waits waiting connection u) (is_ready later u) (waits left connection u)
             (ready_kept v u (is_ready ready u) (is_ready later u) apart (removed u)) (off.stays connection u) (queued.awaits u connection e)
       ];
-}
-
--- ---- a step wakes the vats that wait where it sends
-
-pub woken_at : (connection : ℕ) (ready later : ReadyVats) (waiting left : WaitingVats) → ((v : ℕ) → is_ready later v ≡ (is_ready ready v || waits waiting connection v))
-    → ((on : ℕ) → waiting_on left on ≡ cond (connection == on) [] (waiting_on waiting on)) → IsWoken (Some connection) ready later waiting left
-woken_at connection ready later waiting left more stays = record {
-  still = λ v e. more v ∙ ap (λ (b : Bool). b || waits waiting connection v) e;
-  woken = λ on v same e.
-      (let there : waits waiting connection v ≡ true = subst (λ (c : ℕ). waits waiting c v ≡ true) (sym (same_Some connection on same)) e in
-      more v ∙ ap (λ (b : Bool). is_ready ready v || b) there ∙ or_true (is_ready ready v));
-  apart = λ on v other e.
-      ap (list_any (λ u. u == v)) (stays on ∙ ap (λ (t : Bool). cond t [] (waiting_on waiting on)) (eqb_apart connection on (λ same. other (ap Some same)))) ∙ e;
-}
-
-pub woken_none : (ready : ReadyVats) (waiting : WaitingVats) → IsWoken None ready ready waiting waiting
-woken_none ready waiting = record {
-  still = λ v e. e;
-  woken = λ on v same e. absurd cc;
-  apart = λ on v other e. e;
 }
 
 -- ---- a step that doesn't send on a connection changes nothing there
@@ -235,25 +186,4 @@ queued_after ps ready later waiting left v queued may step = record {
                   ]
             ]
       ];
-}
-
--- ---- the first that may come
-
-not_ready : (ps : List Part) (ready : ReadyVats) (waiting : WaitingVats) (u : ℕ) → IsQueued ps ready waiting → is_ready ready u ≡ false → may_come ps u ≡ false
-not_ready ps ready waiting u queued not =
-    elim (bool_cases (may_come ps u)) [
-      | inl may ↦ absurd (false≢true (sym not ∙ queued.comes u may))
-      | inr never ↦ never
-    ]
-
-pub first_some : (ps : List Part) (ready : ReadyVats) (waiting : WaitingVats) (v : ℕ) → IsQueued ps ready waiting → may_come ps v ≡ true → ((u : ℕ) → u < v → is_ready ready u ≡ false) → IsScheduled ps ready waiting (Some v)
-first_some ps ready waiting v queued may least = record {
-  queued = queued;
-  least = (may, λ u lt. not_ready ps ready waiting u queued (least u lt));
-}
-
-pub first_none : (ps : List Part) (ready : ReadyVats) (waiting : WaitingVats) → IsQueued ps ready waiting → ((u : ℕ) → is_ready ready u ≡ false) → IsScheduled ps ready waiting None
-first_none ps ready waiting queued none = record {
-  queued = queued;
-  least = λ u. not_ready ps ready waiting u queued (none u);
 }

@@ -3,3 +3,5 @@ pub mod Steps
 pub mod Reading
 pub mod Tables
 pub mod Totals
+pub mod Places
+pub mod Scheduling

@@ -1,10 +1,10 @@
 -- Going on by one step, as the loops do.
-use Rattle.std.proofs.Common.{◌≡◌, ℕ, suc, ◌+◌, ◌-◌, ◌<◌, ◌≤◌, Bool, true, false, List, [], ◌∷◌, ◌++◌, length, get_or, drop, Option, Some, None, refl, sym, ap, subst, ◌∙◌, inl, inr, arith, append_assoc}
+use Rattle.std.proofs.Common.{◌≡◌, ℕ, suc, ◌+◌, ◌-◌, ◌<◌, ◌≤◌, Bool, true, false, List, [], ◌∷◌, ◌++◌, length, get_or, Option, Some, None, refl, sym, ap, subst, ◌∙◌, inl, inr, arith, append_assoc}
 use Rattle.std.specs.Prelude.{◌==◌, ◌↔◌, map, slice_get, nat_lt}
 use Rattle.std.specs.Option.{option_map}
 use Rattle.std.specs.List.Sorted.{IsStrictlyIncreasing}
-use Rattle.std.proofs.lemmas.Bool.{false≢true, cases_eq}
-use Rattle.std.proofs.lemmas.List.{append-nil, drop_more, drop-map, get_or-drop, length-drop}
+use Rattle.std.proofs.lemmas.Bool.{false≢true}
+use Rattle.std.proofs.lemmas.List.{append-nil}
 use Rattle.vat_log.specs.declared.body.Body.{Body}
 use Rattle.vat_log.specs.declared.body.Body.TheVariants.{Receive}
 use Rattle.vat_log.specs.Log.{Log}
@@ -177,16 +177,6 @@ rising_tail x xs rising k h =
     let P : ℕ → Type 0 = λ j. get_or xs k 0 < get_or (x ∷ xs) j 0 in
     subst P e (rising (suc k) (omega arith))
 
-rising_drop_numbers : (xs : List ℕ) (i : ℕ) → IsStrictlyIncreasing xs → IsStrictlyIncreasing (drop i xs)
-rising_drop_numbers xs i rising k h =
-    let e : i + (k + 1) ≡ i + k + 1 = omega arith in
-    let fits : i + k + 1 < length xs = omega (arith, length-drop i xs, h) in
-    rw (get_or-drop i xs k 0, get_or-drop i xs (k + 1) 0, e) (rising (i + k) fits)
-
-rising_drop : (ps : List Part) (i : ℕ) → IsStrictlyIncreasing (map (λ q. q.log.vat) ps) → IsStrictlyIncreasing (map (λ q. q.log.vat) (drop i ps))
-rising_drop ps i rising =
-    subst (λ (l : List ℕ). IsStrictlyIncreasing l) (drop-map (λ (q : Part). q.log.vat) i ps) (rising_drop_numbers (map (λ q. q.log.vat) ps) i rising)
-
 -- no part from here on is of a smaller vat
 pub none_smaller : (p : Part) (ps : List Part) (u : ℕ) → IsStrictlyIncreasing (map (λ q. q.log.vat) (p ∷ ps)) → u < p.log.vat → part_of u (p ∷ ps) ≡ None
 none_smaller p [] u rising lt = rw (eqb_apart p.log.vat u (λ e. omega arith)) refl
@@ -195,25 +185,9 @@ none_smaller p (q ∷ ps) u rising lt =
     let later = none_smaller q ps u (rising_tail p.log.vat (map (λ r. r.log.vat) (q ∷ ps)) rising) (omega arith) in
     rw (eqb_apart p.log.vat u (λ e. omega arith)) later
 
--- a vat that may not come is passed
-pub passed : (ps rest : List Part) (p : Part) (from : List Part) → from ≡ p ∷ rest → may_come ps p.log.vat ≡ false → ((u : ℕ) → part_of u from ≡ None → may_come ps u ≡ false) → (u : ℕ) → part_of u rest ≡ None → may_come ps u ≡ false
-passed ps rest p from e may before u none =
-    elim (cases_eq p.log.vat u) [
-      | inl same ↦ ap (may_come ps) (sym same) ∙ may
-      | inr other ↦ before u (ap (part_of u) e ∙ rw (eqb_apart p.log.vat u other) none)
-    ]
-
 pub all_passed : (ps : List Part) (u : ℕ) → part_of u ps ≡ None → may_come ps u ≡ false
 unfolding may_come
 all_passed ps u none = ap (may_come_from u ps) none
-
--- none before the first that may come, may
-pub smaller_may_not : (ps : List Part) (i : ℕ) (p : Part) (v : ℕ) → i < length ps → p ≡ get_or ps i p → IsStrictlyIncreasing (map (λ q. q.log.vat) ps) → v ≡ p.log.vat
-    → ((u : ℕ) → part_of u (drop i ps) ≡ None → may_come ps u ≡ false) → (u : ℕ) → u < v → may_come ps u ≡ false
-smaller_may_not ps i p v lt is rising vat before u small =
-    let front : drop i ps ≡ p ∷ drop (i + 1) ps = drop_more ps i p lt ∙ ap (λ (q : Part). q ∷ drop (i + 1) ps) (sym is) in
-    let rest_rising : IsStrictlyIncreasing (map (λ q. q.log.vat) (p ∷ drop (i + 1) ps)) = subst (λ (l : List Part). IsStrictlyIncreasing (map (λ q. q.log.vat) l)) front (rising_drop ps i rising) in
-    before u (ap (part_of u) front ∙ none_smaller p (drop (i + 1) ps) u rest_rising (omega (arith, vat, small)))
 
 -- ---- the next record
 

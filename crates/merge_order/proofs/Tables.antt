@@ -11,7 +11,7 @@ use Rattle.merge_order.specs.Fits.{Part, sends_frame, receives_frame}
 use Rattle.merge_order.specs.Glue.{count_on, IsCounted, IsRaisedByOne, RisesWith}
 use Rattle.merge_order.proofs.Greedy.{bool_cases}
 
-none_more : (n : ℕ) → n ≡ n + 0
+pub none_more : (n : ℕ) → n ≡ n + 0
 none_more n = omega arith
 
 none_some_body : (b : Body) → None ≡ Some b → ⊥
@@ -28,7 +28,7 @@ is_there xs i b e =
     ]
 
 -- a count with the next record
-count_next : (p : Body → Bool) (xs : List Body) (i : ℕ) (b : Body) → slice_get xs i ≡ Some b → count_by p (take (i + 1) xs) ≡ count_by p (take i xs) + cond (p b) 1 0
+pub count_next : (p : Body → Bool) (xs : List Body) (i : ℕ) (b : Body) → slice_get xs i ≡ Some b → count_by p (take (i + 1) xs) ≡ count_by p (take i xs) + cond (p b) 1 0
 count_next p xs i b e =
     let lt = is_there xs i b e in
     let is : get_or xs i b ≡ b = some_same _ _ (sym (slice_get-get_or xs i b lt) ∙ e) in

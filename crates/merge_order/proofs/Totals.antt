@@ -1,14 +1,10 @@
 -- The table of the frames that all vats sent: at the begin, after a step, and against those that one vat sent.
 use Rattle.std.proofs.Common.{◌≡◌, ℕ, zero, suc, ◌+◌, ◌<◌, ◌≤◌, true, List, [], ◌∷◌, length, get_or, set, take, Some, None, refl, sym, ap, subst, ◌∙◌, inl, inr, arith}
-use Rattle.std.specs.Prelude.{◌==◌, map}
+use Rattle.std.specs.Prelude.{◌==◌, map, slice_index_or}
 use Rattle.std.specs.List.Sorted.{IsStrictlyIncreasing}
-use Rattle.std.proofs.lemmas.Bool.{false≢true, eq-eqb, eqb-true, cases_eq, cases_lt, lt-ltb}
+use Rattle.std.proofs.lemmas.Bool.{false≢true, eq-eqb, eqb-true, cases_eq}
 use Rattle.std.proofs.Math.Nat.{min-le_left}
 use Rattle.std.proofs.lemmas.List.{length-take}
-use Rattle.std.proofs.lemmas.List.Folds.{find_at}
-use Rattle.std.proofs.lemmas.List.Quantifiers.{position-Some}
-use Rattle.std.proofs.lemmas.Option.{slice_get_past}
-use Rattle.std.specs.List.{position, position_or_len}
 use Rattle.std.proofs.lemmas.List.Sums.{sum_by-cons, sum_by-set, count_by-le-length}
 use Rattle.vat_log.specs.Log.{Log}
 use Rattle.merge_order.specs.declared.counts.Counts.{Counts}
@@ -22,7 +18,7 @@ none_some_part p e = cc
 
 -- ---- the vat numbers rise, so each vat has one part
 
-own_not_again : (p : Part) (ps : List Part) → IsStrictlyIncreasing (map (λ q. q.log.vat) (p ∷ ps)) → part_of p.log.vat ps ≡ None
+pub own_not_again : (p : Part) (ps : List Part) → IsStrictlyIncreasing (map (λ q. q.log.vat) (p ∷ ps)) → part_of p.log.vat ps ≡ None
 own_not_again p [] rising = refl
 own_not_again p (q ∷ ps) rising =
     none_smaller q ps p.log.vat (rising_tail p.log.vat (map (λ r. r.log.vat) (q ∷ ps)) rising) (rising 0 (omega arith))
@@ -51,7 +47,7 @@ part_vat v (p ∷ ps) own e =
 
 -- ---- a step moves the one part of its vat
 
-stays_all : (v : ℕ) (ps : List Part) → part_of v ps ≡ None → after v ps ≡ ps
+pub stays_all : (v : ℕ) (ps : List Part) → part_of v ps ≡ None → after v ps ≡ ps
 stays_all v [] e = refl
 stays_all v (p ∷ ps) e =
     elim (cases_eq p.log.vat v) [
@@ -79,28 +75,20 @@ pub record IsOwn (v : ℕ) (ps : List Part) (i : ℕ) (own : Part) : Type 0 wher
   pub left : own.came < length own.log.records
   pub after : after v ps ≡ set ps i (one_further own)
 
-pub own_at : (v : ℕ) (ps now : List Part) (i : ℕ) (own : Part) → ps ≡ now → IsStrictlyIncreasing (map (λ q. q.log.vat) ps) → may_come now v ≡ true → position (λ q. q.log.vat == v) now ≡ Some i → own ≡ get_or ps i own → IsOwn v ps i own
+pub own_at : (v : ℕ) (ps now : List Part) (i : ℕ) (own : Part) → ps ≡ now → IsStrictlyIncreasing (map (λ q. q.log.vat) ps) → may_come now v ≡ true → (i < length now) × ((d : Part) → (slice_index_or now i d).log.vat ≡ v) → own ≡ get_or ps i own → IsOwn v ps i own
 own_at v ps now i own view rising may place is =
-    let found = position-Some (λ (q : Part). q.log.vat == v) ps i own (ap (position (λ (q : Part). q.log.vat == v)) view ∙ place) in
-    let vat : (get_or ps i own).log.vat ≡ v = eqb-true _ _ found.1 in
-    let left = has_left v ps (get_or ps i own) (ap (λ (l : List Part). may_come l v) view ∙ may) (ap (λ (u : ℕ). part_of u ps) (sym vat) ∙ part_there ps i own rising found.0) in
+    let there : i < length ps = subst (λ (l : List Part). i < length l) (sym view) place.0 in
+    let vat : (get_or ps i own).log.vat ≡ v = ap (λ (l : List Part). (get_or l i own).log.vat) view ∙ place.1 own in
+    let left = has_left v ps (get_or ps i own) (ap (λ (l : List Part). may_come l v) view ∙ may) (ap (λ (u : ℕ). part_of u ps) (sym vat) ∙ part_there ps i own rising there) in
     record {
-      there = found.0;
+      there = there;
       left = subst (λ (q : Part). q.came < length q.log.records) (sym is) left;
-      after = after_at v ps i own rising found.0 vat ∙ ap (λ (q : Part). set ps i (one_further q)) (sym is);
+      after = after_at v ps i own rising there vat ∙ ap (λ (q : Part). set ps i (one_further q)) (sym is);
     }
 
-some_none_place : (i : ℕ) → Some i ≡ None → ⊥
-some_none_place i e = cc
-
--- a vat that may come has a place
-pub no_place : (v : ℕ) (ps : List Part) → position (λ q. q.log.vat == v) ps ≡ None → may_come ps v ≡ true → ⊥
-no_place v ps none may =
-    let at = position_or_len (λ (q : Part). q.log.vat == v) ps in
-    elim (cases_lt at (length ps)) [
-      | inl lt ↦ some_none_place at (rw (lt-ltb at (length ps) lt) at none)
-      | inr le ↦ false≢true (sym (all_passed ps v (find_at (λ (q : Part). q.log.vat == v) ps ∙ slice_get_past ps at le)) ∙ may)
-    ]
+-- a vat that may come has a part
+pub no_part : (v : ℕ) (ps : List Part) → part_of v ps ≡ None → may_come ps v ≡ true → ⊥
+no_part v ps none may = false≢true (sym (all_passed ps v none) ∙ may)
 
 -- ---- how many records came
 

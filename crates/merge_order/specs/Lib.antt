@@ -1,3 +1,4 @@
 pub mod Fits
 pub mod Spelling
 pub mod Glue
+pub mod Waits

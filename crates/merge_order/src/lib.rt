@@ -14,6 +14,9 @@ mod format;
 mod making;
 mod order;
 mod progress;
+mod ready_vats;
+mod schedule;
+mod waiting_vats;
 
 pub use checking::{OrderFinding, check_order};
 pub use error::OrderError;

@@ -5,7 +5,7 @@ ghost use Rattle.std.specs.Arc.{arc_value};
 ghost use Rattle.merge_order.specs.Fits.{IsRising, IsFitting, TakesLeast};
 
 use crate::order::Order;
-use crate::progress::Progress;
+use crate::schedule::Schedule;
 use std::alloc::{AllocError, Global};
 use std::sync::Arc;
 use vat_log::VatLog;
@@ -25,13 +25,13 @@ pub fn make_order(alloc: Global, logs: &[Arc<VatLog>]) -> Result<Option<Order>, 
     ensures none { IfOk result
         (λ made. made ≡ None → (order : List ℕ) → IsFitting (map arc_value logs.now) order → ⊥) }
 {
-    let mut progress = Progress::new(alloc, logs)?;
+    let mut schedule = Schedule::new(alloc, logs)?;
     let mut vats = Vec::new(alloc);
-    while let Some(vat) = progress.least() {
+    while let Some(vat) = schedule.least() {
         vats.push(vat)?;
-        progress = progress.take(vat)?;
+        schedule = schedule.take(vat)?;
     }
-    if progress.is_used_up() {
+    if schedule.is_used_up() {
         Ok(Some(Order::new(vats)))
     } else {
         Ok(None)

@@ -1,12 +1,12 @@
 //! Several logs, each with how many of its records came already.
 
-ghost use Rattle.std.specs.Prelude.{◌≡◌, ◌+◌, ◌<◌, ◌==◌, ◌^◌, ℕ, false, true, Some, map, IfOk, MatchOption};
-ghost use Rattle.std.specs.List.{position};
+ghost use Rattle.std.specs.Prelude.{◌≡◌, ◌+◌, ◌<◌, ◌^◌, ℕ, true, Some, None, length, map, is_some, IfOk, MatchOption, slice_index_or};
 ghost use Rattle.std.specs.Arc.{arc_value};
 ghost use Rattle.std.specs.Option.{option_copied};
 
 use crate::counts::Counts;
 use crate::cursor::Cursor;
+use crate::ready_vats::ReadyVats;
 use std::alloc::{AllocError, Global};
 use std::marker::Model;
 use std::sync::Arc;
@@ -33,8 +33,9 @@ impl Model for Progress {
 }
 
 impl Progress {
-    ghost use Rattle.merge_order.specs.Fits.{IsRising, begin, part_of, sent_by_the_others, may_come, after, used_up};
+    ghost use Rattle.merge_order.specs.Fits.{Part, IsRising, begin, part_of, sent_by_the_others, may_come, after, used_up};
     ghost use Rattle.merge_order.specs.Glue.{came_by_all};
+    ghost use Rattle.merge_order.specs.Waits.{is_ready, next_of, awaited_by, sent_by};
 
     /// Before the first step.
     pub fn new(alloc: Global, logs: &[Arc<VatLog>]) -> Result<Progress, AllocError>
@@ -51,15 +52,54 @@ impl Progress {
         })
     }
 
+    /// The place of this vat's cursor.
+    fn place_of(&self, vat: u32) -> Option<usize>
+        ensures { MatchOption result (part_of vat self.now ≡ None) (λ at. (at < length self.now)
+            × ((default : Part) → (slice_index_or self.now at default).log.vat ≡ vat)) }
+    {
+        self.cursors
+            .binary_search_by_key(&vat, |cursor| cursor.vat())
+            .ok()
+    }
+
+    /// This vat's cursor.
     fn find(&self, vat: u32) -> Option<&Cursor>
         ensures { option_copied result ≡ part_of vat self.now }
     {
+        let at = self.place_of(vat)?;
+        Some(&self.cursors[at])
+    }
+
+    /// The vat numbers of these logs.
+    pub fn vats(&self, alloc: Global) -> Result<ReadyVats, AllocError>
+        ensures { IfOk result (λ ready. (vat : ℕ) → is_ready ready vat
+            ≡ is_some (part_of vat self.now)) }
+    {
+        let mut ready = ReadyVats::new(alloc);
         for cursor in &self.cursors {
-            if cursor.vat() == vat {
-                return Some(cursor);
-            }
+            ready.add(cursor.vat())?;
         }
-        None
+        Ok(ready)
+    }
+
+    /// The connection on which the next record of this vat receives a frame.
+    pub fn awaited(&self, vat: u32) -> Option<u32>
+        ensures { result ≡ awaited_by (next_of vat self.now) }
+    {
+        match self.find(vat)?.next()?.body() {
+            Body::Receive { connection, .. } => Some(*connection),
+            _ => None,
+        }
+    }
+
+    /// The connection on which the next record of this vat sends a frame.
+    pub fn sent_next(&self, vat: u32) -> Option<u32>
+        ensures { result ≡ sent_by (next_of vat self.now) }
+    {
+        match self.find(vat)?.next()?.body() {
+            Body::Send { connection, .. } => Some(*connection),
+            _ => None,
+        }
     }
 
     /// How many frames the other vats sent on the connection. The vat's own cursor is one of these.
@@ -98,13 +138,6 @@ impl Progress {
         self.may_go_on(own)
     }
 
-    /// The place of this vat's cursor.
-    fn place_of(&self, vat: u32) -> Option<usize>
-        ensures { result ≡ position (λ part. part.log.vat == vat) self.now }
-    {
-        self.cursors.iter().position(|cursor| cursor.vat() == vat)
-    }
-
     /// Takes the next record of this vat, which may come. Where memory is refused, nothing is left of the progress.
     pub fn take(self, vat: u32) -> Result<Progress, AllocError>
         requires may { may_come self vat ≡ true }
@@ -130,19 +163,5 @@ impl Progress {
         ensures { result ≡ used_up self.now }
     {
         self.cursors.iter().all(|cursor| cursor.is_used_up())
-    }
-
-    /// The smallest vat number whose next record may come.
-    pub fn least(&self) -> Option<u32>
-        ensures { MatchOption result ((vat : ℕ) → may_come self.now vat ≡ false)
-            (λ least. (may_come self.now least ≡ true)
-            × ((vat : ℕ) → vat < least → may_come self.now vat ≡ false)) }
-    {
-        for own in &self.cursors {
-            if self.may_go_on(own) {
-                return Some(own.vat());
-            }
-        }
-        None
     }
 }

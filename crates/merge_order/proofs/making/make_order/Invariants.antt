@@ -7,7 +7,7 @@ use Rattle.merge_order.proofs.Steps.{IsMade, left}
 use Rattle.merge_order.proofs.making.make_order.Given as goal
 
 abbrev pub invariant-loop-vat : goal.invariant-loop-vat
-invariant-loop-vat l = IsMade (begin (map arc_value l.logs)) l.progress l.vats.items × (came_by_all l.progress ≡ length l.vats.items)
+invariant-loop-vat l = IsMade (begin (map arc_value l.logs)) l.schedule l.vats.items × (came_by_all l.schedule ≡ length l.vats.items)
 
 abbrev pub decreases-loop-vat : goal.decreases-loop-vat
-decreases-loop-vat l = left l.progress
+decreases-loop-vat l = left l.schedule

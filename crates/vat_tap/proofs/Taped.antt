@@ -5,7 +5,7 @@ use Rattle.std.specs.List.Sorted.{IsStrictlyIncreasing}
 use Rattle.std.specs.Prelude.{slice_get}
 use Rattle.std.proofs.lemmas.List.{length-map, get_or-map, map-append, get_or_append_left, get_or-append-add}
 use Rattle.std.proofs.lemmas.List.Sums.{sum_by-cons}
-use Rattle.vat_log.specs.Log.{Log}
+use Rattle.vat_log.specs.Log.{Log, written_version}
 use Rattle.vat_tap.specs.Tickets.{Ticketed, LaneView, IsTaped, tickets_of, times, once_below}
 use Rattle.vat_tap.specs.Glue.Taps.{in_ticket_order}
 use Rattle.vat_tap.proofs.Moves.{times_append, times_has, once_is_below}
@@ -40,7 +40,7 @@ one_most n ticket = small (ltb ticket n)
     small true = omega arith
     small false = omega arith
 
-pub taped : (number : ℕ) (lanes : List LaneView) (log : Log) → log ≡ record { vat = number; records = in_ticket_order (flat_map (λ lane. lane.recorded) lanes) }
+pub taped : (number : ℕ) (lanes : List LaneView) (log : Log) → log ≡ record { version = written_version; vat = number; records = in_ticket_order (flat_map (λ lane. lane.recorded) lanes) }
     → ((ticket : ℕ) → sum_by (λ lane. times ticket (tickets_of lane.recorded)) lanes ≡ once_below (sum_by (λ lane. length lane.recorded) lanes) ticket)
     → All (λ lane. IsStrictlyIncreasing (tickets_of lane.recorded)) lanes → IsTaped number lanes log
 taped number lanes log is once rising =
@@ -59,6 +59,7 @@ taped number lanes log is once rising =
     let there = placed_among records items few within in
     let size : length log.records ≡ n = ap (λ (l : Log). length l.records) is ∙ length_arranged items ∙ long in
     record {
+      version = ap (λ (l : Log). l.version) is;
       vat = ap (λ (l : Log). l.vat) is;
       once = λ ticket. once ticket ∙ ap (λ k. once_below k ticket) (sym size);
       placed = all_parts (λ item. slice_get log.records item.0 ≡ Some item.1) lanes (subst (λ rs. All (λ item. slice_get rs item.0 ≡ Some item.1) items) (sym (ap (λ (l : Log). l.records) is)) there);

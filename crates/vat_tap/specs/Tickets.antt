@@ -8,7 +8,7 @@ use denote.RawPtr.{Ptr}
 use Rattle.atomic_table.specs.Seated.{TableId}
 use Rattle.rtrb.specs.Shared.{Names}
 use Rattle.vat_log.specs.declared.body.Body.{Body}
-use Rattle.vat_log.specs.Log.{Log}
+use Rattle.vat_log.specs.Log.{Log, written_version}
 
 -- how often a ticket is among these
 abbrev pub times : ℕ → List ℕ → ℕ
@@ -71,10 +71,11 @@ pub record IsOpened (number lanes ring : ℕ) (tap : TapView) (opened : List Lan
   pub intakes : length tap.taken ≡ lanes
   pub nothing : All (λ taken. taken ≡ []) tap.taken
 
--- The log has the vat of this number. Of as many tickets as it has records, counted from 0, each was given once in all lanes
--- together, and no other was. The record of each stands in the log at its ticket. Each lane's tickets rise in the order in
--- which it recorded.
+-- The log is of the version that is written, and of the vat of this number. Of as many tickets as it has records, counted
+-- from 0, each was given once in all lanes together, and no other was. The record of each stands in the log at its ticket.
+-- Each lane's tickets rise in the order in which it recorded.
 pub record IsTaped (number : ℕ) (lanes : List LaneView) (log : Log) : Type 0 where
+  pub version : log.version ≡ written_version
   pub vat : log.vat ≡ number
   pub once : (ticket : ℕ) → sum_by (λ lane. times ticket (tickets_of lane.recorded)) lanes ≡ once_below (length log.records) ticket
   pub placed : All (λ lane. All (λ item. slice_get log.records item.0 ≡ Some item.1) lane.recorded) lanes

@@ -4,6 +4,7 @@ ghost use Rattle.std.specs.Prelude.{◌≡◌, ◌≢◌, ℕ, ◌+◌, ◌≤�
 ghost use Rattle.std.specs.List.{flat_map, sum_by};
 ghost use Rattle.std.specs.List.Sorted.{IsStrictlyIncreasing};
 ghost use Rattle.std.specs.Arc.{arc_value};
+ghost use Rattle.vat_log.specs.Log.{written_version};
 ghost use Rattle.vat_tap.specs.Glue.Taps.{ring_of, HaveRings, AreTaken, IsTap, in_ticket_order};
 ghost use Rattle.vat_tap.specs.Tickets.{IsLaneOf, AreDifferent, IsOpened, IsTaped, SameTap, TakesOn, TakesAtMost, tickets_of, share_of, times, once_below};
 
@@ -203,6 +204,7 @@ fn gather(intakes: &mut Vec<Intake>, lanes: &mut Vec<Lane>) -> Result<(), AllocE
 fn log_of(alloc: Global, vat: u32, intakes: &[Intake], lanes: &[Lane]) -> Result<VatLog, LogError>
     requires { AreTaken (map (λ intake. intake.taken.items) intakes.now) lanes.now }
     ensures log { IfOk result (λ log. log ≡ record {
+      version = written_version;
       vat = vat;
       records = in_ticket_order (flat_map (λ lane. lane.recorded) lanes.now);
     }) }
@@ -233,6 +235,7 @@ fn taken_log(
     ensures longer { TakesOn (map (λ intake. intake.taken.items) intakes.old.items)
         (map (λ intake. intake.taken.items) intakes.new.items) }
     ensures log { IfOk result (λ log. log ≡ record {
+      version = written_version;
       vat = vat;
       records = in_ticket_order (flat_map (λ lane. lane.recorded) lanes.old.items);
     }) }

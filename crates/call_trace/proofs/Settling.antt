@@ -62,6 +62,9 @@ settled_there : (s : Step) (past : List Step) → EachStep IsLegal (s ∷ past) 
 settled_there (step.Answer w d results) past legal linked c v there e =
     let same = names_same d c e in
     eq-eqb w v (arrives_at_one past legal.1 linked.1 c w v (subst (λ x. list_any (arrives x w) past ≡ true) same legal.0.1.0) there)
+settled_there (step.AnswerBy w d by) past legal linked c v there e =
+    let same = names_same d c e in
+    eq-eqb w v (arrives_at_one past legal.1 linked.1 c w v (subst (λ x. list_any (arrives x w) past ≡ true) same legal.0.1.0) there)
 settled_there (step.Fault w d) past legal linked c v there e =
     let same = names_same d c e in
     elim (or_either (list_any (arrives d w) past) (is_some (at_vat past d w)) legal.0.1.0) [

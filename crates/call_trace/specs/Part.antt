@@ -55,6 +55,8 @@ ReadsAsSent names es e (message.Return c results caps) =
     message_of_record names es e ≡ Some (if is_late es e then message.Late c else message.Return c results caps)
 ReadsAsSent names es e (message.Late c) = message_of_record names es e ≡ Some (message.Late c)
 ReadsAsSent names es e (message.Failed c) = message_of_record names es e ≡ Some (message.Failed c)
+ReadsAsSent names es e (message.Taken c by) = message_of_record names es e ≡ Some (message.Taken c by)
+ReadsAsSent names es e (message.Elsewhere c) = message_of_record names es e ≡ Some (message.Elsewhere c)
 -- of a Resolve whose number is out of life there, its promise
 ReadsAsSent names es e (message.Resolve promise to) =
     message_of_record names es e ≡ Some (if resolves_released es e then message.Resolve cap.Nothing to else message.Resolve promise to)

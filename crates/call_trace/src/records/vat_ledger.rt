@@ -30,7 +30,16 @@ pub(crate) fn message_of(step: &Step) -> Option<&Message>
 {
     match step {
         Step::Send { message, .. } | Step::Receive { message, .. } => Some(message),
-        _ => None,
+        Step::Host { .. }
+        | Step::Vow { .. }
+        | Step::Fulfil { .. }
+        | Step::Break { .. }
+        | Step::Make { .. }
+        | Step::Name { .. }
+        | Step::Deliver { .. }
+        | Step::Answer { .. }
+        | Step::AnswerBy { .. }
+        | Step::Fault { .. } => None,
     }
 }
 
@@ -41,7 +50,14 @@ fn brought_at(message: &Message, place: usize) -> Result<Option<Cap>, AllocError
     let cap = match message {
         Message::Call { caps, .. } | Message::Return { caps, .. } => caps.as_slice().get(place),
         Message::Resolve(_, cap) if place == 0 => Some(cap),
-        _ => None,
+        Message::Boot(_)
+        | Message::Late(_)
+        | Message::Failed(_)
+        | Message::Taken(..)
+        | Message::Elsewhere(_)
+        | Message::Resolve(..)
+        | Message::Broken(_)
+        | Message::Plain(_) => None,
     };
     match cap {
         None | Some(Cap::Nothing) => Ok(None),

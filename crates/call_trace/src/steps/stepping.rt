@@ -24,7 +24,14 @@ fn call_named_in(message: &Message) -> Option<Name>
 {
     match message {
         Message::Boot(call) | Message::Call { call, .. } => Some(*call),
-        _ => None,
+        Message::Return { .. }
+        | Message::Late(_)
+        | Message::Failed(_)
+        | Message::Taken(..)
+        | Message::Elsewhere(_)
+        | Message::Resolve(..)
+        | Message::Broken(_)
+        | Message::Plain(_) => None,
     }
 }
 

@@ -35,10 +35,18 @@ const FORMS: [(&str, Form); 9] = [
     ("FAULT", (9, &['c'], Rest::Nothing)),
 ];
 
+/// Where in a log its fields begin, and which of these places begin a record.
+#[derive(Drop)]
+pub struct Places {
+    pub fields: Vec<usize>,
+    pub records: Vec<usize>,
+}
+
 /// The bytes of a log. The first fault is noted, and told at the end.
 #[derive(Drop)]
 pub struct Log {
     bytes: Vec<u8>,
+    places: Places,
     fault: Option<Fault>,
 }
 
@@ -47,6 +55,10 @@ impl Log {
     pub fn new(alloc: Global, vat: u32) -> Log {
         let mut log = Log {
             bytes: Vec::new(alloc),
+            places: Places {
+                fields: Vec::new(alloc),
+                records: Vec::new(alloc),
+            },
             fault: None,
         };
         log.put("VATLOG01".as_bytes());
@@ -54,8 +66,10 @@ impl Log {
         log
     }
 
+    /// Puts a field behind the others.
     fn put(&mut self, bytes: &[u8]) {
-        if self.bytes.extend_from_slice(bytes).is_err() {
+        let at = self.bytes.len();
+        if self.places.fields.push(at).is_err() || self.bytes.extend_from_slice(bytes).is_err() {
             self.fault = Some(Fault::OutOfMemory);
         }
     }
@@ -181,6 +195,9 @@ impl Log {
 
     /// Adds the record that the words spell.
     pub fn put_record(&mut self, alloc: Global, words: &mut Words<'_>) {
+        if self.places.records.push(self.bytes.len()).is_err() {
+            self.fault = Some(Fault::OutOfMemory);
+        }
         let first = words.word();
         match beside(&FORMS, first) {
             None => self.put_message(alloc, first, words),
@@ -192,10 +209,10 @@ impl Log {
         }
     }
 
-    /// The bytes.
-    pub fn end(self) -> Result<Vec<u8>, Fault> {
+    /// The bytes, and where fields and records begin.
+    pub fn end(self) -> Result<(Vec<u8>, Places), Fault> {
         match self.fault {
-            None => Ok(self.bytes),
+            None => Ok((self.bytes, self.places)),
             Some(fault) => Err(fault),
         }
     }

@@ -1,7 +1,7 @@
 //! What one vat recorded, and what is changed in it.
 
 use crate::fault::Fault;
-use crate::record::Log;
+use crate::record::{Log, Places};
 use crate::words::{Words, words_of};
 use std::alloc::Global;
 
@@ -147,15 +147,25 @@ fn put_record(alloc: Global, log: &mut Log, record: &str) -> Result<(), Fault> {
     words.end()
 }
 
-/// The log of a vat, with the changes that name it.
-pub fn log_of(alloc: Global, vat: &Vat<'_>, changes: &[&str]) -> Result<Vec<u8>, Fault> {
-    let number = vat.number.parse::<u32>().ok().ok_or(Fault::Unread)?;
+/// The log of a vat whose records are these, and where its fields and records begin.
+fn write_vat(alloc: Global, number: &str, records: &[&str]) -> Result<(Vec<u8>, Places), Fault> {
+    let number = number.parse::<u32>().ok().ok_or(Fault::Unread)?;
     let mut log = Log::new(alloc, number);
-    let recorded = changed(alloc, vat, changes)?;
-    for record in &recorded.records {
+    for record in records {
         put_record(alloc, &mut log, record)?;
     }
-    let mut bytes = log.end()?;
+    log.end()
+}
+
+/// The log of a vat, with the changes that name it.
+pub fn log_of(alloc: Global, vat: &Vat<'_>, changes: &[&str]) -> Result<Vec<u8>, Fault> {
+    let recorded = changed(alloc, vat, changes)?;
+    let (mut bytes, _) = write_vat(alloc, vat.number, &recorded.records)?;
     bytes.truncate(recorded.len);
     Ok(bytes)
+}
+
+/// The log of a vat, and where its fields and records begin.
+pub fn log_and_places_of(alloc: Global, vat: &Vat<'_>) -> Result<(Vec<u8>, Places), Fault> {
+    write_vat(alloc, vat.number, &vat.records)
 }

@@ -1,5 +1,5 @@
-//! Calls that no command reaches, each with memory to be had, and its answer. A test that fails is run again from its
-//! start, so that it passes too where one growth of memory was refused (`tests/refused`).
+//! Calls that no command reaches, each with memory to be had, and its answer. What is refused memory is asked again, and no
+//! other error is.
 
 mod audits;
 mod books;
@@ -16,6 +16,7 @@ mod messages;
 mod naming;
 mod orders;
 mod pointers;
+mod prefixes;
 mod rules;
 mod runs;
 mod states;

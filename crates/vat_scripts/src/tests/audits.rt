@@ -1,99 +1,16 @@
 //! Reports of whole cases: by `audit`, and by `judge` of what is posted in a book.
 
-use super::given::Refused;
 use audit_core::{AuditError, Breach, Gate, Report, audit, judge, judge_unordered};
-use bytes::Bytes;
 use case_book::{Book, Case, Finding, Findings, Link, Piece};
 use merge_order::{Order, make_order};
 use std::alloc::Global;
+use std::sync::Wait;
 use std::sync::atomic::{AtomicU64, Ordering};
-use std::sync::{Arc, Wait};
 use std::thread::Threads;
-use vat_log::{VatLog, parse_log};
-use vat_notation::{Vat, add_records, log_of};
 use vat_rules::{Rule, Why};
-
-/// What vats recorded, and the links between them.
-#[derive(Clone, Copy)]
-pub(super) struct Conversation<'a> {
-    /// The number of each vat, and its records.
-    vats: &'a [(&'a str, &'a str)],
-    links: &'a [Link],
-}
-
-/// Vats 1 and 2 are the ends of connection 0.
-const LINKS: [Link; 1] = [Link {
-    conn: 0,
-    a: 1,
-    b: 2,
-}];
-
-/// A call to what the answer of another call will be.
-const PIPELINED_CALL: Conversation<'static> = Conversation {
-    vats: &[
-        (
-            "1",
-            "S0 c1 boot q0; FIELD r1 c1 []; MAKE c2 r1; S0 c2 call q1 answer 0 []; R0 r2 ret q0 senderHosted 0@[]; R0 ret q1",
-        ),
-        (
-            "2",
-            "HOST r1 7; R0 c1 boot q0; R0 c2 call q1 answer 0 []; ANSWER c1 r1@[]; DELIVER c2 7; S0 r1 ret q0 senderHosted 0@[]; \
-            ANSWER c2; S0 ret q1",
-        ),
-    ],
-    links: &LINKS,
-};
-
-/// Calls to the caller's own object, the later of which waits for an embargo.
-pub(super) const EMBARGOED_CALLS: Conversation<'static> = Conversation {
-    vats: &[
-        (
-            "1",
-            "HOST r1 5; S0 c1 boot q0; FIELD r2 c1 []; MAKE c2 r2; S0 c2 r1 call q1 answer 0 [] senderHosted 0; FIELD r3 c2 [0]; \
-            MAKE c3 r3; S0 c3 call q2 answer 1 [0]; R0 r4 ret q0 senderHosted 0@[]; R0 r5 ret q1 keep receiverHosted 0@[0]; \
-            MAKE c4 r3; S0 disembargo 0 senderLoopback answer 1 [0]; R0 c5 call q0 import 0; DELIVER c5 5; \
-            R0 disembargo 0 receiverLoopback import 0; DELIVER c4 5",
-        ),
-        (
-            "2",
-            "HOST r1 7; R0 c1 boot q0; R0 c2 r2 call q1 answer 0 [] senderHosted 0; ANSWER c1 r1@[]; S0 r1 ret q0 senderHosted 0@[]; \
-            DELIVER c2 7; R0 c3 call q2 answer 1 [0]; ANSWER c2 r2@[0]; S0 r2 ret q1 keep receiverHosted 0@[0]; \
-            R0 disembargo 0 senderLoopback answer 1 [0]; S0 c3 call q0 import 0; S0 disembargo 0 receiverLoopback import 0",
-        ),
-    ],
-    links: &LINKS,
-};
-
-/// A question whose number is used again.
-const REUSED_QUESTION: Conversation<'static> = Conversation {
-    vats: &[
-        (
-            "1",
-            "S0 c1 boot q7; S0 fin q7; R0 ret q7 canceled; S0 c2 boot q7",
-        ),
-        (
-            "2",
-            "R0 c1 boot q7; R0 fin q7; S0 ret q7 canceled; R0 c2 boot q7",
-        ),
-    ],
-    links: &LINKS,
-};
-
-/// A promise that is released while its Resolve is on its way.
-const RELEASED_PROMISE: Conversation<'static> = Conversation {
-    vats: &[
-        (
-            "1",
-            "S0 c1 boot q0; R0 r1 ret q0 senderPromise 0@[]; S0 release id 0 count 1; R0 r2 resolve promise 0 senderHosted 1; \
-            S0 release id 1 count 1",
-        ),
-        (
-            "2",
-            "HOST r1 7; VOW r2; R0 c1 boot q0; ANSWER c1 r2@[]; S0 r2 ret q0 senderPromise 0@[]; FULFIL r2 r1; \
-            S0 r1 resolve promise 0 senderHosted 1; R0 release id 0 count 1; R0 release id 1 count 1",
-        ),
-    ],
-    links: &LINKS,
+use worked_cases::{
+    Conversation, EMBARGOED_CALLS, LINK, PIPELINED_CALL, RELEASED_PROMISE, REUSED_QUESTION,
+    Refused, case_of, is_so,
 };
 
 /// Two frames that are received in the other order.
@@ -102,7 +19,7 @@ const EXCHANGED_FRAMES: Conversation<'static> = Conversation {
         ("1", "S0 c1 boot q0; S0 c2 boot q1"),
         ("2", "R0 c1 boot q1; R0 c2 boot q0"),
     ],
-    links: &LINKS,
+    links: &[LINK],
 };
 
 /// Each vat waits for the other's frame before it sends its own.
@@ -111,7 +28,7 @@ const MUTUAL_WAIT: Conversation<'static> = Conversation {
         ("1", "R0 c1 boot q0; S0 c2 boot q0"),
         ("2", "R0 c1 boot q0; S0 c2 boot q0"),
     ],
-    links: &LINKS,
+    links: &[LINK],
 };
 
 /// A log without records, and no log at all.
@@ -128,7 +45,7 @@ const NO_LOGS: Conversation<'static> = Conversation {
 /// A record that isn't judged, behind one log that is good.
 const UNREAD: Conversation<'static> = Conversation {
     vats: &[("1", ""), ("2", "R0 hex")],
-    links: &LINKS,
+    links: &[LINK],
 };
 
 /// What one of two vats recorded.
@@ -137,7 +54,7 @@ const ONE_VAT: [(&str, &str); 1] = [("1", "S0 c1 boot q0")];
 /// Its log, and the link with the other vat.
 const MISSING_LOG: Conversation<'static> = Conversation {
     vats: &ONE_VAT,
-    links: &LINKS,
+    links: &[LINK],
 };
 
 /// Its log, and a link of the vat with itself.
@@ -183,35 +100,6 @@ pub(super) fn line_of(report: &Report) -> Option<Line> {
     }
 }
 
-/// The log of a vat that recorded this, with what is changed.
-fn changed_log(
-    alloc: Global,
-    number: &str,
-    records: &str,
-    changes: &[&str],
-) -> Result<Arc<VatLog>, Refused> {
-    let mut vat = Vat {
-        number,
-        records: Vec::new(alloc),
-    };
-    add_records(&mut vat.records, records)?;
-    let bytes = Bytes::from_vec(log_of(alloc, &vat, changes)?)?;
-    Ok(Arc::new(alloc, parse_log(alloc, bytes)?)?)
-}
-
-/// The case of a conversation, with what is changed in its logs.
-pub(super) fn case_of(
-    alloc: Global,
-    given: &Conversation<'_>,
-    changes: &[&str],
-) -> Result<Case, Refused> {
-    let mut logs = Vec::new(alloc);
-    for (number, records) in given.vats {
-        logs.push(changed_log(alloc, number, records, changes)?)?;
-    }
-    Ok(Case::new(logs, Vec::from_slice(alloc, given.links)?)?)
-}
-
 /// A gate at which nobody waits.
 struct Open;
 
@@ -237,7 +125,7 @@ fn audited<R: Threads + Wait + Sync>(
 ) -> Result<Result<Line, AuditError>, Refused> {
     match audit(rt, alloc, case, order, workers, &Open) {
         Ok(report) => Ok(Ok(line_of(&report).ok_or("a run of all records")?)),
-        Err(AuditError::OutOfMemory) => Err(Refused),
+        Err(AuditError::OutOfMemory) => Err(Refused::OutOfMemory),
         Err(error) => Ok(Err(error)),
     }
 }
@@ -327,11 +215,10 @@ fn is_answered<R: Threads + Wait + Sync>(
 #[test]
 fn a_case_has_its_report(rt: HostRuntime) {
     for (place, row) in ROWS.iter().enumerate() {
-        let is_so = match is_answered(&rt, rt.alloc(), row, 1) {
-            Ok(is_so) => is_so,
-            Err(_) => is_answered(&rt, rt.alloc(), row, 1).unwrap_or(false),
-        };
-        assert!(rt; is_so, "row {place}");
+        assert!(rt;
+            is_so(|| is_answered(&rt, rt.alloc(), row, 1)),
+            "row {place}"
+        );
     }
 }
 
@@ -362,11 +249,10 @@ fn is_the_same<R: Threads + Wait + Sync>(
 #[test]
 fn any_number_of_workers_answers_the_same(rt: HostRuntime) {
     for (workers, refusal) in &WORKERS {
-        let is_so = match is_the_same(&rt, rt.alloc(), *workers, *refusal) {
-            Ok(is_so) => is_so,
-            Err(_) => is_the_same(&rt, rt.alloc(), *workers, *refusal).unwrap_or(false),
-        };
-        assert!(rt; is_so, "{workers}");
+        assert!(rt;
+            is_so(|| is_the_same(&rt, rt.alloc(), *workers, *refusal)),
+            "{workers}"
+        );
     }
 }
 
@@ -394,11 +280,7 @@ fn is_passed<R: Threads + Wait + Sync>(rt: &R, alloc: Global) -> Result<bool, Re
 
 #[test]
 fn the_gate_is_passed_once_for_each_piece(rt: HostRuntime) {
-    let is_so = match is_passed(&rt, rt.alloc()) {
-        Ok(is_so) => is_so,
-        Err(_) => is_passed(&rt, rt.alloc()).unwrap_or(false),
-    };
-    assert!(rt; is_so);
+    assert!(rt; is_so(|| is_passed(&rt, rt.alloc())));
 }
 
 /// What is found for a piece, where the case ties up.
@@ -425,7 +307,7 @@ fn post_all(alloc: Global, book: &mut Book) -> Result<(), Refused> {
 /// The book of a case that ties up.
 fn book_of(alloc: Global, case: Case) -> Result<Book, Refused> {
     if case.tie_fault().is_some() {
-        return Err(Refused);
+        return Err(Refused::Otherwise);
     }
     Ok(Book::new(alloc, case)?)
 }
@@ -469,9 +351,5 @@ fn is_judged(alloc: Global) -> Result<bool, Refused> {
 
 #[test]
 fn the_findings_of_a_book_are_judged(rt: HostRuntime) {
-    let is_so = match is_judged(rt.alloc()) {
-        Ok(is_so) => is_so,
-        Err(_) => is_judged(rt.alloc()).unwrap_or(false),
-    };
-    assert!(rt; is_so);
+    assert!(rt; is_so(|| is_judged(rt.alloc())));
 }

@@ -1,13 +1,15 @@
 //! The book of a case: what is claimed, what is posted, and what is refused.
 
-use super::given::{Refused, log};
-use case_book::{Book, Case, Finding, Link, Piece, Refused as Unposted};
+use case_book::{Book, Case, Finding, Link, Piece, Refused as Unposted, SharedBook};
 use link_check::{LinkFinding, LinkOutcome, check_link};
 use rpc_view::Limits;
 use std::alloc::Global;
-use std::sync::Arc;
+use std::sync::{Arc, Mutex, Wait};
+use std::thread;
+use std::thread::Threads;
 use vat_log::VatLog;
 use vat_rules::{Outcome, VatFinding, audit_vat};
+use worked_cases::{Refused, is_so, log};
 
 /// The two logs of pipelined_call.
 const ASKING: &str = "S0 c1 boot q0; FIELD r1 c1 []; MAKE c2 r1; S0 c2 call q1 answer 0 []; \
@@ -57,7 +59,7 @@ fn case_of(alloc: Global, given: &Logs) -> Result<Case, Refused> {
 fn book_of(alloc: Global, given: &Logs) -> Result<Book, Refused> {
     let case = case_of(alloc, given)?;
     if case.tie_fault().is_some() {
-        return Err(Refused);
+        return Err(Refused::Otherwise);
     }
     Ok(Book::new(alloc, case)?)
 }
@@ -88,7 +90,7 @@ fn audited(alloc: Global, log: &Arc<VatLog>, words: u64) -> Result<Finding, Refu
 /// What is found of the link between two logs.
 fn compared(one: &Arc<VatLog>, other: &Arc<VatLog>) -> Result<Finding, Refused> {
     if one.vat() == other.vat() {
-        return Err(Refused);
+        return Err(Refused::Otherwise);
     }
     Ok(Finding::Link(check_link(0, one, other)?))
 }
@@ -233,11 +235,7 @@ fn is_claimed_and_posted(alloc: Global) -> Result<bool, Refused> {
 
 #[test]
 fn a_piece_is_claimed_and_posted_once(rt: HostRuntime) {
-    let is_so = match is_claimed_and_posted(rt.alloc()) {
-        Ok(is_so) => is_so,
-        Err(_) => is_claimed_and_posted(rt.alloc()).unwrap_or(false),
-    };
-    assert!(rt; is_so);
+    assert!(rt; is_so(|| is_claimed_and_posted(rt.alloc())));
 }
 
 /// A book of which two pieces are claimed says what is missing, and is posted whole.
@@ -299,11 +297,7 @@ fn is_finished(alloc: Global) -> Result<bool, Refused> {
 
 #[test]
 fn a_whole_book_gives_all_findings(rt: HostRuntime) {
-    let is_so = match is_finished(rt.alloc()) {
-        Ok(is_so) => is_so,
-        Err(_) => is_finished(rt.alloc()).unwrap_or(false),
-    };
-    assert!(rt; is_so);
+    assert!(rt; is_so(|| is_finished(rt.alloc())));
 }
 
 /// What is found for a piece of a case, where it ties up.
@@ -370,9 +364,35 @@ fn is_found(alloc: Global) -> Result<bool, Refused> {
 
 #[test]
 fn a_piece_of_a_copy_is_found(rt: HostRuntime) {
-    let is_so = match is_found(rt.alloc()) {
-        Ok(is_so) => is_so,
-        Err(_) => is_found(rt.alloc()).unwrap_or(false),
-    };
-    assert!(rt; is_so);
+    assert!(rt; is_so(|| is_found(rt.alloc())));
+}
+
+/// Posts a finding in a book under a lock, and tells what comes of it.
+fn post_shared(rt: &impl Wait, book: &SharedBook, finding: Finding) -> &'static str {
+    let posted = book.lock(rt).post(finding);
+    post_text(&posted)
+}
+
+/// Whether of two threads that post a finding of one piece just one is told that it is posted, and the other that the piece
+/// has a finding; and whether one piece less is missing then.
+fn is_posted_once<R: Threads + Wait + Sync>(rt: &R, alloc: Global) -> Result<bool, Refused> {
+    let logs = given_logs(alloc)?;
+    let mut book = book_of(alloc, &logs)?;
+    let claimed = claim_text(book.claim());
+    let one = audited(alloc, &logs.asking, WORDS)?;
+    let other = audited(alloc, &logs.asking, WORDS)?;
+    let shared = Mutex::new(book);
+    let lent = &shared;
+    let told = thread::join(
+        rt,
+        move || post_shared(rt, lent, one),
+        move || post_shared(rt, lent, other),
+    );
+    let is_once = told == ("posted", "double vat") || told == ("double vat", "posted");
+    Ok(claimed == "piece 0" && is_once && shared.into_inner().missing() == 2)
+}
+
+#[test]
+fn two_threads_post_one_finding(rt: HostRuntime) {
+    assert!(rt; is_so(|| is_posted_once(&rt, rt.alloc())));
 }

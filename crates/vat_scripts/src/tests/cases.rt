@@ -1,10 +1,10 @@
 //! Cases of many logs and links.
 
-use super::given::{Refused, log};
 use case_book::{Case, CaseError, Link, TieFault};
 use std::alloc::Global;
 use std::sync::Arc;
 use vat_log::VatLog;
+use worked_cases::{Refused, ask_again, is_so, log};
 
 /// A link of vats 7 and 1, and one of vats 3 and 7.
 const FAR: Link = Link {
@@ -49,11 +49,7 @@ fn is_lent(alloc: Global) -> Result<bool, Refused> {
 
 #[test]
 fn logs_and_links_are_lent_by_rising_number(rt: HostRuntime) {
-    let is_so = match is_lent(rt.alloc()) {
-        Ok(is_so) => is_so,
-        Err(_) => is_lent(rt.alloc()).unwrap_or(false),
-    };
-    assert!(rt; is_so);
+    assert!(rt; is_so(|| is_lent(rt.alloc())));
 }
 
 /// A link with vats 1 and 2.
@@ -78,7 +74,7 @@ fn case_of(alloc: Global, vats: u32, links: u32) -> Result<Option<CaseError>, Re
         ends.push(link(conn))?;
     }
     match Case::new(logs(alloc, vats)?, ends).err() {
-        Some(CaseError::OutOfMemory) => Err(Refused),
+        Some(CaseError::OutOfMemory) => Err(Refused::OutOfMemory),
         refusal => Ok(refusal),
     }
 }
@@ -93,14 +89,8 @@ const MOST: [(u32, u32, Option<CaseError>); 3] = [
 #[test]
 fn as_many_as_may_be(rt: HostRuntime) {
     for (vats, links, refusal) in &MOST {
-        let is_so = match case_of(rt.alloc(), *vats, *links) {
-            Ok(came) => came == *refusal,
-            Err(_) => match case_of(rt.alloc(), *vats, *links) {
-                Ok(came) => came == *refusal,
-                Err(_) => false,
-            },
-        };
-        assert!(rt; is_so, "{vats} {links}");
+        let came = ask_again(|| case_of(rt.alloc(), *vats, *links));
+        assert!(rt; came == Ok(*refusal), "{vats} {links}");
     }
 }
 
@@ -132,13 +122,7 @@ fn is_missing(alloc: Global, used: u32, third: bool, missing: bool) -> bool {
     } else {
         None
     };
-    match fault_of(alloc, used, third) {
-        Ok(came) => came == fault,
-        Err(_) => match fault_of(alloc, used, third) {
-            Ok(came) => came == fault,
-            Err(_) => false,
-        },
-    }
+    ask_again(|| fault_of(alloc, used, third)) == Ok(fault)
 }
 
 #[test]

@@ -1,6 +1,5 @@
 //! The edges of runs: which vat came to have which capability of another, and where first.
 
-use super::given::Refused;
 use authority::{graph, record_numbers};
 use cap_frame::Path;
 use run_model::{Cap, Caps, Message, Name, Run, Step};
@@ -30,6 +29,7 @@ enum Did {
 
 use Did::{Bind, Host};
 use Held::{Field, Nothing, Object, Promise};
+use worked_cases::{Refused, is_so};
 
 /// A vat, a capability, the record and the place.
 type Told = (u32, Held, u64, u64);
@@ -164,11 +164,10 @@ fn has_edges(alloc: Global, did: &[Did], told: &[Told]) -> Result<bool, Refused>
 #[test]
 fn a_run_has_just_its_edges(rt: HostRuntime) {
     for (did, told) in &RUNS {
-        let is_so = match has_edges(rt.alloc(), did, told) {
-            Ok(is_so) => is_so,
-            Err(_) => has_edges(rt.alloc(), did, told).unwrap_or(false),
-        };
-        assert!(rt; is_so, "{did:?} {told:?}");
+        assert!(rt;
+            is_so(|| has_edges(rt.alloc(), did, told)),
+            "{did:?} {told:?}"
+        );
     }
 }
 
@@ -193,9 +192,5 @@ fn has_records(alloc: Global, did: &[Did], numbers: &[u64]) -> Result<bool, Refu
 #[test]
 fn records_are_counted_vat_by_vat(rt: HostRuntime) {
     let (did, numbers) = RECORDS;
-    let is_so = match has_records(rt.alloc(), did, numbers) {
-        Ok(is_so) => is_so,
-        Err(_) => has_records(rt.alloc(), did, numbers).unwrap_or(false),
-    };
-    assert!(rt; is_so);
+    assert!(rt; is_so(|| has_records(rt.alloc(), did, numbers)));
 }

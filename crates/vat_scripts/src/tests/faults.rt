@@ -1,7 +1,5 @@
 //! Runs that keep the order of calls, and runs that don't.
 
-use super::given::Refused;
-use call_trace::order_fault;
 use run_model::{Cap, Name, Run, Step};
 use std::alloc::Global;
 
@@ -15,6 +13,7 @@ enum Did {
 }
 
 use Did::{Deliver, Make};
+use worked_cases::{Refused, early_delivery, is_so};
 
 /// The step of it: each call asks for object 5 of vat 2.
 fn step(did: Did) -> Step {
@@ -105,20 +104,15 @@ fn is_found(
     for did in then {
         steps.push(step(*did))?;
     }
-    let run = Run::new(steps);
-    if run.steps().len() > RUNS.len() {
-        return Err(Refused);
-    }
-    Ok(order_fault(alloc, &run)? == place)
+    Ok(early_delivery(alloc, &Run::new(steps))? == place)
 }
 
 #[test]
 fn a_run_breaks_the_order_at_its_least_early_step(rt: HostRuntime) {
     for (first, then, place) in &RUNS {
-        let is_so = match is_found(rt.alloc(), first, then, *place) {
-            Ok(is_so) => is_so,
-            Err(_) => is_found(rt.alloc(), first, then, *place).unwrap_or(false),
-        };
-        assert!(rt; is_so, "{first:?} {then:?}");
+        assert!(rt;
+            is_so(|| is_found(rt.alloc(), first, then, *place)),
+            "{first:?} {then:?}"
+        );
     }
 }

@@ -1,8 +1,9 @@
 //! Frames and paths.
 
-use super::given::{Refused, bytes_of_words, frame};
+use super::given::{bytes_of_words, frame};
 use cap_frame::{Frame, Path};
 use std::alloc::Global;
+use worked_cases::{Refused, is_so};
 
 /// A Release in segments of 1 and 4 words, with other bytes in the padding of its table.
 const RELEASE: &str = "100000001 ffffffff00000004 100000002 1000100000000 6 100000000 200000003";
@@ -19,11 +20,7 @@ fn is_as_long(alloc: Global, words: &str, len: usize) -> Result<bool, Refused> {
 #[test]
 fn lengths_of_frames(rt: HostRuntime) {
     for (words, len) in [(RELEASE, 56), (THREE, 40)] {
-        let is_so = match is_as_long(rt.alloc(), words, len) {
-            Ok(is_so) => is_so,
-            Err(_) => is_as_long(rt.alloc(), words, len).unwrap_or(false),
-        };
-        assert!(rt; is_so, "{words}");
+        assert!(rt; is_so(|| is_as_long(rt.alloc(), words, len)), "{words}");
     }
 }
 
@@ -48,11 +45,7 @@ fn has_words(alloc: Global) -> Result<bool, Refused> {
 
 #[test]
 fn words_of_a_frame(rt: HostRuntime) {
-    let is_so = match has_words(rt.alloc()) {
-        Ok(is_so) => is_so,
-        Err(_) => has_words(rt.alloc()).unwrap_or(false),
-    };
-    assert!(rt; is_so);
+    assert!(rt; is_so(|| has_words(rt.alloc())));
 }
 
 /// Paths: few numbers, and many.
@@ -68,10 +61,6 @@ fn is_copied(alloc: Global, numbers: &[u16]) -> Result<bool, Refused> {
 #[test]
 fn paths(rt: HostRuntime) {
     for numbers in PATHS {
-        let is_so = match is_copied(rt.alloc(), numbers) {
-            Ok(is_so) => is_so,
-            Err(_) => is_copied(rt.alloc(), numbers).unwrap_or(false),
-        };
-        assert!(rt; is_so);
+        assert!(rt; is_so(|| is_copied(rt.alloc(), numbers)));
     }
 }

@@ -1,22 +1,10 @@
-//! What the tests are given: frames by their words, logs by their records.
+//! What the tests are given: frames by their words, bytes by their digits.
 
 use bytes::Bytes;
 use cap_frame::Frame;
 use std::alloc::Global;
-use std::fmt::Debug;
-use std::sync::Arc;
-use vat_log::{VatLog, parse_log};
-use vat_notation::{Vat, add_records, bytes_of, log_of, words_of};
-
-/// That a call was refused, as where memory was, or that an answer isn't of the form that is wanted.
-#[derive(Drop)]
-pub struct Refused;
-
-impl<E: Debug + Drop> From<E> for Refused {
-    fn from(_why: E) -> Refused {
-        Refused
-    }
-}
+use vat_notation::{bytes_of, words_of};
+use worked_cases::Refused;
 
 /// The bytes of words of 8 bytes, each in hexadecimal, its highest digit first.
 pub fn bytes_of_words(alloc: Global, words: &str) -> Result<Bytes, Refused> {
@@ -42,20 +30,4 @@ pub fn frame(alloc: Global, words: &str) -> Result<Frame, Refused> {
 pub fn bytes_of_digits(alloc: Global, digits: &str) -> Result<Vec<u8>, Refused> {
     let words = words_of(alloc, digits)?;
     Ok(bytes_of(alloc, &words)?)
-}
-
-/// The bytes of the log of a vat that recorded these records, in the notation of the conversations.
-pub fn bytes_of_log(alloc: Global, number: &str, records: &str) -> Result<Bytes, Refused> {
-    let mut vat = Vat {
-        number,
-        records: Vec::new(alloc),
-    };
-    add_records(&mut vat.records, records)?;
-    Ok(Bytes::from_vec(log_of(alloc, &vat, &[])?)?)
-}
-
-/// That log.
-pub fn log(alloc: Global, number: &str, records: &str) -> Result<Arc<VatLog>, Refused> {
-    let log = parse_log(alloc, bytes_of_log(alloc, number, records)?)?;
-    Ok(Arc::new(alloc, log)?)
 }

@@ -1,8 +1,8 @@
 //! Links whose frames came as they were sent, and links whose frames didn't.
 
-use super::given::{Refused, log};
 use link_check::{LinkFinding, LinkOutcome, check_link};
 use std::alloc::Global;
+use worked_cases::{Refused, ask_again, is_so, log};
 
 /// A vat's number and what it recorded.
 type End = (&'static str, &'static str);
@@ -58,19 +58,16 @@ fn link(alloc: Global, one: End, other: End) -> Result<LinkFinding, Refused> {
     let first = log(alloc, one.0, one.1)?;
     let second = log(alloc, other.0, other.1)?;
     if first.vat() == second.vat() {
-        return Err(Refused);
+        return Err(Refused::Otherwise);
     }
     Ok(check_link(0, &first, &second)?)
 }
 
 /// Whether this is found of a link, also where memory was refused once.
 fn is_found(alloc: Global, one: End, other: End, outcome: LinkOutcome) -> bool {
-    match link(alloc, one, other) {
+    match ask_again(|| link(alloc, one, other)) {
         Ok(found) => found.outcome() == outcome,
-        Err(_) => match link(alloc, one, other) {
-            Ok(found) => found.outcome() == outcome,
-            Err(_) => false,
-        },
+        Err(_) => false,
     }
 }
 
@@ -105,9 +102,5 @@ fn has_ends(alloc: Global) -> Result<bool, Refused> {
 
 #[test]
 fn a_link_has_two_ends(rt: HostRuntime) {
-    let is_so = match has_ends(rt.alloc()) {
-        Ok(is_so) => is_so,
-        Err(_) => has_ends(rt.alloc()).unwrap_or(false),
-    };
-    assert!(rt; is_so);
+    assert!(rt; is_so(|| has_ends(rt.alloc())));
 }

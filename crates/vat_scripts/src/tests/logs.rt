@@ -1,11 +1,12 @@
 //! Logs: their bytes by the notation, what is read of them, and the same bytes written again.
 
-use super::given::{Refused, bytes_of_digits, bytes_of_log};
+use super::given::bytes_of_digits;
 use bytes::Bytes;
 use std::alloc::Global;
 use std::fmt::Write;
 use std::process::Abort;
 use vat_log::{Body, LogError, Record, References, VatLog, parse_log, write_log};
+use worked_cases::{Refused, ask_again, bytes_of_log, is_so};
 
 /// Records in the notation, as the bytes of vat 3's log in hexadecimal, and as they are read.
 const RECORDS: [(&str, &str, &str); 8] = [
@@ -217,29 +218,27 @@ fn is_row(alloc: Global, records: &str, digits: &str, text: &str) -> Result<bool
 #[test]
 fn each_kind_of_record(rt: HostRuntime) {
     for (records, digits, text) in &RECORDS {
-        let is_so = match is_row(rt.alloc(), records, digits, text) {
-            Ok(is_so) => is_so,
-            Err(_) => is_row(rt.alloc(), records, digits, text).unwrap_or(false),
-        };
-        assert!(rt; is_so, "{records}");
+        assert!(rt;
+            is_so(|| is_row(rt.alloc(), records, digits, text)),
+            "{records}"
+        );
     }
 }
 
 #[test]
 fn logs_of_a_pipelined_call(rt: HostRuntime) {
     for (vat, records, digits) in &SAMPLES {
-        let is_so = match is_spelled(rt.alloc(), vat, records, digits) {
-            Ok(is_so) => is_so,
-            Err(_) => is_spelled(rt.alloc(), vat, records, digits).unwrap_or(false),
-        };
-        assert!(rt; is_so, "vat {vat}");
+        assert!(rt;
+            is_so(|| is_spelled(rt.alloc(), vat, records, digits)),
+            "vat {vat}"
+        );
     }
 }
 
 /// Why no log can hold a body, and what is handed back.
 fn refused(alloc: Global, body: Body) -> Result<String, Refused> {
     match Record::new(body) {
-        Ok(_) => Err(Refused),
+        Ok(_) => Err(Refused::Otherwise),
         Err((fault, body)) => Ok(format!(in alloc; "{fault:?} {body:?}")?),
     }
 }
@@ -272,7 +271,7 @@ fn refusals_once(rt: &(impl Abort + AllocGlobal)) -> Result<(), Refused> {
 
 #[test]
 fn a_body_with_a_zero_is_handed_back(rt: HostRuntime) {
-    assert!(rt; refusals_once(&rt).is_ok() || refusals_once(&rt).is_ok());
+    assert!(rt; ask_again(|| refusals_once(&rt)).is_ok());
 }
 
 /// How many references are noted beside a frame that goes out.
@@ -309,9 +308,5 @@ fn is_too_long(alloc: Global) -> Result<bool, Refused> {
 
 #[test]
 fn a_list_past_its_count_is_handed_back(rt: HostRuntime) {
-    let is_so = match is_too_long(rt.alloc()) {
-        Ok(is_so) => is_so,
-        Err(_) => is_too_long(rt.alloc()).unwrap_or(false),
-    };
-    assert!(rt; is_so);
+    assert!(rt; is_so(|| is_too_long(rt.alloc())));
 }

@@ -1,11 +1,11 @@
 //! What waits for its echo after a vat's records, and whether the echo is held up.
 
-use super::given::Refused;
 use super::states::state_of;
 use std::alloc::Global;
 use std::fmt::Write;
 use std::process::Abort;
 use vat_view::{TableKey, VatState};
+use worked_cases::{Refused, is_so};
 
 /// Records, and what is known after them of the loopbacks of the peer's number 3 and of our number 3: whether it waits for
 /// its echo, what its target stood for, and whether its echo is held up.
@@ -78,8 +78,6 @@ fn is_told(alloc: Global, records: &str, told: &str) -> Result<bool, Refused> {
 #[test]
 fn loopbacks(rt: HostRuntime) {
     for (records, told) in &ROWS {
-        let is_so = is_told(rt.alloc(), records, told).unwrap_or(false)
-            || is_told(rt.alloc(), records, told).unwrap_or(false);
-        assert!(rt; is_so, "{told}");
+        assert!(rt; is_so(|| is_told(rt.alloc(), records, told)), "{told}");
     }
 }

@@ -1,11 +1,11 @@
 //! Steps of a run: they tell what was put into them, and what is copied is the same.
 
-use super::given::Refused;
 use cap_frame::Path;
 use run_model::{Cap, Caps, Message, Name, Plain, Results, Run, Step};
 use std::alloc::Global;
 use std::fmt::Write;
 use std::process::Abort;
+use worked_cases::{Refused, ask_again, is_so};
 
 /// The fourth call of vat 1.
 const CALL: Name = Name {
@@ -86,18 +86,11 @@ fn counts(message: &Message) -> (usize, usize) {
 
 #[test]
 fn a_run_tells_its_steps(rt: HostRuntime) {
-    let is_so = match is_told(rt.alloc()) {
-        Ok(is_so) => is_so,
-        Err(_) => is_told(rt.alloc()).unwrap_or(false),
-    };
-    assert!(rt; is_so);
+    assert!(rt; is_so(|| is_told(rt.alloc())));
 }
 
 #[test]
 fn a_return_lends_its_caps(rt: HostRuntime) {
-    let message = match returned(rt.alloc()) {
-        Ok(message) => message,
-        Err(_) => returned(rt.alloc()).unwrap_or(Message::Plain(Plain::Abort)),
-    };
+    let message = ask_again(|| returned(rt.alloc())).unwrap_or(Message::Plain(Plain::Abort));
     assert_eq!(rt; counts(&message), (2, 1));
 }

@@ -1,11 +1,12 @@
 //! Messages within limits: each frame, read within so many words and so deep, is shown as the program shows it.
 
-use super::given::{Refused, bytes_of_words, frame};
+use super::given::{bytes_of_words, frame};
 use cap_reader::Limits;
 use report_lines::{Answer, Fault};
 use rpc_view::{RpcMessage, ViewError, read_bytes, read_message};
 use std::alloc::Global;
 use std::process::Abort;
+use worked_cases::{Refused, is_so};
 
 /// A Release of 2 of number 3: 3 words, 2 structs one in another.
 const RELEASE: &str = "400000000 1000100000000 6 100000000 200000003";
@@ -37,7 +38,7 @@ const ROWS: [(&str, u64, u8, &str); 8] = [
 fn shown(alloc: Global, read: Result<RpcMessage, ViewError>) -> Result<String, Refused> {
     let answer = match read {
         Ok(message) => Answer::Message(message),
-        Err(ViewError::OutOfMemory) => return Err(Refused),
+        Err(ViewError::OutOfMemory) => return Err(Refused::OutOfMemory),
         Err(fault) => Answer::Fault(Fault::from(fault)),
     };
     Ok(format!(in alloc; "{answer}")?)
@@ -64,10 +65,7 @@ fn is_shown(alloc: Global, words: &str, limits: Limits, text: &str) -> Result<bo
 
 /// The same, asked again where memory was refused.
 fn is_shown_at_last(alloc: Global, words: &str, limits: Limits, text: &str) -> bool {
-    match is_shown(alloc, words, limits, text) {
-        Ok(is_so) => is_so,
-        Err(_) => is_shown(alloc, words, limits, text).unwrap_or(false),
-    }
+    is_so(|| is_shown(alloc, words, limits, text))
 }
 
 #[test]

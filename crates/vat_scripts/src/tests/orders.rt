@@ -1,12 +1,13 @@
 //! Orders that fit, orders that don't, and orders as bytes.
 
-use super::given::{Refused, bytes_of_digits, log};
+use super::given::bytes_of_digits;
 use bytes::Bytes;
 use case_book::Case;
 use merge_order::{
     Order, OrderError, OrderFinding, check_order, make_order, read_order, write_order,
 };
 use std::alloc::Global;
+use worked_cases::{Refused, is_so, log};
 
 /// The case of vats 1 and 2, which recorded this, without links.
 fn case(alloc: Global, first: &str, second: &str) -> Result<Case, Refused> {
@@ -56,11 +57,10 @@ fn is_found(
 #[test]
 fn an_order_fails_at_its_first_step_that_may_not_come(rt: HostRuntime) {
     for (recorded, vats, finding) in &CHECKED {
-        let is_so = match is_found(rt.alloc(), *recorded, vats, *finding) {
-            Ok(is_so) => is_so,
-            Err(_) => is_found(rt.alloc(), *recorded, vats, *finding).unwrap_or(false),
-        };
-        assert!(rt; is_so, "{vats:?}");
+        assert!(rt;
+            is_so(|| is_found(rt.alloc(), *recorded, vats, *finding)),
+            "{vats:?}"
+        );
     }
 }
 
@@ -93,11 +93,7 @@ fn is_made(alloc: Global, recorded: (&str, &str), vats: &[u32]) -> Result<bool, 
 #[test]
 fn an_order_is_made_where_one_fits(rt: HostRuntime) {
     for (recorded, vats) in &MADE {
-        let is_so = match is_made(rt.alloc(), *recorded, vats) {
-            Ok(is_so) => is_so,
-            Err(_) => is_made(rt.alloc(), *recorded, vats).unwrap_or(false),
-        };
-        assert!(rt; is_so, "{vats:?}");
+        assert!(rt; is_so(|| is_made(rt.alloc(), *recorded, vats)), "{vats:?}");
     }
 }
 
@@ -113,7 +109,7 @@ const REFUSED: [(&str, OrderError); 4] = [
 fn is_refused(alloc: Global, digits: &str, fault: OrderError) -> Result<bool, Refused> {
     let bytes = bytes_of_digits(alloc, digits)?;
     match read_order(alloc, Bytes::from_vec(bytes)?) {
-        Err(OrderError::OutOfMemory) => Err(Refused),
+        Err(OrderError::OutOfMemory) => Err(Refused::OutOfMemory),
         Err(came) => Ok(came == fault),
         Ok(_) => Ok(false),
     }
@@ -122,11 +118,10 @@ fn is_refused(alloc: Global, digits: &str, fault: OrderError) -> Result<bool, Re
 #[test]
 fn bytes_are_refused(rt: HostRuntime) {
     for (digits, fault) in &REFUSED {
-        let is_so = match is_refused(rt.alloc(), digits, *fault) {
-            Ok(is_so) => is_so,
-            Err(_) => is_refused(rt.alloc(), digits, *fault).unwrap_or(false),
-        };
-        assert!(rt; is_so, "{digits}");
+        assert!(rt;
+            is_so(|| is_refused(rt.alloc(), digits, *fault)),
+            "{digits}"
+        );
     }
 }
 
@@ -164,10 +159,6 @@ fn is_spelled(alloc: Global, digits: &str, vats: &[u32]) -> Result<bool, Refused
 #[test]
 fn orders_are_read_and_written(rt: HostRuntime) {
     for (digits, vats) in &SPELLED {
-        let is_so = match is_spelled(rt.alloc(), digits, vats) {
-            Ok(is_so) => is_so,
-            Err(_) => is_spelled(rt.alloc(), digits, vats).unwrap_or(false),
-        };
-        assert!(rt; is_so, "{digits}");
+        assert!(rt; is_so(|| is_spelled(rt.alloc(), digits, vats)), "{digits}");
     }
 }

@@ -1,6 +1,6 @@
 //! Walks through frames: what stands at each step, and behind a visit the words that it left.
 
-use super::given::{Refused, frame};
+use super::given::frame;
 use cap_frame::Frame;
 use cap_reader::{
     Limits, ListAt, ReadError, StructAt, bit_at, fields, list_field, root, struct_field, u16_at,
@@ -31,6 +31,7 @@ enum Step {
 }
 
 use Step::{Bit, Element, Fields, List, Struct, U16, U32, U64};
+use worked_cases::{Refused, ask_again};
 
 /// A Release of the export 3, two times.
 const RELEASE: &str = "400000000 1000100000000 6 100000000 200000003";
@@ -296,7 +297,7 @@ impl Walk {
     /// Tells why a visit was refused. Running out of memory is a failure, and no answer.
     fn tell_fault(&mut self, fault: ReadError) -> Result<(), Refused> {
         if fault == ReadError::OutOfMemory {
-            return Err(Refused);
+            return Err(Refused::OutOfMemory);
         }
         let left = self.limits.words;
         write!(self.text, "; {fault:?}, {left} left")?;
@@ -344,7 +345,7 @@ impl Walk {
     fn to_element(&mut self, i: u32) -> Result<(), Refused> {
         let list = self.list.ok_or("a list")?;
         if i >= list.len() {
-            return Err(Refused);
+            return Err(Refused::Otherwise);
         }
         match list.element(i, &mut self.limits) {
             Ok(place) => {
@@ -435,12 +436,9 @@ fn walked(alloc: Global, words: &str, limits: Limits, steps: &[Step]) -> Result<
 
 /// Whether this is told of a walk, also where memory was refused once.
 fn is_told(alloc: Global, words: &str, limits: Limits, steps: &[Step], text: &str) -> bool {
-    match walked(alloc, words, limits, steps) {
+    match ask_again(|| walked(alloc, words, limits, steps)) {
         Ok(told) => told.as_str() == text,
-        Err(_) => match walked(alloc, words, limits, steps) {
-            Ok(told) => told.as_str() == text,
-            Err(_) => false,
-        },
+        Err(_) => false,
     }
 }
 
@@ -482,9 +480,6 @@ fn many_segments(alloc: Global) -> Result<String, Refused> {
 
 #[test]
 fn a_frame_of_512_segments(rt: HostRuntime) {
-    let told = match many_segments(rt.alloc()) {
-        Ok(told) => Ok(told),
-        Err(_) => many_segments(rt.alloc()),
-    };
+    let told = ask_again(|| many_segments(rt.alloc()));
     assert!(rt; matches!(&told, Ok(text) if text.as_str() == "root, 0 left; 2a"));
 }

@@ -1,10 +1,10 @@
 //! What the audit of one log tells.
 
-use super::given::{Refused, log};
 use cap_reader::Limits;
 use std::alloc::Global;
 use vat_rules::{Outcome, RecordFacts, Story, VatFinding, Why, audit_vat};
 use vat_view::{DecodedRecord, View};
+use worked_cases::{Refused, is_so, log};
 
 /// Vat 2's log of pipelined_call.
 const PIPELINED_CALL: &str =
@@ -58,8 +58,7 @@ fn is_good(alloc: Global) -> Result<bool, Refused> {
 
 #[test]
 fn a_good_log_is_told(rt: HostRuntime) {
-    let is_so = is_good(rt.alloc()).unwrap_or(false) || is_good(rt.alloc()).unwrap_or(false);
-    assert!(rt; is_so);
+    assert!(rt; is_so(|| is_good(rt.alloc())));
 }
 
 /// A promise that is resolved, in its vat's log.
@@ -89,9 +88,7 @@ fn is_resolved(alloc: Global) -> Result<bool, Refused> {
 
 #[test]
 fn a_resolved_promise_is_told(rt: HostRuntime) {
-    let is_so = is_resolved(rt.alloc()).unwrap_or(false)
-        || is_resolved(rt.alloc()).unwrap_or(false);
-    assert!(rt; is_so);
+    assert!(rt; is_so(|| is_resolved(rt.alloc())));
 }
 
 /// Whether a frame that needs more words than there are is unread.
@@ -112,6 +109,5 @@ fn is_unread(alloc: Global) -> Result<bool, Refused> {
 
 #[test]
 fn a_frame_past_the_limits_is_unread(rt: HostRuntime) {
-    let is_so = is_unread(rt.alloc()).unwrap_or(false) || is_unread(rt.alloc()).unwrap_or(false);
-    assert!(rt; is_so);
+    assert!(rt; is_so(|| is_unread(rt.alloc())));
 }

@@ -1,6 +1,5 @@
 //! Runs whose source has no memory or whose writers fail, and the texts that `clap` prints.
 
-use super::given::Refused;
 use bytes::Bytes;
 use case_files::{FileList, RememberingSource, Source, SourceError};
 use clap::error::ErrorKind;
@@ -10,7 +9,9 @@ use std::alloc::Global;
 use std::io;
 use std::io::Write;
 use std::sync::Wait;
+use std::sync::atomic::{AtomicU64, Ordering};
 use std::thread::Threads;
+use worked_cases::{Conversation, RELAYED_CALL, REUSED_QUESTION, Refused, bytes_of_log, is_so};
 
 /// A source without memory.
 #[derive(Drop)]
@@ -56,13 +57,21 @@ const READERS: [&[&str]; 7] = [
     &["vataudit", "order", "given", "--out", "made"],
 ];
 
+/// Why words are no command.
+fn refusal_of(error: &clap::Error) -> Refused {
+    match error.kind() {
+        ErrorKind::OutOfMemory => Refused::OutOfMemory,
+        _ => Refused::Otherwise,
+    }
+}
+
 /// The exit status of a command whose source has no memory. That the words are a command is asked here, too.
 fn status_without_memory<R: Threads + Wait + Sync + AllocGlobal, W: Write>(
     rt: &R,
     words: &[&str],
     out: &mut W,
 ) -> Result<u8, Refused> {
-    let command = command_of(rt.alloc(), words)?;
+    let command = command_of(rt.alloc(), words).map_err(|error| refusal_of(&error))?;
     Ok(run_on(rt, rt.alloc(), &command, &mut Poor, out, &mut io::sink()))
 }
 
@@ -79,11 +88,7 @@ fn is_poor<R: Threads + Wait + Sync + AllocGlobal>(
 #[test]
 fn says_that_memory_ran_out(rt: HostRuntime) {
     for words in &READERS {
-        let is_so = match is_poor(&rt, words) {
-            Ok(is_so) => is_so,
-            Err(_) => is_poor(&rt, words).unwrap_or(false),
-        };
-        assert!(rt; is_so, "{words:?}");
+        assert!(rt; is_so(|| is_poor(&rt, words)), "{words:?}");
     }
 }
 
@@ -102,11 +107,7 @@ fn is_the_last<R: Threads + Wait + Sync + AllocGlobal>(
 fn a_failed_write_is_the_last(rt: HostRuntime) {
     for words in &READERS {
         for room in [0, 5] {
-            let is_so = match is_the_last(&rt, words, room) {
-                Ok(is_so) => is_so,
-                Err(_) => is_the_last(&rt, words, room).unwrap_or(false),
-            };
-            assert!(rt; is_so, "{words:?}");
+            assert!(rt; is_so(|| is_the_last(&rt, words, room)), "{words:?}");
         }
     }
 }
@@ -132,18 +133,164 @@ fn is_unwritten<R: Threads + Wait + Sync + AllocGlobal>(rt: &R) -> Result<bool, 
         refusals: 0,
     };
     match run_on(rt, alloc, &order, &mut source, &mut out, &mut file) {
-        3 => Err(Refused),
+        3 => Err(Refused::OutOfMemory),
         status => Ok(out.is_empty() && status == 2 && file.refusals == 1),
     }
 }
 
 #[test]
 fn prints_nothing_of_an_order_that_is_not_written(rt: HostRuntime) {
-    let is_so = match is_unwritten(&rt) {
-        Ok(is_so) => is_so,
-        Err(_) => is_unwritten(&rt).unwrap_or(false),
+    assert!(rt; is_so(|| is_unwritten(&rt)));
+}
+
+/// A conversation, and its case.
+type Told = (Conversation<'static>, &'static str);
+
+const RELAYED: Told = (
+    RELAYED_CALL,
+    "{\"logs\": [\"vat1\", \"vat2\", \"vat3\"], \"links\": [[0, 1, 2], [1, 2, 3]]}",
+);
+
+const REUSED: Told = (
+    REUSED_QUESTION,
+    "{\"logs\": [\"vat1\", \"vat2\"], \"links\": [[0, 1, 2]]}",
+);
+
+/// The files of a conversation: its logs, and the case under the name `case`.
+fn files_of(alloc: Global, told: &Told) -> Result<FileList, Refused> {
+    let mut files = Vec::new(alloc);
+    for (number, records) in told.0.vats {
+        let name = format!(in alloc; "vat{number}")?;
+        files.push((name, bytes_of_log(alloc, number, records)?))?;
+    }
+    let name = String::from_str(alloc, "case")?;
+    files.push((name, Bytes::copy_from_slice(alloc, told.1.as_bytes())?))?;
+    Ok(FileList::new(files))
+}
+
+/// A writer that refuses one write, counted from 0 over all writers of a run.
+#[derive(Drop)]
+struct Refusing<'a> {
+    refused: u64,
+    /// How many writes were made.
+    writes: &'a AtomicU64,
+}
+
+impl Write for Refusing<'_> {
+    fn write(&mut self, buf: &[u8]) -> io::Result<usize> {
+        if self.writes.fetch_add(1, Ordering::SeqCst) == self.refused {
+            return Err(io::Error::from(io::ErrorKind::BrokenPipe));
+        }
+        Ok(buf.len())
+    }
+
+    fn flush(&mut self) -> io::Result<()> {
+        Ok(())
+    }
+}
+
+/// The status of a run of which this write is refused, and how many writes it made.
+fn refuse_write<R: Threads + Wait + Sync>(
+    rt: &R,
+    alloc: Global,
+    told: &Told,
+    command: &Command<'_>,
+    refused: u64,
+) -> Result<(u8, u64), Refused> {
+    let writes = AtomicU64::new(0);
+    let mut source = files_of(alloc, told)?;
+    let mut out = Refusing {
+        refused,
+        writes: &writes,
     };
-    assert!(rt; is_so);
+    let mut file = Refusing {
+        refused,
+        writes: &writes,
+    };
+    match run_on(rt, alloc, command, &mut source, &mut out, &mut file) {
+        3 => Err(Refused::OutOfMemory),
+        status => Ok((status, writes.load(Ordering::SeqCst))),
+    }
+}
+
+/// Whether each write that a command makes, where it is refused, is its last one, and the status is 2.
+fn each_is_the_last<R: Threads + Wait + Sync>(
+    rt: &R,
+    alloc: Global,
+    told: &Told,
+    command: &Command<'_>,
+) -> Result<bool, Refused> {
+    for refused in 0..1000 {
+        let (status, writes) = refuse_write(rt, alloc, told, command, refused)?;
+        if writes <= refused {
+            return Ok(status == 0 && writes > 0);
+        }
+        if (status, writes - 1) != (2, refused) {
+            return Ok(false);
+        }
+    }
+    Ok(false)
+}
+
+#[test]
+fn each_write_that_is_refused_is_the_last(rt: HostRuntime) {
+    let graph = Command::Graph { case: "case" };
+    let order = Command::Order {
+        case: "case",
+        out: "made",
+    };
+    for (told, command) in [(RELAYED, graph), (REUSED, order)] {
+        assert!(rt; is_so(|| each_is_the_last(&rt, rt.alloc(), &told, &command)));
+    }
+}
+
+/// Files of which so many can be read, one after another, and then no more.
+#[derive(Drop)]
+struct Failing {
+    files: FileList,
+    left: u64,
+}
+
+impl Source for Failing {
+    fn read(&mut self, name: &str) -> Result<Bytes, SourceError> {
+        if self.left == 0 {
+            return Err(SourceError::CannotRead);
+        }
+        self.left -= 1;
+        self.files.read(name)
+    }
+}
+
+/// Whether this is printed of relayed_call, with this status, where so many of its files can be read.
+fn is_read<R: Threads + Wait + Sync>(
+    rt: &R,
+    alloc: Global,
+    left: u64,
+    printed: (&str, u8),
+) -> Result<bool, Refused> {
+    let files = files_of(alloc, &RELAYED)?;
+    let mut source = Failing { files, left };
+    let mut out = Vec::with_capacity(alloc, 256)?;
+    let check = Command::Check {
+        case: "case",
+        workers: 1,
+    };
+    match run_on(rt, alloc, &check, &mut source, &mut out, &mut io::sink()) {
+        3 => Err(Refused::OutOfMemory),
+        status => Ok(status == printed.1 && out.as_slice() == printed.0.as_bytes()),
+    }
+}
+
+#[test]
+fn a_read_that_fails_in_the_middle(rt: HostRuntime) {
+    for left in 0..4 {
+        assert!(rt;
+            is_so(|| is_read(&rt, rt.alloc(), left, ("cannot read\n", 2))),
+            "{left}"
+        );
+    }
+    let yes = ("yes vats 3 records 24 delivered 1 under_way 0\n", 0);
+    assert!(rt; is_so(|| is_read(&rt, rt.alloc(), 4, yes)));
 }
 
 /// A source with one file, which it gives under each name, and keeps.
@@ -201,7 +348,7 @@ fn is_told<R: Threads + Wait + Sync + AllocGlobal, N: Write>(
     let mut out = Vec::with_capacity(alloc, 256)?;
     let vat = Command::Vat { file: "given" };
     match run_with_notes(rt, alloc, &vat, noted, &mut out, &mut io::sink()) {
-        3 => Err(Refused),
+        3 => Err(Refused::OutOfMemory),
         status => Ok(status == 1 && out.as_slice() == b"no vat 7 record 0 rule REF\n".as_slice()),
     }
 }
@@ -210,18 +357,14 @@ fn is_told<R: Threads + Wait + Sync + AllocGlobal, N: Write>(
 fn is_noted<R: Threads + Wait + Sync + AllocGlobal>(rt: &R) -> Result<bool, Refused> {
     let mut noted = noted_source(rt.alloc(), Vec::with_capacity(rt.alloc(), 256)?)?;
     match is_told(rt, &mut noted)? {
-        true if noted.notes.is_empty() => Err(Refused),
+        true if noted.notes.is_empty() => Err(Refused::OutOfMemory),
         is_so => Ok(is_so && noted.notes.as_slice() == UNBOUND_NOTES.as_bytes()),
     }
 }
 
 #[test]
 fn notes_a_no(rt: HostRuntime) {
-    let is_so = match is_noted(&rt) {
-        Ok(is_so) => is_so,
-        Err(_) => is_noted(&rt).unwrap_or(false),
-    };
-    assert!(rt; is_so);
+    assert!(rt; is_so(|| is_noted(&rt)));
 }
 
 /// Whether it is told just so where its notes can't be written.
@@ -232,18 +375,14 @@ fn is_told_alone<R: Threads + Wait + Sync + AllocGlobal>(rt: &R) -> Result<bool,
     };
     let mut noted = noted_source(rt.alloc(), notes)?;
     match is_told(rt, &mut noted)? {
-        true if noted.notes.room == 3 => Err(Refused),
+        true if noted.notes.room == 3 => Err(Refused::OutOfMemory),
         is_so => Ok(is_so && noted.notes.room == 0 && noted.notes.refusals == 1),
     }
 }
 
 #[test]
 fn a_failed_note_changes_nothing(rt: HostRuntime) {
-    let is_so = match is_told_alone(&rt) {
-        Ok(is_so) => is_so,
-        Err(_) => is_told_alone(&rt).unwrap_or(false),
-    };
-    assert!(rt; is_so);
+    assert!(rt; is_so(|| is_told_alone(&rt)));
 }
 
 /// Words, and what they spell, or the kind of `clap`'s error.
@@ -306,7 +445,7 @@ fn is_meant(
 ) -> Result<bool, Refused> {
     match command_of(alloc, words) {
         Ok(command) => Ok(meant == Ok(command)),
-        Err(error) if error.kind() == ErrorKind::OutOfMemory => Err(Refused),
+        Err(error) if error.kind() == ErrorKind::OutOfMemory => Err(Refused::OutOfMemory),
         Err(error) => Ok(meant == Err(error.kind())),
     }
 }
@@ -314,11 +453,7 @@ fn is_meant(
 #[test]
 fn words_are_commands(rt: HostRuntime) {
     for (words, meant) in &WORDS {
-        let is_so = match is_meant(rt.alloc(), words, *meant) {
-            Ok(is_so) => is_so,
-            Err(_) => is_meant(rt.alloc(), words, *meant).unwrap_or(false),
-        };
-        assert!(rt; is_so, "{words:?}");
+        assert!(rt; is_so(|| is_meant(rt.alloc(), words, *meant)), "{words:?}");
     }
 }
 
@@ -348,8 +483,9 @@ const HELP: [(&str, &str); 9] = [
 fn help_of(alloc: Global, command: &str) -> Result<String, Refused> {
     let words = ["vataudit", command, "--help"];
     match command_of(alloc, &words) {
-        Err(error) if error.kind() != ErrorKind::OutOfMemory => Ok(error.to_string(alloc)?),
-        _ => Err(Refused),
+        Err(error) if error.kind() == ErrorKind::OutOfMemory => Err(Refused::OutOfMemory),
+        Err(error) => Ok(error.to_string(alloc)?),
+        Ok(_) => Err(Refused::Otherwise),
     }
 }
 
@@ -362,10 +498,6 @@ fn is_help(alloc: Global, command: &str, line: &str) -> Result<bool, Refused> {
 #[test]
 fn helps(rt: HostRuntime) {
     for (command, line) in &HELP {
-        let is_so = match is_help(rt.alloc(), command, line) {
-            Ok(is_so) => is_so,
-            Err(_) => is_help(rt.alloc(), command, line).unwrap_or(false),
-        };
-        assert!(rt; is_so, "{command}");
+        assert!(rt; is_so(|| is_help(rt.alloc(), command, line)), "{command}");
     }
 }

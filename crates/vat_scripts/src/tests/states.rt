@@ -1,6 +1,5 @@
 //! What a vat's numbers stand for after its records.
 
-use super::given::{Refused, log};
 use bytes::Bytes;
 use cap_frame::Path;
 use cap_reader::Limits;
@@ -11,6 +10,7 @@ use std::process::Abort;
 use std::sync::Arc;
 use vat_log::{Body, References, VatLog};
 use vat_view::{DecodedRecord, Number, TableKey, VatState, View};
+use worked_cases::{Refused, is_so, log};
 
 /// Records, and what is known after them.
 const ROWS: [(&str, &str); 3] = [
@@ -208,7 +208,7 @@ fn event_of(alloc: Global, body: &Body) -> Result<DecodedRecord, Refused> {
             references,
             message(alloc, frame)?,
         ),
-        _ => Err(Refused),
+        _ => Err(Refused::Otherwise),
     }
 }
 
@@ -220,7 +220,7 @@ fn apply(state: &mut VatState, event: DecodedRecord) -> Result<(), Refused> {
                 && state.uses_questions(&event)
                 && state.uses_numbers(&event)
                 && state.notes_each(&event) => { Ok(state.apply(event)?) }
-        _ => Err(Refused),
+        _ => Err(Refused::Otherwise),
     }
 }
 
@@ -373,9 +373,7 @@ fn is_told(alloc: Global, records: &str, told: &str) -> Result<bool, Refused> {
 #[test]
 fn states(rt: HostRuntime) {
     for (records, told) in &ROWS {
-        let is_so = is_told(rt.alloc(), records, told).unwrap_or(false)
-            || is_told(rt.alloc(), records, told).unwrap_or(false);
-        assert!(rt; is_so, "{told}");
+        assert!(rt; is_so(|| is_told(rt.alloc(), records, told)), "{told}");
     }
 }
 
@@ -422,16 +420,12 @@ fn knows_what_it_asked(alloc: Global) -> Result<bool, Refused> {
 
 #[test]
 fn asking(rt: HostRuntime) {
-    let is_so = match knows_what_it_asked(rt.alloc()) {
-        Ok(is_so) => is_so,
-        Err(_) => knows_what_it_asked(rt.alloc()).unwrap_or(false),
-    };
-    assert!(rt; is_so);
+    assert!(rt; is_so(|| knows_what_it_asked(rt.alloc())));
 }
 
 /// The first record of a log.
 fn first_of(alloc: Global, log: &Arc<VatLog>) -> Result<DecodedRecord, Refused> {
-    let record = log.get(0).ok_or(Refused)?;
+    let record = log.get(0).ok_or("a record")?;
     event_of(alloc, record.body())
 }
 
@@ -487,9 +481,10 @@ fn is_next_told(alloc: Global, records: &str, next: &str, told: &str) -> Result<
 #[test]
 fn records_that_come_next(rt: HostRuntime) {
     for (records, next, told) in &NEXT {
-        let is_so = is_next_told(rt.alloc(), records, next, told).unwrap_or(false)
-            || is_next_told(rt.alloc(), records, next, told).unwrap_or(false);
-        assert!(rt; is_so, "{told}");
+        assert!(rt;
+            is_so(|| is_next_told(rt.alloc(), records, next, told)),
+            "{told}"
+        );
     }
 }
 
@@ -535,8 +530,6 @@ fn is_over(alloc: Global, records: &str, told: &str) -> Result<bool, Refused> {
 #[test]
 fn connections(rt: HostRuntime) {
     for (records, told) in &OVER {
-        let is_so = is_over(rt.alloc(), records, told).unwrap_or(false)
-            || is_over(rt.alloc(), records, told).unwrap_or(false);
-        assert!(rt; is_so, "{told}");
+        assert!(rt; is_so(|| is_over(rt.alloc(), records, told)), "{told}");
     }
 }

@@ -1,8 +1,8 @@
 //! What a table has of its numbers, in whatever order they came.
 
-use super::given::Refused;
 use rising_table::RisingTable;
 use std::alloc::Global;
+use worked_cases::{Refused, is_so};
 
 /// Numbers in the order in which they come.
 const COME: [&[u64]; 6] = [
@@ -45,10 +45,6 @@ fn keeps(alloc: Global, come: &[u64]) -> Result<bool, Refused> {
 #[test]
 fn a_table_has_what_was_put(rt: HostRuntime) {
     for come in &COME {
-        let is_so = match keeps(rt.alloc(), *come) {
-            Ok(is_so) => is_so,
-            Err(_) => keeps(rt.alloc(), *come).unwrap_or(false),
-        };
-        assert!(rt; is_so, "{come:?}");
+        assert!(rt; is_so(|| keeps(rt.alloc(), *come)), "{come:?}");
     }
 }

@@ -3,7 +3,7 @@
 ghost use Rattle.std.specs.Prelude.{◌≡◌, ◌≢◌, ◌≤◌, IfOk};
 ghost use Rattle.vat_tap.specs.Tickets.{IsLaneOf, SameLane, SameTap};
 
-use super::given::{Refused, bytes_of_digits};
+use super::given::bytes_of_digits;
 use super::logs::{SAMPLES, copied, log_of_records};
 use cap_reader::Limits;
 use std::alloc::Global;
@@ -14,6 +14,7 @@ use std::thread::Threads;
 use vat_log::{Body, LogWriter, Record, VatLog, write_lent_log};
 use vat_rules::{Outcome, audit_vat};
 use vat_tap::{CloseError, Full, Lane, Tap};
+use worked_cases::{Refused, is_so};
 
 /// The log of the same vat, to which a second record for each is pushed.
 fn pushed(alloc: Global, log: &VatLog) -> Result<VatLog, Refused> {
@@ -64,8 +65,7 @@ fn is_written(alloc: Global) -> Result<bool, Refused> {
 
 #[test]
 fn a_log_is_written_record_by_record(rt: HostRuntime) {
-    let is_so = is_written(rt.alloc()).unwrap_or(false) || is_written(rt.alloc()).unwrap_or(false);
-    assert!(rt; is_so);
+    assert!(rt; is_so(|| is_written(rt.alloc())));
 }
 
 /// A tap of this vat with two lanes, each with a ring of so many records.
@@ -92,7 +92,8 @@ fn closed(alloc: Global, tap: Tap, first: Lane, second: Lane) -> Result<VatLog, 
     lanes.push(second)?;
     match tap.close(lanes) {
         Ok(log) => Ok(log),
-        Err(_) => Err(Refused),
+        Err((CloseError::OutOfMemory, _, _)) => Err(Refused::OutOfMemory),
+        Err(_) => Err(Refused::Otherwise),
     }
 }
 
@@ -100,8 +101,10 @@ fn closed(alloc: Global, tap: Tap, first: Lane, second: Lane) -> Result<VatLog, 
 fn vow(lane: &mut Lane, reference: u64) -> Result<u64, Refused>
     ensures { SameLane lane.old lane.new }
 {
-    let ticket = lane.record(Record::new(Body::Vow { reference })?)?;
-    Ok(ticket.number())
+    match lane.record(Record::new(Body::Vow { reference })?) {
+        Ok(ticket) => Ok(ticket.number()),
+        Err(_) => Err(Refused::Otherwise),
+    }
 }
 
 /// Whether the lane has no room for VOW of this reference, and hands it back.
@@ -142,7 +145,7 @@ fn missing(alloc: Global, tap: Tap, second: Lane) -> Result<(Tap, Lane), Refused
             let second = lanes.pop().ok_or("lane 1")?;
             Ok((tap, second))
         }
-        _ => Err(Refused),
+        _ => Err(Refused::Otherwise),
     }
 }
 
@@ -159,20 +162,20 @@ fn has_vows(log: &VatLog, references: &[u64]) -> bool {
     log.len() == references.len()
 }
 
-/// Whether a tap of vat 1 with two lanes of ring 1 answers so.
+/// Whether a tap of vat 1 with two lanes of ring 1 answers so, and a lane goes on after the tap wasn't closed.
 fn is_drained(alloc: Global) -> Result<bool, Refused> {
     let (tap, first, second) = two_lanes(alloc, 1, 1)?;
     let (mut tap, mut first, mut second) = (tap, first, second);
     let is_so = go_on(&mut tap, &mut first, &mut second)?;
-    let (tap, second) = missing(alloc, tap, second)?;
+    let (tap, mut second) = missing(alloc, tap, second)?;
+    let goes_on = vow(&mut second, 4)? == 3;
     let log = closed(alloc, tap, first, second)?;
-    Ok(is_so && log.vat() == 1 && has_vows(&log, &[1, 3, 2]))
+    Ok(is_so && goes_on && log.vat() == 1 && has_vows(&log, &[1, 3, 2, 4]))
 }
 
 #[test]
 fn a_full_ring_goes_on_once_it_is_drained(rt: HostRuntime) {
-    let is_so = is_drained(rt.alloc()).unwrap_or(false) || is_drained(rt.alloc()).unwrap_or(false);
-    assert!(rt; is_so);
+    assert!(rt; is_so(|| is_drained(rt.alloc())));
 }
 
 /// Records a share of 16,384 VOWs.
@@ -201,8 +204,7 @@ fn is_shared(alloc: Global) -> Result<bool, Refused> {
 
 #[test]
 fn a_lane_records_its_share(rt: HostRuntime) {
-    let is_so = is_shared(rt.alloc()).unwrap_or(false) || is_shared(rt.alloc()).unwrap_or(false);
-    assert!(rt; is_so);
+    assert!(rt; is_so(|| is_shared(rt.alloc())));
 }
 
 /// Whether a tap of vat 3 with 64 lanes gives a log without records.
@@ -211,14 +213,14 @@ fn is_empty(alloc: Global) -> Result<bool, Refused> {
     let (tap, lanes) = Tap::open(alloc, 3, 64, 1)?;
     match tap.close(lanes) {
         Ok(log) => Ok(log.bytes().as_slice() == wanted.as_slice()),
-        Err(_) => Err(Refused),
+        Err((CloseError::OutOfMemory, _, _)) => Err(Refused::OutOfMemory),
+        Err(_) => Err(Refused::Otherwise),
     }
 }
 
 #[test]
 fn a_tap_without_records(rt: HostRuntime) {
-    let is_so = is_empty(rt.alloc()).unwrap_or(false) || is_empty(rt.alloc()).unwrap_or(false);
-    assert!(rt; is_so);
+    assert!(rt; is_so(|| is_empty(rt.alloc())));
 }
 
 /// Records 500 VOWs, of every second reference from this one on, and answers whether there was room for all.
@@ -277,9 +279,54 @@ fn is_of_both<R: Threads>(rt: &R, alloc: Global) -> Result<bool, Refused> {
 
 #[test]
 fn two_threads_record_at_once(rt: HostRuntime) {
-    let is_so = is_of_both(&rt, rt.alloc()).unwrap_or(false)
-        || is_of_both(&rt, rt.alloc()).unwrap_or(false);
-    assert!(rt; is_so);
+    assert!(rt; is_so(|| is_of_both(&rt, rt.alloc())));
+}
+
+/// Records VOW of this reference in a lane of ring 1, and answers whether there was room for it and for no more.
+fn fill(lane: Lane, reference: u64) -> (Lane, bool)
+    ensures { SameLane lane result.0 }
+{
+    let mut lane = lane;
+    let is_recorded = vow(&mut lane, reference).is_ok();
+    let is_filled = is_full(&mut lane, reference) == Ok(true);
+    (lane, is_recorded && is_filled)
+}
+
+/// Two threads fill a lane each, with VOW of these references.
+fn fill_at_once<R: Threads>(
+    rt: &R,
+    first: Lane,
+    second: Lane,
+    references: (u64, u64),
+) -> ((Lane, bool), (Lane, bool))
+    ensures first { SameLane first result.0.0 }
+    ensures second { SameLane second result.1.0 }
+{
+    thread::join(
+        rt,
+        move || fill(first, references.0),
+        move || fill(second, references.1),
+    )
+}
+
+/// What two threads may have recorded in two rounds, references 1 and 3 and then 2 and 4.
+const ROUNDS: [[u64; 4]; 4] = [[1, 3, 2, 4], [1, 3, 4, 2], [3, 1, 2, 4], [3, 1, 4, 2]];
+
+/// Whether two threads fill their lanes of ring 1, and once more when these are drained, and no ticket is left out.
+fn are_filled_twice<R: Threads>(rt: &R, alloc: Global) -> Result<bool, Refused> {
+    let (tap, first, second) = two_lanes(alloc, 1, 1)?;
+    let ((first, is_1), (second, is_3)) = fill_at_once(rt, first, second, (1, 3));
+    let mut tap = tap;
+    let is_drained = tap.drain()? == 2;
+    let ((first, is_2), (second, is_4)) = fill_at_once(rt, first, second, (2, 4));
+    let log = closed(alloc, tap, first, second)?;
+    let is_one = ROUNDS.iter().any(|vowed| has_vows(&log, vowed));
+    Ok(is_1 && is_2 && is_3 && is_4 && is_drained && is_one)
+}
+
+#[test]
+fn two_threads_fill_their_lanes(rt: HostRuntime) {
+    assert!(rt; is_so(|| are_filled_twice(&rt, rt.alloc())));
 }
 
 /// Records, and then tells so by a flag. The flag is raised whether or not it was recorded.
@@ -316,7 +363,5 @@ fn is_later<R: Threads + Wait + Sync>(rt: &R, alloc: Global) -> Result<bool, Ref
 
 #[test]
 fn a_lane_that_records_later_draws_a_later_ticket(rt: HostRuntime) {
-    let is_so = is_later(&rt, rt.alloc()).unwrap_or(false)
-        || is_later(&rt, rt.alloc()).unwrap_or(false);
-    assert!(rt; is_so);
+    assert!(rt; is_so(|| is_later(&rt, rt.alloc())));
 }

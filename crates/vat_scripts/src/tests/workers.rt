@@ -1,14 +1,14 @@
 //! Workers that hold their findings at the same time. No contract says that a thread beside the calling one runs, so this is
 //! what shows it.
 
-use super::audits::{EMBARGOED_CALLS, Line, case_of, line_of};
-use super::given::Refused;
+use super::audits::{Line, line_of};
 use audit_core::{Gate, audit};
 use std::alloc::Global;
 use std::sync::Wait;
 use std::sync::atomic::{AtomicBool, AtomicU64, Ordering};
 use std::thread;
 use std::thread::Threads;
+use worked_cases::{EMBARGOED_CALLS, Refused, case_of};
 
 /// How often a worker yields before it gives up on the others.
 const TURNS: u64 = 10_000_000;
@@ -56,8 +56,8 @@ fn meet<R: Threads + Wait + Sync>(rt: &R, alloc: Global, workers: u32) -> Result
 fn workers_hold_their_pieces_at_once(rt: HostRuntime) {
     for workers in [2, 3] {
         let is_so = match meet(&rt, rt.alloc(), workers) {
-            Ok(true) => true,
-            _ => meet(&rt, rt.alloc(), workers).unwrap_or(false),
+            Ok(false) | Err(Refused::OutOfMemory) => meet(&rt, rt.alloc(), workers) == Ok(true),
+            met => met == Ok(true),
         };
         assert!(rt; is_so, "{workers} workers");
     }

@@ -1,7 +1,7 @@
 use Rattle.audit_core.specs.Report.{AreGoodEnds}
 use Rattle.audit_core.proofs.Places.{holds_none, holds_all}
 use Rattle.audit_core.proofs.FirstLine.{link_next}
-use Rattle.vat_scripts.proofs.tests.naming.are_linked.Goals as goal
+use Rattle.worked_cases.proofs.naming.are_linked.Goals as goal
 
 pub loop-found-init : goal.loop-found-init
 loop-found-init c = holds_none AreGoodEnds c.args.links.now

@@ -1,6 +1,6 @@
 use Rattle.std.proofs.Common.{◌≡◌}
 use Rattle.case_book.specs.Books.{missing_in}
-use Rattle.vat_scripts.proofs.tests.naming.find_all.Given as goal
+use Rattle.worked_cases.proofs.naming.find_all.Given as goal
 
 abbrev pub invariant-loop-piece : goal.invariant-loop-piece
 invariant-loop-piece l = l.book.case ≡ l.fn.case

@@ -1,7 +1,7 @@
 use Rattle.audit_core.specs.Report.{IsGoodFinding}
 use Rattle.audit_core.proofs.Places.{holds_none, holds_all}
 use Rattle.audit_core.proofs.FirstLine.{good_next}
-use Rattle.vat_scripts.proofs.tests.naming.are_good.Goals as goal
+use Rattle.worked_cases.proofs.naming.are_good.Goals as goal
 
 pub loop-found-init : goal.loop-found-init
 loop-found-init c = holds_none IsGoodFinding c.args.vats.now

@@ -8,7 +8,7 @@ use Rattle.case_book.specs.Case.{Contents}
 use Rattle.merge_order.specs.Fits.{IsFitting}
 use Rattle.vat_log.specs.Log.{Log}
 use Rattle.vat_rules.specs.Audit.{Found}
-use Rattle.vat_scripts.proofs.tests.naming.run_of.Goals as goal
+use Rattle.worked_cases.proofs.naming.run_of.Goals as goal
 
 pub name_run-requires : goal.name_run-requires
 name_run-requires c =

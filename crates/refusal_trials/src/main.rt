@@ -1,0 +1,55 @@
+//! Makes each call that takes memory on the worked conversations, and compares its answer with what it must be.
+//!
+//! A call that is refused memory is made again. `tests/refused` runs this program once for each of its allocations and
+//! refuses that one; each time all answers have to come as they must. An answer that doesn't is named in a line, and the
+//! exit status is then 1. The last line is how many came as they must. `rows.rt` says what must come, `of_logs.rt` makes
+//! the calls on one log, `of_cases.rt` those on a case, `of_taps.rt` those of a tap.
+#![tactic(auto)]
+
+mod of_cases;
+mod of_logs;
+mod of_taps;
+mod rows;
+mod tally;
+
+use of_cases::try_case;
+use of_logs::try_log;
+use of_taps::try_tap;
+use rows::{ROWS, Row};
+use std::io;
+use std::process::ExitCode;
+use std::sync::Wait;
+use std::thread::Threads;
+use tally::Tally;
+
+/// Makes the calls on a conversation.
+fn try_row<R: Print + Threads + Wait + Sync + AllocGlobal>(
+    rt: &R,
+    row: &Row,
+    tally: &mut Tally,
+) -> io::Result<()> {
+    for ((number, records), delivered) in row.conversation.vats.iter().zip(row.delivered) {
+        try_log(rt, rt.alloc(), (number, records), *delivered, tally)?;
+    }
+    try_case(rt, rt.alloc(), row, tally)
+}
+
+/// Makes all calls.
+fn try_all<R: Print + Threads + Wait + Sync + AllocGlobal>(rt: &R) -> io::Result<Tally> {
+    let mut tally = Tally { same: 0, other: 0 };
+    for row in &ROWS {
+        try_row(rt, row, &mut tally)?;
+    }
+    try_tap(rt, rt.alloc(), &mut tally)?;
+    Ok(tally)
+}
+
+fn main(rt: HostRuntime) -> io::Result<ExitCode> {
+    let Tally { same, other } = try_all(&rt)?;
+    println!(rt; "{same} answers as they must, {other} differ")?;
+    Ok(if other == 0 {
+        ExitCode::SUCCESS
+    } else {
+        ExitCode::FAILURE
+    })
+}

@@ -1,0 +1,44 @@
+//! Logs by their records.
+
+use crate::refused::Refused;
+use bytes::Bytes;
+use std::alloc::Global;
+use std::sync::Arc;
+use vat_log::{VatLog, parse_log};
+use vat_notation::{Vat, add_records, log_of};
+
+/// The bytes of the log of a vat that recorded this, with what is changed, in the notation of the conversations.
+fn bytes_of_changed(
+    alloc: Global,
+    number: &str,
+    records: &str,
+    changes: &[&str],
+) -> Result<Bytes, Refused> {
+    let mut vat = Vat {
+        number,
+        records: Vec::new(alloc),
+    };
+    add_records(&mut vat.records, records)?;
+    Ok(Bytes::from_vec(log_of(alloc, &vat, changes)?)?)
+}
+
+/// The bytes of the log of a vat that recorded this.
+pub fn bytes_of_log(alloc: Global, number: &str, records: &str) -> Result<Bytes, Refused> {
+    bytes_of_changed(alloc, number, records, &[])
+}
+
+/// The log of a vat that recorded this, with what is changed.
+pub fn changed_log(
+    alloc: Global,
+    number: &str,
+    records: &str,
+    changes: &[&str],
+) -> Result<Arc<VatLog>, Refused> {
+    let bytes = bytes_of_changed(alloc, number, records, changes)?;
+    Ok(Arc::new(alloc, parse_log(alloc, bytes)?)?)
+}
+
+/// The log of a vat that recorded this.
+pub fn log(alloc: Global, number: &str, records: &str) -> Result<Arc<VatLog>, Refused> {
+    changed_log(alloc, number, records, &[])
+}

@@ -4,9 +4,9 @@ use Rattle.std.specs.Fmt.{decimal}
 use Rattle.run_model.specs.Steps.{call, vat_of}
 use Rattle.run_model.specs.declared.name.Name.{Name}
 use Rattle.run_model.specs.declared.message.Message.{Message}
-use Rattle.run_model.specs.declared.message.Message.TheVariants.{Boot, Call, Return, Late, Failed, Resolve, Broken, Plain}
+use Rattle.run_model.specs.declared.message.Message.TheVariants.{Boot, Call, Return, Late, Failed, Taken, Elsewhere, Resolve, Broken, Plain}
 use Rattle.run_model.specs.declared.step.Step.{Step}
-use Rattle.run_model.specs.declared.step.Step.TheVariants.{Host, Vow, Fulfil, Break, Make, Name as Named, Deliver, Answer, Fault, Send, Receive}
+use Rattle.run_model.specs.declared.step.Step.TheVariants.{Host, Vow, Fulfil, Break, Make, Name as Named, Deliver, Answer, AnswerBy, Fault, Send, Receive}
 use Rattle.run_model.specs.declared.plain.Plain.{Plain as PlainOf}
 use Rattle.run_model.specs.declared.plain.Plain.TheVariants as plain
 use Rattle.report_lines.specs.EdgeText.{name_text}
@@ -25,6 +25,8 @@ message_word (Call c target interface method caps) = codes "call"
 message_word (Return c results caps) = codes "return"
 message_word (Late c) = codes "return"
 message_word (Failed c) = codes "return"
+message_word (Taken c by) = codes "return"
+message_word (Elsewhere c) = codes "return"
 message_word (Resolve promise cap) = codes "resolve"
 message_word (Broken promise) = codes "resolve"
 message_word (Plain which) = plain_word which
@@ -36,7 +38,11 @@ call_of_message (Call c target interface method caps) = Some c
 call_of_message (Return c results caps) = Some c
 call_of_message (Late c) = Some c
 call_of_message (Failed c) = Some c
-call_of_message _ = None
+call_of_message (Taken c by) = Some c
+call_of_message (Elsewhere c) = Some c
+call_of_message (Resolve promise cap) = None
+call_of_message (Broken promise) = None
+call_of_message (Plain which) = None
 
 -- the kind of a step's record
 abbrev pub kind_text : Step → List ℕ
@@ -48,6 +54,7 @@ kind_text (Make vat number cap reference interface method) = codes "make"
 kind_text (Named vat cap) = codes "field"
 kind_text (Deliver vat c object) = codes "deliver"
 kind_text (Answer vat c results) = codes "answer"
+kind_text (AnswerBy vat c by) = codes "answerby"
 kind_text (Fault vat c) = codes "fault"
 kind_text (Send vat connection message) = codes "send " ++ message_word message
 kind_text (Receive vat connection message bound) = codes "receive " ++ message_word message
@@ -57,10 +64,15 @@ abbrev pub call_of_step : Step → Option Name
 call_of_step (Make vat number cap reference interface method) = Some (call vat number)
 call_of_step (Deliver vat c object) = Some c
 call_of_step (Answer vat c results) = Some c
+call_of_step (AnswerBy vat c by) = Some c
 call_of_step (Fault vat c) = Some c
 call_of_step (Send vat connection message) = call_of_message message
 call_of_step (Receive vat connection message bound) = call_of_message message
-call_of_step _ = None
+call_of_step (Host vat object) = None
+call_of_step (Vow vat promise) = None
+call_of_step (Fulfil vat promise to) = None
+call_of_step (Break vat promise) = None
+call_of_step (Named vat cap) = None
 
 -- a call behind its word, if there is one
 abbrev pub called_text : Option Name → List ℕ

@@ -28,7 +28,11 @@ fn message_word(message: &Message) -> &'static str
     match message {
         Message::Boot(_) => "bootstrap",
         Message::Call { .. } => "call",
-        Message::Return { .. } | Message::Late(_) | Message::Failed(_) => "return",
+        Message::Return { .. }
+        | Message::Late(_)
+        | Message::Failed(_)
+        | Message::Taken(..)
+        | Message::Elsewhere(_) => "return",
         Message::Resolve(..) | Message::Broken(_) => "resolve",
         Message::Plain(plain) => plain_word(*plain),
     }
@@ -43,7 +47,9 @@ fn call_of_message(message: &Message) -> Option<Name>
         | Message::Call { call, .. }
         | Message::Return { call, .. }
         | Message::Late(call)
-        | Message::Failed(call) => Some(*call),
+        | Message::Failed(call)
+        | Message::Taken(call, _)
+        | Message::Elsewhere(call) => Some(*call),
         Message::Resolve(..) | Message::Broken(_) | Message::Plain(_) => None,
     }
 }
@@ -57,9 +63,10 @@ fn call_of(step: &Step) -> Option<Name>
             maker: *vat,
             number: *number,
         }),
-        Step::Deliver { call, .. } | Step::Answer { call, .. } | Step::Fault { call, .. } => {
-            Some(*call)
-        }
+        Step::Deliver { call, .. }
+        | Step::Answer { call, .. }
+        | Step::AnswerBy { call, .. }
+        | Step::Fault { call, .. } => Some(*call),
         Step::Send { message, .. } | Step::Receive { message, .. } => call_of_message(message),
         Step::Host { .. }
         | Step::Vow { .. }
@@ -83,6 +90,7 @@ impl Display for Shown<&Step> {
             Step::Name { .. } => f.write_str("field"),
             Step::Deliver { .. } => f.write_str("deliver"),
             Step::Answer { .. } => f.write_str("answer"),
+            Step::AnswerBy { .. } => f.write_str("answerby"),
             Step::Fault { .. } => f.write_str("fault"),
             Step::Send { message, .. } => write!(f, "send {}", message_word(message)),
             Step::Receive { message, .. } => write!(f, "receive {}", message_word(message)),

@@ -46,12 +46,28 @@ pub fn bytes_of_digits(alloc: Global, digits: &str) -> Result<Vec<u8>, Refused> 
 
 /// The bytes of the log of a vat that recorded these records, in the notation of the conversations.
 pub fn bytes_of_log(alloc: Global, number: &str, records: &str) -> Result<Bytes, Refused> {
+    changed_log(alloc, number, records, &[])
+}
+
+/// The bytes of that log in version 2.
+pub fn bytes_of_new_log(alloc: Global, number: &str, records: &str) -> Result<Bytes, Refused> {
+    let change = format!(in alloc; "vat {number} version 2")?;
+    changed_log(alloc, number, records, &[change.as_str()])
+}
+
+/// The bytes of that log, with these changes.
+fn changed_log(
+    alloc: Global,
+    number: &str,
+    records: &str,
+    changes: &[&str],
+) -> Result<Bytes, Refused> {
     let mut vat = Vat {
         number,
         records: Vec::new(alloc),
     };
     add_records(&mut vat.records, records)?;
-    Ok(Bytes::from_vec(log_of(alloc, &vat, &[])?)?)
+    Ok(Bytes::from_vec(log_of(alloc, &vat, changes)?)?)
 }
 
 /// That log.

@@ -3,7 +3,7 @@
 ghost use Rattle.std.specs.Prelude.{◌≡◌, ◌≢◌, ◌≤◌, IfOk};
 ghost use Rattle.vat_tap.specs.Tickets.{IsLaneOf, SameLane, SameTap};
 
-use super::given::{Refused, bytes_of_digits};
+use super::given::{Refused, bytes_of_digits, bytes_of_new_log};
 use super::logs::{SAMPLES, copied, log_of_records};
 use cap_reader::Limits;
 use std::alloc::Global;
@@ -47,17 +47,17 @@ fn is_lent(alloc: Global, log: &VatLog, wanted: &[u8]) -> Result<bool, Refused> 
     Ok(lent.bytes().as_slice() == wanted)
 }
 
-/// Whether a log has these 474 bytes either way.
+/// Whether a log has these 488 bytes either way.
 fn has_bytes(alloc: Global, log: &VatLog, wanted: &[u8]) -> Result<bool, Refused> {
     let is_pushed = is_pushed(alloc, log, wanted)?;
     let is_lent = is_lent(alloc, log, wanted)?;
-    Ok(is_pushed && is_lent && wanted.len() == 474)
+    Ok(is_pushed && is_lent && wanted.len() == 488)
 }
 
 /// Whether vat 2's log of pipelined_call is written so.
 fn is_written(alloc: Global) -> Result<bool, Refused> {
-    let (vat, records, digits) = &SAMPLES[1];
-    let wanted = bytes_of_digits(alloc, digits)?;
+    let (vat, records, _) = &SAMPLES[1];
+    let wanted = bytes_of_new_log(alloc, vat, records)?;
     let log = log_of_records(alloc, vat, records)?;
     has_bytes(alloc, &log, wanted.as_slice())
 }
@@ -207,7 +207,7 @@ fn a_lane_records_its_share(rt: HostRuntime) {
 
 /// Whether a tap of vat 3 with 64 lanes gives a log without records.
 fn is_empty(alloc: Global) -> Result<bool, Refused> {
-    let wanted = bytes_of_digits(alloc, "5641544c4f473031 03000000")?;
+    let wanted = bytes_of_digits(alloc, "5641544c4f473032 03000000")?;
     let (tap, lanes) = Tap::open(alloc, 3, 64, 1)?;
     match tap.close(lanes) {
         Ok(log) => Ok(log.bytes().as_slice() == wanted.as_slice()),

@@ -1,5 +1,5 @@
 -- What clap makes of the words.
-use Rattle.std.proofs.Common.{◌≡◌, ◌⊎◌, ◌∙◌, ◌==◌, ◌||◌, ◌++◌, ℕ, Bool, true, false, List, [], ◌∷◌, Option, Some, None, if◌then◌else◌, length, map, fold, option_map, refl, sym, ap, subst, inl, inr, append_assoc, append-nil}
+use Rattle.std.proofs.Common.{◌≡◌, ◌⊎◌, ◌∙◌, ◌==◌, ◌||◌, ◌++◌, ℕ, Bool, true, false, List, [], ◌∷◌, Option, Some, None, if◌then◌else◌, length, map, fold, option_map, refl, sym, ap, subst, inl, inr, append_assoc, append-nil, codes}
 use Rattle.std.specs.Prelude.{IfSome, find, not, slice_get, unwrap_or, option_map}
 use Rattle.std.specs.Str.{bytes_eq}
 use Rattle.std.proofs.lemmas.Slice.Eq.{bytes_eq-Decides}
@@ -19,9 +19,9 @@ use Rattle.clap.specs.declared.builder.value_parser.ValueParser.TheVariants as p
 use Rattle.clap.proofs.OnLiterals.{clap_on_literals}
 use Rattle.command_line.proofs.Faultless.{first_none, never, then_none}
 use Rattle.command_line.proofs.Filled.{AllBring, AreFull, Brings, default_row, first_passes, given_value, level_full, no_default, parser_by, replaced_full, row_value, values_pass}
-use Rattle.command_line.proofs.Named.{IsOneOf, Named, Reader, all_names, checking, help_word, listing, name_of, of_frame, of_frames, of_graph, of_run, of_vat, ordering, reading, which, word_of}
+use Rattle.command_line.proofs.Named.{IsOneOf, Named, Reader, all_names, checking, help_word, listing, migrating, name_of, of_frame, of_frames, of_graph, of_run, of_vat, ordering, reading, which, word_of}
 use Rattle.command_line.proofs.One.{HasFile, at, dashes, help, holding, main, names, sub, word_plain, words_read}
-use Rattle.command_line.specs.Parser.{check, count, input, input_rule, most, number_rule, order, path, path_rule, program, records, start, workers, workers_rule}
+use Rattle.command_line.specs.Parser.{check, count, input, input_rule, most, number_rule, path, path_rule, program, records, start, workers, workers_rule, writer}
 use Rattle.command_line.specs.Spelled.{IsChecked, SpellsOne}
 
 -- ---- the first word
@@ -73,16 +73,20 @@ abbrev check_sub : Shape
 check_sub = unwrap_or (slice_get (built program).subs 0) check.top
 
 abbrev order_sub : Shape
-order_sub = unwrap_or (slice_get (built program).subs 1) order.top
+order_sub = unwrap_or (slice_get (built program).subs 1) (writer (codes "order")).top
 
 abbrev records_sub : Shape
 records_sub = unwrap_or (slice_get (built program).subs 5) records.top
+
+abbrev migrate_sub : Shape
+migrate_sub = unwrap_or (slice_get (built program).subs 8) (writer (codes "migrate")).top
 
 abbrev pub shape_by : Named → Shape
 shape_by (reading r) = sub (word_of r)
 shape_by checking = check_sub
 shape_by ordering = order_sub
 shape_by listing = records_sub
+shape_by migrating = migrate_sub
 
 -- past the name of a command the walk keeps the words
 stops : (h : Held) (waiting : Waiting) (n : ℕ) (ended : Bool) (name : Text) (seen words : List Text)
@@ -102,6 +106,7 @@ stop_at (reading of_frames) words = stops (holding None) idle 1 false (word_of o
 stop_at checking words = stops (holding None) idle 1 false (name_of checking) [] words
 stop_at ordering words = stops (holding None) idle 1 false (name_of ordering) [] words
 stop_at listing words = stops (holding None) idle 1 false (name_of listing) [] words
+stop_at migrating words = stops (holding None) idle 1 false (name_of migrating) [] words
 
 -- the command that is entered reads the words that are left
 entered_level : (c : Named) (words : List Text) → entered_fault (built program) (Some (name_of c, words)) ≡ level_fault (shape_by c) [] nothing_held words false []
@@ -113,6 +118,7 @@ entered_level (reading of_frames) words = refl
 entered_level checking words = refl
 entered_level ordering words = refl
 entered_level listing words = refl
+entered_level migrating words = refl
 
 entered_rows : (c : Named) (words : List Text) → entered (built program) (Some (name_of c, words)) ≡ Some (name_of c, rows_after (shape_by c).rules [] words)
 entered_rows (reading of_graph) words = refl
@@ -123,6 +129,7 @@ entered_rows (reading of_frames) words = refl
 entered_rows checking words = refl
 entered_rows ordering words = refl
 entered_rows listing words = refl
+entered_rows migrating words = refl
 
 no_command : (rest : List Text) → built_fault (built program) nothing_held (dashes ∷ rest) ≡ [] → ⊥
 unfolding clap_on_literals
@@ -185,6 +192,7 @@ brings : (c : Named) → AllBring (shape_by c).args_override_self (shape_by c).r
 brings (reading r) = (brings_case, tt, (brings_help, tt, tt))
 brings checking = (brings_case, tt, (brings_workers, (refl, tt), (brings_help, tt, tt)))
 brings ordering = (brings_case, tt, (brings_path, tt, (brings_help, tt, tt)))
+brings migrating = (brings_case, tt, (brings_path, tt, (brings_help, tt, tt)))
 brings listing = (brings_case, tt, (brings_number start refl, tt, (brings_number count refl, tt, (brings_help, tt, tt))))
 
 -- what has to be given was
@@ -219,6 +227,7 @@ abbrev pub Besides : Named → List Text → List Row → Text → Type 0
 Besides (reading r) words rows file = SpellsOne (word_of r) words file
 Besides checking words rows file = (t : Text) × ((first_of workers rows ≡ Some t) × IsUnsignedIn 1 64 t)
 Besides ordering words rows file = (out : Text) × (first_of path rows ≡ Some out)
+Besides migrating words rows file = (out : Text) × (first_of path rows ≡ Some out)
 Besides listing words rows file = IsChecked 0 most (first_of start rows) × IsChecked 0 most (first_of count rows)
 
 abbrev pub Finds : Named → List Text → List Row → Type 0
@@ -242,6 +251,12 @@ finds_by checking first rest e full none =
     (file.0, (file.1, (many.0, (many.1, accepts-Accepts false (parser.Unsigned 1 64) many.0 many.2))))
 finds_by ordering first rest e full none =
     let rows = rows_after order_sub.rules [] rest in
+    let given = both_given rows none in
+    let file = given_value input rows given.0 full in
+    let out = given_value path rows given.1 full in
+    (file.0, (file.1, (out.0, out.1)))
+finds_by migrating first rest e full none =
+    let rows = rows_after migrate_sub.rules [] rest in
     let given = both_given rows none in
     let file = given_value input rows given.0 full in
     let out = given_value path rows given.1 full in

@@ -31,16 +31,16 @@ workers_rule = record (number_rule workers 1 64) { defaults = codes "1" ∷ [] }
 abbrev pub check : App
 check = with_rule (with_rule (new_app (codes "check")) input_rule) workers_rule
 
--- by what clap knows the file of `order`, which is given as `--out FILE` and has to be given
+-- by what clap knows the file that is written, which is given as `--out FILE` and has to be given
 abbrev pub path : List ℕ
 path = codes "out"
 
 abbrev pub path_rule : Rule
 path_rule = record (new_rule path) { long = Some (codes "out"); value_names = 1; required = true }
 
--- `order CASE --out FILE`
-abbrev pub order : App
-order = with_rule (with_rule (new_app (codes "order")) input_rule) path_rule
+-- a command that reads one thing and writes a file: `order CASE --out FILE`, `migrate FILE --out FILE`
+abbrev pub writer : List ℕ → App
+writer name = with_rule (with_rule (new_app name) input_rule) path_rule
 
 -- by what clap knows the options of `records`, which are given as `--from I` and `--count N`, numbers of 64 bits
 abbrev pub start : List ℕ
@@ -62,9 +62,13 @@ top = on_top (λ s. record s { subcommand_required = true; arg_required_else_hel
 
 -- the program with its commands that read a case
 abbrev pub judging : App
-judging = with_subcommand (with_subcommand (with_subcommand (with_subcommand top check.top) order.top) (reader (codes "graph")).top) (reader (codes "run")).top
+judging = with_subcommand (with_subcommand (with_subcommand (with_subcommand top check.top) (writer (codes "order")).top) (reader (codes "graph")).top) (reader (codes "run")).top
 
 -- and with those that read a file or a frame
-abbrev pub program : App
-program =
+abbrev pub reading : App
+reading =
     with_subcommand (with_subcommand (with_subcommand (with_subcommand judging (reader (codes "vat")).top) records.top) (reader (codes "frame")).top) (reader (codes "frames")).top
+
+-- and with the one that writes a log
+abbrev pub program : App
+program = with_subcommand reading (writer (codes "migrate")).top

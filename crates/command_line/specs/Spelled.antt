@@ -2,7 +2,7 @@
 use Rattle.std.specs.Prelude.{◌≡◌, ◌⊎◌, ◌==◌, ◌≤◌, ⊤, ℕ, Bool, false, List, [], ◌∷◌, Option, Some, None, codes}
 use Rattle.std.specs.Str.Parse.{IsNumeral, digits_value, without_leading_plus}
 use Rattle.command_line.specs.declared.command.Command.{Command}
-use Rattle.command_line.specs.declared.command.Command.TheVariants.{Check, Order, Graph, Run, Vat, Records, Frame, Frames}
+use Rattle.command_line.specs.declared.command.Command.TheVariants.{Check, Order, Graph, Run, Vat, Records, Frame, Frames, Migrate}
 use Rattle.clap.specs.Simple.{subcommand_rows_of}
 use Rattle.clap.specs.Values.{IsUnsignedIn}
 use Rattle.clap.specs.Words.{Row, fault_of, first_of, subcommand_of}
@@ -52,9 +52,9 @@ abbrev pub SpellsCheck : List (List ℕ) → List ℕ → ℕ → Type 0
 SpellsCheck words name many = (rows : List Row) ×
     (IsRead words (codes "check") rows × (first_of input rows ≡ Some name) × IsNumber (first_of workers rows) (Some many))
 
--- the words are read as `order CASE --out FILE`, and clap finds CASE and FILE in them
-abbrev pub SpellsOrder : List (List ℕ) → List ℕ → List ℕ → Type 0
-SpellsOrder words name out = (rows : List Row) × (IsRead words (codes "order") rows × (first_of input rows ≡ Some name) × (first_of path rows ≡ Some out))
+-- the words are read as `COMMAND THING --out FILE`, and clap finds THING and FILE in them
+abbrev pub SpellsWriter : List ℕ → List (List ℕ) → List ℕ → List ℕ → Type 0
+SpellsWriter command words name out = (rows : List Row) × (IsRead words command rows × (first_of input rows ≡ Some name) × (first_of path rows ≡ Some out))
 
 -- the words are read as `records FILE`, and clap finds FILE and, where they were given, the number of the first record and
 -- how many are wanted
@@ -66,13 +66,14 @@ SpellsRecords words name first many = (rows : List Row) ×
 -- the words spell the command
 abbrev pub Spells : List (List ℕ) → Command → Type 0
 Spells words (Check name many) = SpellsCheck words name.now many
-Spells words (Order name out) = SpellsOrder words name.now out.now
+Spells words (Order name out) = SpellsWriter (codes "order") words name.now out.now
 Spells words (Graph name) = SpellsOne (codes "graph") words name.now
 Spells words (Run name) = SpellsOne (codes "run") words name.now
 Spells words (Vat file) = SpellsOne (codes "vat") words file.now
 Spells words (Records file first many) = SpellsRecords words file.now first many
 Spells words (Frame hex) = SpellsOne (codes "frame") words hex.now
 Spells words (Frames file) = SpellsOne (codes "frames") words file.now
+Spells words (Migrate file out) = SpellsWriter (codes "migrate") words file.now out.now
 
 -- the name of a command that reads one thing
 abbrev pub IsReader : List ℕ → Type 0
@@ -89,6 +90,7 @@ HasWorkers (Vat name) = ⊤
 HasWorkers (Records name first many) = ⊤
 HasWorkers (Frame hex) = ⊤
 HasWorkers (Frames name) = ⊤
+HasWorkers (Migrate file out) = ⊤
 
 -- the name of the file that a command writes, if it writes one
 abbrev pub out_of : Command → Option (List ℕ)
@@ -100,3 +102,4 @@ out_of (Vat name) = None
 out_of (Records name first many) = None
 out_of (Frame hex) = None
 out_of (Frames name) = None
+out_of (Migrate file out) = Some out.now

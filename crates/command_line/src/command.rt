@@ -54,6 +54,11 @@ pub enum Command<'a> {
     Frames {
         file: &'a str,
     },
+    /// Write the log that the source has under this name to a file, in version 2.
+    Migrate {
+        file: &'a str,
+        out: &'a str,
+    },
 }
 
 impl<'a> Command<'a> {
@@ -62,7 +67,7 @@ impl<'a> Command<'a> {
         ensures { option_map (λ name. name.now) result ≡ out_of self.now }
     {
         match self {
-            Command::Order { out, .. } => Some(out),
+            Command::Order { out, .. } | Command::Migrate { out, .. } => Some(out),
             Command::Check { .. } | Command::Graph { .. } | Command::Run { .. } => None,
             Command::Vat { .. } | Command::Records { .. } => None,
             Command::Frame { .. } | Command::Frames { .. } => None,
@@ -134,6 +139,10 @@ fn command_in<'a>(matches: &ArgMatches<'a>) -> Command<'a>
             count: number_of(given, COUNT),
         },
         "frame" => Command::Frame { hex: input },
+        "migrate" => Command::Migrate {
+            file: input,
+            out: value_of(given, OUT),
+        },
         _ => Command::Frames { file: input },
     }
 }
@@ -153,7 +162,7 @@ fn matches_of<'a, S: AsStr>(alloc: Global, words: &'a [S]) -> Result<ArgMatches<
 /// The command that the words spell, of which the first is the program's name: `graph CASE`, `run CASE`, `vat FILE`, `frame
 /// HEX` or `frames FILE`, where before or after the last of these may stand `--`, and it may begin with a hyphen only after
 /// that or where it is `-`; or `check CASE` with `--workers N` if wanted, a number from 1 to 64, or `order CASE --out FILE`,
-/// or `records FILE` with `--from I` and `--count N` if wanted, numbers of 64 bits, as `clap` reads them.
+/// or `migrate FILE --out FILE`, or `records FILE` with `--from I` and `--count N` if wanted, numbers of 64 bits, as `clap` reads them.
 ///
 /// # Errors
 ///
@@ -183,6 +192,10 @@ pub fn command_of<'a, S: AsStr>(alloc: Global, words: &'a [S]) -> Result<Command
     ensures taken_order { (first case out : List ℕ)
         → map S.text words.entry.now ≡ first ∷ codes "order" ∷ case ∷ codes "--out" ∷ out ∷ []
         → is_flag case ≡ false → is_flag out ≡ false
+        → IfErr result (λ e. kind_of e ≡ ErrorKind.OutOfMemory) }
+    ensures taken_migrate { (first file out : List ℕ)
+        → map S.text words.entry.now ≡ first ∷ codes "migrate" ∷ file ∷ codes "--out" ∷ out ∷ []
+        → is_flag file ≡ false → is_flag out ≡ false
         → IfErr result (λ e. kind_of e ≡ ErrorKind.OutOfMemory) }
     ensures taken_records { (first file : List ℕ)
         → map S.text words.entry.now ≡ first ∷ codes "records" ∷ file ∷ [] → is_flag file ≡ false

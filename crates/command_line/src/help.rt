@@ -20,7 +20,7 @@ Examples:
   abort
 
 Exit status:
-  0  yes, good, an order, edges, steps, the records or the message
+  0  yes, good, an order, edges, steps, the records, the message or a new log
   1  no
   2  outside of what is judged, bad input, a failed write, a wrong command line,
      or one that asks for help, which is printed on standard error
@@ -146,7 +146,7 @@ pub const VAT: &str = "Audits the log of one vat";
 
 pub const VAT_LONG: &str = "\
 Audits the log of one vat of Cap'n Proto RPC. Reads the log, in the format
-VATLOG01, and prints one line:
+VATLOG01 or VATLOG02, and prints one line:
 
   good vat V records N delivered D   every record keeps the rules
   no vat V record I rule CODE        record I is the first that breaks a rule
@@ -174,7 +174,7 @@ Exit status:
      written, or the command line is wrong
   3  memory ran out";
 
-/// FILE of `vat`.
+/// FILE of the commands that read a log.
 pub const FILE: &str = "The log, a path from the working directory; - is standard input";
 
 /// `frame`, in the list of commands.
@@ -301,8 +301,8 @@ Exit status:
 pub const RECORDS: &str = "Prints the records of a log";
 
 pub const RECORDS_LONG: &str = "\
-Reads the log of one vat, in the format VATLOG01, and prints a line for each
-record, in order, with its number, counted from 0:
+Reads the log of one vat, in the format VATLOG01 or VATLOG02, and prints a line
+for each record, in order, with its number, counted from 0:
 
   I host reference R object O
   I vow reference R
@@ -349,4 +349,30 @@ pub const COUNT: &str = "How many records are printed at most";
 pub const CASE: &str = "The case, a path from the working directory; - is standard input";
 
 /// FILE of `order`.
-pub const OUT: &str = "The file that the order is written to";
+pub const OUT: &str = "The file that is written";
+
+/// `migrate`, in the list of commands.
+pub const MIGRATE: &str = "Writes a log in version 2 of its format";
+
+pub const MIGRATE_LONG: &str = "\
+Reads the log of one vat, in the format VATLOG01 or VATLOG02, writes the log with
+the same vat and records to the file of --out, in the format VATLOG02, and prints
+one line:
+
+  migrated vat V records N   the log of N records is written
+  bad log NAME [OFFSET]      as vat prints it; nothing is written
+  cannot read
+  out of memory
+
+A log of VATLOG02 is written as it is. No command prints another line of the new
+log than of the old one.";
+
+pub const MIGRATE_END: &str = "\
+Example:
+  $ vataudit migrate samples/pipelined_call.vat2.log --out new.log
+  migrated vat 2 records 8
+
+Exit status:
+  0  the log is written
+  2  the log is bad or can't be read, a write failed, or the command line is wrong
+  3  memory ran out";

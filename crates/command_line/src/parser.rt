@@ -2,7 +2,7 @@
 
 ghost use Rattle.std.specs.Prelude.{◌≡◌, ℕ, List, IfOk, Some, codes, false};
 ghost use Rattle.clap.specs.Words.{Rule, app_of, new_rule, rule_of, with_subcommand};
-ghost use Rattle.command_line.specs.Parser.{check, input_rule, judging, order, program, reader, records, top, workers_rule};
+ghost use Rattle.command_line.specs.Parser.{check, input_rule, judging, program, reader, reading, records, top, workers_rule, writer};
 
 use crate::help;
 use clap::builder::ValueParser;
@@ -106,26 +106,31 @@ fn with_check<'a>(alloc: Global, program: Command<'a>) -> Result<Command<'a>, Al
     program.subcommand(check)
 }
 
-/// The program with its command `order CASE --out FILE`.
+/// The program with a command that reads one thing and writes a file, which is given as `--out FILE`.
 ///
 /// # Errors
 ///
 /// Out of memory.
-fn with_order<'a>(alloc: Global, program: Command<'a>) -> Result<Command<'a>, AllocError>
-    ensures { IfOk result (λ c. app_of c ≡ with_subcommand (app_of program.entry) order.top) }
+fn with_writer<'a>(
+    alloc: Global,
+    program: Command<'a>,
+    said: Reader<'a>,
+) -> Result<Command<'a>, AllocError>
+    ensures { IfOk result
+        (λ c. app_of c ≡ with_subcommand (app_of program.entry) (writer said.entry.name.now).top) }
 {
     let out = Arg::new(alloc, OUT)
         .long("out")
         .value_name("FILE")
         .required(true)
         .help(help::OUT);
-    let order = Command::new(alloc, "order")
-        .about(help::ORDER)
-        .long_about(help::ORDER_LONG)
-        .after_help(help::ORDER_END)
-        .arg(input(alloc, "CASE", help::CASE))?
+    let command = Command::new(alloc, said.name)
+        .about(said.about)
+        .long_about(said.long_about)
+        .after_help(said.after_help)
+        .arg(input(alloc, said.thing, said.help))?
         .arg(out)?;
-    program.subcommand(order)
+    program.subcommand(command)
 }
 
 /// The program with its command `records FILE`, which has the options `--from I` and `--count N`.
@@ -173,7 +178,15 @@ fn with_cases<'a>(alloc: Global, program: Command<'a>) -> Result<Command<'a>, Al
         thing: "CASE",
         help: help::CASE,
     };
-    let judging = with_order(alloc, with_check(alloc, program)?)?;
+    let order = Reader {
+        name: "order",
+        about: help::ORDER,
+        long_about: help::ORDER_LONG,
+        after_help: help::ORDER_END,
+        thing: "CASE",
+        help: help::CASE,
+    };
+    let judging = with_writer(alloc, with_check(alloc, program)?, order)?;
     with_reader(alloc, with_reader(alloc, judging, graph)?, run)
 }
 
@@ -184,7 +197,7 @@ fn with_cases<'a>(alloc: Global, program: Command<'a>) -> Result<Command<'a>, Al
 /// Out of memory.
 fn with_files<'a>(alloc: Global, cases: Command<'a>) -> Result<Command<'a>, AllocError>
     requires { app_of cases ≡ judging }
-    ensures { IfOk result (λ c. app_of c ≡ program) }
+    ensures { IfOk result (λ c. app_of c ≡ reading) }
 {
     let vat = Reader {
         name: "vat",
@@ -214,6 +227,26 @@ fn with_files<'a>(alloc: Global, cases: Command<'a>) -> Result<Command<'a>, Allo
     with_reader(alloc, with_reader(alloc, logs, frame)?, frames)
 }
 
+/// The program with its command that writes a log: `migrate FILE --out FILE`.
+///
+/// # Errors
+///
+/// Out of memory.
+fn with_migration<'a>(alloc: Global, readers: Command<'a>) -> Result<Command<'a>, AllocError>
+    requires { app_of readers ≡ reading }
+    ensures { IfOk result (λ c. app_of c ≡ program) }
+{
+    let migrate = Reader {
+        name: "migrate",
+        about: help::MIGRATE,
+        long_about: help::MIGRATE_LONG,
+        after_help: help::MIGRATE_END,
+        thing: "FILE",
+        help: help::FILE,
+    };
+    with_writer(alloc, readers, migrate)
+}
+
 /// The program's command line, with its help.
 ///
 /// # Errors
@@ -227,5 +260,5 @@ pub(crate) fn command_line<'a>(alloc: Global) -> Result<Command<'a>, AllocError>
         .after_help(help::PROGRAM_END)
         .subcommand_required(true)
         .arg_required_else_help(true);
-    with_files(alloc, with_cases(alloc, top)?)
+    with_migration(alloc, with_files(alloc, with_cases(alloc, top)?)?)
 }

@@ -1,11 +1,12 @@
 -- Answers that were said, or whose write failed.
-use Rattle.std.proofs.Common.{◌≡◌, ℕ, List, None, Result, Ok, Err, IfOk, OnOk, refl, subst, sym}
+use Rattle.std.proofs.Common.{◌≡◌, ℕ, List, Option, None, Result, Ok, Err, IfOk, OnOk, refl, subst, sym}
 use Rattle.std.specs.Prelude.{IsErrAnd}
 use Rattle.report_lines.specs.declared.answer.Answer.{Answer}
 use Rattle.report_lines.specs.Lines.{answer_status, answer_text, line}
 use Rattle.command_run.specs.declared.output.Failed.{Failed}
+use Rattle.command_run.specs.declared.output.Failed.TheVariants.{Out, File}
 use Rattle.command_run.specs.Glue.{Prints, of_lines}
-use Rattle.command_run.specs.Runs.{NoFile, Writes, Writing}
+use Rattle.command_run.specs.Runs.{Answering, NoFile, Writes, Writing}
 
 -- one answer
 pub told : {W E : Type 0} (answers : List ℕ → ℕ → Type 0) (wrote : Writing W) (old new : W) (answer : Answer) (r : Result ℕ E)
@@ -27,3 +28,17 @@ lines_written {E = E} {X = X} answers to_out to_file out out_new file (Ok status
     subst (λ (x : Result ℕ (Failed E X)). Writes (NoFile answers) to_out to_file out out_new file file x) (sym is) (printed.0, (None, (printed.1, refl), refl, printed.2))
 lines_written {E = E} {X = X} answers to_out to_file out out_new file (Err fault) r is printed =
     subst (λ (x : Result ℕ (Failed E X)). Writes (NoFile answers) to_out to_file out out_new file file x) (sym is) (printed.0, (printed.1.0, (None, (printed.1.1, refl), refl)))
+
+-- what is an answer by one account is one by another
+pub written_by : {W F E X : Type 0} (one other : Answering) (to_out : Writing W) (to_file : Writing F) (out out_new : W) (file file_new : F) (r : Result ℕ (Failed E X))
+    → ((text : List ℕ) (status : ℕ) (bytes : Option (List ℕ)) → one text status bytes → other text status bytes) → Writes one to_out to_file out out_new file file_new r
+    → Writes other to_out to_file out out_new file file_new r
+written_by one other to_out to_file out out_new file file_new (Ok status) each w = (w.0, (w.1.0, each w.0 status w.1.0 w.1.1, w.1.2, w.1.3))
+written_by one other to_out to_file out out_new file file_new (Err (Out fault)) each w = (w.0, (w.1.0, (w.1.1.0, each w.0 w.1.0 w.1.1.0 w.1.1.1, w.1.1.2)))
+written_by one other to_out to_file out out_new file file_new (Err (File fault)) each w = (w.0, (w.1.0, (w.1.1.0, each w.0 w.1.0 w.1.1.0 w.1.1.1, w.1.1.2, w.1.1.3)))
+
+-- what equals an answer is one
+pub answers_by : (answers : Answering) (t : List ℕ) (n : ℕ) (b : Option (List ℕ)) → answers t n b → (text : List ℕ) (status : ℕ) (bytes : Option (List ℕ)) → (text ≡ t) × (status ≡ n) × (bytes ≡ b)
+    → answers text status bytes
+answers_by answers t n b is text status bytes same =
+    subst (λ (x : List ℕ). answers x status bytes) (sym same.0) (subst (λ (k : ℕ). answers t k bytes) (sym same.1) (subst (λ (o : Option (List ℕ)). answers t n o) (sym same.2) is))

@@ -9,6 +9,7 @@ use Rattle.report_lines.specs.declared.fault.Fault.TheVariants.{OutOfMemory}
 use Rattle.report_lines.specs.Faults.{of_source}
 use Rattle.report_lines.specs.Lines.{SaysAnswer}
 use Rattle.command_run.specs.Answers.{AnswersHex, AnswersLog}
+use Rattle.command_run.specs.MigrationAnswers.{AnswersMigrated}
 use Rattle.command_run.specs.OrderAnswers.{AnswersCase}
 use Rattle.command_run.specs.FrameFiles.{AnswersFrames, Falls, lines}
 use Rattle.command_run.specs.RecordAnswers.{AnswersRecords}
@@ -46,6 +47,12 @@ AnswersFile (Err fault) text status = SaysAnswer (Fault (of_source fault)) text 
 abbrev pub AnswersLogRecords : Option ℕ → Option ℕ → Read → List ℕ → ℕ → Type 0
 AnswersLogRecords first many (Ok bytes) text status = AnswersRecords first many (log_of bytes) text status
 AnswersLogRecords first many (Err fault) text status = SaysAnswer (Fault (of_source fault)) text status
+
+-- A line, a status and the bytes for the file answer what a source gave as a log that is to be migrated; where memory ran
+-- out there are no bytes.
+abbrev pub AnswersMigration : Read → List ℕ → ℕ → Option (List ℕ) → Type 0
+AnswersMigration (Ok came) text status bytes = AnswersMigrated (log_of came) text status bytes ⊎ (IsOutOfMemory text status × (bytes ≡ None))
+AnswersMigration (Err fault) text status bytes = SaysAnswer (Fault (of_source fault)) text status × (bytes ≡ None)
 
 -- A line, a status and the bytes for the file answer the case that a source has under a name; or memory ran out, and then
 -- nothing is said of what the source was asked for.

@@ -1,11 +1,12 @@
 -- This file serves the contracts of private functions alone, and is no part of the meaning.
-use Rattle.std.specs.Prelude.{◌≡◌, ◌⊎◌, ℕ, ◌-◌, List, length, take, drop, Option, Result, Ok, Err}
+use Rattle.std.specs.Prelude.{◌≡◌, ◌⊎◌, ℕ, ◌-◌, List, length, take, drop, Option, None, Result, Ok, Err, option_map}
 use Rattle.report_lines.specs.declared.answer.Answer.{Answer}
 use Rattle.report_lines.specs.declared.answer.Answer.TheVariants.{Finding}
 use Rattle.report_lines.specs.declared.answer.Answer.TheVariants as answer
 use Rattle.report_lines.specs.declared.fault.Fault.{Fault}
 use Rattle.report_lines.specs.declared.fault.Fault.TheVariants.{OutOfMemory}
 use Rattle.report_lines.specs.Faults.{of_case, of_log, of_source}
+use Rattle.report_lines.specs.Lines.{answer_status, answer_text, line}
 use Rattle.audit_core.specs.Report.{IsReport}
 use Rattle.audit_core.specs.declared.report.Report.{Report}
 use Rattle.case_files.specs.CaseReading.{ComesOfCase, Read, Reads}
@@ -19,6 +20,8 @@ use Rattle.vat_rules.specs.declared.finding.VatFinding.{VatFinding}
 use Rattle.command_run.specs.declared.output.Failed.{Failed}
 use Rattle.command_run.specs.declared.output.Failed.TheVariants.{Out}
 use Rattle.command_run.specs.RecordAnswers.{first_ones}
+use Rattle.command_run.specs.CommandAnswers.{AnswersMigration}
+use Rattle.command_run.specs.declared.commands.migrate_log.MigrationAnswer.{MigrationAnswer}
 use Rattle.command_run.specs.Runs.{Writing}
 
 -- a finding, or why there is none, as an answer
@@ -51,3 +54,13 @@ ComesJudged gives old name (Err fault) new = (fault ≡ OutOfMemory) ⊎ ((found
 abbrev pub of_lines : {E X : Type 0} → Result ℕ E → Result ℕ (Failed E X)
 of_lines (Ok status) = Ok status
 of_lines (Err fault) = Err (Out fault)
+
+-- what came of a log that was to be migrated answers it
+abbrev pub Migrates : Read → Result MigrationAnswer Fault → Type 0
+Migrates read (Ok made) = AnswersMigration read (line (answer_text made.answer)) (answer_status made.answer) (option_map (λ bytes. bytes) made.bytes)
+Migrates read (Err fault) = AnswersMigration read (line (answer_text (answer.Fault fault))) (answer_status (answer.Fault fault)) None
+
+-- a line, a status and the bytes for the file are those of an answer that was made
+abbrev pub IsMade : MigrationAnswer → List ℕ → ℕ → Option (List ℕ) → Type 0
+IsMade made text status bytes =
+    (text ≡ line (answer_text made.answer)) × (status ≡ answer_status made.answer) × (bytes ≡ option_map (λ bytes. bytes) made.bytes)

@@ -3,10 +3,10 @@ use Rattle.std.specs.Prelude.{◌≡◌, ◌⊎◌, ℕ, List, Option, Some, Non
 use Rattle.std.specs.Io.KnownBytes.{Appends}
 use Rattle.case_files.specs.CaseReading.{Read, Reads}
 use Rattle.command_line.specs.declared.command.Command.{Command}
-use Rattle.command_line.specs.declared.command.Command.TheVariants.{Check, Order, Graph, Run, Vat, Records, Frame, Frames}
+use Rattle.command_line.specs.declared.command.Command.TheVariants.{Check, Order, Graph, Run, Vat, Records, Frame, Frames, Migrate}
 use Rattle.command_run.specs.declared.output.Failed.{Failed}
 use Rattle.command_run.specs.declared.output.Failed.TheVariants.{Out, File}
-use Rattle.command_run.specs.CommandAnswers.{AnswersFile, AnswersFrame, AnswersLogRecords, AnswersOrder, AnswersReportOf, AnswersSource}
+use Rattle.command_run.specs.CommandAnswers.{AnswersFile, AnswersFrame, AnswersLogRecords, AnswersMigration, AnswersOrder, AnswersReportOf, AnswersSource}
 use Rattle.command_run.specs.ReportAnswers.{AnswersGraph, AnswersReport, AnswersRun}
 
 -- lines, a status and the bytes for the file, if there are any, are an answer
@@ -17,8 +17,8 @@ Answering = List ℕ → ℕ → Option (List ℕ) → Type 0
 abbrev pub NoFile : (List ℕ → ℕ → Type 0) → Answering
 NoFile answers text status bytes = answers text status × (bytes ≡ None)
 
--- What a run asks its source for, and what is an answer then: a log is read once, by its name, to be audited or to be
--- listed, as a file of frames is; a frame asks for nothing; a case is read with the files that it names.
+-- What a run asks its source for, and what is an answer then: a log is read once, by its name, to be audited, listed or
+-- migrated, as a file of frames is; a frame asks for nothing; a case is read with the files that it names.
 abbrev pub CarriesOut : {S : Type 0} → Reads S → Command → S → S → (Answering → Type 0) → Type 0
 CarriesOut gives (Vat file) old new writes = (read : Read) × gives old file.now read new × writes (NoFile (AnswersSource read))
 CarriesOut gives (Frame hex) old new writes = (new ≡ old) × writes (NoFile (AnswersFrame hex.now))
@@ -27,6 +27,7 @@ CarriesOut gives (Records file first many) old new writes = (read : Read) × giv
 CarriesOut gives (Check name workers) old new writes = writes (NoFile (AnswersReportOf AnswersReport gives old name.now new))
 CarriesOut gives (Graph name) old new writes = writes (NoFile (AnswersReportOf AnswersGraph gives old name.now new))
 CarriesOut gives (Run name) old new writes = writes (NoFile (AnswersReportOf AnswersRun gives old name.now new))
+CarriesOut gives (Migrate file out) old new writes = (read : Read) × gives old file.now read new × writes (AnswersMigration read)
 CarriesOut gives (Order name out) old new writes = writes (λ text status bytes. AnswersOrder gives old name.now text status bytes new)
 
 -- what may come of writing: the writer, what was written, and the writer afterwards

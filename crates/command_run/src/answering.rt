@@ -1,11 +1,12 @@
-//! Saying an answer, which is heard, too, for what people are told beside it.
+//! Saying an answer, which is heard, too, for what people are told beside it; and writing the bytes that belong to one.
 
-ghost use Rattle.std.specs.Prelude.{◌≡◌, OnOk, IfOk};
+ghost use Rattle.std.specs.Prelude.{◌≡◌, OnOk, OnErr, IfOk, IsSome, option_map};
 ghost use Rattle.report_lines.specs.Lines.{answer_status, answer_text, line};
-ghost use Rattle.command_run.specs.Runs.{Adds, Wrote};
+ghost use Rattle.command_run.specs.Runs.{Adds, Saves, Wrote};
 
 use crate::notes::cause::Heard;
 use crate::output::Output;
+use bytes::Bytes;
 use report_lines::Answer;
 
 /// Writes the line of an answer that is kept, and gives its exit status. More may follow.
@@ -40,4 +41,19 @@ pub fn say<O: Output>(answer: Answer, heard: &mut Heard, out: &mut O) -> Result<
     let status = put(answer, heard, out)?;
     out.finish()?;
     Ok(status)
+}
+
+/// Writes the bytes for the file, if there are any.
+pub fn save<F: Output>(bytes: &Option<Bytes>, file: &mut F) -> Result<(), F::Error>
+    requires { F.can_write file.old }
+    ensures saves { OnOk result
+        (Saves (Wrote F.contents F.is_finished)
+        (option_map (λ bytes. bytes) bytes.now) file.old file.new) }
+    ensures fails { OnErr result (IsSome (option_map (λ bytes. bytes) bytes.now)) }
+{
+    if let Some(bytes) = bytes {
+        file.write_bytes(bytes.as_slice())?;
+        file.finish()?;
+    }
+    Ok(())
 }

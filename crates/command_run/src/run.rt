@@ -11,6 +11,7 @@ use crate::commands::graph::say_graph;
 use crate::commands::hex_frame::say_frame;
 use crate::commands::log_records::{RecordRange, say_records};
 use crate::commands::make_order::say_order;
+use crate::commands::migrate_log::say_migrated;
 use crate::commands::run_steps::say_run;
 use crate::commands::vat_audit::say_vat;
 use crate::host::Host;
@@ -76,13 +77,16 @@ fn answer_heard<R: Threads + Wait + Sync, S: Source, O: Output, F: Output>(
         Command::Frames { file: name } => of_lines(say_frames(
             host.alloc, name, source, heard, out,
         )),
+        Command::Migrate { file: name, .. } => {
+            say_migrated(host.alloc, name, source, heard, out, file)
+        }
     }
 }
 
 /// Runs a command: writes its line, or its lines, to `out`, and answers the exit status. It is 0 where the log is good, the
-/// report of a case is yes, the message of each frame is said, the records are or an order is made; 1 where a record breaks
+/// report of a case is yes, the message of each frame is said, the records are, or an order or a new log is made; 1 where a record breaks
 /// a rule, the report is a no, or no order exists; 2 where a record isn't judged, a message isn't read, or the input is bad
-/// or can't be read; and 3 where memory ran out. To `file` go the bytes of an order alone, before the line. Of the workers that
+/// or can't be read; and 3 where memory ran out. To `file` go the bytes of an order or of a new log alone, before the line. Of the workers that
 /// audit a case one is the calling thread, and `rt` starts the others; the answer is the same for any number of them.
 ///
 /// # Errors

@@ -12,7 +12,7 @@ use Rattle.audit_core.specs.declared.report.Breach.TheVariants as breach
 use Rattle.audit_core.specs.declared.report.Report.{Report as ReportOf}
 use Rattle.audit_core.specs.declared.report.Report.TheVariants as report
 use Rattle.report_lines.specs.declared.answer.Answer.{Answer}
-use Rattle.report_lines.specs.declared.answer.Answer.TheVariants.{Finding, Report, Message, Order, NoOrder, Fault}
+use Rattle.report_lines.specs.declared.answer.Answer.TheVariants.{Finding, Report, Message, Order, NoOrder, Migrated, Fault}
 use Rattle.report_lines.specs.Faults.{fault_status, fault_text}
 use Rattle.report_lines.specs.MessageText.{message_text}
 
@@ -94,6 +94,7 @@ answer_text (Report found) = report_text found
 answer_text (Message message) = message_text message
 answer_text (Order steps) = codes "order steps " ++ decimal (length steps)
 answer_text NoOrder = no_order_text
+answer_text (Migrated log) = codes "migrated vat " ++ (decimal log.vat ++ (codes " records " ++ decimal (length log.records)))
 answer_text (Fault found) = fault_text found
 
 -- the exit status of an answer
@@ -103,6 +104,7 @@ answer_status (Report found) = report_status found
 answer_status (Message message) = 0
 answer_status (Order steps) = 0
 answer_status NoOrder = 1
+answer_status (Migrated log) = 0
 answer_status (Fault found) = fault_status found
 
 -- a line: a text and its end

@@ -12,6 +12,7 @@ use merge_order::Order;
 use rpc_view::RpcMessage;
 use std::fmt;
 use std::fmt::{Display, Formatter};
+use vat_log::VatLog;
 use vat_rules::VatFinding;
 
 /// What is answered to an input. It is shown as its line (docs/FORMATS.md), without the line's end.
@@ -27,12 +28,14 @@ pub enum Answer {
     Order(Order),
     /// No order of the records of a case exists.
     NoOrder,
+    /// A log that was migrated.
+    Migrated(VatLog),
     /// The input has a fault, or memory ran out.
     Fault(Fault),
 }
 
 impl Answer {
-    /// The exit status: 0 for a good log, a yes, a message or an order; 1 for a rule that is broken, each other no, or where
+    /// The exit status: 0 for a good log, a yes, a message, an order or a migrated log; 1 for a rule that is broken, each other no, or where
     /// no order exists; 2 for a record that isn't judged, or a fault; 3 where memory ran out.
     pub fn status(&self) -> u8
         ensures { result ≡ answer_status self.now }
@@ -40,7 +43,7 @@ impl Answer {
         match self {
             Answer::Finding(finding) => outcome_status(finding.outcome()),
             Answer::Report(report) => report_status(report),
-            Answer::Message(_) | Answer::Order(_) => 0,
+            Answer::Message(_) | Answer::Order(_) | Answer::Migrated(_) => 0,
             Answer::NoOrder => 1,
             Answer::Fault(fault) => fault.status(),
         }
@@ -60,6 +63,9 @@ impl Display for Answer {
             Answer::Message(message) => write!(f, "{}", Shown(message)),
             Answer::Order(order) => write!(f, "order steps {}", order.as_slice().len()),
             Answer::NoOrder => put_no_order(f),
+            Answer::Migrated(log) => {
+                write!(f, "migrated vat {} records {}", log.vat(), log.len())
+            }
             Answer::Fault(fault) => write!(f, "{fault}"),
         }
     }

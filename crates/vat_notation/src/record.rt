@@ -42,18 +42,29 @@ pub struct Places {
     pub records: Vec<usize>,
 }
 
+/// The versions of a log's format.
+#[derive(Clone, Copy)]
+pub enum Version {
+    /// `VATLOG01`, with counts of 16 bits.
+    One,
+    /// `VATLOG02`, with counts of 32 bits.
+    Two,
+}
+
 /// The bytes of a log. The first fault is noted, and told at the end.
 #[derive(Drop)]
 pub struct Log {
+    version: Version,
     bytes: Vec<u8>,
     places: Places,
     fault: Option<Fault>,
 }
 
 impl Log {
-    /// A log of this vat, without records.
-    pub fn new(alloc: Global, vat: u32) -> Log {
+    /// A log of this version and this vat, without records.
+    pub fn new(alloc: Global, version: Version, vat: u32) -> Log {
         let mut log = Log {
+            version,
             bytes: Vec::new(alloc),
             places: Places {
                 fields: Vec::new(alloc),
@@ -61,7 +72,11 @@ impl Log {
             },
             fault: None,
         };
-        log.put("VATLOG01".as_bytes());
+        let magic = match version {
+            Version::One => "VATLOG01",
+            Version::Two => "VATLOG02",
+        };
+        log.put(magic.as_bytes());
         log.put(&vat.to_le_bytes());
         log
     }
@@ -86,11 +101,12 @@ impl Log {
         self.put(&value.to_le_bytes());
     }
 
-    /// How many stand behind, in 16 bits.
+    /// How many stand behind, in 16 bits or 32.
     fn put_count(&mut self, count: usize) {
-        match u16::try_from(count) {
-            Ok(count) => self.put_u16(count),
-            Err(_) => self.fault = Some(Fault::Unread),
+        match (self.version, u16::try_from(count), u32::try_from(count)) {
+            (Version::One, Ok(count), _) => self.put_u16(count),
+            (Version::Two, _, Ok(count)) => self.put_u32(count),
+            _ => self.fault = Some(Fault::Unread),
         }
     }
 

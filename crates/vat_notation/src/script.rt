@@ -10,8 +10,8 @@
 //!
 //! The log of vat V has the name `vatV`, and the case of all logs and links the name `case`. A CHANGE is one of these:
 //! `vat V record I is RECORD` · `vat V new record I is RECORD` · `vat V record I twice` · `vat V record I left out` ·
-//! `vat V record I moved to J` · `vat V cut to N records` · `vat V cut to N bytes` · `order V V ..`, which the case names ·
-//! `case TEXT`, the case file itself · `frames MESSAGE; MESSAGE`, a file of that name · `file NAME DIGITS..`, a file's bytes.
+//! `vat V record I moved to J` · `vat V cut to N records` · `vat V cut to N bytes` · `vat V version 2`, whose log is else
+//! of version 1 · `order V V ..`, which the case names · `case TEXT`, the case file itself · `frames MESSAGE; MESSAGE`, a file of that name · `file NAME DIGITS..`, a file's bytes.
 
 use crate::fault::Fault;
 use crate::message::{bytes_of, frame_of};

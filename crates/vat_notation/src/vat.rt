@@ -1,7 +1,7 @@
 //! What one vat recorded, and what is changed in it.
 
 use crate::fault::Fault;
-use crate::record::{Log, Places};
+use crate::record::{Log, Places, Version};
 use crate::words::{Words, words_of};
 use std::alloc::Global;
 
@@ -23,9 +23,10 @@ pub fn add_records<'a>(records: &mut Vec<&'a str>, line: &'a str) -> Result<(), 
     Ok(())
 }
 
-/// The records of a vat with the changes that name it, and how many bytes of its log are left.
+/// The records of a vat with the changes that name it, the version of its log, and how many bytes of it are left.
 #[derive(Drop)]
 struct Recorded<'a> {
+    version: Version,
     records: Vec<&'a str>,
     len: usize,
 }
@@ -90,12 +91,20 @@ impl<'a> Recorded<'a> {
         }
     }
 
+    /// `version 2`, behind its first word.
+    fn change_version(&mut self, words: &mut Words<'_>) {
+        words.expect("2");
+        self.version = Version::Two;
+    }
+
     /// Makes one change in the records; `becomes` is the record behind ` is `, if there is one.
     fn change(&mut self, words: &mut Words<'_>, becomes: Option<&'a str>) {
         if let Some(record) = becomes {
             self.put_new(record, words);
         } else if words.takes("cut") {
             self.cut(words);
+        } else if words.takes("version") {
+            self.change_version(words);
         } else {
             self.change_record(words);
         }
@@ -130,6 +139,7 @@ fn make_change<'a>(
 /// The records of a vat with the changes that name it.
 fn changed<'a>(alloc: Global, vat: &Vat<'a>, changes: &[&'a str]) -> Result<Recorded<'a>, Fault> {
     let mut recorded = Recorded {
+        version: Version::One,
         records: Vec::from_slice(alloc, &vat.records)?,
         len: usize::MAX,
     };
@@ -148,9 +158,14 @@ fn put_record(alloc: Global, log: &mut Log, record: &str) -> Result<(), Fault> {
 }
 
 /// The log of a vat whose records are these, and where its fields and records begin.
-fn write_vat(alloc: Global, number: &str, records: &[&str]) -> Result<(Vec<u8>, Places), Fault> {
+fn write_vat(
+    alloc: Global,
+    version: Version,
+    number: &str,
+    records: &[&str],
+) -> Result<(Vec<u8>, Places), Fault> {
     let number = number.parse::<u32>().ok().ok_or(Fault::Unread)?;
-    let mut log = Log::new(alloc, number);
+    let mut log = Log::new(alloc, version, number);
     for record in records {
         put_record(alloc, &mut log, record)?;
     }
@@ -160,12 +175,12 @@ fn write_vat(alloc: Global, number: &str, records: &[&str]) -> Result<(Vec<u8>, 
 /// The log of a vat, with the changes that name it.
 pub fn log_of(alloc: Global, vat: &Vat<'_>, changes: &[&str]) -> Result<Vec<u8>, Fault> {
     let recorded = changed(alloc, vat, changes)?;
-    let (mut bytes, _) = write_vat(alloc, vat.number, &recorded.records)?;
+    let (mut bytes, _) = write_vat(alloc, recorded.version, vat.number, &recorded.records)?;
     bytes.truncate(recorded.len);
     Ok(bytes)
 }
 
 /// The log of a vat, and where its fields and records begin.
 pub fn log_and_places_of(alloc: Global, vat: &Vat<'_>) -> Result<(Vec<u8>, Places), Fault> {
-    write_vat(alloc, vat.number, &vat.records)
+    write_vat(alloc, Version::One, vat.number, &vat.records)
 }

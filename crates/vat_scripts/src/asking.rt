@@ -11,7 +11,7 @@ use std::sync::Wait;
 use std::thread::Threads;
 use vat_notation::{Fault, Script, words_of};
 
-/// What a run wrote to its output, its exit status, and what it wrote to the file of an order.
+/// What a run wrote to its output, its exit status, and what it wrote to the file that is made.
 #[derive(Drop)]
 pub struct Told {
     pub out: Vec<u8>,
@@ -50,10 +50,16 @@ pub fn ask<R: Threads + Wait + Sync>(
     }
 }
 
-/// Appends the vats of an order file.
+/// Appends the vats of an order file, or how long a log is.
 fn put_made(text: &mut String, made: &[u8]) -> Result<(), AllocError> {
     let Some(steps) = made.strip_prefix(b"VATORD01".as_slice()) else {
-        return text.push_str("made no order\n");
+        let len = made.len();
+        let what = if made.starts_with(b"VATLOG02") {
+            "a log"
+        } else {
+            "no order and no log"
+        };
+        return write!(text, "made {what} of {len} bytes\n");
     };
     text.push_str("made")?;
     for step in steps.chunks(4) {
@@ -80,7 +86,7 @@ fn text_of(alloc: Global, told: &Told) -> Result<String, Fault> {
     Ok(text)
 }
 
-/// What the run that a conversation asks for prints, with `made V V ..` behind it where it wrote an order, and its status as
+/// What the run that a conversation asks for prints, with `made V V ..` behind it where it wrote an order, or `made a log of N bytes`, and its status as
 /// a last line.
 pub fn answer<R: Threads + Wait + Sync>(
     rt: &R,

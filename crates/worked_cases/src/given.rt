@@ -27,6 +27,12 @@ pub fn bytes_of_log(alloc: Global, number: &str, records: &str) -> Result<Bytes,
     bytes_of_changed(alloc, number, records, &[])
 }
 
+/// The bytes of that log in version 2.
+pub fn bytes_of_new_log(alloc: Global, number: &str, records: &str) -> Result<Bytes, Refused> {
+    let change = format!(in alloc; "vat {number} version 2")?;
+    bytes_of_changed(alloc, number, records, &[change.as_str()])
+}
+
 /// The log of a vat that recorded this, with what is changed.
 pub fn changed_log(
     alloc: Global,

@@ -119,11 +119,11 @@ using capnp::AnyPointer;
 using capnp::AnyStruct;
 using capnp::ClientHook;
 
-// The bytes of a log, little-endian, as docs/FORMATS.md has them.
+// The bytes of a log of version 2, little-endian, as docs/FORMATS.md has them.
 class Log {
 public:
   Log(const char* path, uint32_t vat): file(fopen(path, "wb")) {
-    add("VATLOG01", 8);
+    add("VATLOG02", 8);
     number<uint32_t>(vat);
   }
   ~Log() { close(); }
@@ -143,6 +143,21 @@ public:
 
   void add(const void* bytes, size_t length) {
     buffer.append(static_cast<const char*>(bytes), length);
+  }
+
+  // How many a list has. A log has room for so many.
+  static constexpr size_t mostCounted = 1048576;
+  void count(size_t count) {
+    isTooLong = isTooLong || count > mostCounted;
+    number(static_cast<uint32_t>(count));
+  }
+
+  // Takes back the bytes of a record that begins at this place of what is not yet written, where one of its lists is
+  // too long; and whether it was.
+  size_t unwritten() const { return buffer.size(); }
+  bool takeBack(size_t begin) {
+    if (isTooLong) buffer.resize(begin);
+    return isTooLong;
   }
 
   // Whether all could be written.
@@ -165,6 +180,7 @@ public:
 private:
   FILE* file;
   std::string buffer;
+  bool isTooLong = false;
 };
 
 // =========================================================================== What is known
@@ -392,7 +408,7 @@ public:
   void answer(Call& call) {
     call.isLocallyAnswered = true;
     begin(0x08, [&] {
-      log.number(call.number), log.number(static_cast<uint16_t>(call.fields.size()));
+      log.number(call.number), log.count(call.fields.size());
       for (auto& field: call.fields) log.number(field.second.number), addPath(field.first);
     });
     answerHandedOn(call);
@@ -419,7 +435,7 @@ public:
   void frame(bool isSent, uint32_t connection, uint64_t call, const std::vector<Reference>& references,
              kj::ArrayPtr<const kj::ArrayPtr<const capnp::word>> segments) {
     begin(isSent ? 0x0a : 0x0b, [&] {
-      log.number(connection), log.number(call), log.number(static_cast<uint16_t>(references.size()));
+      log.number(connection), log.number(call), log.count(references.size());
       for (auto& reference: references) log.number(reference.number);
       addFrame(segments);
     });
@@ -546,14 +562,16 @@ private:
   void begin(uint8_t kind, Fields&& fields) {
     if (!recording) return;
     if (records == 1048576) return stop("a log has no room for more records");
+    size_t place = log.unwritten();
     log.kind(kind);
     fields();
+    if (log.takeBack(place)) return stop("a log has no room for so long a list");
     records++;
     if (!log.endRecord() || (isFlushedEachTime && !log.flush())) stop("the log can't be written");
   }
 
   void addPath(const Path& path) {
-    log.number(static_cast<uint16_t>(path.size()));
+    log.count(path.size());
     for (uint16_t field: path) log.number(field);
   }
 

@@ -1,12 +1,12 @@
 //! The order of the records of a case: its bytes go to a file, and then it is said.
 
-ghost use Rattle.std.specs.Prelude.{◌≡◌, None, IfOk, OnOk, OnErr, IsSome, option_map};
+ghost use Rattle.std.specs.Prelude.{◌≡◌, None, IfOk, option_map};
 ghost use Rattle.report_lines.specs.Lines.{answer_status, answer_text, line};
 ghost use Rattle.command_run.specs.CommandAnswers.{AnswersOrder};
 ghost use Rattle.command_run.specs.OrderAnswers.{AnswersLogs};
-ghost use Rattle.command_run.specs.Runs.{Saves, Writes, Wrote};
+ghost use Rattle.command_run.specs.Runs.{Writes, Wrote};
 
-use crate::answering::say;
+use crate::answering::{save, say};
 use crate::notes::cause::Heard;
 use crate::output::{Failed, Output};
 use bytes::Bytes;
@@ -67,21 +67,6 @@ fn order_answer<S: Source>(alloc: Global, source: &mut S, name: &str) -> OrderAn
         Ok(made) => made,
         Err(AllocError) => fault_answer(Fault::OutOfMemory),
     }
-}
-
-/// Writes the bytes of an order, if there is one.
-fn save<F: Output>(order: &Option<Bytes>, file: &mut F) -> Result<(), F::Error>
-    requires { F.can_write file.old }
-    ensures saves { OnOk result
-        (Saves (Wrote F.contents F.is_finished)
-        (option_map (λ bytes. bytes) order.now) file.old file.new) }
-    ensures fails { OnErr result (IsSome (option_map (λ bytes. bytes) order.now)) }
-{
-    if let Some(bytes) = order {
-        file.write_bytes(bytes.as_slice())?;
-        file.finish()?;
-    }
-    Ok(())
 }
 
 /// Makes the order of the case that a source has under a name: writes it to `file`, and then says how many steps it

@@ -8,6 +8,7 @@ pub(crate) mod graph;
 pub(crate) mod hex_frame;
 pub(crate) mod log_records;
 pub(crate) mod make_order;
+pub(crate) mod migrate_log;
 pub(crate) mod next_frame;
 pub(crate) mod run_steps;
 pub(crate) mod vat_audit;

@@ -114,7 +114,7 @@ impl Heard {
             Answer::Report(report) => of_report(report),
             Answer::NoOrder => of_report(&Report::NoOrder),
             Answer::Fault(fault) => of_fault(*fault),
-            Answer::Message(_) | Answer::Order(_) => Heard::Nothing,
+            Answer::Message(_) | Answer::Order(_) | Answer::Migrated(_) => Heard::Nothing,
         };
     }
 }

@@ -1,12 +1,13 @@
-//! Logs: their bytes by the notation, what is read of them, and the same bytes written again.
+//! Logs: their bytes by the notation, what is read of them, and the bytes of version 2 that are written of them.
 
 use super::given::bytes_of_digits;
 use bytes::Bytes;
+use cap_frame::Path;
 use std::alloc::Global;
 use std::fmt::Write;
 use std::process::Abort;
-use vat_log::{Body, LogError, Record, References, VatLog, parse_log, write_log};
-use worked_cases::{Refused, ask_again, bytes_of_log, is_so};
+use vat_log::{Body, LogError, Record, References, VatLog, migrate, parse_log, write_log};
+use worked_cases::{Refused, ask_again, bytes_of_log, bytes_of_new_log, is_so};
 
 /// Records in the notation, as the bytes of vat 3's log in hexadecimal, and as they are read.
 const RECORDS: [(&str, &str, &str); 8] = [
@@ -180,10 +181,26 @@ fn written_again(alloc: Global, log: &VatLog) -> Result<VatLog, Refused> {
     Ok(write_log(alloc, log.vat(), &records)?)
 }
 
-/// Whether a log has these bytes, and its records written again have them, too.
-fn has_bytes(alloc: Global, log: &VatLog, bytes: &[u8]) -> Result<bool, Refused> {
+/// Whether a log has this version and these bytes.
+fn is_log_of(log: &VatLog, version: u32, bytes: &[u8]) -> bool {
+    log.version() == version && log.bytes().as_slice() == bytes
+}
+
+/// Whether a log of version 2 has these bytes, and stays so where it is migrated.
+fn is_new_log_of(alloc: Global, log: &VatLog, bytes: &[u8]) -> Result<bool, Refused> {
+    let same = migrate(alloc, log)?;
+    Ok(is_log_of(log, 2, bytes) && is_log_of(&same, 2, bytes))
+}
+
+/// Whether a log of version 1 has these bytes, and its records written again, and it migrated, have those of version 2.
+fn has_bytes(alloc: Global, log: &VatLog, old: &[u8], new: &[u8]) -> Result<bool, Refused> {
     let written = written_again(alloc, log)?;
-    Ok(log.bytes().as_slice() == bytes && written.bytes().as_slice() == bytes)
+    let migrated = migrate(alloc, log)?;
+    Ok(
+        is_log_of(log, 1, old)
+            && is_new_log_of(alloc, &written, new)?
+            && is_new_log_of(alloc, &migrated, new)?,
+    )
 }
 
 /// The log of a vat that recorded these records.
@@ -191,11 +208,12 @@ pub(super) fn log_of_records(alloc: Global, vat: &str, records: &str) -> Result<
     Ok(parse_log(alloc, bytes_of_log(alloc, vat, records)?)?)
 }
 
-/// Whether records are spelled so, and bytes of that spelling are written again.
+/// Whether records are spelled so in version 1, and written and migrated in version 2.
 fn is_spelled(alloc: Global, vat: &str, records: &str, digits: &str) -> Result<bool, Refused> {
     let bytes = bytes_of_digits(alloc, digits)?;
     let log = log_of_records(alloc, vat, records)?;
-    has_bytes(alloc, &log, bytes.as_slice())
+    let new = bytes_of_new_log(alloc, vat, records)?;
+    has_bytes(alloc, &log, bytes.as_slice(), new.as_slice())
 }
 
 /// Whether a log is shown so, and has no more records than that.
@@ -233,6 +251,60 @@ fn logs_of_a_pipelined_call(rt: HostRuntime) {
             "vat {vat}"
         );
     }
+}
+
+/// Records in the notation, and the bytes of vat 3's log of version 2 in hexadecimal.
+const NEW: [(&str, &str); 3] = [
+    (
+        "FIELD r4 c5 [0,258]",
+        "06 0400000000000000 0500000000000000 02000000 0000 0201",
+    ),
+    (
+        "ANSWER c5 r9@[] r4@[0,258]",
+        "08 0500000000000000 02000000 0900000000000000 00000000 0400000000000000 02000000 0000 0201",
+    ),
+    (
+        "S6 c5 r7 r1 hex 61",
+        "0a 06000000 0500000000000000 02000000 0700000000000000 0100000000000000 01000000 61",
+    ),
+];
+
+/// Whether records are written so in version 2, and read from that.
+fn is_new_row(alloc: Global, records: &str, digits: &str) -> Result<bool, Refused> {
+    let digits = format!(in alloc; "5641544c4f473032 03000000 {digits}")?;
+    let bytes = bytes_of_digits(alloc, digits.as_str())?;
+    let old = log_of_records(alloc, "3", records)?;
+    let migrated = migrate(alloc, &old)?;
+    let read = parse_log(alloc, Bytes::from_vec(bytes)?)?;
+    let same = shown(alloc, &read)?.as_str() == shown(alloc, &old)?.as_str();
+    Ok(same && is_new_log_of(alloc, &migrated, read.bytes().as_slice())?)
+}
+
+#[test]
+fn each_count_of_version_2(rt: HostRuntime) {
+    for (records, digits) in &NEW {
+        assert!(rt;
+            is_so(|| is_new_row(rt.alloc(), records, digits)),
+            "{records}"
+        );
+    }
+}
+
+/// A path of 65,536 fields, which version 2 alone can hold.
+fn is_wide(alloc: Global) -> Result<bool, Refused> {
+    let body = Body::Field {
+        reference: 1,
+        call: 1,
+        path: Path::new(vec![in alloc; 7u16; 65_536]?)?,
+    };
+    let written = write_log(alloc, 3, &vec![in alloc; Record::new(body)?]?)?;
+    let read = parse_log(alloc, written.bytes().clone()?)?;
+    Ok(read.version() == 2 && shown(alloc, &read)?.as_str() == shown(alloc, &written)?.as_str())
+}
+
+#[test]
+fn a_path_that_version_1_has_no_count_for(rt: HostRuntime) {
+    assert!(rt; is_so(|| is_wide(rt.alloc())));
 }
 
 /// Why no log can hold a body, and what is handed back.
@@ -284,7 +356,7 @@ fn sent_with(body: &Body) -> usize {
 
 /// A frame that goes out with one reference more than can be counted.
 fn long_body(alloc: Global) -> Result<Body, Refused> {
-    let references = References::new(vec![in alloc; 1u64; 65_536]?);
+    let references = References::new(vec![in alloc; 1u64; 1_048_577]?);
     Ok(Body::Send {
         connection: 0,
         call: 0,
@@ -293,11 +365,11 @@ fn long_body(alloc: Global) -> Result<Body, Refused> {
     })
 }
 
-/// Whether no log can hold a body for its length, and it is handed back with its 65,536 references.
+/// Whether no log can hold a body for its length, and it is handed back with its 1,048,577 references.
 fn is_handed_back(body: Body) -> bool {
     match Record::new(body) {
         Ok(_) => false,
-        Err((fault, body)) => fault == LogError::TooLong && sent_with(&body) == 65_536,
+        Err((fault, body)) => fault == LogError::TooLong && sent_with(&body) == 1_048_577,
     }
 }
 

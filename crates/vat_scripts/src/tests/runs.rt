@@ -386,7 +386,7 @@ fn a_failed_note_changes_nothing(rt: HostRuntime) {
 }
 
 /// Words, and what they spell, or the kind of `clap`'s error.
-const WORDS: [(&[&str], Result<Command<'static>, ErrorKind>); 11] = [
+const WORDS: [(&[&str], Result<Command<'static>, ErrorKind>); 13] = [
     (&["vataudit", "vat", "-"], Ok(Command::Vat { file: "-" })),
     (
         &["vataudit", "check", "a"],
@@ -435,6 +435,17 @@ const WORDS: [(&[&str], Result<Command<'static>, ErrorKind>); 11] = [
         &["vataudit", "order", "a"],
         Err(ErrorKind::MissingRequiredArgument),
     ),
+    (
+        &["vataudit", "migrate", "--out", "b", "a"],
+        Ok(Command::Migrate {
+            file: "a",
+            out: "b",
+        }),
+    ),
+    (
+        &["vataudit", "migrate", "a"],
+        Err(ErrorKind::MissingRequiredArgument),
+    ),
 ];
 
 /// Whether words spell this. Running out of memory is a failure.
@@ -467,7 +478,7 @@ fn an_order_has_a_file(rt: HostRuntime) {
 }
 
 /// Commands, and a line of their help.
-const HELP: [(&str, &str); 9] = [
+const HELP: [(&str, &str); 10] = [
     ("check", "yes vats 2 records 14 delivered 1 under_way 0"),
     ("graph", "edge vat 1 to obj 2.7 record 4"),
     ("run", "step 0 vat 1 record 0 send bootstrap call 1.1"),
@@ -475,6 +486,7 @@ const HELP: [(&str, &str); 9] = [
     ("frame", "abort"),
     ("frames", "bootstrap question 0"),
     ("order", "order steps 14"),
+    ("migrate", "migrated vat 2 records 8"),
     ("records", "4 deliver call 2 object 7"),
     ("--help", "good vat 2 records 8 delivered 1"),
 ];

@@ -14,7 +14,7 @@ use std::thread::Threads;
 use vat_log::{Body, LogWriter, Record, VatLog, write_lent_log};
 use vat_rules::{Outcome, audit_vat};
 use vat_tap::{CloseError, Full, Lane, Tap};
-use worked_cases::{Refused, is_so};
+use worked_cases::{Refused, bytes_of_new_log, is_so};
 
 /// The log of the same vat, to which a second record for each is pushed.
 fn pushed(alloc: Global, log: &VatLog) -> Result<VatLog, Refused> {
@@ -48,17 +48,17 @@ fn is_lent(alloc: Global, log: &VatLog, wanted: &[u8]) -> Result<bool, Refused> 
     Ok(lent.bytes().as_slice() == wanted)
 }
 
-/// Whether a log has these 474 bytes either way.
+/// Whether a log has these 488 bytes either way.
 fn has_bytes(alloc: Global, log: &VatLog, wanted: &[u8]) -> Result<bool, Refused> {
     let is_pushed = is_pushed(alloc, log, wanted)?;
     let is_lent = is_lent(alloc, log, wanted)?;
-    Ok(is_pushed && is_lent && wanted.len() == 474)
+    Ok(is_pushed && is_lent && wanted.len() == 488)
 }
 
 /// Whether vat 2's log of pipelined_call is written so.
 fn is_written(alloc: Global) -> Result<bool, Refused> {
-    let (vat, records, digits) = &SAMPLES[1];
-    let wanted = bytes_of_digits(alloc, digits)?;
+    let (vat, records, _) = &SAMPLES[1];
+    let wanted = bytes_of_new_log(alloc, vat, records)?;
     let log = log_of_records(alloc, vat, records)?;
     has_bytes(alloc, &log, wanted.as_slice())
 }
@@ -209,7 +209,7 @@ fn a_lane_records_its_share(rt: HostRuntime) {
 
 /// Whether a tap of vat 3 with 64 lanes gives a log without records.
 fn is_empty(alloc: Global) -> Result<bool, Refused> {
-    let wanted = bytes_of_digits(alloc, "5641544c4f473031 03000000")?;
+    let wanted = bytes_of_digits(alloc, "5641544c4f473032 03000000")?;
     let (tap, lanes) = Tap::open(alloc, 3, 64, 1)?;
     match tap.close(lanes) {
         Ok(log) => Ok(log.bytes().as_slice() == wanted.as_slice()),

@@ -1,7 +1,7 @@
 use Rattle.std.proofs.Common.{◌∙◌, sym}
 use Rattle.clap.specs.Words.{first_value, found_of}
 use Rattle.command_line.proofs.Matched.{besides_of, checked_as, has_subcommand, input_there, is_some_by, matched, number_as, read_as, spells_one, thing_is}
-use Rattle.command_line.proofs.Named.{checking, last_command, listing, of_frame, of_frames, of_graph, of_run, of_vat, ordering}
+use Rattle.command_line.proofs.Named.{checking, last_command, listing, migrating, of_frame, of_frames, of_graph, of_run, of_vat, ordering}
 use Rattle.command_line.specs.Parser.{count, most, path, start, workers}
 use Rattle.command_line.proofs.command.command_in.Goals as goal
 
@@ -29,6 +29,12 @@ value_of-requires c =
     let out = besides_of m ordering c.in-order.is in
     is_some_by (first_value (found_of c.in-Some.given.now) path) out.0 (m.each path ∙ out.1)
 
+pub value_of-requires-in-migrate : goal.value_of-requires-in-migrate
+value_of-requires-in-migrate c =
+    let m = matched c.requires.0 c.args.matches.now c.in-Some.given.now c.in-Some.name.now c.requires.1 c.in-Some.ensures.name c.in-Some.ensures.rows in
+    let out = besides_of m migrating c.in-migrate.is in
+    is_some_by (first_value (found_of c.in-Some.given.now) path) out.0 (m.each path ∙ out.1)
+
 pub number_of-requires : goal.number_of-requires
 number_of-requires c =
     let m = matched c.requires.0 c.args.matches.now c.in-Some.given.now c.in-Some.name.now c.requires.1 c.in-Some.ensures.name c.in-Some.ensures.rows in
@@ -48,6 +54,11 @@ pub returns-in-order-clause-spelled : goal.returns-in-order-clause-spelled
 returns-in-order-clause-spelled c words are =
     let m = matched words c.args.matches.now c.in-Some.given.now c.in-Some.name.now are c.in-Some.ensures.name c.in-Some.ensures.rows in
     (m.rows, (read_as m ordering c.in-order.is, thing_is m _ c.value_of-input.ensures, sym (m.each path) ∙ c.value_of.ensures))
+
+pub returns-in-migrate-clause-spelled : goal.returns-in-migrate-clause-spelled
+returns-in-migrate-clause-spelled c words are =
+    let m = matched words c.args.matches.now c.in-Some.given.now c.in-Some.name.now are c.in-Some.ensures.name c.in-Some.ensures.rows in
+    (m.rows, (read_as m migrating c.in-migrate.is, thing_is m _ c.value_of-input.ensures, sym (m.each path) ∙ c.value_of-in-migrate.ensures))
 
 pub returns-in-records-clause-spelled : goal.returns-in-records-clause-spelled
 returns-in-records-clause-spelled c words are =
@@ -85,5 +96,5 @@ pub returns-in_default-name-clause-spelled : goal.returns-in_default-name-clause
 returns-in_default-name-clause-spelled c words are =
     let m = matched words c.args.matches.now c.in-Some.given.now c.in-Some.name.now are c.in-Some.ensures.name c.in-Some.ensures.rows in
     let not = c.in_default-name in
-    let is = last_command m.command c.in-Some.name.now m.named not.not-check not.not-order not.not-graph not.not-run not.not-vat not.not-records not.not-frame in
+    let is = last_command m.command c.in-Some.name.now m.named not.not-check not.not-order not.not-graph not.not-run not.not-vat not.not-records not.not-frame not.not-migrate in
     spells_one m of_frames _ is c.value_of-input.ensures

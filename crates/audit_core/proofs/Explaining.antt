@@ -19,6 +19,7 @@ use Rattle.call_trace.specs.InLife.{UsesLives}
 use Rattle.call_trace.specs.Named.{past_of, IsRunOf}
 use Rattle.call_trace.specs.Part.{IsPart}
 use Rattle.case_book.specs.Books.{AllFound, AreAll}
+use Rattle.audit_core.specs.Glue.{case_record_limit}
 use Rattle.audit_core.specs.Headline.{records_of, taken_of, IsBalancedThroughout, Explains}
 use Rattle.audit_core.specs.Report.{records_in, count_all, delivers, sends, receives, IsGoodCase, IsOrderFor, IsEarlyAt, IsReport, AreGoodFindings}
 use Rattle.audit_core.specs.declared.report.Report.{Report}
@@ -97,7 +98,7 @@ left_at_first (log ∷ logs) =
     let all = sum_by-cons (λ (l : Log). length l.records) log logs in
     omega (arith, rest, all)
 
-pub few_steps : (logs : List Log) (order : List ℕ) (run : List Step) (total : ℕ) → IsFitting logs order → map vat_of run ≡ order → total ≡ records_in logs → total ≤ 67108864
+pub few_steps : (logs : List Log) (order : List ℕ) (run : List Step) (total : ℕ) → IsFitting logs order → map vat_of run ≡ order → total ≡ records_in logs → total ≤ case_record_limit
     → (v : ℕ) → length (steps_of v run) < 2 ^ 32
 few_steps logs order run total fits by_order count few v =
     let own = length-filter (λ s. vat_of s == v) run in

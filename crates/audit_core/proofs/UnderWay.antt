@@ -20,7 +20,7 @@ use Rattle.case_book.proofs.Numbers.{bool_cases}
 use Rattle.case_book.proofs.Numbered.{stands_once, under}
 use Rattle.case_book.proofs.Tied.{has_ends}
 use Rattle.audit_core.specs.Report.{sends, receives, count_all, records_in, AreGoodEnds, AreGoodFindings}
-use Rattle.audit_core.specs.Glue.{sent_on, received_on, under_way_on}
+use Rattle.audit_core.specs.Glue.{case_record_limit, sent_on, received_on, under_way_on}
 use Rattle.audit_core.proofs.Places.{place_of, contained, one_of_number}
 use Rattle.audit_core.proofs.Sums.{same_sums, sum_of_none, sum_of_one, sum_of_two, swapped, taken_away, no_greater, AreApart}
 use Rattle.audit_core.proofs.Ties.{used, user_is_end}
@@ -252,7 +252,7 @@ module _ (all : AllFound) (good : AreGoodFindings all) where
   pub under_way_is : sum_by under_way_on all.links ≡ count_all sends all.case.logs - count_all receives all.case.logs
   under_way_is = omega (arith, left, all_sent, all_received)
 
-  pub few_under_way : (records : ℕ) → records ≡ records_in all.case.logs → records ≤ 67108864 → sum_by under_way_on all.links ≤ 67108864
+  pub few_under_way : (records : ℕ) → records ≡ records_in all.case.logs → records ≤ case_record_limit → sum_by under_way_on all.links ≤ case_record_limit
   few_under_way records are few =
       let no_more = no_greater (λ (log : Log). count_by sends log.records) (λ (log : Log). length log.records) all.case.logs (λ i log at. count_by-le-length sends log.records) in
       omega (arith, left, all_sent, no_more, are, few)

@@ -1,13 +1,18 @@
 -- For the code's contracts, and no part of the meaning: what is so of findings that stand at places of a list.
-use Rattle.std.specs.Prelude.{◌≡◌, ℕ, ◌+◌, ◌-◌, ◌<◌, List, Option, Some, None, length, slice_get}
+use Rattle.std.specs.Prelude.{◌≡◌, ℕ, ◌+◌, ◌-◌, ◌*◌, ◌<◌, List, Option, Some, None, length, slice_get}
 use Rattle.vat_rules.specs.Audit.{Found, IsTrueOf}
 use Rattle.vat_rules.specs.declared.outcome.Outcome.{Outcome}
 use Rattle.vat_rules.specs.declared.outcome.Outcome.TheVariants.{Good, Broken, Outside}
 use Rattle.link_check.specs.Prefix.{Ends, IsOutcome, frames_sent, frames_received}
 use Rattle.link_check.specs.declared.outcome.LinkOutcome.TheVariants.{Broken as BrokenAt}
+use Rattle.case_book.specs.Case.{vat_limit}
 use Rattle.audit_core.specs.declared.report.Breach.TheVariants.{Rule}
 use Rattle.audit_core.specs.declared.report.Report.{Report}
 use Rattle.audit_core.specs.declared.report.Report.TheVariants as report
+
+-- how many records all logs of a case may have: each has 1,048,576 at most
+abbrev pub case_record_limit : ℕ
+case_record_limit = vat_limit * 1048576
 
 -- each of the first n of a list is so
 abbrev pub HoldsBefore : {X : Type 0} → (X → Type 0) → List X → ℕ → Type 0

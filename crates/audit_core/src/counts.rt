@@ -5,7 +5,8 @@ ghost use Rattle.std.specs.Prelude.{◌≡◌, ◌≤◌, length, map, count_by,
 ghost use Rattle.std.specs.Arc.{arc_value};
 ghost use Rattle.call_trace.specs.Findings.{logs_of};
 ghost use Rattle.audit_core.specs.Report.{AreGoodEnds, HoldsOfEach, IsGoodFinding, count_all, delivers, records_in};
-ghost use Rattle.audit_core.specs.Glue.{under_way_on};
+ghost use Rattle.audit_core.specs.Glue.{case_record_limit, under_way_on};
+ghost use Rattle.case_book.specs.Case.{vat_limit};
 
 use link_check::{LinkFinding, LinkOutcome};
 use std::sync::Arc;
@@ -14,9 +15,9 @@ use vat_rules::{Outcome, VatFinding};
 
 /// How many records the logs have.
 pub fn count_records(logs: &[Arc<VatLog>]) -> u64
-    requires { length logs.now ≤ 64 }
+    requires { length logs.now ≤ vat_limit }
     ensures count { result ≡ records_in (map arc_value logs.now) }
-    ensures few { result ≤ 67108864 }
+    ensures few { result ≤ case_record_limit }
 {
     let mut count = 0;
     for log in logs {
@@ -39,7 +40,7 @@ fn delivered_in(found: &VatFinding) -> u64
 /// How many calls good logs deliver.
 pub fn count_delivered(vats: &[VatFinding]) -> u64
     requires good { HoldsOfEach IsGoodFinding vats.now }
-    requires few { records_in (logs_of vats.now) ≤ 67108864 }
+    requires few { records_in (logs_of vats.now) ≤ case_record_limit }
     ensures { result ≡ count_all delivers (logs_of vats.now) }
 {
     let mut count = 0;
@@ -63,7 +64,7 @@ fn under_way_on(found: &LinkFinding) -> u64
 /// How many frames are under way on good links.
 pub fn count_under_way(links: &[LinkFinding]) -> u64
     requires good { HoldsOfEach AreGoodEnds links.now }
-    requires few { sum_by under_way_on links.now ≤ 67108864 }
+    requires few { sum_by under_way_on links.now ≤ case_record_limit }
     ensures { result ≡ sum_by under_way_on links.now }
 {
     let mut count = 0;

@@ -2,6 +2,7 @@
 
 ghost use Rattle.std.specs.Prelude.{◌≡◌, ◌≤◌, ◌-◌, List, ℕ, Option, Some, None, IfOk, MatchOption, length};
 ghost use Rattle.merge_order.specs.Fits.{IsFitting};
+ghost use Rattle.audit_core.specs.Glue.{case_record_limit};
 ghost use Rattle.audit_core.specs.Headline.{YesMeansHeadline};
 ghost use Rattle.audit_core.specs.Report.{IsReport, IsOrderFor, delivers, sends, receives, count_all, records_in, AreGoodFindings};
 
@@ -29,7 +30,7 @@ fn line_of(findings: &Findings) -> Option<Report>
 fn yes(findings: &Findings, records: u64, run: Run) -> Report
     requires good { AreGoodFindings findings.now }
     requires all { records ≡ records_in findings.now.case.logs }
-    requires few { records ≤ 67108864 }
+    requires few { records ≤ case_record_limit }
     ensures { result ≡ Report.Yes (length findings.now.case.logs) (records_in findings.now.case.logs)
         (count_all delivers findings.now.case.logs)
         (count_all sends findings.now.case.logs - count_all receives findings.now.case.logs) run }

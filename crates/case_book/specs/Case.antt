@@ -13,13 +13,13 @@ pub record Contents : Type 0 where
   pub logs : List Log
   pub links : List Link
 
--- at most so many logs
+-- how many logs a case may have
 abbrev pub vat_limit : ℕ
-vat_limit = 64
+vat_limit = 1024
 
--- at most so many links
+-- how many links a case may have
 abbrev pub link_limit : ℕ
-link_limit = 256
+link_limit = 4096
 
 -- the vat numbers of logs
 abbrev pub vats_of : List Log → List ℕ

@@ -20,19 +20,19 @@ use std::marker::Model;
 use std::sync::Arc;
 use vat_log::VatLog;
 
-/// The logs of some vats, at most 64, and the links between them, at most 256. Each vat has one log, each connection one
-/// link; that they tie up is asked of [`Case::tie_fault`].
+/// The logs of some vats, at most [`MAX_VATS`], and the links between them, at most [`MAX_LINKS`]. Each vat has one log, each
+/// connection one link; that they tie up is asked of [`Case::tie_fault`].
 #[derive(Debug, Drop)]
 pub struct Case {
     logs: Vec<Arc<VatLog>>,
     links: Vec<Link>,
 }
 
-/// How many logs a case can hold.
-const MAX_VATS: usize = 64;
+/// How many logs a case may have: one for each vat.
+pub const MAX_VATS: usize = 1024;
 
-/// How many links a case can hold.
-const MAX_LINKS: usize = 256;
+/// How many links a case may have: one for each connection.
+pub const MAX_LINKS: usize = 4096;
 
 /// These logs by rising vat number, or why they make no case.
 fn rising_logs(mut logs: Vec<Arc<VatLog>>) -> Result<Vec<Arc<VatLog>>, CaseError>
@@ -116,8 +116,8 @@ impl Case {
     ///
     /// # Errors
     ///
-    /// The first that applies: `TooManyVats` above 64 logs; `SameVat` with the least vat that has two logs; `TooManyLinks`
-    /// above 256 links; `SameLink` with the least connection that has two links.
+    /// The first that applies: `TooManyVats` above [`MAX_VATS`] logs; `SameVat` with the least vat that has two logs;
+    /// `TooManyLinks` above [`MAX_LINKS`] links; `SameLink` with the least connection that has two links.
     pub fn new(logs: Vec<Arc<VatLog>>, links: Vec<Link>) -> Result<Case, CaseError>
         // Where it is refused, and why.
         ensures err { IfErr result

@@ -8,11 +8,11 @@ use std::alloc::{AllocError, AllocFailed};
 /// Why logs and links make no case: the first of these that applies.
 #[derive(Clone, Copy, Debug, PartialEq, Eq)]
 pub enum CaseError {
-    /// There are more than 64 logs.
+    /// There are more logs than [`MAX_VATS`](crate::MAX_VATS).
     TooManyVats,
     /// This vat has two logs or more; no smaller vat number has.
     SameVat(u32),
-    /// There are more than 256 links.
+    /// There are more links than [`MAX_LINKS`](crate::MAX_LINKS).
     TooManyLinks,
     /// This connection has two links or more; no smaller connection has.
     SameLink(u32),

@@ -28,7 +28,7 @@ mod ties;
 mod work;
 
 pub use book::Book;
-pub use case::Case;
+pub use case::{Case, MAX_LINKS, MAX_VATS};
 pub use error::CaseError;
 pub use finding::Finding;
 pub use findings::Findings;

@@ -8,7 +8,7 @@ use Rattle.vat_rules.specs.Audit.{Found}
 use Rattle.link_check.specs.Prefix.{Ends}
 use Rattle.call_trace.specs.Findings.{logs_of}
 use Rattle.audit_core.specs.Report.{count_all, delivers, records_in, HoldsOfEach, IsGoodFinding, AreGoodEnds}
-use Rattle.audit_core.specs.Glue.{under_way_on}
+use Rattle.audit_core.specs.Glue.{case_record_limit, under_way_on}
 use Rattle.audit_core.proofs.UnderWay.{few_under_way, under_way_is}
 use Rattle.audit_core.proofs.Whole.{logs_are}
 use Rattle.audit_core.proofs.Explaining.{same_yes}
@@ -27,7 +27,7 @@ count_under_way-requires-clause-good c = subst (λ (links : List Ends). HoldsOfE
 
 pub count_under_way-requires-clause-few : goal.count_under_way-requires-clause-few
 count_under_way-requires-clause-few c =
-    subst (λ (links : List Ends). sum_by under_way_on links ≤ 67108864) (sym c.links.ensures.lent) (few_under_way c.args.findings.now c.requires.good c.args.records c.requires.all c.requires.few)
+    subst (λ (links : List Ends). sum_by under_way_on links ≤ case_record_limit) (sym c.links.ensures.lent) (few_under_way c.args.findings.now c.requires.good c.args.records c.requires.all c.requires.few)
 
 pub returns : goal.returns
 returns c =

@@ -8,6 +8,7 @@ mod edges;
 mod faults;
 mod frames;
 mod given;
+mod limits;
 mod links;
 mod logs;
 mod loopbacks;

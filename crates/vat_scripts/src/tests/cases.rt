@@ -81,9 +81,9 @@ fn case_of(alloc: Global, vats: u32, links: u32) -> Result<Option<CaseError>, Re
 
 /// How many logs and links there are, and why they are refused.
 const MOST: [(u32, u32, Option<CaseError>); 3] = [
-    (65, 257, Some(CaseError::TooManyVats)),
-    (64, 257, Some(CaseError::TooManyLinks)),
-    (64, 256, None),
+    (1025, 4097, Some(CaseError::TooManyVats)),
+    (1024, 4097, Some(CaseError::TooManyLinks)),
+    (1024, 4096, None),
 ];
 
 #[test]

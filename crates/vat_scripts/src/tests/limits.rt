@@ -1,0 +1,88 @@
+//! Cases of more logs and links than may be, and of many.
+
+use super::given::{Refused, bytes_of_log};
+use crate::asking::{Told, ask};
+use bytes::Bytes;
+use std::alloc::Global;
+use std::fmt::Write;
+use std::sync::Wait;
+use std::thread::Threads;
+
+/// The case file of the logs of so many vats, with numbers from 0 on, and of so many links between vats 0 and 1.
+fn case_file(alloc: Global, vats: u32, links: u32) -> Result<Bytes, Refused> {
+    let mut text = String::new(alloc);
+    text.push_str("{\"logs\": [")?;
+    for vat in 0..vats {
+        let comma = if vat == 0 { "" } else { ", " };
+        write!(text, "{comma}\"{vat}\"")?;
+    }
+    text.push_str("], \"links\": [")?;
+    for connection in 0..links {
+        let comma = if connection == 0 { "" } else { ", " };
+        write!(text, "{comma}[{connection}, 0, 1]")?;
+    }
+    text.push_str("]}")?;
+    let mut bytes = Vec::new(alloc);
+    bytes.extend_from_slice(text.as_bytes())?;
+    Ok(Bytes::from_vec(bytes)?)
+}
+
+/// That file, and the logs that it names.
+fn files(alloc: Global, vats: u32, links: u32) -> Result<Vec<(String, Bytes)>, Refused> {
+    let mut files = Vec::new(alloc);
+    files.push((
+        String::from_str(alloc, "case")?,
+        case_file(alloc, vats, links)?,
+    ))?;
+    for vat in 0..vats {
+        let name = format!(in alloc; "{vat}")?;
+        let log = bytes_of_log(alloc, name.as_str(), "")?;
+        files.push((name, log))?;
+    }
+    Ok(files)
+}
+
+/// Whether `check` prints this of such a case. Running out of memory is a failure, and no answer.
+fn check_prints<R: Threads + Wait + Sync>(
+    rt: &R,
+    alloc: Global,
+    vats: u32,
+    links: u32,
+    line: &str,
+) -> Result<bool, Refused> {
+    let files = files(alloc, vats, links)?;
+    let Told { out, status, .. } = ask(rt, alloc, &["vataudit", "check", "case"], files)?;
+    if status == 3 {
+        return Err(Refused);
+    }
+    Ok(out.as_slice() == line.as_bytes())
+}
+
+/// Whether it does, also where memory was refused once.
+fn does_print<R: Threads + Wait + Sync + AllocGlobal>(
+    rt: &R,
+    vats: u32,
+    links: u32,
+    line: &str,
+) -> bool {
+    match check_prints(rt, rt.alloc(), vats, links, line) {
+        Ok(is_so) => is_so,
+        Err(_) => check_prints(rt, rt.alloc(), vats, links, line).unwrap_or(false),
+    }
+}
+
+#[test]
+fn a_case_may_have_65_logs(rt: HostRuntime) {
+    let line = "yes vats 65 records 0 delivered 0 under_way 0\n";
+    assert!(rt; does_print(&rt, 65, 0, line));
+}
+
+#[test]
+fn a_case_may_not_have_1025_logs(rt: HostRuntime) {
+    assert!(rt; does_print(&rt, 1025, 0, "bad case TooManyVats\n"));
+}
+
+#[test]
+fn a_case_may_not_have_4097_links(rt: HostRuntime) {
+    assert!(rt; does_print(&rt, 0, 4097, "bad case TooManyLinks\n"));
+}

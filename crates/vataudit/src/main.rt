@@ -2,13 +2,13 @@
 //! CASE` prints one line, `vataudit graph CASE` which vat came to have what of another's, `vataudit run CASE` the steps of
 //! their run, and `vataudit order CASE --out FILE` makes an order of their records. `vataudit vat FILE` prints one line for the
 //! log of one vat, `vataudit records FILE` a line for each record of a log, `vataudit frame HEX` the message of a frame, and
-//! `vataudit frames FILE` that of each frame of a file.
+//! `vataudit frames FILE` that of each frame of a file; `vataudit migrate FILE --out FILE` writes a log in version 2.
 //! Beside the lines it notes on standard error what people need of a no, of a record that isn't judged and of a file that is
 //! bad or can't be read; `--quiet` before the command leaves notes out.
 //!
 //! It stands on `command_line`, which reads the words, and on `command_run`, which runs the command that they spell
 //! and says in its specs/Runs.antt what a run prints. Here are the files: those that are read are a `Source` of
-//! `case_files`, which remembers what it read where notes are wanted (file.rt), and the order of a case is written to a new one (new_file.rt).
+//! `case_files`, which remembers what it read where notes are wanted (file.rt), and what is made is written to a new one (new_file.rt).
 #![tactic(auto)]
 
 ghost use Rattle.std.specs.Prelude.{◌≡◌, ◌≢◌, ◌⊎◌};

@@ -11,3 +11,5 @@ pub mod Posting
 pub mod Refusing
 pub mod OneLine
 pub mod Meaning
+pub mod Merging
+pub mod Versions

@@ -1,6 +1,6 @@
 //! Laws of reports.
 
-ghost use Rattle.std.specs.Prelude.{◌≡◌, List, ℕ, Option, None};
+ghost use Rattle.std.specs.Prelude.{◌≡◌, List, ℕ, Option, None, Bool, map, if◌then◌else◌};
 ghost use Rattle.merge_order.specs.Fits.{IsFitting};
 ghost use Rattle.run_model.specs.Edges.{AreEdges, Edge};
 ghost use Rattle.run_model.specs.declared.step.Step.{Step};
@@ -9,6 +9,9 @@ ghost use Rattle.case_book.specs.Books.{AllFound};
 ghost use Rattle.case_book.specs.Case.{Contents, IsCase};
 ghost use Rattle.case_book.specs.Ties.{tie_fault_of};
 ghost use Rattle.audit_core.specs.Report.{IsReport, IsFittingIfGiven, line_in, AreGoodFindings};
+ghost use Rattle.audit_core.specs.Versions.{AreSameButVersions};
+ghost use Rattle.vat_log.specs.Log.{Log};
+ghost use Rattle.vat_log.specs.Migrated.{migrated};
 ghost use Rattle.audit_core.specs.declared.report.Report.{Report};
 ghost use Rattle.audit_core.specs.declared.report.Report.TheVariants.{Yes};
 
@@ -35,4 +38,31 @@ pub fn a_case_has_one_graph()
 pub fn good_findings_name_a_run()
     ensures { (all : AllFound) (order : List ℕ) → AreGoodFindings all
         → IsFitting (logs_of all.vats) order → MayBeNamed all.vats order }
+{}
+
+/// The versions of a case's logs change nothing. Of two cases that are the same but for them, as a case and the case with
+/// any of its logs migrated, both tie up or neither does, for the same reason, and each report of the one is a report of
+/// the other, with its run; so their lines are equal, and so are their graphs.
+pub fn versions_change_nothing()
+    ensures ties { (held other : Contents) → AreSameButVersions held other
+        → tie_fault_of held ≡ tie_fault_of other }
+    ensures reports { (held other : Contents) → AreSameButVersions held other
+        → (given : Option (List ℕ)) (report : Report) → IsReport held given report
+        → IsReport other given report }
+    ensures lines { (held other : Contents) → AreSameButVersions held other → IsCase held
+        → tie_fault_of held ≡ None → (given : Option (List ℕ)) → IsFittingIfGiven held.logs given
+        → (one two : Report) → IsReport held given one → IsReport other given two
+        → line_in one ≡ line_in two }
+    ensures graphs { (held other : Contents) → AreSameButVersions held other → IsCase held
+        → tie_fault_of held ≡ None → (given : Option (List ℕ))
+        → (vats records delivered under_way other_vats other_records other_delivered other_under_way : ℕ)
+        (run other_run : List Step)
+        → IsReport held given (Yes vats records delivered under_way run)
+        → IsReport other given
+        (Yes other_vats other_records other_delivered other_under_way other_run)
+        → (edges other_edges : List Edge) → AreEdges run edges → AreEdges other_run other_edges
+        → edges ≡ other_edges }
+    // Migrating any logs of a case changes versions alone.
+    ensures chosen { (held : Contents) (is_chosen : Log → Bool) → AreSameButVersions held
+        (record held { logs = map (λ log. if is_chosen log then migrated log else log) held.logs }) }
 {}

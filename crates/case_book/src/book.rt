@@ -3,6 +3,7 @@
 ghost use Rattle.std.specs.Prelude.{◌≡◌, ◌+◌, ◌<◌, ◌≤◌, ◌++◌, ◌∷◌, [], None, Some, true, false, not, is_none, IfOk, IfErr, OnOk, OnErr, map, vec_len, position, slice_set, length, replicate};
 ghost use Rattle.std.specs.Option.{option_map};
 ghost use Rattle.std.specs.Vec.{vec_capacity};
+ghost use Rattle.case_book.specs.Case.{link_limit, vat_limit};
 ghost use Rattle.case_book.specs.Ties.{tie_fault_of};
 ghost use Rattle.case_book.specs.Glue.{ArePlaced};
 ghost use Rattle.case_book.specs.Books.{IsBook, IsClaimed, IsMissing, IsPosted, IsRefusal, findings_of, least_missing, least_unclaimed, missing_in, new_book, with_claim, with_finding};
@@ -80,7 +81,7 @@ fn first_missing(found: &[Option<Finding>]) -> Option<usize>
 /// Claims the piece of this number.
 fn claim_piece(claimed: &mut [bool], number: usize) -> Piece
     requires within { number < length claimed.old }
-    requires few { length claimed.old ≤ 320 }
+    requires few { length claimed.old ≤ vat_limit + link_limit }
     ensures answer { result.number ≡ number }
     ensures after { claimed.new ≡ slice_set claimed.old number true }
 {

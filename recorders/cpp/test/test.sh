@@ -44,7 +44,7 @@ done
 # How a program ends, and with which status.
 for ending in throws=134 exits=3 killed=137 keeps=137 fills=0; do
   status=0
-  { ./ends logs "${ending%=*}"; } 2>> logs/said || status=$?
+  { ./ends logs "${ending%=*}" 2>&1 | cat >> logs/said; } 2> /dev/null || status=$?
   [ "$status" -eq "${ending#*=}" ] || { cat logs/said; differ "ends ${ending%=*} ended with $status"; }
 done
 make --quiet -C ../demo record >> logs/said 2>&1 || { cat logs/said; differ "the demo ended with $?"; }

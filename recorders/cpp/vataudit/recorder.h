@@ -403,8 +403,8 @@ public:
     if (recording && !log.flush()) stop(becauseOf("the log can't be written"));
   }
 
-  // Each record is written when it is whole; MAKE with the SEND or DELIVER right behind it, or, if there is none, before
-  // the program goes on.
+  // Each record is written when it is whole; MAKE with the SEND or DELIVER right behind it, or, if there is none,
+  // before the program goes on.
   void settle() {
     if (recording && !log.settle()) stop(becauseOf("the log can't be written"));
   }

@@ -106,6 +106,18 @@ private:
   kj::Own<kj::PromiseFulfiller<Counter::Client>> fulfiller;
 };
 
+// One that has a file descriptor.
+class FileObject: public CounterObject {
+public:
+  FileObject(vataudit::Recorder& recorder, int fd): CounterObject(recorder), fd(fd) {}
+
+protected:
+  kj::Maybe<int> getFd() override { return fd; }
+
+private:
+  int fd;
+};
+
 inline capnp::Request<Counter::NextParams, Counter::NextResults> nextBy(Counter::Client counter, uint32_t by) {
   auto request = counter.nextRequest();
   request.setBy(by);

@@ -448,6 +448,122 @@ void server(World& world) {
   world.wait(server.drain());
 }
 
+// A server that is given streams which stay the program's. It serves the one until its client is gone, the other until
+// the promise is dropped.
+void accepted(World& world) {
+  vataudit::Recorder first(world.log(1).c_str(), 1), second(world.log(2).c_str(), 2), third(world.log(3).c_str(), 3);
+  vataudit::TwoPartyServer server(second, second.host<CounterObject>(second));
+  kj::TwoWayPipe near = world.io.provider->newTwoWayPipe();
+  kj::TwoWayPipe far = world.io.provider->newTwoWayPipe();
+  kj::Promise<void> served = server.accept(*near.ends[1], 0);
+  kj::Promise<void> dropped = server.accept(*far.ends[1], 1);
+  {
+    vataudit::TwoPartyClient client(first, *near.ends[0], 0);
+    KJ_ASSERT(world.next(client.bootstrap().castAs<Counter>(), 1) == 1);
+  }
+  near.ends[0] = nullptr;
+  world.wait(kj::mv(served));
+  vataudit::TwoPartyClient client(third, *far.ends[0], 1);
+  Counter::Client counter = client.bootstrap().castAs<Counter>();
+  KJ_ASSERT(world.next(counter, 1) == 2);
+  dropped = nullptr;
+  far.ends[1] = nullptr;
+  KJ_ASSERT(world.fails(nextBy(counter, 1).send()));
+  world.settle();
+}
+
+// A server that listens at two addresses, at the one for clients with file descriptors.
+void listened(World& world) {
+  vataudit::Recorder first(world.log(1).c_str(), 1), second(world.log(2).c_str(), 2), third(world.log(3).c_str(), 3);
+  vataudit::TwoPartyServer server(second, second.host<CounterObject>(second));
+  auto& network = world.io.provider->getNetwork();
+  std::string nearPath = world.prefix + ".near", farPath = world.prefix + ".far";
+  auto near = world.wait(network.parseAddress("unix:" + nearPath));
+  auto far = world.wait(network.parseAddress("unix:" + farPath));
+  auto nearListener = near->listen();
+  auto farListener = far->listen();
+  {
+    auto listening = server.listen(*nearListener, 0).eagerlyEvaluate(nullptr);
+    auto also = server.listenCapStreamReceiver(*farListener, 1, 1).eagerlyEvaluate(nullptr);
+    auto nearStream = world.wait(near->connect());
+    auto farStream = world.wait(far->connect());
+    vataudit::TwoPartyClient client(first, *nearStream, 0);
+    vataudit::TwoPartyClient other(third, *farStream, 1);
+    KJ_ASSERT(world.next(client.bootstrap().castAs<Counter>(), 1) == 1);
+    KJ_ASSERT(world.next(other.bootstrap().castAs<Counter>(), 1) == 2);
+  }
+  world.wait(server.drain());
+  unlink(nearPath.c_str());
+  unlink(farPath.c_str());
+}
+
+// An object with a file descriptor, which goes from vat 1 to vat 2 and on to vat 3.
+void descriptors(World& world) {
+  int ends[2];
+  KJ_SYSCALL(pipe(ends));
+  kj::AutoCloseFd reads(ends[0]), writes(ends[1]);
+  vataudit::Recorder first(world.log(1).c_str(), 1), second(world.log(2).c_str(), 2), third(world.log(3).c_str(), 3);
+  vataudit::TwoPartyServer server(second, second.host<CounterObject>(second));
+  kj::CapabilityPipe near = world.io.provider->newCapabilityPipe();
+  kj::CapabilityPipe far = world.io.provider->newCapabilityPipe();
+  server.accept(kj::mv(near.ends[1]), 0, 1);
+  auto served = server.accept(*far.ends[1], 1, 1);
+  {
+    vataudit::TwoPartyClient client(first, *near.ends[0], 0, 1);
+    vataudit::TwoPartyClient other(third, *far.ends[0], 1, 1, third.host<CounterObject>(third));
+    world.hold(client.bootstrap().castAs<Counter>(), first.host<FileObject>(first, writes.get()));
+    auto held = world.wait(other.bootstrap().castAs<Counter>().heldRequest().send());
+    int came = KJ_ASSERT_NONNULL(world.wait(held.getCounter().getFd()));
+    char sent = 'x', received = 0;
+    KJ_ASSERT(came != writes.get() && write(came, &sent, 1) == 1 && read(reads, &received, 1) == 1 && received == sent);
+  }
+  near.ends[0] = nullptr;
+  far.ends[0] = nullptr;
+  world.wait(server.drain());
+  world.wait(kj::mv(served));
+}
+
+// Networks over message streams: vat 1 asks vat 2 over one that has file descriptors, vat 2 vat 3 over one without.
+void messageStreams(World& world) {
+  vataudit::Recorder first(world.log(1).c_str(), 1), second(world.log(2).c_str(), 2), third(world.log(3).c_str(), 3);
+  kj::CapabilityPipe near = world.io.provider->newCapabilityPipe();
+  kj::TwoWayPipe far = world.io.provider->newTwoWayPipe();
+  capnp::AsyncCapabilityMessageStream nearAsks(*near.ends[0]), nearServes(*near.ends[1]);
+  capnp::AsyncIoMessageStream farAsks(*far.ends[0]), farServes(*far.ends[1]);
+  vataudit::Network farServer(third, farServes, 1, Side::SERVER), farClient(second, farAsks, 1, Side::CLIENT);
+  vataudit::Network nearServer(second, nearServes, 0, 1, Side::SERVER), nearClient(first, nearAsks, 0, 1, Side::CLIENT);
+  KJ_ASSERT(nearServer.getSide() == Side::SERVER && farClient.getSide() == Side::CLIENT);
+  auto farServing = farServer.serve(third.host<CounterObject>(third));
+  auto farAsking = farClient.client();
+  auto nearServing = nearServer.serve(farClient.bootstrap(farAsking));
+  auto nearAsking = nearClient.client();
+  Counter::Client counter = nearClient.bootstrap(nearAsking).castAs<Counter>();
+  KJ_ASSERT(world.next(counter, 1) == 1);
+  world.settle();
+  KJ_ASSERT(nearClient.getCurrentQueueCount() == 0 && nearClient.getCurrentQueueSize() == 0);
+}
+
+// What a client says of its queue, beside one that isn't recorded; and the trace that goes along with an exception.
+void queue(World& world) {
+  Two two(world);
+  two.server->setTraceEncoder([](const kj::Exception&) { return kj::str("a trace"); });
+  kj::TwoWayPipe pipe = world.io.provider->newTwoWayPipe();
+  capnp::TwoPartyClient unrecorded(*pipe.ends[0]);
+  Counter::Client other = unrecorded.bootstrap().castAs<Counter>();
+  auto call = nextBy(two.counter, 1).send();
+  auto otherCall = nextBy(other, 1).send();
+  KJ_ASSERT(two.client->getCurrentQueueCount() == 2 && unrecorded.getCurrentQueueCount() == 2);
+  KJ_ASSERT(two.client->getCurrentQueueSize() == unrecorded.getCurrentQueueSize());
+  KJ_ASSERT(two.wait(call).getValue() == 1);
+  two.settle();
+  KJ_ASSERT(two.client->getCurrentQueueCount() == 0 && two.client->getCurrentQueueSize() == 0);
+  KJ_ASSERT(two.client->getOutgoingMessageWaitTime() == 0 * kj::SECONDS);
+  auto trace = two.wait(two.counter.failRequest().send().then(
+      [](auto&&) { return kj::String(); },
+      [](kj::Exception&& exception) { return kj::str(exception.getRemoteTrace()); }));
+  KJ_ASSERT(trace == "a trace");
+}
+
 // Calls of a streaming method, whose results nobody sees, and one behind them.
 void streaming(World& world) {
   Two two(world);
@@ -487,12 +603,13 @@ void taken(World& world) {
 // knows, vat 2's log has no room on its disk, and vat 3's can't be made.
 void refused(World& world) {
   Three three(world, "/dev/full", "/nowhere/log");
-  three.second.flush();
   auto request = three.counter.callRequest();
   request.setBack(kj::heap<CounterObject>(three.first, 10));
   KJ_ASSERT(three.wait(request.send()).getValue() == 15);
   KJ_ASSERT(three.next(three.counter, 1) == 1);
   KJ_ASSERT(!three.first.isRecording() && !three.second.isRecording() && !three.third.isRecording());
+  KJ_ASSERT(three.second.whyStopped() == "no further than record 0: the log can't be written: No space left on device; "
+                                         "the log is /dev/full");
 }
 
 const Conversations scenarios = {
@@ -507,6 +624,8 @@ const Conversations scenarios = {
   { "refused", refused }, { "handed_on", handedOn }, { "handed_on_early", handedOnEarly },
   { "queued", queued }, { "canceled_waiting", canceledWaiting }, { "server", server },
   { "streaming", streaming }, { "null_promise", nullPromise }, { "this_cap", thisCap }, { "taken", taken },
+  { "accepted", accepted }, { "listened", listened }, { "descriptors", descriptors },
+  { "message_streams", messageStreams }, { "queue", queue },
 };
 
 }  // namespace

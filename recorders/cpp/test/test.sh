@@ -3,7 +3,8 @@
 # audited, and compares what is printed with expected.txt. Ends with 0 where all is as expected, with 1 at the first
 # difference, and with 2, and passes nothing, where something is missing.
 #
-#     test.sh                the program is $VATAUDIT, or crates/vataudit/out/vataudit (README.md says how to build it)
+#     test.sh                the program is $VATAUDIT, or crates/vataudit/out/vataudit (README.md says how to build it),
+#                            or the `vataudit` on the PATH
 #     test.sh --unproved     builds the program without a proof, by `rt try`, and runs that
 #
 # What was printed stays in logs/printed/COMMAND.
@@ -22,12 +23,13 @@ if [ "${#missing[@]}" -gt 0 ]; then
   stop "nothing tested: missing ${missing[*]} (Debian: apt-get install capnproto libcapnp-dev g++ make pkg-config)"
 fi
 program="${VATAUDIT:-$root/crates/vataudit/out/vataudit}"
+[ -n "${VATAUDIT:-}" ] || [ -x "$program" ] || program="$(command -v vataudit || echo "$program")"
 unproved=
 if [ "${1:-}" = --unproved ]; then
   unproved=1
   command -v rt > /dev/null || stop "nothing tested: missing rt (README.md says what that is)"
 elif [ ! -x "$program" ]; then
-  stop "nothing tested: no program $program (README.md says how to build it; or test.sh --unproved)"
+  stop "nothing tested: no program $program, and none on the PATH (README.md says how to build it; or test.sh --unproved)"
 fi
 
 make --quiet
@@ -39,11 +41,23 @@ grep -q "error: .*so FooImpl can't be .final." logs/final || differ "host doesn'
 for suite in scenarios faults; do
   "./$suite" logs 2>> logs/said || { cat logs/said; differ "$suite ended with $?"; }
 done
+# How a program ends, and with which status.
+for ending in throws=134 exits=3 killed=137 keeps=137 fills=0; do
+  status=0
+  { ./ends logs "${ending%=*}" 2>&1 | cat >> logs/said; } 2> /dev/null || status=$?
+  [ "$status" -eq "${ending#*=}" ] || { cat logs/said; differ "ends ${ending%=*} ended with $status"; }
+done
 make --quiet -C ../demo record >> logs/said 2>&1 || { cat logs/said; differ "the demo ended with $?"; }
 mv ../demo/client.log logs/demo.vat1.log
 mv ../demo/server.log logs/demo.vat2.log
-grep vataudit: logs/said > logs/refused || true
+grep vataudit: logs/said | sed "s|$here/||" > logs/refused || true
 diff refused.txt logs/refused || differ "the recorders said something else than refused.txt has"
+# A log of a recorder that stopped has another name. What is in it is audited like the others.
+for log in logs/*.stopped; do
+  [ ! -e "${log%.stopped}" ] || differ "$log stands beside ${log%.stopped}"
+  grep -q "the log is $log\$" logs/refused || differ "$log is there, and no recorder stopped"
+  mv "$log" "${log%.stopped}"
+done
 
 # Case files, as docs/FORMATS.md has them.
 for log in logs/*.vat1.log; do
@@ -119,6 +133,11 @@ print_all vat log
 print_all order case --out made
 for name in $(ls logs/printed/vat); do compare "$name.log" "$(cat "logs/printed/vat/$name")" "$(expected "$name.log")"; done
 for name in $(ls logs/printed/order); do compare "$name.order" "$(cat "logs/printed/order/$name")" "$(expected "$name.order")"; done
+# Of a program that ended each record is there that was made until then.
+while read -r log records; do
+  line="$(cat "logs/printed/vat/$(basename "$log" .log)")"
+  [[ "$line" == "good vat "*" records $records delivered "* ]] || differ "$log: $records records were made, printed '$line'"
+done < logs/ended
 count="$(ls logs/*.log | wc -l)"
 cases="$(ls logs/*.case | wc -l)"
 [ "$tested" -eq $((count + cases)) ] || differ "$tested lines for $count logs and $cases conversations"

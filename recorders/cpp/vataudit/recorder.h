@@ -17,14 +17,17 @@
 // capability from `promise`, each connection from `TwoPartyClient`, `TwoPartyServer` or `Network`.
 //
 // Recording never changes what the program does. The runtime gets the hooks that it would get without a recorder;
-// only the program holds wrapped ones. Where a record would make a bad log, or the log can't be written,
-// the recorder says so once on standard error, with the place, and records no more; the program goes on.
-// The log that is there then ends before that place.
+// only the program holds wrapped ones. Each record is in the system's hands before the program goes on: one that
+// throws, exits or is killed leaves all that it recorded.
+//
+// Where a record would make a bad log, or the log can't be written, the recorder stops, and the program goes on. The
+// log ends before that record, and is renamed to `client.log.stopped`: nobody takes it for a whole one. The
+// recorder says why on standard error, then and at its end; `isRecording` and `whyStopped` say it to the program.
 //
 // One recorder belongs to one event loop, as all of capnp's objects do.
 //
 // What it can't do:
-// - EzRpcClient and EzRpcServer let no recorder in, and file descriptors aren't passed along.
+// - EzRpcClient and EzRpcServer let no recorder in.
 // - A bootstrap object that is made anew for each client (BootstrapFactory) has to be given by `asBootstrap`.
 // - Where a method ends by `tailCall` or names its results beforehand by `setPipeline`, a log has no record for "the
 //   results of this call are those of that one" before they are there. A call that goes on to such a result before
@@ -47,8 +50,10 @@
 #include <kj/async-io.h>
 #include <kj/debug.h>
 
+#include <cerrno>
 #include <cstdint>
 #include <cstdio>
+#include <cstdlib>
 #include <cstring>
 #include <deque>
 #include <memory>
@@ -57,6 +62,10 @@
 #include <unordered_map>
 #include <utility>
 #include <vector>
+
+#include <fcntl.h>
+#include <sys/stat.h>
+#include <unistd.h>
 
 namespace vataudit {
 
@@ -72,11 +81,11 @@ class Vat;
 // The log of one vat. Make one at the start of the program, before all that it records.
 class Recorder {
 public:
-  // Begins the log `path` of vat `vat`; what the file held is lost. Where it can't be made, the recorder
-  // says so and records nothing.
+  // Begins the log `path` of vat `vat`; what the file held is lost, and so is `path`.stopped. Where it can't be
+  // made, the recorder says so and records nothing.
   Recorder(const char* path, uint32_t vat);
 
-  // Writes what is left, and ends the log. What happens afterwards isn't recorded.
+  // Writes what is buffered, and ends the log. What happens afterwards isn't recorded.
   ~Recorder();
   KJ_DISALLOW_COPY(Recorder);
 
@@ -90,20 +99,22 @@ public:
   template <typename Client>
   Client promise(kj::Promise<Client>&& promised);
 
-  // Writes what is buffered. A program that may be killed calls this now and then.
-  void flush();
+  // From now on records are kept until they take up so many bytes, and are then written at once. That is faster; but
+  // a program that is killed, or ends without this recorder's destructor, loses those that it still keeps.
+  void bufferRecords(size_t bytes);
 
-  // From now on each record is written at once: slower, but a killed program leaves its log.
-  void flushEachRecord();
+  // Writes the records that are kept.
+  void flush();
 
   // The runtime answers a received abort with an abort of its own, which the audit's rule CLOSED refuses, though
   // rpc.capnp binds the sender of the first abort alone. From now on such an answer is left out of the log: the one
   // thing that a recorder leaves out, and only if you ask for it. A server whose clients come and go does.
   void leaveOutAbortsInAnswer();
 
-  // Whether it still records, and how many records there are.
+  // Whether it still records, and how many records there are. Why it stopped: empty if it didn't.
   bool isRecording() const;
   uint64_t records() const;
+  std::string whyStopped() const;
 
 private:
   std::shared_ptr<inside::Vat> vat;
@@ -119,17 +130,19 @@ using capnp::AnyPointer;
 using capnp::AnyStruct;
 using capnp::ClientHook;
 
-// The bytes of a log of version 2, little-endian, as docs/FORMATS.md has them.
+// The bytes of a log of version 2, little-endian, as docs/FORMATS.md has them. What is written ends with a whole record, also where
+// a write fails.
 class Log {
 public:
-  Log(const char* path, uint32_t vat): file(fopen(path, "wb")) {
+  Log(const char* path, uint32_t vat): file(open(path, O_WRONLY | O_CREAT | O_TRUNC | O_CLOEXEC, 0666)) {
+    if (isOpen()) place(path);
     add("VATLOG02", 8);
     number<uint32_t>(vat);
   }
   ~Log() { close(); }
   KJ_DISALLOW_COPY(Log);
 
-  bool isOpen() const { return file != nullptr; }
+  bool isOpen() const { return file >= 0; }
   void kind(uint8_t kind) { number<uint8_t>(kind); }
 
   template <typename Number>
@@ -155,32 +168,78 @@ public:
   // Takes back the bytes of a record that begins at this place of what is not yet written, where one of its lists is
   // too long; and whether it was.
   size_t unwritten() const { return buffer.size(); }
-  bool takeBack(size_t begin) {
+  bool dropTooLong(size_t begin) {
     if (isTooLong) buffer.resize(begin);
     return isTooLong;
   }
 
-  // Whether all could be written.
+  // The bytes of a record are all there.
+  void endRecord() { records++; }
+
+  // Writes what there is no room to keep. Whether that went well.
+  bool settle() { return buffer.size() < room || flush(); }
+
+  // Writes what is kept. What the system takes in part is taken back, and `errno` says why.
   bool flush() {
-    bool isWritten = file != nullptr && fwrite(buffer.data(), 1, buffer.size(), file) == buffer.size() &&
-        fflush(file) == 0;
+    size_t done = 0;
+    while (done < buffer.size()) {
+      ssize_t count = write(file, buffer.data() + done, buffer.size() - done);
+      if (count > 0) {
+        done += count;
+      } else if (count == 0 || errno != EINTR) {
+        takeBack();
+        return false;
+      }
+    }
     buffer.clear();
-    return isWritten;
+    length += done;
+    written = records;
+    return true;
   }
-  bool endRecord() { return buffer.size() < 65536 || flush(); }
 
   void close() {
-    if (file != nullptr) {
-      flush();
-      fclose(file);
-      file = nullptr;
-    }
+    if (!isOpen()) return;
+    flush();
+    ::close(file);
+    file = -1;
   }
 
+  // Gives the log another name, so that nobody takes it for a whole one. Where it lies afterwards.
+  std::string setAside() {
+    struct stat mine, there;
+    bool isStillThere = isOpen() && fstat(file, &mine) == 0 && S_ISREG(mine.st_mode) &&
+        stat(path.c_str(), &there) == 0 && mine.st_dev == there.st_dev && mine.st_ino == there.st_ino;
+    close();
+    if (isStillThere && rename(path.c_str(), (path + ".stopped").c_str()) == 0) path += ".stopped";
+    return path;
+  }
+
+  size_t room = 0;       // how many bytes may be kept
+  uint64_t records = 0;  // that were made; where a write failed, that were written
+
 private:
-  FILE* file;
+  int file;
+  std::string path;      // from the root, if the system knows it: the program may change its folder
   std::string buffer;
   bool isTooLong = false;
+  uint64_t length = 0, written = 0;
+
+  void place(const char* given) {
+    char* known = realpath(given, nullptr);
+    path = known == nullptr ? given : known;
+    free(known);
+    unlink((path + ".stopped").c_str());
+  }
+
+  void takeBack() {
+    int reason = errno;
+    if (ftruncate(file, length) != 0) {
+      // it isn't a file that has a length
+    }
+    buffer.clear();
+    records = written;
+    errno = reason;
+  }
 };
 
 // =========================================================================== What is known
@@ -331,29 +390,41 @@ inline const void* placeOf(AnyPointer::Reader params) {
 class Vat {
 public:
   Vat(const char* path, uint32_t number): log(path, number), number(number) {
-    if (!log.isOpen()) stop("the log can't be made");
+    if (!log.isOpen()) stop(becauseOf("the log can't be made"));
+    flush();
   }
 
   bool isRecording() const { return recording; }
+  uint64_t records() const { return log.records; }
+  const std::string& whyStopped() const { return reason; }
 
-  // Says once why recording ends here. Nothing of the record that was begun is in the log.
-  void stop(const char* reason) {
+  // Recording ends here. Nothing of the record that was begun is in the log.
+  void stop(const std::string& why) {
     if (!recording) return;
     recording = false;
-    fprintf(stderr, "vataudit: vat %u is recorded no further than record %llu: %s\n", number,
-            static_cast<unsigned long long>(records), reason);
-    log.close();
+    std::string place = log.setAside();
+    reason = "no further than record " + std::to_string(log.records) + ": " + why;
+    if (!place.empty()) reason += "; the log is " + place;
+    say("is recorded");
   }
 
   void end() {
+    if (!reason.empty()) say("was recorded");
     flush();
     recording = false;
     log.close();
   }
 
   void flush() {
-    if (recording && !log.flush()) stop("the log can't be written");
+    if (recording && !log.flush()) stop(becauseOf("the log can't be written"));
   }
+
+  // Each record is written when it is whole; MAKE with the SEND or DELIVER right behind it, or, if there is none,
+  // before the program goes on.
+  void settle() {
+    if (recording && !log.settle()) stop(becauseOf("the log can't be written"));
+  }
+  void bufferRecords(size_t bytes) { log.room = bytes; }
 
   // ------------------------------------------------------------------------- records, but SEND and RECV
 
@@ -518,8 +589,6 @@ public:
   // The runtime's hooks of objects. An entry goes with its object, for addresses are used again.
   std::unordered_map<const ClientHook*, Reference> hosted;
   Outgoing* unsent = nullptr;       // the messages that are being made, the latest first
-  uint64_t records = 0;
-  bool isFlushedEachTime = false;
   bool hasNoAbortsInAnswer = false;
 
   // A call was made, and is neither sent nor delivered. Those that are gone are dropped now and then.
@@ -552,6 +621,7 @@ private:
   Log log;
   uint32_t number;
   bool recording = true;
+  std::string reason;  // why it stopped
   uint64_t lastReference = 0, lastCall = 0, lastObject = 0;
   std::unordered_map<const void*, std::shared_ptr<Call>> callAt;
   std::deque<std::shared_ptr<Call>> withoutParams;
@@ -561,14 +631,19 @@ private:
   template <typename Fields>
   void begin(uint8_t kind, Fields&& fields) {
     if (!recording) return;
-    if (records == 1048576) return stop("a log has no room for more records");
+    if (log.records == 1048576) return stop("a log has no room for more records");
     size_t place = log.unwritten();
     log.kind(kind);
     fields();
-    if (log.takeBack(place)) return stop("a log has no room for so long a list");
-    records++;
-    if (!log.endRecord() || (isFlushedEachTime && !log.flush())) stop("the log can't be written");
+    if (log.dropTooLong(place)) return stop("a log has no room for so long a list");
+    log.endRecord();
+    if (kind != 0x05) settle();
   }
+
+  // What can't be done, and what the system says of it.
+  static std::string becauseOf(const char* what) { return std::string(what) + ": " + strerror(errno); }
+
+  void say(const char* how) const { fprintf(stderr, "vataudit: vat %u %s %s\n", number, how, reason.c_str()); }
 
   void addPath(const Path& path) {
     log.count(path.size());
@@ -856,6 +931,7 @@ public:
   auto whileSending(Send&& send) -> decltype(send()) {
     auto sent = [&] {
       Meanwhile meanwhile(vat->sending, call);
+      KJ_DEFER(vat->settle());
       return send();
     }();
     if (!call->isGone) vat->wait(call);
@@ -1417,6 +1493,7 @@ public:
   ~Outgoing() noexcept(false) { leave(); }
 
   AnyPointer::Builder getBody() override { return message.getRoot<AnyPointer>(); }
+  void setFds(kj::Array<int> fds) override;
   void send() override;
   size_t sizeInWords() override { return wordsOf(message.getSegmentsForOutput()); }
 
@@ -1430,6 +1507,7 @@ private:
   Network& network;
   std::shared_ptr<End> end;
   capnp::MallocMessageBuilder message;
+  kj::Array<int> fds;
   std::shared_ptr<Call> call;      // the call whose request the program writes right here
   std::shared_ptr<Call> passedOn;
   Outgoing* before = nullptr;
@@ -1458,8 +1536,10 @@ private:
 // message brings about stands behind it.
 class Incoming final: public capnp::IncomingRpcMessage {
 public:
-  Incoming(std::shared_ptr<End> end, kj::Own<capnp::MessageReader> message)
-      : end(kj::mv(end)), message(kj::mv(message)) {
+  // The descriptors that came with it are the first of `room`.
+  Incoming(std::shared_ptr<End> end, kj::Own<capnp::MessageReader> message, kj::Array<kj::AutoCloseFd> room,
+           kj::ArrayPtr<kj::AutoCloseFd> fds)
+      : end(kj::mv(end)), message(kj::mv(message)), room(kj::mv(room)), fds(fds) {
     for (uint at = 0;; at++) {
       auto segment = this->message->getSegment(at);
       if (segment.begin() == nullptr) break;
@@ -1477,11 +1557,14 @@ public:
     isSeen = true;
     return message->getRoot<AnyPointer>();
   }
+  kj::ArrayPtr<kj::AutoCloseFd> getAttachedFds() override { return fds; }
   size_t sizeInWords() override { return wordsOf(segments); }
 
 private:
   std::shared_ptr<End> end;
   kj::Own<capnp::MessageReader> message;
+  kj::Array<kj::AutoCloseFd> room;
+  kj::ArrayPtr<kj::AutoCloseFd> fds;
   Segments segments;
   std::shared_ptr<Call> call;
   bool isSeen = false;
@@ -1512,17 +1595,26 @@ class Network final: public capnp::TwoPartyVatNetworkBase,
                      private capnp::TwoPartyVatNetworkBase::Connection,
                      private capnp::RpcFlowController::WindowGetter {
 public:
-  Network(Recorder& recorder, kj::AsyncIoStream& stream, uint32_t connection, capnp::rpc::twoparty::Side side,
-          capnp::ReaderOptions options = capnp::ReaderOptions())
-      : vat(recorder.vat), end(std::make_shared<inside::End>(vat, connection)), stream(stream), side(side),
-        options(options), peer(4), previousWrite(kj::Promise<void>(kj::READY_NOW)) {
-    auto other = side == capnp::rpc::twoparty::Side::CLIENT ? capnp::rpc::twoparty::Side::SERVER
-                                                            : capnp::rpc::twoparty::Side::CLIENT;
-    peer.initRoot<capnp::rpc::twoparty::VatId>().setSide(other);
-    auto paf = kj::newPromiseAndFulfiller<void>();
-    disconnected = paf.promise.fork();
-    disposer.fulfiller = kj::mv(paf.fulfiller);
-  }
+  using Side = capnp::rpc::twoparty::Side;
+
+  Network(Recorder& recorder, kj::AsyncIoStream& stream, uint32_t connection, Side side,
+          capnp::ReaderOptions options = capnp::ReaderOptions(),
+          const kj::MonotonicClock& clock = kj::systemCoarseMonotonicClock())
+      : Network(recorder, kj::heap<capnp::AsyncIoMessageStream>(stream), connection, 0, side, options, clock) {}
+  Network(Recorder& recorder, kj::AsyncCapabilityStream& stream, uint32_t connection, uint maxFdsPerMessage, Side side,
+          capnp::ReaderOptions options = capnp::ReaderOptions(),
+          const kj::MonotonicClock& clock = kj::systemCoarseMonotonicClock())
+      : Network(recorder, kj::heap<capnp::AsyncCapabilityMessageStream>(stream), connection, maxFdsPerMessage, side,
+                options, clock) {}
+  Network(Recorder& recorder, capnp::MessageStream& stream, uint32_t connection, Side side,
+          capnp::ReaderOptions options = capnp::ReaderOptions(),
+          const kj::MonotonicClock& clock = kj::systemCoarseMonotonicClock())
+      : Network(recorder, stream, connection, 0, side, options, clock) {}
+  Network(Recorder& recorder, capnp::MessageStream& stream, uint32_t connection, uint maxFdsPerMessage, Side side,
+          capnp::ReaderOptions options = capnp::ReaderOptions(),
+          const kj::MonotonicClock& clock = kj::systemCoarseMonotonicClock())
+      : Network(recorder, kj::Own<capnp::MessageStream>(&stream, kj::NullDisposer::instance), connection,
+                maxFdsPerMessage, side, options, clock) {}
   KJ_DISALLOW_COPY(Network);
 
   using RpcSystem = capnp::RpcSystem<capnp::rpc::twoparty::VatId>;
@@ -1554,6 +1646,15 @@ public:
   }
 
   kj::Promise<void> onDisconnect() { return disconnected.addBranch(); }
+  Side getSide() { return side; }
+
+  // Of the messages that wait to be written: their bytes, their number, and how long the one that is being written
+  // has waited.
+  size_t getCurrentQueueSize() { return queueSize; }
+  size_t getCurrentQueueCount() { return queueCount; }
+  kj::Duration getOutgoingMessageWaitTime() {
+    return queueCount > 0 ? clock.now() - writtenSince : 0 * kj::SECONDS;
+  }
 
   kj::Maybe<kj::Own<capnp::TwoPartyVatNetworkBase::Connection>> connect(
       capnp::rpc::twoparty::VatId::Reader id) override {
@@ -1561,7 +1662,7 @@ public:
     return asConnection();
   }
   kj::Promise<kj::Own<capnp::TwoPartyVatNetworkBase::Connection>> accept() override {
-    if (side == capnp::rpc::twoparty::Side::SERVER && !isAccepted) {
+    if (side == Side::SERVER && !isAccepted) {
       isAccepted = true;
       return asConnection();
     }
@@ -1583,9 +1684,11 @@ private:
 
   std::shared_ptr<inside::Vat> vat;
   std::shared_ptr<inside::End> end;
-  capnp::AsyncIoMessageStream stream;
-  capnp::rpc::twoparty::Side side;
+  kj::Own<capnp::MessageStream> stream;
+  uint maxFdsPerMessage;
+  Side side;
   capnp::ReaderOptions options;
+  const kj::MonotonicClock& clock;
   capnp::MallocMessageBuilder peer;
   bool isAccepted = false;
   kj::Own<kj::PromiseFulfiller<kj::Own<capnp::TwoPartyVatNetworkBase::Connection>>> acceptFulfiller;
@@ -1593,8 +1696,21 @@ private:
   kj::Maybe<kj::Exception> readCancelReason;
   kj::Maybe<kj::Promise<void>> previousWrite;  // the queue of what is to be written; null after shutdown()
   kj::ForkedPromise<void> disconnected = nullptr;
+  size_t queueSize = 0, queueCount = 0;
+  kj::TimePoint writtenSince;
   Disposer disposer;
   friend class inside::Outgoing;
+
+  Network(Recorder& recorder, kj::Own<capnp::MessageStream> stream, uint32_t connection, uint maxFdsPerMessage,
+          Side side, capnp::ReaderOptions options, const kj::MonotonicClock& clock)
+      : vat(recorder.vat), end(std::make_shared<inside::End>(vat, connection)), stream(kj::mv(stream)),
+        maxFdsPerMessage(maxFdsPerMessage), side(side), options(options), clock(clock), peer(4),
+        previousWrite(kj::Promise<void>(kj::READY_NOW)), writtenSince(clock.now()) {
+    peer.initRoot<capnp::rpc::twoparty::VatId>().setSide(side == Side::CLIENT ? Side::SERVER : Side::CLIENT);
+    auto paf = kj::newPromiseAndFulfiller<void>();
+    disconnected = paf.promise.fork();
+    disposer.fulfiller = kj::mv(paf.fulfiller);
+  }
 
   kj::Own<capnp::TwoPartyVatNetworkBase::Connection> asConnection() {
     ++disposer.count;
@@ -1608,7 +1724,7 @@ private:
     return capnp::RpcFlowController::newVariableWindowController(*this);
   }
   size_t getWindow() override {
-    KJ_IF_MAYBE(size, stream.getSendBufferSize()) {
+    KJ_IF_MAYBE(size, stream->getSendBufferSize()) {
       return *size;
     } else {
       return capnp::RpcFlowController::DEFAULT_WINDOW_SIZE;
@@ -1623,11 +1739,13 @@ private:
       KJ_IF_MAYBE(reason, readCancelReason) {
         return kj::cp(*reason);
       }
-      return readCanceler.wrap(static_cast<capnp::MessageStream&>(stream).tryReadMessage(options))
-          .then([this](kj::Maybe<kj::Own<capnp::MessageReader>>&& message)
-                    -> kj::Maybe<kj::Own<capnp::IncomingRpcMessage>> {
-        KJ_IF_MAYBE(read, message) {
-          return kj::Own<capnp::IncomingRpcMessage>(kj::heap<inside::Incoming>(end, kj::mv(*read)));
+      auto room = maxFdsPerMessage > 0 ? kj::heapArray<kj::AutoCloseFd>(maxFdsPerMessage) : nullptr;
+      auto read = readCanceler.wrap(stream->tryReadMessage(room, options));
+      return read.then([this, room = kj::mv(room)](kj::Maybe<capnp::MessageReaderAndFds>&& message) mutable
+                           -> kj::Maybe<kj::Own<capnp::IncomingRpcMessage>> {
+        KJ_IF_MAYBE(came, message) {
+          return kj::Own<capnp::IncomingRpcMessage>(
+              kj::heap<inside::Incoming>(end, kj::mv(came->reader), kj::mv(room), came->fds));
         } else {
           return nullptr;
         }
@@ -1636,23 +1754,33 @@ private:
   }
 
   kj::Promise<void> shutdown() override {
-    auto result = KJ_ASSERT_NONNULL(previousWrite, "already shut down").then([this]() { return stream.end(); });
+    auto result = KJ_ASSERT_NONNULL(previousWrite, "already shut down").then([this]() { return stream->end(); });
     previousWrite = nullptr;
     return result;
   }
 
   // Nobody looks at failed writes, so they fail the reads.
-  void write(kj::Own<inside::Outgoing> keep, capnp::MallocMessageBuilder& message) {
-    previousWrite = KJ_ASSERT_NONNULL(previousWrite, "already shut down").then([this, &message]() {
-      return kj::evalNow([&]() { return static_cast<capnp::MessageStream&>(stream).writeMessage(message); })
-          .catch_([this](kj::Exception&& exception) {
+  void write(kj::Own<inside::Outgoing> keep, capnp::MallocMessageBuilder& message, kj::ArrayPtr<const int> fds) {
+    size_t size = keep->sizeInWords() * sizeof(capnp::word);
+    queueSize += size, queueCount++;
+    auto leaveQueue = kj::defer([this, size]() { queueSize -= size, queueCount--; });
+    auto now = clock.now();
+    previousWrite = KJ_ASSERT_NONNULL(previousWrite, "already shut down").then([this, &message, fds, now]() {
+      return kj::evalNow([&]() {
+        writtenSince = now;
+        return stream->writeMessage(fds, message);
+      }).catch_([this](kj::Exception&& exception) {
         readCancelReason = kj::cp(exception);
         if (!readCanceler.isEmpty()) readCanceler.cancel(kj::cp(exception));
         kj::throwRecoverableException(kj::mv(exception));
       });
-    }).attach(kj::mv(keep)).eagerlyEvaluate(nullptr);
+    }).attach(kj::mv(keep), kj::mv(leaveQueue)).eagerlyEvaluate(nullptr);
   }
 };
+
+inline void inside::Outgoing::setFds(kj::Array<int> given) {
+  if (network.maxFdsPerMessage > 0) fds = kj::mv(given);
+}
 
 // SEND is recorded as the frame is handed over, not when its bytes are written: what the program does next may
 // already name what the message brought.
@@ -1661,21 +1789,33 @@ inline void inside::Outgoing::send() {
              "Trying to send Cap'n Proto message larger than our single-message size limit.") { return; }
   record();
   leave();
-  network.write(kj::addRef(*this), message);
+  network.write(kj::addRef(*this), message, fds);
 }
 
 // In the place of capnp::TwoPartyClient.
 class TwoPartyClient {
 public:
+  using Side = capnp::rpc::twoparty::Side;
+
   TwoPartyClient(Recorder& recorder, kj::AsyncIoStream& stream, uint32_t connection)
-      : network(recorder, stream, connection, capnp::rpc::twoparty::Side::CLIENT), system(network.client()) {}
+      : network(recorder, stream, connection, Side::CLIENT), system(network.client()) {}
+  TwoPartyClient(Recorder& recorder, kj::AsyncCapabilityStream& stream, uint32_t connection, uint maxFdsPerMessage)
+      : network(recorder, stream, connection, maxFdsPerMessage, Side::CLIENT), system(network.client()) {}
   TwoPartyClient(Recorder& recorder, kj::AsyncIoStream& stream, uint32_t connection,
-                 capnp::Capability::Client bootstrap,
-                 capnp::rpc::twoparty::Side side = capnp::rpc::twoparty::Side::CLIENT)
+                 capnp::Capability::Client bootstrap, Side side = Side::CLIENT)
       : network(recorder, stream, connection, side), system(network.serve(kj::mv(bootstrap))) {}
+  TwoPartyClient(Recorder& recorder, kj::AsyncCapabilityStream& stream, uint32_t connection, uint maxFdsPerMessage,
+                 capnp::Capability::Client bootstrap, Side side = Side::CLIENT)
+      : network(recorder, stream, connection, maxFdsPerMessage, side), system(network.serve(kj::mv(bootstrap))) {}
 
   capnp::Capability::Client bootstrap() { return network.bootstrap(system); }
   kj::Promise<void> onDisconnect() { return network.onDisconnect(); }
+  void setTraceEncoder(kj::Function<kj::String(const kj::Exception&)> encode) {
+    system.setTraceEncoder(kj::mv(encode));
+  }
+  size_t getCurrentQueueSize() { return network.getCurrentQueueSize(); }
+  size_t getCurrentQueueCount() { return network.getCurrentQueueCount(); }
+  kj::Duration getOutgoingMessageWaitTime() { return network.getOutgoingMessageWaitTime(); }
 
 private:
   Network network;
@@ -1689,9 +1829,22 @@ public:
       : recorder(recorder), bootstrap(kj::mv(bootstrap)), tasks(*this) {}
 
   void accept(kj::Own<kj::AsyncIoStream>&& stream, uint32_t connection) {
-    auto accepted = kj::heap<Accepted>(recorder, kj::mv(stream), connection, bootstrap);
-    auto promise = accepted->network.onDisconnect();
-    tasks.add(promise.attach(kj::mv(accepted)));
+    auto served = accept(*stream, connection);
+    tasks.add(served.attach(kj::mv(stream)));
+  }
+  void accept(kj::Own<kj::AsyncCapabilityStream>&& stream, uint32_t connection, uint maxFdsPerMessage) {
+    auto served = accept(*stream, connection, maxFdsPerMessage);
+    tasks.add(served.attach(kj::mv(stream)));
+  }
+
+  // Serves a stream that stays yours, until the client is gone or you drop the promise.
+  kj::Promise<void> accept(kj::AsyncIoStream& stream, uint32_t connection) KJ_WARN_UNUSED_RESULT {
+    return served(kj::heap<Accepted>(bootstrap, recorder, stream, connection, Network::Side::SERVER));
+  }
+  kj::Promise<void> accept(kj::AsyncCapabilityStream& stream, uint32_t connection, uint maxFdsPerMessage)
+      KJ_WARN_UNUSED_RESULT {
+    return served(
+        kj::heap<Accepted>(bootstrap, recorder, stream, connection, maxFdsPerMessage, Network::Side::SERVER));
   }
 
   // Serves each client that comes, under the numbers `first`, `first` + 1 and so on.
@@ -1701,16 +1854,20 @@ public:
       return listen(listener, first + 1);
     });
   }
+  kj::Promise<void> listenCapStreamReceiver(kj::ConnectionReceiver& listener, uint32_t first, uint maxFdsPerMessage) {
+    return listener.accept().then([this, &listener, first, maxFdsPerMessage](kj::Own<kj::AsyncIoStream>&& stream) {
+      accept(stream.downcast<kj::AsyncCapabilityStream>(), first, maxFdsPerMessage);
+      return listenCapStreamReceiver(listener, first + 1, maxFdsPerMessage);
+    });
+  }
 
   kj::Promise<void> drain() { return tasks.onEmpty(); }
 
 private:
   struct Accepted {
-    Accepted(Recorder& recorder, kj::Own<kj::AsyncIoStream>&& given, uint32_t connection,
-             capnp::Capability::Client bootstrap)
-        : stream(kj::mv(given)), network(recorder, *stream, connection, capnp::rpc::twoparty::Side::SERVER),
-          system(network.serve(kj::mv(bootstrap))) {}
-    kj::Own<kj::AsyncIoStream> stream;
+    template <typename... Connection>
+    explicit Accepted(capnp::Capability::Client bootstrap, Connection&&... connection)
+        : network(kj::fwd<Connection>(connection)...), system(network.serve(kj::mv(bootstrap))) {}
     Network network;
     Network::RpcSystem system;
   };
@@ -1718,6 +1875,11 @@ private:
   Recorder& recorder;
   capnp::Capability::Client bootstrap;
   kj::TaskSet tasks;
+
+  static kj::Promise<void> served(kj::Own<Accepted>&& accepted) {
+    auto promise = accepted->network.onDisconnect();
+    return promise.attach(kj::mv(accepted));
+  }
 
   void taskFailed(kj::Exception&& exception) override { KJ_LOG(ERROR, exception); }
 };
@@ -1727,10 +1889,11 @@ private:
 inline Recorder::Recorder(const char* path, uint32_t vat): vat(std::make_shared<inside::Vat>(path, vat)) {}
 inline Recorder::~Recorder() { vat->end(); }
 inline void Recorder::flush() { vat->flush(); }
-inline void Recorder::flushEachRecord() { vat->isFlushedEachTime = true; }
+inline void Recorder::bufferRecords(size_t bytes) { vat->bufferRecords(bytes); }
 inline void Recorder::leaveOutAbortsInAnswer() { vat->hasNoAbortsInAnswer = true; }
 inline bool Recorder::isRecording() const { return vat->isRecording(); }
-inline uint64_t Recorder::records() const { return vat->records; }
+inline uint64_t Recorder::records() const { return vat->records(); }
+inline std::string Recorder::whyStopped() const { return vat->whyStopped(); }
 
 template <typename Implementation, typename... Arguments>
 typename Implementation::Serves::Client Recorder::host(Arguments&&... arguments) {

@@ -1,5 +1,5 @@
 -- The text of a message. Numbers are decimal, but for an interface's.
-use Rattle.std.specs.Prelude.{ℕ, ◌-◌, Bool, false, if◌then◌else◌, List, ◌++◌, length, replicate, codes}
+use Rattle.std.specs.Prelude.{ℕ, ◌-◌, Bool, false, if◌then◌else◌, List, [], ◌++◌, length, replicate, codes}
 use Rattle.std.specs.Fmt.{decimal, digits}
 use Rattle.std.specs.List.{join_by}
 use Rattle.rpc_view.specs.declared.message.Target.{Target}

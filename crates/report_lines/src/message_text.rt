@@ -1,6 +1,6 @@
 //! The text of a message, without an end of line: its kind, and each of its fields behind its name (docs/FORMATS.md).
 
-ghost use Rattle.std.specs.Prelude.{◌≡◌, Some, codes};
+ghost use Rattle.std.specs.Prelude.{◌≡◌, Some, codes, false};
 ghost use Rattle.std.specs.Fmt.{WritesOnOk, decimal};
 ghost use Rattle.std.specs.List.{join_by};
 ghost use Rattle.report_lines.specs.MessageText.{path_text, target_text, descriptor_text, field_text, payload_text, outcome_text, resolution_text, loopback_text, hexadecimal, yourself_text, message_text};

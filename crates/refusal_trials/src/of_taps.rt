@@ -1,6 +1,6 @@
 //! The calls of a tap, which is drained and closed again where that is refused memory.
 
-ghost use Rattle.std.specs.Prelude.{◌≡◌, ◌∷◌, [], All, IfOk};
+ghost use Rattle.std.specs.Prelude.{◌≡◌, ◌≢◌, ◌∷◌, [], All, IfOk};
 ghost use Rattle.vat_tap.specs.Tickets.{AreDifferent, IsLaneOf, SameLane, SameTap};
 
 use crate::tally::Tally;
@@ -20,6 +20,17 @@ fn two_lanes(alloc: Global) -> Result<(Tap, Lane, Lane), Refused>
     let second = lanes.pop().ok_or("lane 1")?;
     let first = lanes.pop().ok_or("lane 0")?;
     Ok((tap, first, second))
+}
+
+/// The same, opened once more where memory is refused.
+fn open_lanes(alloc: Global) -> Result<(Tap, Lane, Lane), Refused>
+    ensures first { IfOk result (λ opened. IsLaneOf opened.0 opened.1 × (opened.1.number ≡ 0)) }
+    ensures second { IfOk result (λ opened. IsLaneOf opened.0 opened.2 × (opened.2.number ≡ 1)) }
+{
+    match two_lanes(alloc) {
+        Err(Refused::OutOfMemory) => two_lanes(alloc),
+        answer => answer,
+    }
 }
 
 /// Records VOW of this reference.
@@ -79,17 +90,22 @@ fn closed_log(tap: Tap, lanes: Vec<Lane>) -> Result<VatLog, Refused>
     }
 }
 
+/// The same of these two lanes.
+fn close_lanes(alloc: Global, tap: Tap, first: Lane, second: Lane) -> Result<VatLog, Refused>
+    requires first { IsLaneOf tap first }
+    requires second { IsLaneOf tap second }
+    requires different { first.number ≢ second.number }
+{
+    closed_log(tap, both(alloc, first, second)?)
+}
+
 /// The log of a tap that is opened, drained and closed.
 fn taped_log(alloc: Global) -> Result<VatLog, Refused> {
-    let opened = match two_lanes(alloc) {
-        Err(Refused::OutOfMemory) => two_lanes(alloc)?,
-        opened => opened?,
-    };
-    let (mut tap, mut first, mut second) = opened;
+    let (mut tap, mut first, mut second) = open_lanes(alloc)?;
     record(&mut first, &mut second, [1, 2, 3])?;
     drain(&mut tap)?;
     record(&mut first, &mut second, [4, 5, 6])?;
-    closed_log(tap, both(alloc, first, second)?)
+    close_lanes(alloc, tap, first, second)
 }
 
 /// Whether a log has VOW of 1 to 6.

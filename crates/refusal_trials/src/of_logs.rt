@@ -10,17 +10,17 @@ use std::io;
 use std::sync::Arc;
 use vat_log::{Body, VatLog, parse_log, write_lent_log};
 use vat_rules::{Outcome, audit_vat};
-use worked_cases::{Refused, ask_again, bytes_of_log, is_so, log};
+use worked_cases::{Refused, ask_again, bytes_of_log, bytes_of_new_log, is_so, log};
 
-/// Whether bytes are read as a log whose records are written with the same bytes.
-fn is_parsed(alloc: Global, bytes: &Bytes) -> Result<bool, Refused> {
+/// Whether bytes are read as a log whose records are written, in version 2, with these bytes.
+fn is_parsed(alloc: Global, bytes: &Bytes, new: &Bytes) -> Result<bool, Refused> {
     let log = parse_log(alloc, bytes.clone()?)?;
     let mut records = Vec::new(alloc);
     for index in 0..log.len() {
         records.push(log.get(index).ok_or("a record")?)?;
     }
     let written = write_lent_log(alloc, log.vat(), &records)?;
-    Ok(written.bytes().as_slice() == bytes.as_slice())
+    Ok(written.bytes().as_slice() == new.as_slice())
 }
 
 /// Whether all records of a log are good, and so many calls were delivered.
@@ -88,7 +88,10 @@ pub fn try_log(
     let Ok(bytes) = ask_again(|| bytes_of_log(alloc, number, records)) else {
         return tally.count(rt, "a log", false);
     };
-    tally.count(rt, "parse_log", is_so(|| is_parsed(alloc, &bytes)))?;
+    let Ok(new) = ask_again(|| bytes_of_new_log(alloc, number, records)) else {
+        return tally.count(rt, "a log", false);
+    };
+    tally.count(rt, "parse_log", is_so(|| is_parsed(alloc, &bytes, &new)))?;
     let Ok(log) = ask_again(|| log(alloc, number, records)) else {
         return tally.count(rt, "a log", false);
     };

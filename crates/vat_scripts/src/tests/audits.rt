@@ -215,10 +215,11 @@ fn is_answered<R: Threads + Wait + Sync>(
 #[test]
 fn a_case_has_its_report(rt: HostRuntime) {
     for (place, row) in ROWS.iter().enumerate() {
-        assert!(rt;
-            is_so(|| is_answered(&rt, rt.alloc(), row, 1)),
-            "row {place}"
-        );
+        let is_so = match is_answered(&rt, rt.alloc(), row, 1) {
+            Err(Refused::OutOfMemory) => is_answered(&rt, rt.alloc(), row, 1) == Ok(true),
+            answer => answer == Ok(true),
+        };
+        assert!(rt; is_so, "row {place}");
     }
 }
 

@@ -194,9 +194,10 @@ fn refuse_write<R: Threads + Wait + Sync>(
     rt: &R,
     alloc: Global,
     told: &Told,
-    command: &Command<'_>,
+    words: &[&str],
     refused: u64,
 ) -> Result<(u8, u64), Refused> {
+    let command = command_of(alloc, words).map_err(|error| refusal_of(&error))?;
     let writes = AtomicU64::new(0);
     let mut source = files_of(alloc, told)?;
     let mut out = Refusing {
@@ -207,7 +208,7 @@ fn refuse_write<R: Threads + Wait + Sync>(
         refused,
         writes: &writes,
     };
-    match run_on(rt, alloc, command, &mut source, &mut out, &mut file) {
+    match run_on(rt, alloc, &command, &mut source, &mut out, &mut file) {
         3 => Err(Refused::OutOfMemory),
         status => Ok((status, writes.load(Ordering::SeqCst))),
     }
@@ -218,10 +219,10 @@ fn each_is_the_last<R: Threads + Wait + Sync>(
     rt: &R,
     alloc: Global,
     told: &Told,
-    command: &Command<'_>,
+    words: &[&str],
 ) -> Result<bool, Refused> {
     for refused in 0..1000 {
-        let (status, writes) = refuse_write(rt, alloc, told, command, refused)?;
+        let (status, writes) = refuse_write(rt, alloc, told, words, refused)?;
         if writes <= refused {
             return Ok(status == 0 && writes > 0);
         }
@@ -234,14 +235,10 @@ fn each_is_the_last<R: Threads + Wait + Sync>(
 
 #[test]
 fn each_write_that_is_refused_is_the_last(rt: HostRuntime) {
-    let graph = Command::Graph { case: "case" };
-    let order = Command::Order {
-        case: "case",
-        out: "made",
-    };
-    for (told, command) in [(RELAYED, graph), (REUSED, order)] {
-        assert!(rt; is_so(|| each_is_the_last(&rt, rt.alloc(), &told, &command)));
-    }
+    let graph: &[&str] = &["vataudit", "graph", "case"];
+    let order: &[&str] = &["vataudit", "order", "case", "--out", "made"];
+    assert!(rt; is_so(|| each_is_the_last(&rt, rt.alloc(), &RELAYED, graph)));
+    assert!(rt; is_so(|| each_is_the_last(&rt, rt.alloc(), &REUSED, order)));
 }
 
 /// Files of which so many can be read, one after another, and then no more.

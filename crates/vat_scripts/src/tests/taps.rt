@@ -101,10 +101,9 @@ fn closed(alloc: Global, tap: Tap, first: Lane, second: Lane) -> Result<VatLog, 
 fn vow(lane: &mut Lane, reference: u64) -> Result<u64, Refused>
     ensures { SameLane lane.old lane.new }
 {
-    match lane.record(Record::new(Body::Vow { reference })?) {
-        Ok(ticket) => Ok(ticket.number()),
-        Err(_) => Err(Refused::Otherwise),
-    }
+    let vowed = Record::new(Body::Vow { reference })?;
+    let ticket = lane.record(vowed).map_err(|_| Refused::Otherwise)?;
+    Ok(ticket.number())
 }
 
 /// Whether the lane has no room for VOW of this reference, and hands it back.

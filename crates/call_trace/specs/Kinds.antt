@@ -1,6 +1,6 @@
 -- Kinds of records.
 use Rattle.std.specs.Prelude.{Bool, true, false}
-use Rattle.call_trace.specs.Types.{Bootstrap, Call, Return, Finish, Resolve, Release, Disembargo, Abort, DecodedRecord, Host, Vow, Fulfil, Break, Make, Field, Deliver, Answer, Fault, Wire}
+use Rattle.call_trace.specs.Types.{Bootstrap, Call, Return, Finish, Resolve, Release, Disembargo, Abort, DecodedRecord, Host, Vow, Fulfil, Break, Make, Field, Deliver, Answer, AnswerBy, Fault, Wire}
 
 -- a record of what a vat makes by itself: it hosts an object, vows, keeps or breaks a promise, makes or boots a call, names a
 -- field, or sends a message in which neither a call nor a cap goes on
@@ -22,4 +22,5 @@ is_own_making (Wire true k c references (Resolve n resolution)) = false
 is_own_making (Wire false k c references m) = false
 is_own_making (Deliver c object) = false
 is_own_making (Answer c results) = false
+is_own_making (AnswerBy c by) = false
 is_own_making (Fault c) = false

@@ -2,7 +2,7 @@
 use Rattle.std.specs.Prelude.{ℕ, List, [], Bool, false, not, Option, Some, None, ⊤, if◌then◌else◌, reverse, map, option_and_then, option_map, ◌≡◌, ◌∷◌}
 use Rattle.call_trace.specs.Naming.{Naming, naming}
 use Rattle.call_trace.specs.Said.{all_there, message_of_record}
-use Rattle.call_trace.specs.Types.{Resolve, DecodedRecord, Host, Vow, Fulfil, Break, Make, Field, Deliver, Answer, Fault, Wire, View, Promise, Cap, Message, Step}
+use Rattle.call_trace.specs.Types.{Resolve, DecodedRecord, Host, Vow, Fulfil, Break, Make, Field, Deliver, Answer, AnswerBy, Fault, Wire, View, Promise, Cap, Message, Step}
 use Rattle.run_model.specs.Steps.{steps_of}
 use Rattle.vat_view.specs.Lives.{is_in_life}
 use Rattle.vat_view.specs.Past.{Past, id}
@@ -37,6 +37,7 @@ step_said names es (Field r c path) = option_map (λ name. step.Name names.vat (
 step_said names es (Deliver c object) = option_map (λ name. step.Deliver names.vat name object) (names.call c)
 step_said names es (Answer c results) =
     option_and_then (λ name. option_map (λ caps. step.Answer names.vat name caps) (all_there (map (result_named names es) results))) (names.call c)
+step_said names es (AnswerBy c by) = option_and_then (λ name. option_map (λ by. step.AnswerBy names.vat name by) (names.call by)) (names.call c)
 step_said names es (Fault c) = option_map (λ name. step.Fault names.vat name) (names.call c)
 step_said names es (Wire sent k c references m) = option_map (λ sent_message. step.Send names.vat k sent_message) (message_of_record names es (Wire sent k c references m))
 
@@ -45,15 +46,20 @@ abbrev pub resolves_released : Past → DecodedRecord → Bool
 resolves_released es (Wire sent k c references (Resolve n resolution)) = not (is_in_life (id k sent n) es)
 resolves_released es _ = false
 
+-- of a Return that was late where it was sent, but takes results by its number, the call that it answers is asked alone
+abbrev pub heard_late : Message → Message
+heard_late (message.Taken c by) = message.Late c
+heard_late m = m
+
 -- an end reads a message as it was sent, by what its log says of the record that received it; two cases leave something
--- unread there
+-- unread there, and what a late Return takes was left unsaid
 abbrev pub ReadsAsSent : Naming → Past → DecodedRecord → Message → Type 0
 ReadsAsSent names es e (message.Boot c) = message_of_record names es e ≡ Some (message.Boot c)
 ReadsAsSent names es e (message.Call c target interface method caps) = message_of_record names es e ≡ Some (message.Call c target interface method caps)
 -- of a Return that is late there, its results and caps
 ReadsAsSent names es e (message.Return c results caps) =
     message_of_record names es e ≡ Some (if is_late es e then message.Late c else message.Return c results caps)
-ReadsAsSent names es e (message.Late c) = message_of_record names es e ≡ Some (message.Late c)
+ReadsAsSent names es e (message.Late c) = option_map heard_late (message_of_record names es e) ≡ Some (message.Late c)
 ReadsAsSent names es e (message.Failed c) = message_of_record names es e ≡ Some (message.Failed c)
 ReadsAsSent names es e (message.Taken c by) = message_of_record names es e ≡ Some (message.Taken c by)
 ReadsAsSent names es e (message.Elsewhere c) = message_of_record names es e ≡ Some (message.Elsewhere c)

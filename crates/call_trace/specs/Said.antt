@@ -1,6 +1,6 @@
 -- What a message says, as one end reads it by its own log and names it. Where the log doesn't say what a number stands
 -- for, no message is said; only the promise of a received Resolve is Nothing then.
-use Rattle.std.specs.Prelude.{ℕ, List, [], Bool, true, false, not, Option, Some, None, filter_map, map, option_and_then, option_map, unwrap_or, ◌∷◌}
+use Rattle.std.specs.Prelude.{ℕ, List, [], Bool, true, false, not, Option, Some, None, filter_map, map, option_and_then, option_map, unwrap_or, ◌∷◌, ◌&&◌, if◌then◌else◌}
 use Rattle.call_trace.specs.Naming.{Naming, cap_at}
 use Rattle.call_trace.specs.Types.{Descriptor, NoCap, Results, Exception, Canceled, Elsewhere, TakeFrom, RpcMessage, Bootstrap, Call, Return, Finish, Resolve, Release, Disembargo, Abort, DecodedRecord, Wire, Name, Cap, Message}
 use Rattle.vat_view.specs.Lives.{descriptors}
@@ -40,6 +40,11 @@ abbrev pub say_return : Bool → List (List ℕ × ℕ) → Name → Option (Lis
 say_return true fields c caps = Some (message.Late c)
 say_return false fields c caps = option_map (λ caps. message.Return c (caps_at_paths caps fields) caps) caps
 
+-- a Return that takes the results of a call, whose call it answers; one that is late where it is sent is Late
+abbrev pub say_taken : Bool → Name → Option Name → Option Message
+say_taken true c by = Some (message.Late c)
+say_taken false c by = option_map (λ by. message.Taken c by) by
+
 -- a Resolve of a promise to its cap; Broken where there is none
 abbrev pub say_resolve : Cap → List Cap → Message
 say_resolve promise (cap.Nothing ∷ _) = message.Broken promise
@@ -64,8 +69,9 @@ message_named names es e sent k c (Return q release (Results payload) light) =
     option_and_then (λ name. say_return (is_late es e) payload.fields name (caps_named names es e)) (call_answered names es k sent q)
 message_named names es e sent k c (Return q release Exception light) = option_map message.Failed (call_answered names es k sent q)
 message_named names es e sent k c (Return q release Canceled light) = option_map message.Failed (call_answered names es k sent q)
-message_named names es e sent k c (Return q release Elsewhere light) = option_map message.Failed (call_answered names es k sent q)
-message_named names es e sent k c (Return q release (TakeFrom n) light) = option_map message.Failed (call_answered names es k sent q)
+message_named names es e sent k c (Return q release Elsewhere light) = option_map message.Elsewhere (call_answered names es k sent q)
+message_named names es e sent k c (Return q release (TakeFrom n) light) =
+    option_and_then (λ name. say_taken (sent && is_late es e) name (option_and_then names.call (call_of (id k sent n) es))) (call_answered names es k sent q)
 message_named names es e sent k c (Resolve n resolution) =
     option_and_then (λ promise. option_map (say_resolve promise) (caps_named names es e)) (promise_named names es k sent n)
 message_named names es e sent k c (Finish q release) = Some (message.Plain plain.Finish)

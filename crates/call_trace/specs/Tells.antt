@@ -1,5 +1,5 @@
 -- What a step tells its vat of where a cap leads.
-use Rattle.std.specs.Prelude.{◌≡◌, ◌⊎◌, Some}
+use Rattle.std.specs.Prelude.{◌≡◌, ◌⊎◌, ℕ, List, Some}
 use Rattle.call_trace.specs.Types.{View, Cap, Step}
 use Rattle.call_trace.specs.Naming.{Naming}
 use Rattle.run_model.specs.Leads.{MakesTurn}
@@ -8,10 +8,12 @@ use Rattle.run_model.specs.declared.cap.Cap.TheVariants as cap
 use Rattle.run_model.specs.declared.message.Message.TheVariants as message
 use Rattle.run_model.specs.declared.step.Step.TheVariants as step
 
--- a step receives a message that says that a cap leads to another: a Return that the field of its call does, a Resolve that
--- its promise does
+-- a step receives a message that says that a cap leads to another: a Return that the field of its call does, or one that
+-- takes the results of another call that each field of its call leads to that call's at the same path; a Resolve that its
+-- promise does
 abbrev pub Tells : Cap → Cap → Step → Type 0
 Tells a b (step.Receive v connection (message.Return c results caps) bound) = OneOf (λ result. (a ≡ cap.Field c result.0) × (b ≡ result.1)) results
+Tells a b (step.Receive v connection (message.Taken c by) bound) = (path : List ℕ) × (a ≡ cap.Field c path) × (b ≡ cap.Field by path)
 Tells a b (step.Receive v connection (message.Resolve promise to) bound) = (a ≡ promise) × (b ≡ to)
 Tells a b _ = ⊥
 

@@ -7,6 +7,7 @@ use Rattle.vat_rules.specs.Types.{DecodedRecord, View}
 pub record Sight : Type 0 where
   pub references : List (Option View)
   pub question : Option View
+  pub taken : Option View
   pub promise : Option View
   pub target : Option View
   pub released : Option View

@@ -2,7 +2,7 @@
 use Rattle.std.specs.Prelude.{◌≡◌, ℕ, List, [], ◌∷◌, Bool, true, not, ◌&&◌, ◌||◌, Some, IsTrue, IsSomeAnd, ⊤}
 use Rattle.std.specs.List.{list_any}
 use Rattle.std.specs.Str.{bytes_eq as same_path}
-use Rattle.vat_rules.specs.Types.{Call, DecodedRecord, Deliver, Answer, Fault, Wire, Object}
+use Rattle.vat_rules.specs.Types.{Call, DecodedRecord, Deliver, Answer, AnswerBy, Fault, Wire, Object}
 use Rattle.vat_view.specs.Past.{Past}
 use Rattle.vat_view.specs.Views.{view_of_target}
 use Rattle.vat_view.specs.Calls.{request_of, goal_of, is_at_vat, is_served, is_settled}
@@ -32,9 +32,10 @@ distinct_paths (a ∷ rest) = not (list_any (λ b. same_path a.1 b.1) rest) && d
 
 -- (this project's own: a call ends once, where it was delivered, or where it is at the vat and fails)
 -- ANSWER: ANSWER: the call was delivered here or is that of a received Bootstrap, has no answer or fault, and paths are
--- distinct. FAULT: the call is at the vat, was delivered here or is that of a received Bootstrap, and has no answer or
--- fault
+-- distinct. ANSWERBY: the same of its first call, without paths. FAULT: the call is at the vat, was delivered here or is
+-- that of a received Bootstrap, and has no answer or fault
 abbrev pub MayAnswer : Past → DecodedRecord → Type 0
 MayAnswer before (Answer call results) = IsTrue (is_served call before && not (is_settled call before) && distinct_paths results)
+MayAnswer before (AnswerBy call by) = IsTrue (is_served call before && not (is_settled call before))
 MayAnswer before (Fault call) = IsTrue ((is_at_vat call before || is_served call before) && not (is_settled call before))
 MayAnswer before _ = ⊤

@@ -1,12 +1,12 @@
 -- The rule on Returns: what is sent back is what came back.
-use Rattle.std.specs.Prelude.{◌≡◌, ℕ, List, true, false, Some, IsTrue, IsSomeAnd, slice_get, ⊤}
+use Rattle.std.specs.Prelude.{◌≡◌, ℕ, List, true, false, Option, Some, IsTrue, IsFalse, IsSomeAnd, slice_get, ⊤}
 use Rattle.std.specs.List.{AllByRecursion}
-use Rattle.vat_rules.specs.Types.{Results, Canceled, Return, DecodedRecord, Wire, FieldOf}
+use Rattle.vat_rules.specs.Types.{Results, Canceled, Elsewhere, TakeFrom, Return, DecodedRecord, Wire, FieldOf}
 use Rattle.vat_view.specs.Past.{Past, id}
-use Rattle.vat_view.specs.Questions.{is_finished, is_late, opening, call_at}
+use Rattle.vat_view.specs.Questions.{is_finished, is_late, is_tail, opening, call_at, call_of}
 use Rattle.vat_view.specs.Lives.{descriptors}
 use Rattle.vat_view.specs.Views.{view_of_descriptor}
-use Rattle.vat_view.specs.Calls.{is_known}
+use Rattle.vat_view.specs.Calls.{is_known, answered_by}
 use Rattle.vat_rules.specs.Ways.{LeadsOnTo}
 use Rattle.vat_rules.specs.OfCaps.{is_cap_at}
 
@@ -19,13 +19,25 @@ ReturnsField before e call (path, place) =
 abbrev pub ReturnsFields : Past → DecodedRecord → List (List ℕ × ℕ) → ℕ → Type 0
 ReturnsFields before e fields call = IsTrue (is_known call before) × AllByRecursion (ReturnsField before e call) fields
 
--- (rpc.capnp, Return.results and Return.canceled)
--- RESULT: SEND Return that isn't late: with results, the call's results are known, and at each path whose capability
--- index is a descriptor that isn't none, the known result leads to what that descriptor stands for. With canceled, a
--- Finish was received
+-- (rpc.capnp, Return.takeFromOtherQuestion)
+-- a call was answered by another, which is the one whose results are taken
+abbrev pub ReturnsTaken : Past → Option ℕ → ℕ → Type 0
+ReturnsTaken before from call = IsSomeAnd (answered_by call before) (λ by. from ≡ Some by)
+
+-- (rpc.capnp, Return.results, canceled, resultsSentElsewhere and takeFromOtherQuestion)
+-- RESULT: SEND Return that isn't late: with results, its question wasn't asked with sendResultsTo yourself, the call's
+-- results are known, and at each path whose capability index is a descriptor that isn't none, the known result leads to
+-- what that descriptor stands for. With resultsSentElsewhere, its question was asked so. With takeFromOtherQuestion, the
+-- call was answered by the one for which the question that it names stands. Late or not, with canceled, a Finish was
+-- received
 abbrev pub ReturnsKnown : Past → DecodedRecord → Type 0
 ReturnsKnown before (Wire true k c rs (Return q release (Results payload) light)) =
     let e = Wire true k c rs (Return q release (Results payload) light) in
-    is_late before e ≡ false → IsSomeAnd (call_at (opening (id k false q) before)) (ReturnsFields before e payload.fields)
+    is_late before e ≡ false → IsFalse (is_tail (opening (id k false q) before)) × IsSomeAnd (call_at (opening (id k false q) before)) (ReturnsFields before e payload.fields)
+ReturnsKnown before (Wire true k c rs (Return q release Elsewhere light)) =
+    is_late before (Wire true k c rs (Return q release Elsewhere light)) ≡ false → IsTrue (is_tail (opening (id k false q) before))
+ReturnsKnown before (Wire true k c rs (Return q release (TakeFrom n) light)) =
+    is_late before (Wire true k c rs (Return q release (TakeFrom n) light)) ≡ false →
+    IsSomeAnd (call_at (opening (id k false q) before)) (ReturnsTaken before (call_of (id k true n) before))
 ReturnsKnown before (Wire true k c rs (Return q release Canceled light)) = IsTrue (is_finished (id k false q) before)
 ReturnsKnown before _ = ⊤

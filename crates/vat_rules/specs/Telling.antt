@@ -5,7 +5,7 @@ use Rattle.vat_log.specs.declared.body.Body.{Body}
 use Rattle.vat_rules.specs.Types.{Release, DecodedRecord, Deliver, Wire, View}
 use Rattle.vat_view.specs.declared.record.table_key.TableKey.{TableKey}
 use Rattle.vat_view.specs.Past.{Past, id}
-use Rattle.vat_view.specs.Questions.{question_returned, question_finished, is_late}
+use Rattle.vat_view.specs.Questions.{question_returned, question_finished, question_taken, is_late}
 use Rattle.vat_view.specs.Lives.{promise_resolved}
 use Rattle.vat_view.specs.Views.{field_view, view_of_reference, view_of_number, view_of_target, views_of_descriptors}
 use Rattle.vat_view.specs.Bindings.{new_references, named_references}
@@ -19,6 +19,10 @@ seen_references before e = map (view_of_reference (e ∷ before)) (new_reference
 -- what the question that a record returns or finishes stands for: its call, as the field at the empty path
 abbrev pub seen_question : Past → DecodedRecord → Option View
 seen_question before e = option_and_then (λ q. field_view q [] before) (option_or (question_returned e) (question_finished e))
+
+-- what the question stands for whose results a record takes, the same
+abbrev pub seen_taken : Past → DecodedRecord → Option View
+seen_taken before e = option_and_then (λ q. field_view q [] before) (question_taken e)
 
 -- what the promise that a record resolves stands for
 abbrev pub seen_promise : Past → DecodedRecord → Option View
@@ -38,6 +42,7 @@ abbrev pub seen_of : Past → DecodedRecord → Sight
 seen_of before e = record {
   references = seen_references before e;
   question = seen_question before e;
+  taken = seen_taken before e;
   promise = seen_promise before e;
   target = view_of_target before e;
   released = seen_released before e;

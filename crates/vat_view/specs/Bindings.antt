@@ -2,7 +2,7 @@
 use Rattle.std.specs.Prelude.{◌≡◌, ℕ, ◌==◌, length, List, [], ◌∷◌, map, Bool, true, false, not, ◌&&◌, if◌then◌else◌, is_none, IsTrue}
 use Rattle.std.specs.Bool.{beq}
 use Rattle.std.specs.List.{list_any, list_all}
-use Rattle.vat_view.specs.Types.{Bootstrap, Call, DecodedRecord, Host, Vow, Fulfil, Break, Make, Field, Deliver, Answer, Fault, Wire}
+use Rattle.vat_view.specs.Types.{Bootstrap, Call, DecodedRecord, Host, Vow, Fulfil, Break, Make, Field, Deliver, Answer, AnswerBy, Fault, Wire}
 use Rattle.vat_view.specs.Past.{Past}
 use Rattle.vat_view.specs.Questions.{question_opened, is_late}
 use Rattle.vat_view.specs.Views.{places, references}
@@ -36,6 +36,7 @@ abbrev pub named_calls : DecodedRecord → List ℕ
 named_calls (Field r call path) = call ∷ []
 named_calls (Deliver call object) = call ∷ []
 named_calls (Answer call results) = call ∷ []
+named_calls (AnswerBy call by) = call ∷ by ∷ []
 named_calls (Fault call) = call ∷ []
 named_calls (Wire true k call noted (Call q target interface method params yourself)) = call ∷ []
 named_calls _ = []

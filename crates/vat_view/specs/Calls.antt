@@ -1,9 +1,9 @@
 -- Calls at the vat, what they ask for, and what is known of their results (rpc.capnp, the comments of Call and
 -- Return).
 use Rattle.std.specs.Prelude.{ℕ, ◌==◌, Bool, true, false, not, ◌&&◌, ◌||◌, Option, Some, None, if◌then◌else◌, option_and_then, unwrap_or, is_some}
-use Rattle.vat_view.specs.Types.{Bootstrap, Call, Return, Results, Exception, Canceled, Elsewhere, TakeFrom, DecodedRecord, Make, Deliver, Answer, Fault, Wire, View, Asked}
+use Rattle.vat_view.specs.Types.{Bootstrap, Call, Return, Results, Exception, Canceled, Elsewhere, TakeFrom, DecodedRecord, Make, Deliver, Answer, AnswerBy, Fault, Wire, View, Asked}
 use Rattle.vat_view.specs.Past.{Past, id, is, last_answer, last_where}
-use Rattle.vat_view.specs.Questions.{call_at, opening, is_late}
+use Rattle.vat_view.specs.Questions.{call_at, call_of, opening, is_late}
 use Rattle.vat_view.specs.Views.{view_of_reference, view_of_target}
 
 -- MAKE brings a call to the vat, its goal the view of the reference; so does a received Call, its goal what the
@@ -32,8 +32,6 @@ takes call before (Fault c) = c == call
 takes call before (Wire true k c rs (Call q target interface method params yourself)) = c == call
 takes call before (Wire true k c rs (Return q release Exception light)) = is call (call_at (opening (id k false q) before))
 takes call before (Wire true k c rs (Return q release Canceled light)) = is call (call_at (opening (id k false q) before))
-takes call before (Wire true k c rs (Return q release Elsewhere light)) = is call (call_at (opening (id k false q) before))
-takes call before (Wire true k c rs (Return q release (TakeFrom n) light)) = is call (call_at (opening (id k false q) before))
 takes call before _ = false
 
 -- a record brings a call to the vat, or takes it away
@@ -54,9 +52,10 @@ abbrev pub boots : ℕ → Past → DecodedRecord → Bool
 boots call before (Wire false k c rs (Bootstrap q)) = c == call
 boots call before _ = false
 
--- a record answers or faults this call
+-- a record answers or faults this call; ANSWERBY answers it
 abbrev pub settles : ℕ → Past → DecodedRecord → Bool
 settles call before (Answer c results) = c == call
+settles call before (AnswerBy c by) = c == call
 settles call before (Fault c) = c == call
 settles call before _ = false
 
@@ -72,11 +71,40 @@ is_served call past = has_passed (delivers call) past || has_passed (boots call)
 abbrev pub is_settled : ℕ → Past → Bool
 is_settled call past = has_passed (settles call) past
 
--- a record makes a call's results known: ANSWER, or a received Return with results that isn't late
+-- (rpc.capnp, Return.takeFromOtherQuestion: the results are those of a call that the receiver was asked, and whose
+-- results were to be sent elsewhere)
+-- the call that a record answers by the results of another: ANSWERBY's first, or that of a received Return which takes
+-- them
+abbrev pub call_handed_on : Past → DecodedRecord → Option ℕ
+call_handed_on before (AnswerBy c by) = Some c
+call_handed_on before (Wire false k c rs (Return q release (TakeFrom n) light)) = call_at (opening (id k true q) before)
+call_handed_on before _ = None
+
+-- that other call: ANSWERBY's second, or the one for which the number stands that a received Return names, which isn't
+-- late. The number is one of its sender's questions
+abbrev pub call_taken_from : Past → DecodedRecord → Option ℕ
+call_taken_from before (AnswerBy c by) = Some by
+call_taken_from before (Wire false k c rs (Return q release (TakeFrom n) light)) =
+    if is_late before (Wire false k c rs (Return q release (TakeFrom n) light)) then None else call_of (id k false n) before
+call_taken_from before _ = None
+
+-- the call by whose results a record answers this one
+abbrev pub answerer : ℕ → Past → DecodedRecord → Option ℕ
+answerer call before e = if is call (call_handed_on before e) then call_taken_from before e else None
+
+-- the call by whose results this one was answered last
+abbrev pub answered_by : ℕ → Past → Option ℕ
+answered_by call past = last_answer (answerer call) past
+
+-- a record makes a call's results known: ANSWER, a received Return with results that isn't late, or what answers it by
+-- another call
 abbrev pub knows : ℕ → Past → DecodedRecord → Bool
 knows call before (Answer c results) = c == call
 knows call before (Wire false k c rs (Return q release (Results payload) light)) =
     is call (call_at (opening (id k true q) before)) && not (is_late before (Wire false k c rs (Return q release (Results payload) light)))
+knows call before (Wire false k c rs (Return q release (TakeFrom n) light)) =
+    is_some (answerer call before (Wire false k c rs (Return q release (TakeFrom n) light)))
+knows call before (AnswerBy c by) = c == call
 knows call before _ = false
 
 -- a call's results are known

@@ -1,7 +1,7 @@
 -- Questions: when they are opened, returned and finished, and the calls that they stand for (rpc.capnp, the comments
 -- of QuestionId, Bootstrap, Call, Return and Finish).
 use Rattle.std.specs.Prelude.{ℕ, Bool, true, false, not, ◌&&◌, ◌||◌, Option, Some, None, if◌then◌else◌, is_some, option_map}
-use Rattle.vat_view.specs.Types.{Bootstrap, Call, Return, Finish, DecodedRecord, Wire, TableKey}
+use Rattle.vat_view.specs.Types.{Bootstrap, Call, Return, TakeFrom, Finish, DecodedRecord, Wire, TableKey}
 use Rattle.vat_view.specs.Past.{Past, Point, id, names, last_where, last_since}
 
 -- the question that a record opens: Bootstrap and Call go the way of the one who asks
@@ -68,6 +68,30 @@ is_finished q past = is_some (finish_of q past)
 -- its Finish with releaseResultCaps true has passed since the last opening
 abbrev pub is_released : TableKey → Past → Bool
 is_released q past = is_some (last_since (opens q) (releases q) past)
+
+-- a record is a Call whose results are to be sent elsewhere (rpc.capnp, Call.sendResultsTo.yourself)
+abbrev pub asks_elsewhere : DecodedRecord → Bool
+asks_elsewhere (Wire sent k call references (Call q target interface method params yourself)) = yourself
+asks_elsewhere _ = false
+
+-- an opening is such a Call
+abbrev pub is_tail : Option Point → Bool
+is_tail (Some p) = asks_elsewhere p.event
+is_tail None = false
+
+-- (rpc.capnp, Return.takeFromOtherQuestion)
+-- the question whose results a record takes: a Return that takes them names one of its own sender's
+abbrev pub question_taken : DecodedRecord → Option TableKey
+question_taken (Wire sent k call references (Return q release (TakeFrom n) light)) = Some (id k sent n)
+question_taken _ = None
+
+-- a record takes the results of this question
+abbrev pub takes_results : TableKey → Past → DecodedRecord → Bool
+takes_results q before e = names q (question_taken e)
+
+-- its results were taken since the last opening; a late Return takes them too
+abbrev pub is_taken : TableKey → Past → Bool
+is_taken q past = is_some (last_since (opens q) (takes_results q) past)
 
 -- a question is free when never opened, or when both Return and Finish have passed since the last opening
 abbrev pub is_free : TableKey → Past → Bool

@@ -1,11 +1,11 @@
 -- Where views turn, and where that leads (rpc.capnp, the comments of PromisedAnswer, Payload and Resolve).
 use Rattle.std.specs.Prelude.{◌≡◌, ℕ, ◌==◌, List, Bool, true, false, ◌&&◌, Option, Some, None, if◌then◌else◌, unwrap_or, option_and_then, find, IsSome}
 use Rattle.std.specs.Str.{bytes_eq as same_path}
-use Rattle.vat_view.specs.Types.{Outcome, Results, Exception, Canceled, Elsewhere, TakeFrom, Bootstrap, Call, Return, Finish, Resolve, Release, Disembargo, Abort, DecodedRecord, Host, Vow, Fulfil, Break, Make, Field, Deliver, Answer, Fault, Wire, View, Object, Promise, FieldOf, Import}
+use Rattle.vat_view.specs.Types.{Outcome, Results, Exception, Canceled, Elsewhere, TakeFrom, Bootstrap, Call, Return, Finish, Resolve, Release, Disembargo, Abort, DecodedRecord, Host, Vow, Fulfil, Break, Make, Field, Deliver, Answer, AnswerBy, Fault, Wire, View, Object, Promise, FieldOf, Import}
 use Rattle.vat_view.specs.Past.{Past, id, is, record_index, last_answer}
 use Rattle.vat_view.specs.Questions.{call_at, opening, is_late}
 use Rattle.vat_view.specs.Lives.{Birth, birth}
-use Rattle.vat_view.specs.Views.{view_of_reference, view_of_descriptor}
+use Rattle.vat_view.specs.Views.{field_view, view_of_reference, view_of_descriptor}
 
 -- where a view goes next: it turns to this view, it stops and can lead nowhere, or it stays what it is
 pub data Next : Type 0 where
@@ -53,12 +53,18 @@ result_at path before e Canceled = None
 result_at path before e Elsewhere = None
 result_at path before e (TakeFrom n) = None
 
--- a field turns to ANSWER's reference at its path, or to what a received Return that isn't late brought there;
--- it stops where the call faulted, failed, came late or has nothing there. No other record turns it; each stands here
--- by its name
+-- a field turns to ANSWER's reference at its path, or to what a received Return that isn't late brought there; at
+-- ANSWERBY, and where a received Return that isn't late takes the results of another call, to that call's field at the
+-- same path. It stops where the call faulted, failed, came late or has nothing there. Results that were sent elsewhere
+-- say nothing of it, and no other record turns it; each stands here by its name
 abbrev pub answers : ℕ → List ℕ → Past → DecodedRecord → Option Next
 answers call path before (Answer c results) = if c == call then Some (on_to (answer_view_at path before results)) else None
+answers call path before (AnswerBy c by) = if c == call then Some (turns (FieldOf by path)) else None
 answers call path before (Fault c) = if c == call then Some stops else None
+answers call path before (Wire false k c rs (Return q release Elsewhere light)) = None
+answers call path before (Wire false k c rs (Return q release (TakeFrom n) light)) =
+    let e = Wire false k c rs (Return q release (TakeFrom n) light) in
+    if is call (call_at (opening (id k true q) before)) then Some (if is_late before e then stops else on_to (field_view (id k false n) path before)) else None
 answers call path before (Wire false k c rs (Return q release outcome light)) =
     let e = Wire false k c rs (Return q release outcome light) in
     if is call (call_at (opening (id k true q) before)) then Some (if is_late before e then stops else on_to (result_at path before e outcome)) else None

@@ -65,6 +65,13 @@ pub enum DecodedRecord {
         /// The capabilities in its results.
         results: ResultReferences,
     },
+    /// ANSWERBY: the results of a call are those of another, to which its vat handed it on.
+    AnswerBy {
+        /// The call, which isn't 0.
+        call: u64,
+        /// The call whose results are its results, which isn't 0.
+        by: u64,
+    },
     /// FAULT: a call ends with no results.
     Fault {
         /// The call, which isn't 0.

@@ -8,16 +8,17 @@ use Rattle.vat_view.specs.declared.tables.exports_imports.ExportsImports.{Export
 use Rattle.vat_view.specs.declared.record.introduced.Introduced.{Introduced}
 use Rattle.vat_view.specs.declared.tables.references.BoundReferences.{BoundReferences}
 use Rattle.vat_view.specs.declared.tables.calls.Calls.{Calls}
-use Rattle.vat_view.specs.Types.{Descriptor, Target, Imported, Promised, Return, Finish, DecodedRecord, Wire, View, FieldOf, TableKey}
+use Rattle.vat_view.specs.Types.{Descriptor, Target, Imported, Promised, TakeFrom, Return, Finish, DecodedRecord, Wire, View, FieldOf, TableKey}
 use Rattle.vat_view.specs.Past.{Past, Point, point, id, same_id, last_since, Each}
 use Rattle.vat_view.specs.Questions.{opens, returns, finishes, releases, opening, return_of, is_opened, is_returned, is_finished, is_released, is_free, is_unfinished, is_unreturned, is_late, closes, call_at}
 use Rattle.vat_view.specs.Lives.{introductions_at, gives_back, held, GivesBackHeld, descriptors}
 use Rattle.vat_view.specs.Views.{view_of_reference, target_view, target_of, view_of_target, descriptor_view, view_of_descriptor, views_of_descriptors}
+use Rattle.vat_view.specs.Calls.{call_taken_from}
 use Rattle.vat_view.specs.Uses.{UsesQuestions}
 use Rattle.vat_view.specs.Bindings.{is_bound}
 use Rattle.vat_view.specs.Sound.{IsSound}
 use Rattle.vat_view.specs.Glue.Tables.{question_at, bound_at, late_by, given_back_by, results_released_in, params_introduced_in, results_introduced_in, count_released, call_by, origins_if, origins, first_in, AreBegun, view_by, count_at}
-use Rattle.vat_view.specs.Glue.Asking.{free_in, unfinished_in, finished_in, unreturned_in, opening_call_in, target_by, targeted_by, given_by}
+use Rattle.vat_view.specs.Glue.Asking.{free_in, unfinished_in, finished_in, unreturned_in, opening_call_in, target_by, targeted_by, taken_from_by, given_by}
 use Rattle.vat_view.specs.Glue.Kept.{AreKept}
 use Rattle.vat_view.proofs.Naming.{same_id_is}
 use Rattle.vat_view.proofs.Knowing.{known_from, asked_at}
@@ -127,6 +128,13 @@ module _ (past : Past) (questions : Questions) (lives : ExportsImports) (bound :
   pub late_is : (e : DecodedRecord) → late_by (question_at questions) e ≡ is_late past e
   late_is (Wire s k c rs (Return q release outcome light)) = released_known (id k (not s) q)
   late_is _ = refl
+
+  -- the call by whose results a record answers another
+  pub taken_from_known : (e : DecodedRecord) → taken_from_by (question_at questions) e ≡ call_taken_from past e
+  taken_from_known (Wire false k c rs (Return q release (TakeFrom n) light)) =
+      ap₂ (λ b o. if b then None else o) (late_is (Wire false k c rs (Return q release (TakeFrom n) light)))
+      (ap (λ o. call_by o) (kept.tabled.tabled.known (id k false n)) ∙ call_known (id k false n) past)
+  taken_from_known _ = refl
 
   pub alive_known : (i : TableKey) (count : ℕ) → count ≡ count_at lives i → count ≡ held i past
   alive_known i count is_count = is_count ∙ kept.tabled.tabled.counted i

@@ -76,25 +76,6 @@ impl DecodedRecord {
         }
     }
 
-    /// The other call that it names.
-    pub(crate) fn named_call(&self) -> Option<u64>
-        ensures { option_to_list result ≡ named_calls self.now }
-    {
-        match self {
-            DecodedRecord::Field { call, .. }
-            | DecodedRecord::Deliver { call, .. }
-            | DecodedRecord::Answer { call, .. }
-            | DecodedRecord::Fault { call }
-            | DecodedRecord::Wire {
-                sent: true,
-                call,
-                message: RpcMessage::Call { .. },
-                ..
-            } => Some(*call),
-            _ => None,
-        }
-    }
-
     /// The question that its target names: one of the sender's.
     pub(crate) fn question_targeted(&self) -> Option<TableKey>
         ensures { result ≡ question_targeted self.now }

@@ -46,6 +46,12 @@ pub joined : {A : Type 0} (test : TableKey → Bool) (a b c d : Option TableKey)
 joined test a b c d f xs r first second third is_r is_first is_a is_second is_third is_c =
     is_r ∙ ap₂ (λ x y. x && y) (ap₂ (λ x y. x && y) (is_first ∙ ap (passes_if test) is_a) is_second) (is_third ∙ ap (passes_if test) is_c) ∙ passes_parts test b d f xs
 
+-- one more that may be there, after others
+pub joined_more : (test : TableKey → Bool) (a b : Option TableKey) (is : List TableKey) (first second : Bool) → first ≡ list_all test is → second ≡ passes_if test a → a ≡ b →
+    (first && second) ≡ list_all test (is ++ option_to_list b)
+joined_more test a b is first second is_first is_second is_a =
+    ap₂ (λ x y. x && y) is_first (is_second ∙ ap (passes_if test) is_a ∙ passes_one test b) ∙ sym (list_all-append test is (option_to_list b))
+
 -- as many places as capabilities
 pub caps_placed : (k : ℕ) (ds : List Descriptor) → count_by is_cap ds ≡ length (places_from k ds)
 caps_placed k [] = refl

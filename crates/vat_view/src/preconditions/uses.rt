@@ -47,11 +47,12 @@ fn describes_unfinished(state: &VatState, event: &DecodedRecord) -> bool
 fn uses_unfinished(state: &VatState, event: &DecodedRecord) -> bool
     ensures { result ≡ list_all (λ q. is_unfinished q state.now) (questions_used event.now) }
 {
-    all_three(
+    let mentioned = all_three(
         is_unfinished(state, event.question_targeted()),
         describes_unfinished(state, event),
         is_unfinished(state, event.question_finished()),
-    )
+    );
+    mentioned && is_unfinished(state, event.question_taken())
 }
 
 /// Whether a number, if there is one, is in life.
@@ -88,8 +89,10 @@ impl VatState {
         }
     }
 
-    /// Whether each question that it uses is opened and not finished, and one that it returns is opened and not
-    /// returned (rpc.capnp, `Return.answerId`, `Finish.questionId` and `PromisedAnswer.questionId`).
+    /// Whether each question that it uses is opened and not finished, one that it returns is opened and not returned,
+    /// and one whose results it takes was opened by a Call whose results are to be sent elsewhere, and they weren't
+    /// taken since (rpc.capnp, `Return.answerId`, `Return.takeFromOtherQuestion`, `Finish.questionId` and
+    /// `PromisedAnswer.questionId`).
     pub fn uses_questions(&self, event: &DecodedRecord) -> bool
         ensures { Decides result (UsesQuestions self.now event.now) }
     {
@@ -97,7 +100,11 @@ impl VatState {
             Some(question) => self.is_unreturned(question),
             None => true,
         };
-        may_return && uses_unfinished(self, event)
+        let may_take = match event.question_taken() {
+            Some(question) => self.is_tail(question) && !self.is_taken(question),
+            None => true,
+        };
+        all_three(may_return, may_take, uses_unfinished(self, event))
     }
 
     /// Whether each export or import number that it uses is in life (rpc.capnp, `MessageTarget.importedCap`,

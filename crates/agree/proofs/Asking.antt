@@ -108,6 +108,7 @@ takes_is q (Wire t j c rs (Return n release (Results payload) light)) = not_aske
 takes_is q (Wire t j c rs (Return n release Exception light)) = not_asked ((q.connection == j) && beq q.ours t) (takes q.number) (Return n release Exception light) refl
 takes_is q (Wire t j c rs (Return n release Canceled light)) = not_asked ((q.connection == j) && beq q.ours t) (takes q.number) (Return n release Canceled light) refl
 takes_is q (Wire t j c rs (Return n release Elsewhere light)) = not_asked ((q.connection == j) && beq q.ours t) (takes q.number) (Return n release Elsewhere light) refl
+takes_is q (Wire t j c rs (Bootstrap n)) = not_asked ((q.connection == j) && beq q.ours t) (takes q.number) (Bootstrap n) refl
 takes_is q (Wire t j c rs m) = not_asked ((q.connection == j) && beq q.ours t) (takes q.number) m refl
 takes_is q (Host r o) = refl
 takes_is q _ = refl

@@ -5,7 +5,7 @@ ghost use Rattle.vat_view.specs.declared.view.View.{View};
 ghost use Rattle.std.specs.Option.{option_copied};
 ghost use Rattle.vat_view.specs.Past.{record_at};
 ghost use Rattle.vat_view.specs.Numbers.{number_held, number_stands};
-ghost use Rattle.vat_view.specs.Questions.{is_free, is_unfinished, is_finished, is_unreturned, call_at, opening, is_late};
+ghost use Rattle.vat_view.specs.Questions.{is_free, is_unfinished, is_finished, is_unreturned, is_tail, is_taken, call_at, call_of, opening, is_late};
 ghost use Rattle.vat_view.specs.Lives.{GivesBackHeld, KeepsKinds, birth, began_promised, is_in_life, is_resolved};
 ghost use Rattle.vat_view.specs.Uses.{UsesQuestions, UsesNumbers};
 ghost use Rattle.vat_view.specs.Views.{view_of_reference, view_of_target, views_of_descriptors};
@@ -489,6 +489,30 @@ impl VatState {
         ensures { result ≡ is_unreturned question self.now }
     {
         table_answers::is_unreturned(&self.questions, question)
+    }
+
+    /// Whether a question's last opening is a Call whose results are to be sent elsewhere, as in a tail call (rpc.capnp,
+    /// `Call.sendResultsTo.yourself`).
+    pub fn is_tail(&self, question: TableKey) -> bool
+        ensures { result ≡ is_tail (opening question self.now) }
+    {
+        table_answers::is_tail(&self.questions, question)
+    }
+
+    /// Whether a Return that takes a question's results has passed since its last opening, late or not (rpc.capnp,
+    /// `Return.takeFromOtherQuestion`).
+    pub(crate) fn is_taken(&self, question: TableKey) -> bool
+        ensures { result ≡ is_taken question self.now }
+    {
+        table_answers::is_taken(&self.questions, question)
+    }
+
+    /// The call for which a question stands: that of its last opening, if the question isn't free. A Return that takes
+    /// the results of another question names that question's call so (rpc.capnp, `Return.takeFromOtherQuestion`).
+    pub fn call_of(&self, question: TableKey) -> Option<u64>
+        ensures { result ≡ call_of question self.now }
+    {
+        meaning::call_of(&self.questions, question)
     }
 
     /// The call of a question's last opening, free or not, if it was ever opened.

@@ -26,6 +26,14 @@ abbrev pub unreturned_in : Option Question → Bool
 unreturned_in (Some known) = not known.returned
 unreturned_in None = false
 
+abbrev pub tail_in : Option Question → Bool
+tail_in (Some known) = known.tail
+tail_in None = false
+
+abbrev pub taken_in : Option Question → Bool
+taken_in (Some known) = known.taken
+taken_in None = false
+
 abbrev pub opening_call_in : Option Question → Option ℕ
 opening_call_in known = option_map (λ known. known.call) known
 

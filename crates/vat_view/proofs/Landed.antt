@@ -471,7 +471,7 @@ module _ (before : Past) (e : DecodedRecord) (refers : Refers before e) (notes :
 
 -- ---- at every point of a log
 
-still : (v : View) → stays ≡ goes (view_of_reference []) (field_path v) (settler_of v [])
+pub still : (v : View) → stays ≡ goes (view_of_reference []) (field_path v) (settler_of v [])
 still (Object object) = refl
 still (Promise p) = refl
 still (FieldOf call path) = refl

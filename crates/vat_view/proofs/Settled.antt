@@ -24,7 +24,7 @@ use Rattle.vat_view.specs.Glue.Tables.{question_at, count_at, origin_at, origin_
 use Rattle.vat_view.specs.Glue.TurnTables.{is_this, field_path, promise_of, import_at, unless_elsewhere, results_by, import_by, settlement_of, settled_by, turn_target, Settler, goes, landing_of, landing_view, settler, call_behind, settler_at_point, settler_of, settler_at, handing, handover_of, handover_at, handover_after, SaysSameTurns, IsNoted, by_handover, AreSettled, call_behind_by, settler_numbered, settler_by, goes_by, turned_to}
 use Rattle.vat_view.proofs.Knowing.{known_from}
 use Rattle.vat_view.proofs.Raising.{positive}
-use Rattle.vat_view.proofs.Landed.{going_step, lands_bound}
+use Rattle.vat_view.proofs.Landed.{still, going_step, lands_bound}
 use Rattle.vat_view.proofs.Handed.{answerer_settles, handed_step, matched}
 use Rattle.vat_view.proofs.Walking.{some_same, none_some}
 
@@ -102,6 +102,10 @@ settled_more before e table other number s fit place settles taken noted kept = 
   going = λ v. going_step before e fit.refers fit.notes kept.landed v (kept.going v);
   landed = (lands_bound before e fit.refers, kept.landed);
 }
+
+-- before any record
+pub settled_first : (items : List DecodedRecord) (table : Settlements) → items ≡ [] → ((p : Unsettled) → settler_at table p ≡ None) → ((c : ℕ) → handover_at table c ≡ None) → AreSettled (reverse items) table
+settled_first items table empty settlers handed = subst (λ l. AreSettled (reverse l) table) (sym empty) (record { settlers = settlers; handed = handed; going = λ v. still v; landed = tt })
 
 -- the state, whose records stand with the oldest first
 

@@ -181,11 +181,7 @@ impl Settlements {
 
     /// Makes room for what the record of this number settles. What the table says stays as it is, where memory is
     /// refused too; a number that is too great, which no log in memory reaches, is answered so.
-    pub(crate) fn make_room(
-        &mut self,
-        settling: Settling,
-        number: usize,
-    ) -> Result<(), AllocError>
+    pub(crate) fn make_room(&mut self, settling: Settling, number: usize) -> Result<(), AllocError>
         ensures same { SaysSameTurns self.old self.new }
         ensures room { OnOk result (IsTrue (has_room_to_settle self.new settling.settled)) }
         ensures room_handed { OnOk result (IsTrue (has_room_for_handover self.new.handovers

@@ -49,11 +49,7 @@ fn settler<'a>(
 }
 
 /// Whether no record settled a view.
-pub(crate) fn stays(
-    events: &[DecodedRecord],
-    turns: &Settlements,
-    view: BorrowedView<'_>,
-) -> bool
+pub(crate) fn stays(events: &[DecodedRecord], turns: &Settlements, view: BorrowedView<'_>) -> bool
     ensures { result ≡ is_none (settler_by turns.now events.now (as_view view.entry)) }
 {
     settler(events, turns, view).is_none()
@@ -354,7 +350,11 @@ pub(crate) fn leads_by_turns(
 }
 
 /// A view, where no record settled it.
-fn end_here<'a>(events: &[DecodedRecord], turns: &Settlements, view: BorrowedView<'a>) -> Option<BorrowedView<'a>>
+fn end_here<'a>(
+    events: &[DecodedRecord],
+    turns: &Settlements,
+    view: BorrowedView<'a>,
+) -> Option<BorrowedView<'a>>
     ensures { option_map as_view result
         ≡ (if is_none (settler_by turns.now events.now (as_view view.entry)) then Some (as_view view.entry) else None) }
 {

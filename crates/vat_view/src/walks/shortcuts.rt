@@ -159,7 +159,11 @@ pub(crate) fn first_turn_of_number(
     if number.ours {
         turn_of_reference(events, turns, bound, origin.reference?)
     } else {
-        reference_by(events, turns, BorrowedView::Import(origin.number, origin.place))
+        reference_by(
+            events,
+            turns,
+            BorrowedView::Import(origin.number, origin.place),
+        )
     }
 }
 

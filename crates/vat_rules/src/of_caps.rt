@@ -60,7 +60,7 @@ fn came_hosted(state: &VatState, number: usize, place: usize) -> bool
 
 /// Whether a view is an own object, or an import that came as senderHosted.
 fn is_hosted_end(state: &VatState, end: BorrowedView<'_>) -> bool
-    ensures { result ≡ is_hosted_end state.now (as_view end) }
+    ensures { result ≡ is_hosted_end state.now (as_view end.entry) }
 {
     match end {
         BorrowedView::Object(_) => true,

@@ -245,7 +245,7 @@ return_tells v call path es steps k c rs q release (Results payload) light s b s
 return_tells v call path es steps k c rs q release outcome light s b says own late there = absurd (let no : ⊥ = cc in no)
 
 -- one that takes the results of another call, where it isn't late
-in_time : (late : Bool) (m came gone : Message) → late ≡ false → (m ≡ came) ⊎ ((late ≡ true) × (m ≡ gone)) → m ≡ came
+pub in_time : (late : Bool) (m came gone : Message) → late ≡ false → (m ≡ came) ⊎ ((late ≡ true) × (m ≡ gone)) → m ≡ came
 in_time late m came gone not_late (inl is) = is
 in_time late m came gone not_late (inr is) = absurd (false≢true (sym not_late ∙ is.0))
 

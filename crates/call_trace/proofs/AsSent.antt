@@ -6,7 +6,7 @@ use Rattle.vat_view.specs.Views.{view_of_target}
 use Rattle.call_trace.specs.Naming.{Naming}
 use Rattle.call_trace.specs.Part.{resolves_released, heard_late, ReadsAsSent, SaysReceive}
 use Rattle.call_trace.specs.Said.{message_of_record, say_call, say_return, say_taken, say_resolve, caps_named, promise_named, call_answered, caps_at_paths}
-use Rattle.call_trace.specs.Types.{Results, Exception, Canceled, Elsewhere, TakeFrom, RpcMessage, Bootstrap, Call, Return, Finish, Resolve, Release, Disembargo, Abort, DecodedRecord, Wire, Name, Cap, Message, Step}
+use Rattle.call_trace.specs.Types.{Results, Exception, Canceled, Elsewhere, TakeFrom, Bootstrap, Call, Return, Finish, Resolve, Release, Disembargo, Abort, DecodedRecord, Wire, Name, Cap, Message, Step}
 use Rattle.run_model.specs.declared.cap.Cap.TheVariants as cap
 use Rattle.run_model.specs.declared.message.Message.TheVariants as message
 use Rattle.run_model.specs.declared.plain.Plain.TheVariants as plain

@@ -10,7 +10,7 @@ use Rattle.vat_view.specs.Questions.{call_at, call_of, opening, is_late, is_free
 use Rattle.vat_view.specs.Lives.{Birth, birth, descriptors}
 use Rattle.vat_view.specs.Views.{field_view, view_of_reference, view_of_number, view_of_descriptor, view_given, descriptor_view}
 use Rattle.vat_view.specs.Walks.{Next, turns, stops, on_to, is_promise, keeps, began_at, resolves, answer_view_at, result_at, answers, turn}
-use Rattle.call_trace.specs.Types.{Outcome, Results, Exception, Canceled, Elsewhere, TakeFrom, Resolution, Capped, Unkept, Return, Resolve, DecodedRecord, Fulfil, Break, Answer, AnswerBy, Fault, Wire, View, Object, Promise, FieldOf, Import, Name, Cap, Message, Step}
+use Rattle.call_trace.specs.Types.{Outcome, Results, Exception, Canceled, TakeFrom, Resolution, Capped, Unkept, Return, Resolve, DecodedRecord, Fulfil, Break, Answer, AnswerBy, Fault, Wire, View, Object, Promise, FieldOf, Import, Name, Cap, Message, Step}
 use Rattle.call_trace.specs.Naming.{Naming, naming, cap_at, cap_named}
 use Rattle.call_trace.specs.Said.{all_there, say_return, say_resolve, descriptor_named, caps_named, promise_named, call_answered, caps_at_paths}
 use Rattle.call_trace.specs.Part.{reference_named, promise_in, result_named, Says, resolves_released}

@@ -5,9 +5,9 @@ use Rattle.std.specs.List.{list_all, filter_map}
 use Rattle.std.specs.Bool.{beq}
 use Rattle.std.proofs.lemmas.Bool.{false≢true, eq-eqb, and_parts, and_from, ltb-true, lt-ltb}
 use Rattle.std.proofs.lemmas.Bool.Decides.{nat_tests}
-use Rattle.agree.specs.Types.{Descriptor, SenderHosted, ReceiverHosted, ReceiverAnswer, Imported, Promised, RpcMessage, Bootstrap, Call, Return, Finish, Release, Disembargo, DecodedRecord, Wire, TableKey}
+use Rattle.agree.specs.Types.{Descriptor, SenderHosted, ReceiverHosted, ReceiverAnswer, Imported, Promised, Results, Exception, Canceled, Elsewhere, TakeFrom, RpcMessage, Bootstrap, Call, Return, Finish, Release, Disembargo, DecodedRecord, Wire, TableKey}
 use Rattle.vat_view.specs.Past.{Past, id, Each}
-use Rattle.vat_view.specs.Questions.{question_returned, question_finished, returns, is_opened, is_returned, is_finished, is_free, is_unfinished, is_unreturned}
+use Rattle.vat_view.specs.Questions.{question_returned, question_finished, question_taken, returns, opening, is_tail, is_taken, is_opened, is_returned, is_finished, is_free, is_unfinished, is_unreturned}
 use Rattle.vat_view.specs.Lives.{gives_back, held, is_in_life, descriptors_of, GivesBackHeld}
 use Rattle.vat_view.specs.Uses.{OpensFree, UsesQuestions, UsesNumbers, question_targeted, question_described, questions_used, number_targeted, number_described, number_released, numbers_used}
 use Rattle.agree.specs.Streams.{passing, stream, IsPassed}
@@ -15,7 +15,7 @@ use Rattle.agree.specs.Agreeing.{AreLinked}
 use Rattle.agree.specs.Told.{AreTold}
 use Rattle.agree.specs.Arrival.{ArrivesWell}
 use Rattle.agree.proofs.Points.{before_it, each_so}
-use Rattle.agree.proofs.Asking.{asks, answers, count, one_if, last_number, came_since, ends, opened_stream, finished_stream, unfinished_in, unfinished_stream, free_parts, ReturnsDue, OpensIdle, returns_waiting, opens_idle, fewer_returns, more_returns, is_due}
+use Rattle.agree.proofs.Asking.{asks, answers, count, one_if, last_number, came_since, ends, opened_stream, finished_stream, takes, taken_stream, asked_away, tail_stream, unfinished_in, unfinished_stream, free_parts, ReturnsDue, OpensIdle, returns_waiting, opens_idle, fewer_returns, more_returns, is_due}
 use Rattle.agree.proofs.Cuts.{IsMet, other_way, same_before, met_after, linked_back}
 use Rattle.agree.proofs.Openings.{openings_linked, passing_is, one_way, same_way}
 use Rattle.agree.proofs.Telling.{none_or_some, stream_of}
@@ -48,10 +48,11 @@ join : (P : TableKey → Bool) (xs ys : List TableKey) → list_all P xs ≡ tru
 join P [] ys h g = g
 join P (x ∷ xs) ys h g = let both = and_parts (P x) (list_all P xs) h in and_from (P x) (list_all P (xs ++ ys)) both.0 (join P xs ys both.1 g)
 
+two_follow : (P Q : TableKey → Bool) (a b x y : List TableKey) → Follows P Q a x → Follows P Q b y → Follows P Q (a ++ b) (x ++ y)
+two_follow P Q a b x y f g all = let both = front P a b all in join Q x y (f both.0) (g both.1)
+
 three_follow : (P Q : TableKey → Bool) (a b c x y z : List TableKey) → Follows P Q a x → Follows P Q b y → Follows P Q c z → Follows P Q (a ++ b ++ c) (x ++ y ++ z)
-three_follow P Q a b c x y z f g h all =
-    let last = front P (a ++ b) c all in
-    let first = front P a b last.0 in join Q (x ++ y) z (join Q x y (f first.0) (g first.1)) (h last.1)
+three_follow P Q a b c x y z f g h = two_follow P Q (a ++ b) c (x ++ y) z (two_follow P Q a b x y f g) h
 
 -- the questions that a message uses, at its sender and at its receiver
 module _ (k c d : ℕ) (rs ss : List ℕ) (P Q : TableKey → Bool) (same : (n : ℕ) → P (id k true n) ≡ true → Q (id k false n) ≡ true) where
@@ -75,8 +76,17 @@ module _ (k c d : ℕ) (rs ss : List ℕ) (P Q : TableKey → Bool) (same : (n :
   finished_follow (Bootstrap q) = λ h. h
   finished_follow _ = λ h. h
 
+  taken_follow : (m : RpcMessage) → Follows P Q (option_to_list (question_taken (Wire true k c rs m))) (option_to_list (question_taken (Wire false k d ss m)))
+  taken_follow (Return q release (TakeFrom n) light) = one_follows P Q (id k true n) (id k false n) (same n)
+  taken_follow (Return q release (Results payload) light) = λ h. h
+  taken_follow (Return q release Exception light) = λ h. h
+  taken_follow (Return q release Canceled light) = λ h. h
+  taken_follow (Return q release Elsewhere light) = λ h. h
+  taken_follow (Bootstrap q) = λ h. h
+  taken_follow _ = λ h. h
+
   questions_follow : (m : RpcMessage) → Follows P Q (questions_used (Wire true k c rs m)) (questions_used (Wire false k d ss m))
-  questions_follow m = three_follow P Q _ _ _ _ _ _ (targets_follow m) (described_follow m (descriptors_of m)) (finished_follow m)
+  questions_follow m = two_follow P Q _ _ _ _ (three_follow P Q _ _ _ _ _ _ (targets_follow m) (described_follow m (descriptors_of m)) (finished_follow m)) (taken_follow m)
 
 -- the numbers that it uses
 module _ (k c d : ℕ) (rs ss : List ℕ) (P Q : TableKey → Bool) (same : (n : ℕ) → P (id k false n) ≡ true → Q (id k true n) ≡ true) where
@@ -132,6 +142,15 @@ module _ (k : ℕ) (from to : Past) (linked : AreLinked k from to) (same : strea
   unfinished_there : (q : ℕ) → is_unfinished (id k true q) from ≡ true → is_unfinished (id k false q) to ≡ true
   unfinished_there q h = unfinished_stream (id k false q) to ∙ ap (λ l. unfinished_in q l) (sym same) ∙ sym (unfinished_stream (id k true q) from) ∙ h
 
+  -- a question was opened by the same message at both ends, and its results were taken by the same ones
+  may_take_there : (q : ℕ) → (is_tail (opening (id k true q) from) && not (is_taken (id k true q) from)) ≡ true → (is_tail (opening (id k false q) to) && not (is_taken (id k false q) to)) ≡ true
+  may_take_there q h =
+      let mine : TableKey = id k true q in
+      let theirs : TableKey = id k false q in
+      let tail_same : is_tail (opening theirs to) ≡ is_tail (opening mine from) = tail_stream theirs to ∙ ap (λ l. asked_away q l) (sym same) ∙ sym (tail_stream mine from) in
+      let taken_same : is_taken theirs to ≡ is_taken mine from = taken_stream theirs to ∙ ap (λ l. came_since (asks q) (takes q) l) (sym same) ∙ sym (taken_stream mine from) in
+      ap₂ (λ a b. a && not b) tail_same taken_same ∙ h
+
   told_there : AreTold k to from
   told_there = let back = linked_back k from to linked in
       are_told k to from back.cut (openings_linked k to from back uses_y free_x) (openings_linked k from to linked uses_x free_y)
@@ -154,8 +173,19 @@ module _ (k : ℕ) (from to : Past) (linked : AreLinked k from to) (same : strea
   questions_there c d rs ss m due h = record {
     used = questions_follow k c d rs ss (λ q. is_unfinished q from) (λ q. is_unfinished q to) unfinished_there m h.used;
     returned_once = once m due;
+    taken_once = taking m h.taken_once;
   }
     where
+      taking : (m : RpcMessage) → IfSome (question_taken (Wire true k c rs m)) (λ q. (is_tail (opening q from) && not (is_taken q from)) ≡ true) →
+          IfSome (question_taken (Wire false k d ss m)) (λ q. (is_tail (opening q to) && not (is_taken q to)) ≡ true)
+      taking (Return q release (TakeFrom n) light) g = may_take_there n g
+      taking (Return q release (Results payload) light) g = tt
+      taking (Return q release Exception light) g = tt
+      taking (Return q release Canceled light) g = tt
+      taking (Return q release Elsewhere light) g = tt
+      taking (Bootstrap q) g = tt
+      taking _ g = tt
+
       once : (m : RpcMessage) → ((q : ℕ) (release : Bool) → answers q m ≡ true → is_unreturned (id k true q) to ≡ true) → IfSome (question_returned (Wire false k d ss m)) (λ q. is_unreturned q to ≡ true)
       once (Return q release outcome light) due = due q release (eq-eqb q q refl)
       once (Bootstrap q) due = tt

@@ -5,9 +5,9 @@ use Rattle.std.specs.List.{cons_option}
 use Rattle.std.specs.Bool.{beq}
 use Rattle.std.proofs.lemmas.Bool.{false≢true, and_parts}
 use Rattle.std.proofs.lemmas.Bool.Decides.{nat_tests}
-use Rattle.agree.specs.Types.{RpcMessage, Bootstrap, Call, Return, Finish, DecodedRecord, Host, Wire, TableKey}
+use Rattle.agree.specs.Types.{Results, Exception, Canceled, Elsewhere, TakeFrom, RpcMessage, Bootstrap, Call, Return, Finish, DecodedRecord, Host, Wire, TableKey}
 use Rattle.vat_view.specs.Past.{Past, id, Point, point, names, last_since, Each}
-use Rattle.vat_view.specs.Questions.{question_opened, question_returned, question_finished, question_released, opens, returns, finishes, releases, opening, is_finished, is_opened, is_released, is_free, is_unfinished, is_unreturned}
+use Rattle.vat_view.specs.Questions.{question_opened, question_returned, question_finished, question_released, question_taken, asks_elsewhere, opens, returns, finishes, releases, takes_results, opening, is_tail, is_taken, is_finished, is_opened, is_released, is_free, is_unfinished, is_unreturned}
 use Rattle.vat_view.specs.Uses.{OpensFree, UsesQuestions}
 use Rattle.vat_view.proofs.Once.{used_so}
 use Rattle.agree.specs.Streams.{passing, stream, opening_number}
@@ -33,6 +33,16 @@ abbrev pub ends : ℕ → RpcMessage → Bool
 ends n (Finish q release) = n == q
 ends n _ = false
 
+-- takes the results of one of its sender's
+abbrev pub takes : ℕ → RpcMessage → Bool
+takes n (Return q release (TakeFrom m) light) = n == m
+takes n _ = false
+
+-- asks for results to be sent elsewhere
+abbrev pub asks_away : RpcMessage → Bool
+asks_away (Call q target interface method params yourself) = yourself
+asks_away _ = false
+
 -- what a test says of a message, if there is one
 abbrev pub passes : (RpcMessage → Bool) → Option RpcMessage → Bool
 passes test (Some m) = test m
@@ -47,6 +57,11 @@ count test (m ∷ before) = (if test m then 1 else 0) + count test before
 abbrev pub came_since : (RpcMessage → Bool) → (RpcMessage → Bool) → List RpcMessage → Bool
 came_since start test [] = false
 came_since start test (m ∷ before) = if start m then false else if test m then true else came_since start test before
+
+-- whether the last that opens the question of this number asks for results to be sent elsewhere
+abbrev pub asked_away : ℕ → List RpcMessage → Bool
+asked_away n [] = false
+asked_away n (m ∷ before) = if asks n m then asks_away m else asked_away n before
 
 -- the number of the last message that passes a test
 abbrev pub last_number : (RpcMessage → Bool) → List RpcMessage → Option ℕ
@@ -86,6 +101,17 @@ finishes_is q (Wire t j c rs (Finish n release)) = as_asked ((q.connection == j)
 finishes_is q (Wire t j c rs m) = not_asked ((q.connection == j) && beq q.ours t) (ends q.number) m refl
 finishes_is q (Host r o) = refl
 finishes_is q _ = refl
+
+pub takes_is : (q : TableKey) (e : DecodedRecord) → names q (question_taken e) ≡ passes (takes q.number) (passing q.connection q.ours e)
+takes_is q (Wire t j c rs (Return n release (TakeFrom m) light)) = as_asked ((q.connection == j) && beq q.ours t) (takes q.number) (Return n release (TakeFrom m) light)
+takes_is q (Wire t j c rs (Return n release (Results payload) light)) = not_asked ((q.connection == j) && beq q.ours t) (takes q.number) (Return n release (Results payload) light) refl
+takes_is q (Wire t j c rs (Return n release Exception light)) = not_asked ((q.connection == j) && beq q.ours t) (takes q.number) (Return n release Exception light) refl
+takes_is q (Wire t j c rs (Return n release Canceled light)) = not_asked ((q.connection == j) && beq q.ours t) (takes q.number) (Return n release Canceled light) refl
+takes_is q (Wire t j c rs (Return n release Elsewhere light)) = not_asked ((q.connection == j) && beq q.ours t) (takes q.number) (Return n release Elsewhere light) refl
+takes_is q (Wire t j c rs (Bootstrap n)) = not_asked ((q.connection == j) && beq q.ours t) (takes q.number) (Bootstrap n) refl
+takes_is q (Wire t j c rs m) = not_asked ((q.connection == j) && beq q.ours t) (takes q.number) m refl
+takes_is q (Host r o) = refl
+takes_is q _ = refl
 
 turn : (a o t b : Bool) → (a && beq o (not t) && b) ≡ (a && beq (not o) t && b)
 turn a o t b = grind (arith, nat_tests)
@@ -134,6 +160,46 @@ released_stream q past = since_stream q (releases q) (frees q.number) (λ before
 
 pub finished_stream : (q : TableKey) (past : Past) → is_finished q past ≡ came_since (asks q.number) (ends q.number) (stream q.connection q.ours past)
 finished_stream q past = since_stream q (finishes q) (ends q.number) (λ before e. finishes_is q e) past
+
+pub taken_stream : (q : TableKey) (past : Past) → is_taken q past ≡ came_since (asks q.number) (takes q.number) (stream q.connection q.ours past)
+taken_stream q past = since_stream q (takes_results q) (takes q.number) (λ before e. takes_is q e) past
+
+-- ---- what an opening asks
+
+away_is : (t : Bool) (j c : ℕ) (rs : List ℕ) (m : RpcMessage) → asks_elsewhere (Wire t j c rs m) ≡ asks_away m
+away_is t j c rs (Call n target i m b yourself) = refl
+away_is t j c rs (Bootstrap n) = refl
+away_is t j c rs _ = refl
+
+away_at : (n : ℕ) (o : Option RpcMessage) (str : List RpcMessage) → asked_away n (cons_option o str) ≡ (if passes (asks n) o then passes asks_away o else asked_away n str)
+away_at n None str = refl
+away_at n (Some m) str = refl
+
+away_if : (s : Bool) (p : Point) (o : Option Point) → is_tail (if s then Some p else o) ≡ (if s then asks_elsewhere p.event else is_tail o)
+away_if true p o = refl
+away_if false p o = refl
+
+-- a record that opens a question asks what its message asks
+away_same : (n k : ℕ) (s rest : Bool) (e : DecodedRecord) → (if passes (asks n) (passing k s e) then asks_elsewhere e else rest) ≡ (if passes (asks n) (passing k s e) then passes asks_away (passing k s e) else rest)
+away_same n k s rest (Wire t j c rs m) = where_it_is ((k == j) && beq s t)
+  where
+    where_it_is : (g : Bool) → (if passes (asks n) (if g then Some m else None) then asks_elsewhere (Wire t j c rs m) else rest)
+        ≡ (if passes (asks n) (if g then Some m else None) then passes asks_away (if g then Some m else None) else rest)
+    where_it_is true = ap (λ b. if asks n m then b else rest) (away_is t j c rs m)
+    where_it_is false = refl
+away_same n k s rest (Host r o) = refl
+away_same n k s rest _ = refl
+
+-- whether the last opening of a question asks for results to be sent elsewhere is said in the stream
+pub tail_stream : (q : TableKey) (past : Past) → is_tail (opening q past) ≡ asked_away q.number (stream q.connection q.ours past)
+tail_stream q [] = refl
+tail_stream q (e ∷ before) =
+    let o = passing q.connection q.ours e in
+    away_if (opens q before e) (point before e) (opening q before)
+    ∙ ap (λ x. if x then asks_elsewhere e else is_tail (opening q before)) (opens_is q e)
+    ∙ away_same q.number q.connection q.ours (is_tail (opening q before)) e
+    ∙ ap (λ z. if passes (asks q.number) o then passes asks_away o else z) (tail_stream q before)
+    ∙ sym (away_at q.number o (stream q.connection q.ours before))
 
 -- ---- the number of an opening
 

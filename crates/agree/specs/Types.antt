@@ -3,6 +3,7 @@ pub use Rattle.rpc_view.specs.declared.message.Descriptor.{Descriptor}
 pub use Rattle.rpc_view.specs.declared.message.Descriptor.TheVariants.{NoCap, SenderHosted, SenderPromise, ReceiverHosted, ReceiverAnswer}
 pub use Rattle.rpc_view.specs.declared.message.Target.TheVariants.{Imported, Promised}
 pub use Rattle.rpc_view.specs.declared.message.Outcome.{Outcome}
+pub use Rattle.rpc_view.specs.declared.message.Outcome.TheVariants.{Results, Exception, Canceled, Elsewhere, TakeFrom}
 pub use Rattle.rpc_view.specs.declared.message.RpcMessage.{RpcMessage}
 pub use Rattle.rpc_view.specs.declared.message.RpcMessage.TheVariants.{Bootstrap, Call, Return, Finish, Release, Disembargo}
 pub use Rattle.vat_view.specs.declared.record.decoded.DecodedRecord.{DecodedRecord}

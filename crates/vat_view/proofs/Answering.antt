@@ -8,16 +8,17 @@ use Rattle.vat_view.specs.declared.tables.exports_imports.ExportsImports.{Export
 use Rattle.vat_view.specs.declared.record.introduced.Introduced.{Introduced}
 use Rattle.vat_view.specs.declared.tables.references.BoundReferences.{BoundReferences}
 use Rattle.vat_view.specs.declared.tables.calls.Calls.{Calls}
-use Rattle.vat_view.specs.Types.{Descriptor, Target, Imported, Promised, Return, Finish, DecodedRecord, Wire, View, FieldOf, TableKey}
+use Rattle.vat_view.specs.Types.{Descriptor, Target, Imported, Promised, TakeFrom, Return, Finish, DecodedRecord, Wire, View, FieldOf, TableKey}
 use Rattle.vat_view.specs.Past.{Past, Point, point, id, same_id, last_since, Each}
-use Rattle.vat_view.specs.Questions.{opens, returns, finishes, releases, opening, return_of, is_opened, is_returned, is_finished, is_released, is_free, is_unfinished, is_unreturned, is_late, closes, call_at}
+use Rattle.vat_view.specs.Questions.{opens, returns, finishes, releases, takes_results, opening, return_of, is_opened, is_returned, is_finished, is_released, is_tail, is_taken, is_free, is_unfinished, is_unreturned, is_late, closes, call_at, call_of}
 use Rattle.vat_view.specs.Lives.{introductions_at, gives_back, held, GivesBackHeld, descriptors}
 use Rattle.vat_view.specs.Views.{view_of_reference, target_view, target_of, view_of_target, descriptor_view, view_of_descriptor, views_of_descriptors}
+use Rattle.vat_view.specs.Calls.{call_taken_from}
 use Rattle.vat_view.specs.Uses.{UsesQuestions}
 use Rattle.vat_view.specs.Bindings.{is_bound}
 use Rattle.vat_view.specs.Sound.{IsSound}
 use Rattle.vat_view.specs.Glue.Tables.{question_at, bound_at, late_by, given_back_by, results_released_in, params_introduced_in, results_introduced_in, count_released, call_by, origins_if, origins, first_in, AreBegun, view_by, count_at}
-use Rattle.vat_view.specs.Glue.Asking.{free_in, unfinished_in, finished_in, unreturned_in, opening_call_in, target_by, targeted_by, given_by}
+use Rattle.vat_view.specs.Glue.Asking.{free_in, unfinished_in, finished_in, unreturned_in, tail_in, taken_in, opening_call_in, target_by, targeted_by, taken_from_by, given_by}
 use Rattle.vat_view.specs.Glue.Kept.{AreKept}
 use Rattle.vat_view.proofs.Naming.{same_id_is}
 use Rattle.vat_view.proofs.Knowing.{known_from, asked_at}
@@ -46,11 +47,15 @@ unreturned_at : (q : TableKey) (past : Past) (o : Option Point) → unreturned_i
 unreturned_at q past (Some p) = refl
 unreturned_at q past None = refl
 
+tail_at : (q : TableKey) (past : Past) (o : Option Point) → tail_in (option_map (known_from q past) o) ≡ is_tail o
+tail_at q past (Some p) = refl
+tail_at q past None = refl
+
 call_of_opening : (q : TableKey) (past : Past) (o : Option Point) → opening_call_in (option_map (known_from q past) o) ≡ call_at o
 call_of_opening q past (Some p) = refl
 call_of_opening q past None = refl
 
--- ---- what was never opened was never returned or finished
+-- ---- what was never opened was never returned, finished or taken
 
 returns_opened : (q : TableKey) (before : Past) (e : DecodedRecord) → UsesQuestions before e → returns q before e ≡ true → is_opened q before ≡ true
 returns_opened q before (Wire s k c rs (Return n release outcome light)) uses h =
@@ -66,6 +71,16 @@ finishes_opened q before _ uses h = absurd (false≢true h)
 releases_opened : (q : TableKey) (before : Past) (e : DecodedRecord) → UsesQuestions before e → releases q before e ≡ true → is_opened q before ≡ true
 releases_opened q before (Wire s k c rs (Finish n true)) uses h = finishes_opened q before (Wire s k c rs (Finish n true)) uses h
 releases_opened q before _ uses h = absurd (false≢true h)
+
+tail_opened : (o : Option Point) → is_tail o ≡ true → is_some o ≡ true
+tail_opened (Some p) h = refl
+tail_opened None h = absurd (false≢true h)
+
+takes_opened : (q : TableKey) (before : Past) (e : DecodedRecord) → UsesQuestions before e → takes_results q before e ≡ true → is_opened q before ≡ true
+takes_opened q before (Wire s k c rs (Return n release (TakeFrom m) light)) uses h =
+    tail_opened (opening q before) (and_parts (is_tail (opening q before)) (not (is_taken q before))
+    (subst (λ x. (is_tail (opening x before) && not (is_taken x before)) ≡ true) (sym (same_id_is q (id k s m) h)) uses.taken_once)).0
+takes_opened q before _ uses h = absurd (false≢true h)
 
 module _ (q : TableKey) (test : Past → DecodedRecord → Bool) (opened : (before : Past) (e : DecodedRecord) → UsesQuestions before e → test before e ≡ true → is_opened q before ≡ true) where
   unopened : (past : Past) → Each IsSound past → is_opened q past ≡ false → last_since (opens q) test past ≡ None
@@ -88,6 +103,10 @@ finished_at q past None h = sym (h refl)
 released_at : (q : TableKey) (past : Past) (o : Option Point) → (is_some o ≡ false → is_released q past ≡ false) → results_released_in (option_map (known_from q past) o) ≡ is_released q past
 released_at q past (Some p) h = refl
 released_at q past None h = sym (h refl)
+
+taken_at : (q : TableKey) (past : Past) (o : Option Point) → (is_some o ≡ false → is_taken q past ≡ false) → taken_in (option_map (known_from q past) o) ≡ is_taken q past
+taken_at q past (Some p) h = refl
+taken_at q past None h = sym (h refl)
 
 brought_at : (q : TableKey) (past : Past) (o : Option Point) → (is_some o ≡ false → return_of q past ≡ None) → results_introduced_in (option_map (known_from q past) o) ≡ introductions_at (return_of q past)
 brought_at q past (Some p) h = refl
@@ -117,6 +136,16 @@ module _ (past : Past) (questions : Questions) (lives : ExportsImports) (bound :
   pub unreturned_known : (q : TableKey) → unreturned_in (question_at questions q) ≡ is_unreturned q past
   unreturned_known q = ap (λ o. unreturned_in o) (kept.tabled.tabled.known q) ∙ unreturned_at q past (opening q past)
 
+  pub tail_known : (q : TableKey) → tail_in (question_at questions q) ≡ is_tail (opening q past)
+  tail_known q = ap (λ o. tail_in o) (kept.tabled.tabled.known q) ∙ tail_at q past (opening q past)
+
+  pub taken_known : (q : TableKey) → taken_in (question_at questions q) ≡ is_taken q past
+  taken_known q = ap (λ o. taken_in o) (kept.tabled.tabled.known q)
+      ∙ taken_at q past (opening q past) (λ h. ap (λ o. is_some o) (unopened q (takes_results q) (takes_opened q) past kept.sound h))
+
+  pub call_is : (q : TableKey) → call_by (question_at questions q) ≡ call_of q past
+  call_is q = ap (λ o. call_by o) (kept.tabled.tabled.known q) ∙ call_known q past
+
   pub opening_call_known : (q : TableKey) → opening_call_in (question_at questions q) ≡ call_at (opening q past)
   opening_call_known q = ap (λ o. opening_call_in o) (kept.tabled.tabled.known q) ∙ call_of_opening q past (opening q past)
 
@@ -127,6 +156,13 @@ module _ (past : Past) (questions : Questions) (lives : ExportsImports) (bound :
   pub late_is : (e : DecodedRecord) → late_by (question_at questions) e ≡ is_late past e
   late_is (Wire s k c rs (Return q release outcome light)) = released_known (id k (not s) q)
   late_is _ = refl
+
+  -- the call by whose results a record answers another
+  pub taken_from_known : (e : DecodedRecord) → taken_from_by (question_at questions) e ≡ call_taken_from past e
+  taken_from_known (Wire false k c rs (Return q release (TakeFrom n) light)) =
+      ap₂ (λ b o. if b then None else o) (late_is (Wire false k c rs (Return q release (TakeFrom n) light)))
+      (ap (λ o. call_by o) (kept.tabled.tabled.known (id k false n)) ∙ call_known (id k false n) past)
+  taken_from_known _ = refl
 
   pub alive_known : (i : TableKey) (count : ℕ) → count ≡ count_at lives i → count ≡ held i past
   alive_known i count is_count = is_count ∙ kept.tabled.tabled.counted i

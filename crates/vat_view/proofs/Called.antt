@@ -13,14 +13,14 @@ use Rattle.vat_view.specs.Types.{DecodedRecord}
 use Rattle.vat_view.specs.Past.{Past}
 use Rattle.vat_view.specs.Questions.{is_late, call_at, opening}
 use Rattle.vat_view.specs.Views.{view_of_reference, view_of_target}
-use Rattle.vat_view.specs.Calls.{request_of, goal_of, is_at_vat, is_served, is_settled, is_known, has_passed, boots}
+use Rattle.vat_view.specs.Calls.{request_of, goal_of, is_at_vat, is_served, is_settled, is_known, has_passed, boots, call_taken_from}
 use Rattle.vat_view.specs.Bindings.{is_bound_call}
 use Rattle.vat_view.specs.Sound.{IsSound}
 use Rattle.vat_view.specs.Glue.Tables.{question_at, bound_at, late_by, AreTabled}
-use Rattle.vat_view.specs.Glue.Asking.{opening_call_in, targeted_by}
+use Rattle.vat_view.specs.Glue.Asking.{opening_call_in, targeted_by, taken_from_by}
 use Rattle.vat_view.specs.Glue.CallTables.{call_state_at, call_state_of, effect_by, effect_of, after_effect, request_in, goal_in, at_vat_in, served_in, settled_in, known_in}
 use Rattle.vat_view.specs.Glue.Kept.{AreKept}
-use Rattle.vat_view.proofs.Answering.{targeted_known, late_is, opening_call_known}
+use Rattle.vat_view.proofs.Answering.{targeted_known, late_is, taken_from_known, opening_call_known}
 use Rattle.vat_view.proofs.Calling.{news_same, progress_step, begins_unbound}
 use Rattle.vat_view.proofs.Unbound.{IsUnknown, unknown}
 
@@ -29,8 +29,8 @@ module _ (before : Past) (questions : Questions) (lives : ExportsImports) (bound
   news_is : n ≡ effect_of before e
   news_is = is_news
       ∙ news_same (bound_at bound) (view_of_reference before) (targeted_by (bound_at bound) lives (question_at questions) e) (view_of_target before e) (late_by (question_at questions) e) (is_late before e)
-      (λ q. opening_call_in (question_at questions q)) (λ q. call_at (opening q before)) kept.tabled.bounds (targeted_known before questions lives bound calls kept e)
-      (late_is before questions lives bound calls kept e) (λ q. opening_call_known before questions lives bound calls kept q) e
+      (taken_from_by (question_at questions) e) (call_taken_from before e) (λ q. opening_call_in (question_at questions q)) (λ q. call_at (opening q before)) kept.tabled.bounds (targeted_known before questions lives bound calls kept e)
+      (late_is before questions lives bound calls kept e) (taken_from_known before questions lives bound calls kept e) (λ q. opening_call_known before questions lives bound calls kept q) e
 
   -- it was told
   pub kept_after : (told_questions : Questions) (counted : ExportsImports) (more : BoundReferences) (after : Calls) → AreTabled (e ∷ before) told_questions counted more →

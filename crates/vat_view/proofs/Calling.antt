@@ -8,11 +8,11 @@ use Rattle.vat_view.specs.declared.tables.call_state.CallState.{CallState}
 use Rattle.vat_view.specs.declared.tables.call_state.CallChange.{CallChange}
 use Rattle.vat_view.specs.declared.tables.call_state.CallChange.TheVariants.{Left, Delivered, Faulted, Answered, Known}
 use Rattle.vat_view.specs.declared.tables.call_state.CallEffect.TheVariants.{Nothing, Begins}
-use Rattle.vat_view.specs.Types.{Bootstrap, Call, Return, Results, Exception, Canceled, Elsewhere, TakeFrom, DecodedRecord, Make, Deliver, Answer, Fault, Wire, View, Asked, TableKey}
+use Rattle.vat_view.specs.Types.{Bootstrap, Call, Return, Results, Exception, Canceled, TakeFrom, DecodedRecord, Make, Deliver, Answer, AnswerBy, Fault, Wire, View, Asked, TableKey}
 use Rattle.vat_view.specs.Past.{Past, Point, point, id, is, last_answer, last_where, Each}
 use Rattle.vat_view.specs.Questions.{opening, call_at, is_late}
 use Rattle.vat_view.specs.Views.{view_of_reference, view_of_target}
-use Rattle.vat_view.specs.Calls.{request_of, moves, delivers, boots, settles, knows, has_passed, is_at_vat, is_served, is_settled, is_known}
+use Rattle.vat_view.specs.Calls.{request_of, moves, delivers, boots, settles, knows, has_passed, is_at_vat, is_served, is_settled, is_known, call_taken_from}
 use Rattle.vat_view.specs.Bindings.{Refers, is_bound_call}
 use Rattle.vat_view.specs.Sound.{IsSound}
 use Rattle.vat_view.specs.Glue.CallTables.{call_state_of, after_change, arriving_call, bootstrap_call, change_of_call, sent_effect, received_effect, effect_from, effect_of, after_effect}
@@ -23,25 +23,25 @@ use Rattle.vat_view.proofs.Unbound.{IsUnknown, unknown}
 sent_same : (opened other : TableKey → Option ℕ) → ((q : TableKey) → opened q ≡ other q) → (e : DecodedRecord) → sent_effect opened e ≡ sent_effect other e
 sent_same opened other same (Wire true k c rs (Return q release Exception light)) = ap (λ o. change_of_call Left o) (same (id k false q))
 sent_same opened other same (Wire true k c rs (Return q release Canceled light)) = ap (λ o. change_of_call Left o) (same (id k false q))
-sent_same opened other same (Wire true k c rs (Return q release Elsewhere light)) = ap (λ o. change_of_call Left o) (same (id k false q))
-sent_same opened other same (Wire true k c rs (Return q release (TakeFrom n) light)) = ap (λ o. change_of_call Left o) (same (id k false q))
 sent_same opened other same _ = refl
 
-received_same : (target goal : Option View) (late tardy : Bool) (opened other : TableKey → Option ℕ) → target ≡ goal → late ≡ tardy → ((q : TableKey) → opened q ≡ other q) →
-    (e : DecodedRecord) → received_effect target late opened e ≡ received_effect goal tardy other e
-received_same target goal late tardy opened other same when named (Wire false k c rs (Call q t f m p yourself)) = ap (λ v. Begins c (arriving_call v f m)) same
-received_same target goal late tardy opened other same when named (Wire false k c rs (Return q release (Results payload) light)) =
+received_same : (target goal : Option View) (late tardy : Bool) (taken from : Option ℕ) (opened other : TableKey → Option ℕ) → target ≡ goal → late ≡ tardy → taken ≡ from → ((q : TableKey) → opened q ≡ other q) →
+    (e : DecodedRecord) → received_effect target late taken opened e ≡ received_effect goal tardy from other e
+received_same target goal late tardy taken from opened other same when by named (Wire false k c rs (Call q t f m p yourself)) = ap (λ v. Begins c (arriving_call v f m)) same
+received_same target goal late tardy taken from opened other same when by named (Wire false k c rs (Return q release (Results payload) light)) =
     ap (λ b. if b then Nothing else change_of_call Known (opened (id k true q))) when ∙ ap (λ o. if tardy then Nothing else change_of_call Known o) (named (id k true q))
-received_same target goal late tardy opened other same when named _ = refl
+received_same target goal late tardy taken from opened other same when by named (Wire false k c rs (Return q release (TakeFrom n) light)) =
+    ap (λ o. if is_some o then change_of_call Known (opened (id k true q)) else Nothing) by ∙ ap (λ o. if is_some from then change_of_call Known o else Nothing) (named (id k true q))
+received_same target goal late tardy taken from opened other same when by named _ = refl
 
-pub news_same : (named viewed : ℕ → Option View) (target goal : Option View) (late tardy : Bool) (opened other : TableKey → Option ℕ) →
-    ((r : ℕ) → named r ≡ viewed r) → target ≡ goal → late ≡ tardy → ((q : TableKey) → opened q ≡ other q) → (e : DecodedRecord) →
-    effect_from named target late opened e ≡ effect_from viewed goal tardy other e
-news_same named viewed target goal late tardy opened other names same when calls (Make c r f m) = ap (λ v. Begins c (arriving_call v f m)) (names r)
-news_same named viewed target goal late tardy opened other names same when calls (Wire true k c rs m) = sent_same opened other calls (Wire true k c rs m)
-news_same named viewed target goal late tardy opened other names same when calls (Wire false k c rs m) =
-    received_same target goal late tardy opened other same when calls (Wire false k c rs m)
-news_same named viewed target goal late tardy opened other names same when calls _ = refl
+pub news_same : (named viewed : ℕ → Option View) (target goal : Option View) (late tardy : Bool) (taken from : Option ℕ) (opened other : TableKey → Option ℕ) →
+    ((r : ℕ) → named r ≡ viewed r) → target ≡ goal → late ≡ tardy → taken ≡ from → ((q : TableKey) → opened q ≡ other q) → (e : DecodedRecord) →
+    effect_from named target late taken opened e ≡ effect_from viewed goal tardy from other e
+news_same named viewed target goal late tardy taken from opened other names same when by calls (Make c r f m) = ap (λ v. Begins c (arriving_call v f m)) (names r)
+news_same named viewed target goal late tardy taken from opened other names same when by calls (Wire true k c rs m) = sent_same opened other calls (Wire true k c rs m)
+news_same named viewed target goal late tardy taken from opened other names same when by calls (Wire false k c rs m) =
+    received_same target goal late tardy taken from opened other same when by calls (Wire false k c rs m)
+news_same named viewed target goal late tardy taken from opened other names same when by calls _ = refl
 
 -- ---- what is known of a call, where b says whether the record now speaks of it
 
@@ -162,6 +162,25 @@ module _ (c : ℕ) (before : Past) where
       once false = refl
   known_by p false None = refl
 
+  -- by the call whose results are taken
+  taken_by : (p : Point) (t o : Option ℕ) → made_known p (is_some (if is c o then t else None)) (is_bound_call before c)
+      ≡ after_effect (if is_some t then change_of_call Known o else Nothing) c (call_state_of c before)
+  taken_by p (Some by) (Some d) = once (d == c)
+    where
+      once : (b : Bool) → made_known p (is_some (if b then Some by else None)) (is_bound_call before c) ≡ (if b then option_map (after_change Known) (progress_if (is_bound_call before c)) else progress_if (is_bound_call before c))
+      once true = known_step p true (is_bound_call before c)
+      once false = refl
+  taken_by p (Some by) None = refl
+  taken_by p None (Some d) = never (d == c)
+    where
+      nothing : Option ℕ
+      nothing = None
+
+      never : (b : Bool) → made_known p (is_some (if b then nothing else None)) (is_bound_call before c) ≡ call_state_of c before
+      never true = refl
+      never false = refl
+  taken_by p None None = refl
+
 -- a call that is newly bound was unknown
 was_unknown : (before : Past) → Each IsSound before → (c d : ℕ) → list_all (λ x. not (is_bound_call before x)) (d ∷ []) ≡ true → (d == c) ≡ true → IsUnknown c before
 was_unknown before sound c d h same =
@@ -173,14 +192,13 @@ progress_step c before sound (Make d r f m) refers =
     brought_step c before (record { goal = view_of_reference before r; interface = f; method = m }) (d == c) (was_unknown before sound c d refers.unused_call)
 progress_step c before sound (Deliver d object) refers = delivered_step c before (point before (Deliver d object)) (d == c) (is_bound_call before c)
 progress_step c before sound (Answer d results) refers = answered_step c before (point before (Answer d results)) (d == c) (is_bound_call before c)
+progress_step c before sound (AnswerBy d by) refers = answered_step c before (point before (AnswerBy d by)) (d == c) (is_bound_call before c)
 progress_step c before sound (Fault d) refers = faulted_step c before (point before (Fault d)) (d == c) (is_bound_call before c)
 progress_step c before sound (Wire true k d rs (Bootstrap q)) refers =
     booted_step c before (point before (Wire true k d rs (Bootstrap q))) false (d == c) (was_unknown before sound c d refers.unused_call)
 progress_step c before sound (Wire true k d rs (Call q t f m p yourself)) refers = left_step c before (d == c) (is_bound_call before c)
 progress_step c before sound (Wire true k d rs (Return q release Exception light)) refers = left_by c before (call_at (opening (id k false q) before))
 progress_step c before sound (Wire true k d rs (Return q release Canceled light)) refers = left_by c before (call_at (opening (id k false q) before))
-progress_step c before sound (Wire true k d rs (Return q release Elsewhere light)) refers = left_by c before (call_at (opening (id k false q) before))
-progress_step c before sound (Wire true k d rs (Return q release (TakeFrom n) light)) refers = left_by c before (call_at (opening (id k false q) before))
 progress_step c before sound (Wire false k d rs (Bootstrap q)) refers =
     booted_step c before (point before (Wire false k d rs (Bootstrap q))) true (d == c) (was_unknown before sound c d refers.unused_call)
 progress_step c before sound (Wire false k d rs (Call q t f m p yourself)) refers =
@@ -188,6 +206,8 @@ progress_step c before sound (Wire false k d rs (Call q t f m p yourself)) refer
     brought_step c before (record { goal = view_of_target before e; interface = f; method = m }) (d == c) (was_unknown before sound c d refers.unused_call)
 progress_step c before sound (Wire false k d rs (Return q release (Results payload) light)) refers =
     let e : DecodedRecord = Wire false k d rs (Return q release (Results payload) light) in known_by c before (point before e) (is_late before e) (call_at (opening (id k true q) before))
+progress_step c before sound (Wire false k d rs (Return q release (TakeFrom n) light)) refers =
+    let e : DecodedRecord = Wire false k d rs (Return q release (TakeFrom n) light) in taken_by c before (point before e) (call_taken_from before e) (call_at (opening (id k true q) before))
 progress_step c before sound _ refers = refl
 
 -- what is newly bound wasn't
@@ -205,6 +225,10 @@ known_begins : (late : Bool) (o : Option ℕ) (d : ℕ) (p : CallState) → (if 
 known_begins true o d p e = cc
 known_begins false o d p e = step_begins Known o d p e
 
+taken_begins : (t o : Option ℕ) (d : ℕ) (p : CallState) → (if is_some t then change_of_call Known o else Nothing) ≡ Begins d p → ⊥
+taken_begins (Some by) o d p e = step_begins Known o d p e
+taken_begins None o d p e = cc
+
 pub begins_unbound : (before : Past) (e : DecodedRecord) → Refers before e → (d : ℕ) (p : CallState) → effect_of before e ≡ Begins d p → is_bound_call before d ≡ false
 begins_unbound before (Make c r f m) refers d p h = fresh before c d refers.unused_call (begins_same c d _ p h)
 begins_unbound before (Wire true k c rs (Bootstrap q)) refers d p h = fresh before c d refers.unused_call (begins_same c d _ p h)
@@ -212,8 +236,8 @@ begins_unbound before (Wire false k c rs (Bootstrap q)) refers d p h = fresh bef
 begins_unbound before (Wire false k c rs (Call q t f m params yourself)) refers d p h = fresh before c d refers.unused_call (begins_same c d _ p h)
 begins_unbound before (Wire true k c rs (Return q release Exception light)) refers d p h = absurd (step_begins Left (call_at (opening (id k false q) before)) d p h)
 begins_unbound before (Wire true k c rs (Return q release Canceled light)) refers d p h = absurd (step_begins Left (call_at (opening (id k false q) before)) d p h)
-begins_unbound before (Wire true k c rs (Return q release Elsewhere light)) refers d p h = absurd (step_begins Left (call_at (opening (id k false q) before)) d p h)
-begins_unbound before (Wire true k c rs (Return q release (TakeFrom n) light)) refers d p h = absurd (step_begins Left (call_at (opening (id k false q) before)) d p h)
 begins_unbound before (Wire false k c rs (Return q release (Results payload) light)) refers d p h =
     absurd (known_begins (is_late before (Wire false k c rs (Return q release (Results payload) light))) (call_at (opening (id k true q) before)) d p h)
+begins_unbound before (Wire false k c rs (Return q release (TakeFrom n) light)) refers d p h =
+    absurd (taken_begins (call_taken_from before (Wire false k c rs (Return q release (TakeFrom n) light))) (call_at (opening (id k true q) before)) d p h)
 begins_unbound before _ refers d p h = absurd (let no : ⊥ = cc in no)

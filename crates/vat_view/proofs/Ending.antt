@@ -10,9 +10,10 @@ use Rattle.vat_view.specs.Types.{DecodedRecord, View}
 use Rattle.vat_view.specs.Past.{Past}
 use Rattle.vat_view.specs.Walks.{Next, stays, on_to, next, Leads, LeadsByTurns, IsEnd}
 use Rattle.vat_view.specs.Glue.Tables.{bound_at, AreTabled}
-use Rattle.vat_view.specs.Glue.TurnTables.{field_path, goes, turn_target, AreSettled, settler_by, goes_by, turned_to, turn_by, bound_len, after_turns, Reaches, ReachesByTurns, EndsBy}
+use Rattle.vat_view.specs.Glue.TurnTables.{field_path, Settler, goes, turn_target, AreSettled, settler_by, goes_by, turned_to, turn_by, most_turns, after_turns, Reaches, ReachesByTurns, EndsBy}
 use Rattle.vat_view.proofs.Walking.{some_same, none_some, reached_none, reached_more, reached_same, one_last, endless, step, leads_reach, reached_leads, by_turns_reach, reached_by_turns}
-use Rattle.vat_view.proofs.Settled.{few, place_of, view_there, goes_known}
+use Rattle.vat_view.proofs.Settled.{goes_known}
+use Rattle.vat_view.proofs.Bounded.{few, turn_number}
 
 -- ---- by 1 or more turns
 
@@ -34,6 +35,11 @@ on_to_moves : (o : Option View) → on_to o ≡ stays → ⊥
 on_to_moves (Some v) e = let no : ⊥ = cc in no
 on_to_moves None e = let no : ⊥ = cc in no
 
+-- what was settled doesn't stay
+settled_moves : (named : ℕ → Option View) (path : List ℕ) (s : Settler) → goes named path (Some s) ≡ stays → ⊥
+settled_moves named path (e, Some by) h = let no : ⊥ = cc in no
+settled_moves named path (e, None) h = on_to_moves (option_and_then named (turn_target path e)) h
+
 module _ {R : Type 0} (now : R → View) (events : List DecodedRecord) (table : Settlements) (bound : BoundReferences) where
   abbrev goings : View → Next
   goings v = goes_by events table (bound_at bound) v
@@ -46,23 +52,23 @@ module _ {R : Type 0} (now : R → View) (events : List DecodedRecord) (table : 
       option_map now o ≡ (if is_none (settler_by table events v) then Some v else None) → MatchOption o ((w : View) → EndsBy goings a w → ⊥) (λ r. EndsBy goings a (now r))
   ends_at a v t (Some r) there none rests = inner (settler_by table events v) refl rests
     where
-      inner : (s : Option DecodedRecord) → settler_by table events v ≡ s → Some (now r) ≡ (if is_none s then Some v else None) → EndsBy goings a (now r)
+      inner : (s : Option Settler) → settler_by table events v ≡ s → Some (now r) ≡ (if is_none s then Some v else None) → EndsBy goings a (now r)
       inner None settled same =
           let it = some_same (now r) v same in
           ((t, there ∙ ap (λ x. Some x) (sym it)), ap (λ x. goings x) it ∙ ap (λ s. goes (bound_at bound) (field_path v) s) settled)
       inner (Some e) settled same = absurd (none_some (now r) (sym same))
   ends_at a v t None there none rests = λ w ends. inner w ends (settler_by table events v) refl rests
     where
-      inner : (w : View) → EndsBy goings a w → (s : Option DecodedRecord) → settler_by table events v ≡ s → None ≡ (if is_none s then Some v else None) → ⊥
+      inner : (w : View) → EndsBy goings a w → (s : Option Settler) → settler_by table events v ≡ s → None ≡ (if is_none s then Some v else None) → ⊥
       inner w ends None settled same = none_some v same
-      inner w ends (Some e) settled same =
+      inner w ends (Some s) settled same =
           let it = one_last turnings a v w t ends.0.0 there (sym none) ends.0.1 (ap (λ x. turned_to x) ends.1) in
-          on_to_moves (option_and_then (bound_at bound) (turn_target (field_path v) e)) (sym (ap (λ s. goes (bound_at bound) (field_path v) s) settled) ∙ ap (λ x. goings x) it ∙ ends.1)
+          settled_moves (bound_at bound) (field_path v) s (sym (ap (λ s. goes (bound_at bound) (field_path v) s) settled) ∙ ap (λ x. goings x) it ∙ ends.1)
 
-  -- a walk that goes on after as many turns as references are bound has no end
-  pub goes_for_ever : (a v u : View) (t : ℕ) → bound_len bound ≤ t → after_turns turnings t (Some a) ≡ Some v → Some u ≡ turnings v → (w : View) → EndsBy goings a w → ⊥
+  -- a walk that goes on after as many turns as one makes at most that doesn't go in a circle has no end
+  pub goes_for_ever : (a v u : View) (t : ℕ) → most_turns table bound ≤ t → after_turns turnings t (Some a) ≡ Some v → Some u ≡ turnings v → (w : View) → EndsBy goings a w → ⊥
   goes_for_ever a v u t long there on w ends =
-      endless turnings (place_of events table bound) (view_there bound.entries) (bound_len bound) (few events table bound) a u w (suc t) (omega (arith, long))
+      endless turnings a (turn_number events table bound a) (most_turns table bound) (few events table bound a) u w (suc t) (omega (arith, long))
       (reached_more turnings t (Some a) ∙ ap (λ o. option_and_then turnings o) there ∙ sym on) ends.0.0 ends.0.1 (ap (λ x. turned_to x) ends.1)
 
 -- ---- walks by the table are walks by looking back
@@ -111,11 +117,11 @@ stays_known going past same events table named is_going v r rests = inner (settl
     now : next past v ≡ goes_by events table named v
     now = sym (same v) ∙ is_going v
 
-    inner : (s : Option DecodedRecord) → settler_by table events v ≡ s → IsTrue r ↔ (next past v ≡ stays)
+    inner : (s : Option Settler) → settler_by table events v ≡ s → IsTrue r ↔ (next past v ≡ stays)
     inner None settled = ((λ h. now ∙ ap (λ s. goes named (field_path v) s) settled), λ h. rests ∙ ap (λ s. is_none s) settled)
-    inner (Some e) settled = (
+    inner (Some s) settled = (
       (λ h. absurd (false≢true (sym (rests ∙ ap (λ s. is_none s) settled) ∙ h))),
-      λ h. absurd (on_to_moves (option_and_then named (turn_target (field_path v) e)) (sym (now ∙ ap (λ s. goes named (field_path v) s) settled) ∙ h)),
+      λ h. absurd (settled_moves named (field_path v) s (sym (now ∙ ap (λ s. goes named (field_path v) s) settled) ∙ h)),
     )
 
 -- where views go by a state is where they go by the records that were applied

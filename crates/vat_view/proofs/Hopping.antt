@@ -6,9 +6,11 @@ use Rattle.vat_view.specs.declared.tables.settlements.Settlements.{Settlements}
 use Rattle.vat_view.specs.declared.tables.references.BoundReferences.{BoundReferences}
 use Rattle.vat_view.specs.declared.tables.references.Binding.{Binding}
 use Rattle.vat_view.specs.declared.tables.references.Shortcut.{Shortcut}
+use Rattle.vat_view.specs.declared.walks.turn_target.Landing.{Landing}
+use Rattle.vat_view.specs.declared.walks.turn_target.Landing.TheVariants.{Reference as ToReference, Call as ToCall}
 use Rattle.vat_view.specs.Types.{DecodedRecord, View}
 use Rattle.vat_view.specs.Glue.Tables.{bound_at}
-use Rattle.vat_view.specs.Glue.TurnTables.{field_path, landed_by, settler_by, turns_of, after_turns, Reaches, TurnsAndThen, TurnsOn, ReachesByTurns, own_leap, ahead_in, ahead_at, onward_by, IsOwnOrOld, IsAhead, AreAhead, HaveAhead}
+use Rattle.vat_view.specs.Glue.TurnTables.{field_path, landing_view, landed_reference, landed_by, reference_by, settler_by, turns_of, after_turns, Reaches, TurnsAndThen, TurnsOn, ReachesByTurns, own_leap, ahead_in, ahead_at, onward_by, IsOwnOrOld, IsAhead, AreAhead, HaveAhead}
 use Rattle.vat_view.proofs.Walking.{cases_option, none_some, some_same, dead, reached_more, reached_at, reached_none}
 use Rattle.vat_view.proofs.Settled.{turn_landing}
 
@@ -36,8 +38,17 @@ module _ (events : List DecodedRecord) (table : Settlements) (bound : BoundRefer
   abbrev turnings : View → Option View
   turnings v = turns_of events table bound v
 
-  pub lands_turn : (v : View) → turnings v ≡ option_and_then (bound_at bound) (landed_by events table v)
+  pub lands_turn : (v : View) → turnings v ≡ option_and_then (landing_view (bound_at bound) (field_path v)) (landed_by events table v)
   lands_turn v = turn_landing (bound_at bound) (field_path v) (settler_by table events v)
+
+  lands_there : (o : Option Landing) (r : ℕ) → option_and_then landed_reference o ≡ Some r → o ≡ Some (ToReference r)
+  lands_there (Some (ToReference s)) r h = ap (λ x. Some (ToReference x)) (some_same s r h)
+  lands_there (Some (ToCall c)) r h = absurd (none_some r h)
+  lands_there None r h = absurd (none_some r h)
+
+  -- a view that lands on a reference turns to that one's view
+  pub reference_turn : (v : View) (r : ℕ) → reference_by events table v ≡ Some r → turnings v ≡ bound_at bound r
+  reference_turn v r h = lands_turn v ∙ ap (λ o. option_and_then (landing_view (bound_at bound) (field_path v)) o) (lands_there (landed_by events table v) r h)
 
 -- ---- walks that hop
 
@@ -96,9 +107,9 @@ further_ahead events table bound ahead r next count near far lands is_near is_fa
     let first = ahead r near is_near in
     let second = ahead next far is_far in
     let v : View = first.1 in
-    let landed : landed_by events table v ≡ Some next =
-    ap (λ o. option_and_then (landed_by events table) o) (sym first.3) ∙ ap (λ o. option_and_then (landed_by events table) (option_and_then (λ leap. bound_at bound leap.to) o)) (sym is_near) ∙ lands in
-    let turn : f v ≡ Some second.0 = lands_turn events table bound v ∙ ap (λ o. option_and_then (bound_at bound) o) landed ∙ second.2 in (
+    let landed : reference_by events table v ≡ Some next =
+    ap (λ o. option_and_then (reference_by events table) o) (sym first.3) ∙ ap (λ o. option_and_then (reference_by events table) (option_and_then (λ leap. bound_at bound leap.to) o)) (sym is_near) ∙ lands in
+    let turn : f v ≡ Some second.0 = reference_turn events table bound v next landed ∙ second.2 in (
       first.0,
       second.1,
       first.2,
@@ -163,20 +174,21 @@ more_reached f g more (suc n) a b e = elim (cases_option (f a)) [
   | inr x ↦ ap (λ o. after_turns g n o) (more a x.0 x.1) ∙ more_reached f g more n x.0 b (ap (λ o. after_turns f n o) (sym x.1) ∙ e)
 ]
 
-named_more : (named other : ℕ → Option View) → ((r : ℕ) (w : View) → named r ≡ Some w → other r ≡ Some w) → (o : Option ℕ) (w : View) →
-    option_and_then named o ≡ Some w → option_and_then other o ≡ Some w
-named_more named other more (Some r) w e = more r w e
-named_more named other more None w e = absurd (none_some w e)
+landing_more : (named other : ℕ → Option View) → ((r : ℕ) (w : View) → named r ≡ Some w → other r ≡ Some w) → (path : List ℕ) (l : Landing) (w : View) →
+    landing_view named path l ≡ Some w → landing_view other path l ≡ Some w
+landing_more named other more path (ToReference r) w e = more r w e
+landing_more named other more path (ToCall c) w e = e
 
 -- where turns land as before, and bound references keep their views, views turn as before
 pub turns_more : (events after : List DecodedRecord) (table other : Settlements) (old new : BoundReferences) → ((r : ℕ) (w : View) → bound_at old r ≡ Some w → bound_at new r ≡ Some w) →
-    ((v : View) (r : ℕ) → landed_by events table v ≡ Some r → landed_by after other v ≡ Some r) →
+    ((v : View) (l : Landing) → landed_by events table v ≡ Some l → landed_by after other v ≡ Some l) →
     (v w : View) → turns_of events table old v ≡ Some w → turns_of after other new v ≡ Some w
 turns_more events after table other old new named lands v w e = elim (cases_option (landed_by events table v)) [
-  | inl none ↦ absurd (none_some w (ap (λ o. option_and_then (bound_at old) o) (sym none) ∙ sym (lands_turn events table old v) ∙ e))
-  | inr r ↦
-      lands_turn after other new v ∙ ap (λ o. option_and_then (bound_at new) o) (lands v r.0 r.1)
-      ∙ named r.0 w (ap (λ o. option_and_then (bound_at old) o) (sym r.1) ∙ sym (lands_turn events table old v) ∙ e)
+  | inl none ↦ absurd (none_some w (ap (λ o. option_and_then (landing_view (bound_at old) (field_path v)) o) (sym none) ∙ sym (lands_turn events table old v) ∙ e))
+  | inr l ↦
+      lands_turn after other new v ∙ ap (λ o. option_and_then (landing_view (bound_at new) (field_path v)) o) (lands v l.0 l.1)
+      ∙ landing_more (bound_at old) (bound_at new) named (field_path v) l.0 w
+      (ap (λ o. option_and_then (landing_view (bound_at old) (field_path v)) o) (sym l.1) ∙ sym (lands_turn events table old v) ∙ e)
 ]
 
 module _ (f g : View → Option View) (old new : BoundReferences) (more : (v w : View) → f v ≡ Some w → g v ≡ Some w)

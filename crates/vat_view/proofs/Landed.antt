@@ -1,5 +1,5 @@
 -- A record turns the views that it settles to the references where they land.
-use Rattle.std.proofs.Common.{◌≡◌, ◌+◌, ◌<◌, ◌≤◌, inl, inr, refl, sym, ◌∙◌, ap, ap₂, subst, ℕ, zero, suc, ◌==◌, List, [], ◌∷◌, length, drop, take, add-zero, zero-add, map, count_by, cond, Bool, true, false, not, ◌&&◌, Option, Some, None, if◌then◌else◌, option_map, option_and_then, arith}
+use Rattle.std.proofs.Common.{◌≡◌, ◌⊎◌, ◌+◌, ◌<◌, ◌≤◌, inl, inr, refl, sym, ◌∙◌, ap, ap₂, subst, ℕ, zero, suc, ◌==◌, List, [], ◌∷◌, length, drop, take, add-zero, zero-add, map, count_by, cond, Bool, true, false, not, ◌&&◌, Option, Some, None, if◌then◌else◌, option_map, option_and_then, arith}
 use Rattle.std.specs.Prelude.{find, slice_get, unwrap_or}
 use Rattle.std.specs.List.{zip}
 use Rattle.std.specs.Option.{option_or}
@@ -7,21 +7,23 @@ use Rattle.std.specs.Str.{bytes_eq as same_path}
 use Rattle.std.proofs.lemmas.List.Sums.{sum_by-cons}
 use Rattle.std.proofs.lemmas.Option.{slice_get_past}
 use Rattle.std.proofs.lemmas.Bool.{and_parts, or_left, or_right, or_parts, cases_Bool, not-true, eqb-true, eq-eqb, ne_eqb, both_ways}
-use Rattle.vat_view.specs.Types.{Descriptor, NoCap, SenderHosted, SenderPromise, ReceiverHosted, ReceiverAnswer, RpcMessage, Outcome, Return, Resolve, Results, Exception, Canceled, Elsewhere, TakeFrom, DecodedRecord, Fulfil, Break, Answer, Fault, Wire, View, Object, Promise, FieldOf, Import}
+use Rattle.vat_view.specs.Types.{Descriptor, NoCap, SenderHosted, SenderPromise, ReceiverHosted, ReceiverAnswer, RpcMessage, Outcome, Return, Resolve, Results, Exception, Canceled, Elsewhere, TakeFrom, DecodedRecord, Fulfil, Break, Answer, AnswerBy, Fault, Wire, View, Object, Promise, FieldOf, Import}
 use Rattle.vat_view.specs.Past.{Past, Point, id, point, is, record_index, last_answer, last_where, Each}
-use Rattle.vat_view.specs.Questions.{is_late, call_at, opening}
+use Rattle.vat_view.specs.Questions.{is_late, is_free, call_at, call_of, opening}
+use Rattle.vat_view.specs.Calls.{call_taken_from}
 use Rattle.vat_view.specs.Lives.{Birth, birth, descriptors, descriptors_of}
 use Rattle.vat_view.specs.Views.{view_of_reference, view_of_descriptor, binds, descriptor_view, described_at, placed_references, places, places_from, references}
-use Rattle.vat_view.specs.Bindings.{Refers, NotesEach, contains, is_distinct, is_bound, new_references}
+use Rattle.vat_view.specs.Bindings.{Refers, NotesEach, contains, is_distinct, is_bound, is_bound_call, new_references}
 use Rattle.vat_view.specs.Sound.{IsSound}
 use Rattle.vat_view.specs.Walks.{Next, turns, stops, stays, on_to, is_promise, keeps, began_at, resolves, result_at, answers, turn, next}
 use Rattle.vat_view.specs.Glue.Tables.{is_cap, reference_by}
 use Rattle.vat_view.specs.declared.record.unsettled.Unsettled.{Unsettled}
 use Rattle.vat_view.specs.declared.record.unsettled.Unsettled.TheVariants.{Promise as PromiseToKeep, Results as ResultsOf, Import as ImportToResolve}
-use Rattle.vat_view.specs.Glue.TurnTables.{is_this, field_path, promise_of, import_at, settlement_of, reference_at, turn_target, goes, settler, settler_of, LandsBound}
+use Rattle.vat_view.specs.Glue.TurnTables.{is_this, field_path, promise_of, import_at, unless_elsewhere, settlement_of, reference_at, turn_target, Settler, goes, settler, call_behind, settler_at_point, settler_of, LandsBound}
 use Rattle.vat_view.proofs.Originating.{noted_at, get_drop, noted_first, tail_drop, places_cons}
 use Rattle.vat_view.proofs.Viewed.{places_above, cap_here, cap_later, zip_noted, all_at}
 use Rattle.vat_view.proofs.Lasting.{binds_new, all_not}
+use Rattle.vat_view.proofs.Unbound.{opening_bound}
 use Rattle.vat_view.proofs.Arriving.{no_view}
 
 some_same : {A : Type 0} {x y : A} → Some x ≡ Some y → x ≡ y
@@ -206,7 +208,7 @@ no_import : (a : Unsettled) → ((i place : ℕ) → is_this a (Some (ImportToRe
 no_import a h (Some b) = h (record_index b.from) b.place
 no_import a h None = refl
 
-is_results : (call : ℕ) (o : Option ℕ) → is call o ≡ is_this (ResultsOf call) (option_map ResultsOf o)
+pub is_results : (call : ℕ) (o : Option ℕ) → is call o ≡ is_this (ResultsOf call) (option_map ResultsOf o)
 is_results call (Some d) = refl
 is_results call None = refl
 
@@ -217,6 +219,14 @@ is_import i place None = refl
 answer_there : (f : ℕ → Option View) (o : Option (ℕ × List ℕ)) → option_and_then (λ answer. f answer.0) o ≡ option_and_then f (option_map (λ answer. answer.0) o)
 answer_there f (Some answer) = refl
 answer_there f None = refl
+
+-- what a Return doesn't settle, it doesn't settle whatever its results
+unless_none : (a : Unsettled) (outcome : Outcome) (s : Option Unsettled) → is_this a s ≡ false → is_this a (unless_elsewhere outcome s) ≡ false
+unless_none a Elsewhere s h = refl
+unless_none a (Results payload) s h = h
+unless_none a Exception s h = h
+unless_none a Canceled s h = h
+unless_none a (TakeFrom n) s h = h
 
 -- where nothing is settled, nothing turns
 unsettled : {A : Type 0} (b : Bool) (x : A) → b ≡ false → None ≡ (if b then Some x else None)
@@ -237,8 +247,9 @@ promise_turns : (p : ℕ) (before : Past) (e : DecodedRecord) → keeps p before
 promise_turns p before (Fulfil r to) = ap (λ b. if b then Some (on_to (view_of_reference before to)) else None) (is_promise_this p (view_of_reference before r))
 promise_turns p before (Break r) = ap (λ b. if b then Some stops else None) (is_promise_this p (view_of_reference before r))
 promise_turns p before (Wire false k c rs (Return q release outcome light)) =
-    unsettled (is_this (PromiseToKeep p) (option_map ResultsOf (call_at (opening (id k true q) before)))) (turn_there [] before (Wire false k c rs (Return q release outcome light)))
-    (no_results (PromiseToKeep p) (λ call. refl) (call_at (opening (id k true q) before)))
+    let s : Option Unsettled = option_map ResultsOf (call_at (opening (id k true q) before)) in
+    unsettled (is_this (PromiseToKeep p) (unless_elsewhere outcome s)) (turn_there [] before (Wire false k c rs (Return q release outcome light)))
+    (unless_none (PromiseToKeep p) outcome s (no_results (PromiseToKeep p) (λ call. refl) (call_at (opening (id k true q) before))))
 promise_turns p before (Wire false k c rs (Resolve n resolution)) =
     unsettled (is_this (PromiseToKeep p) (option_map import_at (birth (id k false n) before))) (turn_there [] before (Wire false k c rs (Resolve n resolution)))
     (no_import (PromiseToKeep p) (λ i place. refl) (birth (id k false n) before))
@@ -282,21 +293,44 @@ module _ (before : Past) (k c : ℕ) (rs : List ℕ) (q : ℕ) (release light : 
   returned_turns path outcome refers notes true late = brought_late path outcome refers notes late
   returned_turns path outcome refers notes false late = brought path outcome refers notes late
 
+-- where a record turns the field at a path of a call that it settles
+abbrev field_there : List ℕ → Past → DecodedRecord → Next
+field_there path before e = goes (view_of_reference (e ∷ before)) path (Some (e, call_taken_from before e))
+
+-- it takes the results of a call, or is late
+taken_there : (named : ℕ → Option View) (path : List ℕ) (k c : ℕ) (rs : List ℕ) (q : ℕ) (release : Bool) (n : ℕ) (light late : Bool) (by : Option ℕ) →
+    (if late then stops else on_to (option_map (λ call. FieldOf call path) by)) ≡ goes named path (Some (Wire false k c rs (Return q release (TakeFrom n) light), if late then None else by))
+taken_there named path k c rs q release n light true by = refl
+taken_there named path k c rs q release n light false None = refl
+taken_there named path k c rs q release n light false (Some by) = refl
+
 field_turns : (call : ℕ) (path : List ℕ) (before : Past) (e : DecodedRecord) → Refers before e → NotesEach before e →
-    answers call path before e ≡ (if is_this (ResultsOf call) (settlement_of before e) then Some (turn_there path before e) else None)
+    answers call path before e ≡ (if is_this (ResultsOf call) (settlement_of before e) then Some (field_there path before e) else None)
 field_turns call path before (Answer c results) refers notes =
     ap (λ o. if c == call then Some (on_to o) else None) (answer_there (view_of_reference before) (find (λ answer. same_path answer.1 path) results))
+field_turns call path before (AnswerBy c by) refers notes = refl
 field_turns call path before (Fault c) refers notes = refl
-field_turns call path before (Wire false k c rs (Return q release outcome light)) refers notes =
-    let e : DecodedRecord = Wire false k c rs (Return q release outcome light) in
-    ap₂ (λ b x. if b then Some x else None) (is_results call (call_at (opening (id k true q) before))) (returned_turns before k c rs q release light path outcome refers notes (is_late before e) refl)
+field_turns call path before (Wire false k c rs (Return q release (Results payload) light)) refers notes =
+    let e : DecodedRecord = Wire false k c rs (Return q release (Results payload) light) in
+    ap₂ (λ b x. if b then Some x else None) (is_results call (call_at (opening (id k true q) before))) (returned_turns before k c rs q release light path (Results payload) refers notes (is_late before e) refl)
+field_turns call path before (Wire false k c rs (Return q release Exception light)) refers notes =
+    let e : DecodedRecord = Wire false k c rs (Return q release Exception light) in
+    ap₂ (λ b x. if b then Some x else None) (is_results call (call_at (opening (id k true q) before))) (returned_turns before k c rs q release light path Exception refers notes (is_late before e) refl)
+field_turns call path before (Wire false k c rs (Return q release Canceled light)) refers notes =
+    let e : DecodedRecord = Wire false k c rs (Return q release Canceled light) in
+    ap₂ (λ b x. if b then Some x else None) (is_results call (call_at (opening (id k true q) before))) (returned_turns before k c rs q release light path Canceled refers notes (is_late before e) refl)
+field_turns call path before (Wire false k c rs (Return q release Elsewhere light)) refers notes = refl
+field_turns call path before (Wire false k c rs (Return q release (TakeFrom n) light)) refers notes =
+    let e : DecodedRecord = Wire false k c rs (Return q release (TakeFrom n) light) in
+    ap₂ (λ b x. if b then Some x else None) (is_results call (call_at (opening (id k true q) before)))
+    (taken_there (view_of_reference (e ∷ before)) path k c rs q release n light (is_late before e) (call_of (id k false n) before))
 field_turns call path before (Wire false k c rs (Resolve n resolution)) refers notes =
-    unsettled (is_this (ResultsOf call) (option_map import_at (birth (id k false n) before))) (turn_there path before (Wire false k c rs (Resolve n resolution)))
+    unsettled (is_this (ResultsOf call) (option_map import_at (birth (id k false n) before))) (field_there path before (Wire false k c rs (Resolve n resolution)))
     (no_import (ResultsOf call) (λ i place. refl) (birth (id k false n) before))
 field_turns call path before (Fulfil r to) refers notes =
-    unsettled (is_this (ResultsOf call) (promise_of (view_of_reference before r))) (turn_there path before (Fulfil r to)) (no_promise (ResultsOf call) (λ p. refl) (view_of_reference before r))
+    unsettled (is_this (ResultsOf call) (promise_of (view_of_reference before r))) (field_there path before (Fulfil r to)) (no_promise (ResultsOf call) (λ p. refl) (view_of_reference before r))
 field_turns call path before (Break r) refers notes =
-    unsettled (is_this (ResultsOf call) (promise_of (view_of_reference before r))) (turn_there path before (Break r)) (no_promise (ResultsOf call) (λ p. refl) (view_of_reference before r))
+    unsettled (is_this (ResultsOf call) (promise_of (view_of_reference before r))) (field_there path before (Break r)) (no_promise (ResultsOf call) (λ p. refl) (view_of_reference before r))
 field_turns call path before _ refers notes = refl
 
 import_turns : (i place : ℕ) (before : Past) (e : DecodedRecord) → Refers before e → NotesEach before e →
@@ -305,8 +339,9 @@ import_turns i place before (Wire false k c rs (Resolve n resolution)) refers no
     ap₂ (λ b o. if b then Some (on_to o) else None) (is_import i place (birth (id k false n) before))
     (sym (noted_view before k c rs (Resolve n resolution) refers notes refl 0))
 import_turns i place before (Wire false k c rs (Return q release outcome light)) refers notes =
-    unsettled (is_this (ImportToResolve i place) (option_map ResultsOf (call_at (opening (id k true q) before)))) (turn_there [] before (Wire false k c rs (Return q release outcome light)))
-    (no_results (ImportToResolve i place) (λ call. refl) (call_at (opening (id k true q) before)))
+    let s : Option Unsettled = option_map ResultsOf (call_at (opening (id k true q) before)) in
+    unsettled (is_this (ImportToResolve i place) (unless_elsewhere outcome s)) (turn_there [] before (Wire false k c rs (Return q release outcome light)))
+    (unless_none (ImportToResolve i place) outcome s (no_results (ImportToResolve i place) (λ call. refl) (call_at (opening (id k true q) before))))
 import_turns i place before (Fulfil r to) refers notes =
     unsettled (is_this (ImportToResolve i place) (promise_of (view_of_reference before r))) (turn_there [] before (Fulfil r to))
     (no_promise (ImportToResolve i place) (λ p. refl) (view_of_reference before r))
@@ -315,8 +350,17 @@ import_turns i place before (Break r) refers notes =
     (no_promise (ImportToResolve i place) (λ p. refl) (view_of_reference before r))
 import_turns i place before _ refers notes = refl
 
+-- the call by whose results a record settles a view: only of a field
+abbrev pub behind : View → Past → DecodedRecord → Option ℕ
+behind (FieldOf call path) before e = call_taken_from before e
+behind _ before e = None
+
+-- where a record turns a view that it settles
+abbrev there : View → Past → DecodedRecord → Next
+there v before e = goes (view_of_reference (e ∷ before)) (field_path v) (Some (e, behind v before e))
+
 pub turn_settles : (v : View) (before : Past) (e : DecodedRecord) → Refers before e → NotesEach before e →
-    turn v before e ≡ (if settles_view v before e then Some (turn_there (field_path v) before e) else None)
+    turn v before e ≡ (if settles_view v before e then Some (there v before e) else None)
 turn_settles (Object object) before e refers notes = refl
 turn_settles (Promise p) before e refers notes = promise_turns p before e
 turn_settles (FieldOf call path) before e refers notes = field_turns call path before e refers notes
@@ -362,6 +406,11 @@ view_same before e r refers bound = inner (binds (view_of_reference before) befo
     inner (Some w) h =
         absurd (both_ways (is_bound before r) (all_not before r (new_references e) refers.unused (binds_new (view_of_reference before) before e r w h)) bound)
 
+-- the record of a settler
+settler_event : (p : Unsettled) (o : Option Point) → option_map (λ p. p.event) o ≡ option_map (λ s. s.0) (option_map (settler_at_point p) o)
+settler_event p (Some q) = refl
+settler_event p None = refl
+
 -- where a record landed that settled something is bound
 found_lands : (test : Past → DecodedRecord → Bool) (past : Past) → Each LandsBound past → (x : DecodedRecord) → option_map (λ p. p.event) (last_where test past) ≡ Some x →
     (path : List ℕ) (r : ℕ) → turn_target path x ≡ Some r → is_bound past r ≡ true
@@ -372,51 +421,57 @@ found_lands test (e ∷ before) all x h path r there = elim (cases_Bool (test be
       (found_lands test before all.1 x (sym (ap (λ b. option_map (λ p. p.event) (if b then Some (point before e) else last_where test before)) apart) ∙ h) path r there)
 ]
 
-settled_lands : (v : View) (past : Past) → Each LandsBound past → (x : DecodedRecord) → settler_of v past ≡ Some x → (path : List ℕ) (r : ℕ) → turn_target path x ≡ Some r → is_bound past r ≡ true
-settled_lands (Object object) past all x h path r there = absurd (none_some h)
-settled_lands (Promise p) past all x h path r there = found_lands (λ before e. is_this (PromiseToKeep p) (settlement_of before e)) past all x h path r there
-settled_lands (FieldOf call field) past all x h path r there = found_lands (λ before e. is_this (ResultsOf call) (settlement_of before e)) past all x h path r there
-settled_lands (Import i place) past all x h path r there = found_lands (λ before e. is_this (ImportToResolve i place) (settlement_of before e)) past all x h path r there
+pending_lands : (p : Unsettled) (past : Past) → Each LandsBound past → (x : Settler) → option_map (settler_at_point p) (settler p past) ≡ Some x →
+    (path : List ℕ) (r : ℕ) → turn_target path x.0 ≡ Some r → is_bound past r ≡ true
+pending_lands p past all x h path r lands =
+    found_lands (λ before e. is_this p (settlement_of before e)) past all x.0 (settler_event p (settler p past) ∙ ap (λ o. option_map (λ s. s.0) o) h) path r lands
+
+settled_lands : (v : View) (past : Past) → Each LandsBound past → (x : Settler) → settler_of v past ≡ Some x → (path : List ℕ) (r : ℕ) → turn_target path x.0 ≡ Some r → is_bound past r ≡ true
+settled_lands (Object object) past all x h path r lands = absurd (none_some h)
+settled_lands (Promise p) past all x h path r lands = pending_lands (PromiseToKeep p) past all x h path r lands
+settled_lands (FieldOf call field) past all x h path r lands = pending_lands (ResultsOf call) past all x h path r lands
+settled_lands (Import i place) past all x h path r lands = pending_lands (ImportToResolve i place) past all x h path r lands
 
 -- ---- where views go after a record
 
-point_if : (b : Bool) (before : Past) (e : DecodedRecord) (o : Option Point) →
-    option_map (λ p. p.event) (if b then Some (point before e) else o) ≡ (if b then Some e else option_map (λ p. p.event) o)
-point_if true before e o = refl
-point_if false before e o = refl
+point_if : (p : Unsettled) (b : Bool) (before : Past) (e : DecodedRecord) (o : Option Point) →
+    option_map (settler_at_point p) (if b then Some (point before e) else o) ≡ (if b then Some (e, call_behind p before e) else option_map (settler_at_point p) o)
+point_if p true before e o = refl
+point_if p false before e o = refl
 
-settler_more : (v : View) (before : Past) (e : DecodedRecord) → settler_of v (e ∷ before) ≡ (if settles_view v before e then Some e else settler_of v before)
+settler_more : (v : View) (before : Past) (e : DecodedRecord) → settler_of v (e ∷ before) ≡ (if settles_view v before e then Some (e, behind v before e) else settler_of v before)
 settler_more (Object object) before e = refl
-settler_more (Promise p) before e = point_if (is_this (PromiseToKeep p) (settlement_of before e)) before e (settler (PromiseToKeep p) before)
-settler_more (FieldOf call path) before e = point_if (is_this (ResultsOf call) (settlement_of before e)) before e (settler (ResultsOf call) before)
-settler_more (Import i place) before e = point_if (is_this (ImportToResolve i place) (settlement_of before e)) before e (settler (ImportToResolve i place) before)
+settler_more (Promise p) before e = point_if (PromiseToKeep p) (is_this (PromiseToKeep p) (settlement_of before e)) before e (settler (PromiseToKeep p) before)
+settler_more (FieldOf call path) before e = point_if (ResultsOf call) (is_this (ResultsOf call) (settlement_of before e)) before e (settler (ResultsOf call) before)
+settler_more (Import i place) before e = point_if (ImportToResolve i place) (is_this (ImportToResolve i place) (settlement_of before e)) before e (settler (ImportToResolve i place) before)
 
 module _ (before : Past) (e : DecodedRecord) (refers : Refers before e) (notes : NotesEach before e) (all : Each LandsBound before) where
-  goes_kept : (v : View) (o : Option DecodedRecord) → settler_of v before ≡ o → goes (view_of_reference before) (field_path v) o ≡ goes (view_of_reference (e ∷ before)) (field_path v) o
+  goes_kept : (v : View) (o : Option Settler) → settler_of v before ≡ o → goes (view_of_reference before) (field_path v) o ≡ goes (view_of_reference (e ∷ before)) (field_path v) o
   goes_kept v None h = refl
-  goes_kept v (Some x) h = inner (turn_target (field_path v) x) refl
+  goes_kept v (Some (x, Some by)) h = refl
+  goes_kept v (Some (x, None)) h = inner (turn_target (field_path v) x) refl
     where
       inner : (o : Option ℕ) → turn_target (field_path v) x ≡ o → on_to (option_and_then (view_of_reference before) o) ≡ on_to (option_and_then (view_of_reference (e ∷ before)) o)
-      inner None there = refl
-      inner (Some r) there = ap (λ w. on_to w) (sym (view_same before e r refers (settled_lands v before all x h (field_path v) r there)))
+      inner None lands = refl
+      inner (Some r) lands = ap (λ w. on_to w) (sym (view_same before e r refers (settled_lands v before all (x, None) h (field_path v) r lands)))
 
   pub going_step : (v : View) → next before v ≡ goes (view_of_reference before) (field_path v) (settler_of v before) →
       next (e ∷ before) v ≡ goes (view_of_reference (e ∷ before)) (field_path v) (settler_of v (e ∷ before))
   going_step v known = elim (cases_Bool (settles_view v before e)) [
     | inl here ↦
         ap (λ o. unwrap_or (option_or o (last_answer (turn v) before)) stays)
-        (turn_settles v before e refers notes ∙ ap (λ b. if b then Some (turn_there (field_path v) before e) else None) here)
-        ∙ sym (ap (λ o. goes (view_of_reference (e ∷ before)) (field_path v) o) (settler_more v before e ∙ ap (λ b. if b then Some e else settler_of v before) here))
+        (turn_settles v before e refers notes ∙ ap (λ b. if b then Some (there v before e) else None) here)
+        ∙ sym (ap (λ o. goes (view_of_reference (e ∷ before)) (field_path v) o) (settler_more v before e ∙ ap (λ b. if b then Some (e, behind v before e) else settler_of v before) here))
     | inr apart ↦
         ap (λ o. unwrap_or (option_or o (last_answer (turn v) before)) stays)
-        (turn_settles v before e refers notes ∙ ap (λ b. if b then Some (turn_there (field_path v) before e) else None) apart)
+        (turn_settles v before e refers notes ∙ ap (λ b. if b then Some (there v before e) else None) apart)
         ∙ known ∙ goes_kept v (settler_of v before) refl
-        ∙ sym (ap (λ o. goes (view_of_reference (e ∷ before)) (field_path v) o) (settler_more v before e ∙ ap (λ b. if b then Some e else settler_of v before) apart))
+        ∙ sym (ap (λ o. goes (view_of_reference (e ∷ before)) (field_path v) o) (settler_more v before e ∙ ap (λ b. if b then Some (e, behind v before e) else settler_of v before) apart))
   ]
 
 -- ---- at every point of a log
 
-still : (v : View) → stays ≡ goes (view_of_reference []) (field_path v) (settler_of v [])
+pub still : (v : View) → stays ≡ goes (view_of_reference []) (field_path v) (settler_of v [])
 still (Object object) = refl
 still (Promise p) = refl
 still (FieldOf call path) = refl
@@ -441,21 +496,79 @@ on_to_turns : (o : Option View) (w : View) → on_to o ≡ turns w → o ≡ Som
 on_to_turns (Some v) w e = ap (λ x. Some x) (same_turn e)
 on_to_turns None w e = absurd (stops_not_turns e)
 
+-- ---- to what a view turns
+
 -- a view of a bound reference
 abbrev IsOfReference : Past → View → Type 0
 IsOfReference past w = (r : ℕ) × (is_bound past r ≡ true) × (view_of_reference past r ≡ Some w)
 
-module _ (past : Past) (all : Each LandsBound past) (v w : View) where
-  by_landing : (x : DecodedRecord) → settler_of v past ≡ Some x → (o : Option ℕ) → turn_target (field_path v) x ≡ o → option_and_then (view_of_reference past) o ≡ Some w → IsOfReference past w
-  by_landing x settled None there e = absurd (none_some e)
-  by_landing x settled (Some r) there e = (r, settled_lands v past all x settled (field_path v) r there, e)
+-- from a field to the same field of a bound call
+abbrev IsOfCall : Past → View → View → Type 0
+IsOfCall past v w = (call by : ℕ) × (path : List ℕ) × (v ≡ FieldOf call path) × (w ≡ FieldOf by path) × (is_bound_call past by ≡ true)
 
-  by_settler : (o : Option DecodedRecord) → settler_of v past ≡ o → goes (view_of_reference past) (field_path v) o ≡ turns w → IsOfReference past w
-  by_settler None settled e = absurd (stays_not_turns e)
-  by_settler (Some x) settled e = by_landing x settled (turn_target (field_path v) x) refl (on_to_turns (option_and_then (view_of_reference past) (turn_target (field_path v) x)) w e)
+-- the call by whose results a record answers another is bound
+call_of_opened : (free : Bool) (o : Option ℕ) (by : ℕ) → (if free then None else o) ≡ Some by → is by o ≡ true
+call_of_opened true o by h = absurd (none_some h)
+call_of_opened false (Some c) by h = eq-eqb c by (some_same h)
+call_of_opened false None by h = absurd (none_some h)
 
-pub turned_to_reference : (past : Past) → Each IsSound past → (v w : View) → next past v ≡ turns w → (r : ℕ) × (is_bound past r ≡ true) × (view_of_reference past r ≡ Some w)
-turned_to_reference past all v w e = let facts = goings past all in by_settler past facts.1 v w (settler_of v past) refl (sym (facts.0 v) ∙ e)
+not_late : (late : Bool) (o : Option ℕ) (by : ℕ) → (if late then None else o) ≡ Some by → o ≡ Some by
+not_late true o by h = absurd (none_some h)
+not_late false o by h = h
+
+taken_bound : (before : Past) (e : DecodedRecord) → Each IsSound before → Refers before e → (by : ℕ) → call_taken_from before e ≡ Some by → is_bound_call before by ≡ true
+taken_bound before (AnswerBy c d) sound refers by h =
+    subst (λ x. is_bound_call before x ≡ true) (some_same h) (and_parts (is_bound_call before d) true (and_parts (is_bound_call before c) (is_bound_call before d && true) refers.bound_call).1).0
+taken_bound before (Wire false k c rs (Return q release (TakeFrom n) light)) sound refers by h =
+    opening_bound before sound (id k false n) by
+    (call_of_opened (is_free (id k false n) before) (call_at (opening (id k false n) before)) by
+    (not_late (is_late before (Wire false k c rs (Return q release (TakeFrom n) light))) (call_of (id k false n) before) by h))
+taken_bound before _ sound refers by h = absurd (none_some h)
+
+-- of the last record that settled something too
+settler_bound : (p : Unsettled) (past : Past) → Each IsSound past → (q : Point) → settler p past ≡ Some q → (by : ℕ) → call_taken_from q.before q.event ≡ Some by → is_bound_call past by ≡ true
+settler_bound p [] all q h by taken = absurd (none_some h)
+settler_bound p (e ∷ before) all q h by taken = elim (cases_Bool (is_this p (settlement_of before e))) [
+  | inl here ↦
+      let same : point before e ≡ q = some_same (sym (ap (λ b. if b then Some (point before e) else settler p before) here) ∙ h) in
+      or_right _ _ (taken_bound before e all.1 all.0.refers by (ap (λ x. call_taken_from x.before x.event) same ∙ taken))
+  | inr apart ↦ or_right _ _ (settler_bound p before all.1 q (sym (ap (λ b. if b then Some (point before e) else settler p before) apart) ∙ h) by taken)
+]
+
+module _ (past : Past) (sound : Each IsSound past) (all : Each LandsBound past) where
+  module _ (v w : View) where
+    by_landing : (x : Settler) → settler_of v past ≡ Some x → (o : Option ℕ) → turn_target (field_path v) x.0 ≡ o → option_and_then (view_of_reference past) o ≡ Some w → IsOfReference past w
+    by_landing x settled None lands e = absurd (none_some e)
+    by_landing x settled (Some r) lands e = (r, settled_lands v past all x settled (field_path v) r lands, e)
+
+  by_call : (v w : View) (x : DecodedRecord) (by : ℕ) → settler_of v past ≡ Some (x, Some by) → w ≡ FieldOf by (field_path v) → IsOfCall past v w
+  by_call (Object object) w x by settled same = absurd (none_some settled)
+  by_call (Promise p) w x by settled same = plain (settler (PromiseToKeep p) past) settled
+    where
+      plain : (o : Option Point) → option_map (settler_at_point (PromiseToKeep p)) o ≡ Some (x, Some by) → IsOfCall past (Promise p) w
+      plain (Some q) h = absurd (none_some (ap (λ s. s.1) (some_same h)))
+      plain None h = absurd (none_some h)
+  by_call (Import i place) w x by settled same = plain (settler (ImportToResolve i place) past) settled
+    where
+      plain : (o : Option Point) → option_map (settler_at_point (ImportToResolve i place)) o ≡ Some (x, Some by) → IsOfCall past (Import i place) w
+      plain (Some q) h = absurd (none_some (ap (λ s. s.1) (some_same h)))
+      plain None h = absurd (none_some h)
+  by_call (FieldOf call path) w x by settled same = inner (settler (ResultsOf call) past) refl settled
+    where
+      inner : (o : Option Point) → settler (ResultsOf call) past ≡ o → option_map (settler_at_point (ResultsOf call)) o ≡ Some (x, Some by) → IsOfCall past (FieldOf call path) w
+      inner None is h = absurd (none_some h)
+      inner (Some q) is h = (call, by, path, refl, same, settler_bound (ResultsOf call) past sound q is by (ap (λ s. s.1) (some_same h)))
+
+  by_settler : (v w : View) (o : Option Settler) → settler_of v past ≡ o → goes (view_of_reference past) (field_path v) o ≡ turns w → IsOfReference past w ⊎ IsOfCall past v w
+  by_settler v w None settled e = absurd (stays_not_turns e)
+  by_settler v w (Some (x, Some by)) settled e = inr (by_call v w x by settled (sym (same_turn e)))
+  by_settler v w (Some (x, None)) settled e =
+      inl (by_landing v w (x, None) settled (turn_target (field_path v) x) refl (on_to_turns (option_and_then (view_of_reference past) (turn_target (field_path v) x)) w e))
+
+pub turned_to_reference : (past : Past) → Each IsSound past → (v w : View) → next past v ≡ turns w →
+    ((r : ℕ) × (is_bound past r ≡ true) × (view_of_reference past r ≡ Some w))
+    ⊎ ((call by : ℕ) × (path : List ℕ) × (v ≡ FieldOf call path) × (w ≡ FieldOf by path) × (is_bound_call past by ≡ true))
+turned_to_reference past all v w e = let facts = goings past all in by_settler past all facts.1 v w (settler_of v past) refl (sym (facts.0 v) ∙ e)
 
 -- ---- as the code finds it
 

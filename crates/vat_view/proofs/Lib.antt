@@ -23,7 +23,9 @@ pub mod Using
 pub mod Walking
 pub mod Connecting
 pub mod Landed
+pub mod Handed
 pub mod Settled
+pub mod Bounded
 pub mod Ending
 pub mod Seeking
 pub mod Unbound

@@ -56,8 +56,6 @@ looped_step p false false o = refl
 taken_same : (opened other : TableKey → Option ℕ) → ((q : TableKey) → opened q ≡ other q) → (e : DecodedRecord) → call_taken_by opened e ≡ call_taken_by other e
 taken_same opened other same (Wire true k c rs (Return q release Exception light)) = same (id k false q)
 taken_same opened other same (Wire true k c rs (Return q release Canceled light)) = same (id k false q)
-taken_same opened other same (Wire true k c rs (Return q release Elsewhere light)) = same (id k false q)
-taken_same opened other same (Wire true k c rs (Return q release (TakeFrom n) light)) = same (id k false q)
 taken_same opened other same _ = refl
 
 -- ---- both

@@ -113,8 +113,6 @@ received_step c before (Fault d) refers = took c before (d == c)
 received_step c before (Wire true k d rs (Call q t f m p yourself)) refers = took c before (d == c)
 received_step c before (Wire true k d rs (Return q release Exception light)) refers = took c before (is c (call_at (opening (id k false q) before)))
 received_step c before (Wire true k d rs (Return q release Canceled light)) refers = took c before (is c (call_at (opening (id k false q) before)))
-received_step c before (Wire true k d rs (Return q release Elsewhere light)) refers = took c before (is c (call_at (opening (id k false q) before)))
-received_step c before (Wire true k d rs (Return q release (TakeFrom n) light)) refers = took c before (is c (call_at (opening (id k false q) before)))
 received_step c before (Wire false k d rs (Call q t f m p yourself)) refers =
     came c before (record { connection = k; number = length before })
     (record { goal = view_of_target before (Wire false k d rs (Call q t f m p yourself)); interface = f; method = m }) (d == c)

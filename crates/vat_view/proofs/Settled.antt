@@ -1,30 +1,32 @@
 -- The table of turns after a record, and what it says of views.
-use Rattle.std.proofs.Common.{◌≡◌, ◌<◌, ◌≤◌, inl, inr, refl, sym, ◌∙◌, ap, ap₂, subst, ℕ, zero, suc, ◌==◌, List, [], ◌∷◌, ◌++◌, length, cond, Bool, true, false, Option, Some, None, if◌then◌else◌, option_map, option_and_then, arith}
-use Rattle.std.specs.Prelude.{slice_get, unwrap_or, reverse}
-use Rattle.std.specs.Ordering.{nat_cmp, is_eq}
-use Rattle.std.specs.Map.{lookup}
+use Rattle.std.proofs.Common.{◌≡◌, ◌<◌, ◌≤◌, inl, inr, refl, sym, ◌∙◌, ap, ap₂, subst, ℕ, zero, suc, ◌==◌, List, [], ◌∷◌, ◌++◌, length, Bool, true, false, Option, Some, None, if◌then◌else◌, option_map, option_and_then, arith}
+use Rattle.std.specs.Prelude.{slice_get, reverse}
 use Rattle.std.proofs.lemmas.List.{length-reverse, reverse-append, reverse-reverse}
 use Rattle.std.proofs.lemmas.Bool.{cases_Bool, false≢true, ltb-true, ltb-false, eqb-true, eq-eqb, ne_eqb}
 use Rattle.vat_view.specs.declared.tables.questions.Questions.{Questions}
 use Rattle.vat_view.specs.declared.tables.exports_imports.ExportsImports.{ExportsImports}
 use Rattle.vat_view.specs.declared.tables.references.BoundReferences.{BoundReferences}
-use Rattle.vat_view.specs.declared.tables.references.Binding.{Binding}
 use Rattle.vat_view.specs.declared.tables.settlements.Settlements.{Settlements}
+use Rattle.vat_view.specs.declared.tables.settlements.Settling.{Settling}
+use Rattle.vat_view.specs.declared.tables.handovers.Handover.{Handover}
+use Rattle.vat_view.specs.declared.walks.turn_target.Landing.TheVariants.{Reference as ToReference}
 use Rattle.vat_view.specs.declared.record.unsettled.Unsettled.{Unsettled}
 use Rattle.vat_view.specs.declared.record.unsettled.Unsettled.TheVariants.{Promise as PromiseToKeep, Results as ResultsOf, Import as ImportToResolve}
-use Rattle.vat_view.specs.Types.{Return, Resolve, DecodedRecord, Fulfil, Break, Answer, Fault, Wire, View, Object, Promise, FieldOf, Import, TableKey}
+use Rattle.vat_view.specs.Types.{Return, Resolve, DecodedRecord, Fulfil, Break, Answer, AnswerBy, Fault, Wire, View, Object, Promise, FieldOf, Import, TableKey}
 use Rattle.std.specs.Option.{option_or}
 use Rattle.vat_view.specs.Past.{Past, Point, id, point, record_index, record_at, last_answer, last_where}
 use Rattle.vat_view.specs.Questions.{call_at, opening}
 use Rattle.vat_view.specs.Lives.{Birth, birth, begins, held, is_in_life}
 use Rattle.vat_view.specs.Views.{view_of_reference}
+use Rattle.vat_view.specs.Calls.{call_taken_from}
 use Rattle.vat_view.specs.Walks.{on_to, next}
 use Rattle.vat_view.specs.Glue.Tables.{question_at, count_at, origin_at, origin_of, held_origin, bound_at, AreTabled, IsFit}
-use Rattle.vat_view.specs.Glue.TurnTables.{is_this, field_path, promise_of, import_at, results_by, import_by, settlement_of, settled_by, turn_target, goes, settler, settler_of, settler_at, AreSettled, settler_by, goes_by, turned_to, turn_by, bound_len}
+use Rattle.vat_view.specs.Glue.TurnTables.{is_this, field_path, promise_of, import_at, unless_elsewhere, results_by, import_by, settlement_of, settled_by, turn_target, Settler, goes, landing_of, landing_view, settler, call_behind, settler_at_point, settler_of, settler_at, handing, handover_of, handover_at, handover_after, SaysSameTurns, IsNoted, by_handover, AreSettled, call_behind_by, settler_numbered, settler_by, goes_by, turned_to}
 use Rattle.vat_view.proofs.Knowing.{known_from}
 use Rattle.vat_view.proofs.Raising.{positive}
-use Rattle.vat_view.proofs.Landed.{going_step, lands_bound}
-use Rattle.vat_view.proofs.Walking.{some_same, none_some, Lands}
+use Rattle.vat_view.proofs.Landed.{still, going_step, lands_bound}
+use Rattle.vat_view.proofs.Handed.{answerer_settles, handed_step, matched}
+use Rattle.vat_view.proofs.Walking.{some_same, none_some}
 
 -- ---- what a record settles, by the tables before it
 
@@ -57,8 +59,10 @@ module _ (before : Past) (questions : Questions) (lives : ExportsImports) (bound
   settled_known (Fulfil r to) = ap (λ o. promise_of o) (kept.bounds r)
   settled_known (Break r) = ap (λ o. promise_of o) (kept.bounds r)
   settled_known (Answer c results) = refl
+  settled_known (AnswerBy c by) = refl
   settled_known (Fault c) = refl
-  settled_known (Wire false k c rs (Return q release outcome light)) = let i : TableKey = id k true q in ap (λ o. results_by o) (kept.tabled.known i) ∙ results_from i (opening i before)
+  settled_known (Wire false k c rs (Return q release outcome light)) =
+      let i : TableKey = id k true q in ap (λ s. unless_elsewhere outcome s) (ap (λ o. results_by o) (kept.tabled.known i) ∙ results_from i (opening i before))
   settled_known (Wire false k c rs (Resolve n resolution)) = import_known (id k false n)
   settled_known _ = refl
 
@@ -70,34 +74,53 @@ number_if true before e o = refl
 number_if false before e o = refl
 
 -- a table that says the same
-pub settled_same : (past : Past) (table other : Settlements) → ((p : Unsettled) → settler_at other p ≡ settler_at table p) → AreSettled past table → AreSettled past other
-settled_same past table other same kept = record { settlers = λ p. same p ∙ kept.settlers p; going = kept.going; landed = kept.landed }
+pub settled_same : (past : Past) (table other : Settlements) → SaysSameTurns table other → AreSettled past table → AreSettled past other
+settled_same past table other same kept = record {
+  settlers = λ p. same.settlers p ∙ kept.settlers p;
+  handed = λ c. same.handed c ∙ kept.handed c;
+  going = kept.going;
+  landed = kept.landed;
+}
 
-pub settled_more : (before : Past) (e : DecodedRecord) (table other : Settlements) (number : ℕ) (s : Option Unsettled) → IsFit before e → number ≡ length before → s ≡ settlement_of before e →
-    ((p : Unsettled) → settler_at other p ≡ (if is_this p s then Some number else settler_at table p)) → AreSettled before table → AreSettled (e ∷ before) other
-settled_more before e table other number s fit place settles noted kept = record {
+-- what is answered by another call
+handed_more : (c : ℕ) (before : Past) (e : DecodedRecord) (number : ℕ) (s : Settling) (old : Option Handover) → number ≡ length before → s.settled ≡ settlement_of before e → s.by ≡ call_taken_from before e →
+    old ≡ handover_of c before → handover_after s number c old ≡ handover_of c (e ∷ before)
+handed_more c before e number s old place settles taken was =
+    ap₂ (λ x o. if is_this (ResultsOf c) x then option_or (option_map (handing number) s.by) o else o) settles was
+    ∙ ap₂ (λ n t. if is_this (ResultsOf c) (settlement_of before e) then option_or (option_map (handing n) t) (handover_of c before) else handover_of c before) place taken
+    ∙ handed_step (is_this (ResultsOf c) (settlement_of before e)) (call_taken_from before e) (length before) (handover_of c before)
+    ∙ ap (λ o. option_or (option_map (handing (length before)) o) (handover_of c before)) (sym (answerer_settles c before e))
+
+pub settled_more : (before : Past) (e : DecodedRecord) (table other : Settlements) (number : ℕ) (s : Settling) → IsFit before e → number ≡ length before → s.settled ≡ settlement_of before e →
+    s.by ≡ call_taken_from before e → IsNoted s number table other → AreSettled before table → AreSettled (e ∷ before) other
+settled_more before e table other number s fit place settles taken noted kept = record {
   settlers = λ p.
-      noted p ∙ ap₂ (λ x n. if is_this p x then Some n else settler_at table p) settles place
+      noted.settlers p ∙ ap₂ (λ x n. if is_this p x then Some n else settler_at table p) settles place
       ∙ ap (λ o. if is_this p (settlement_of before e) then Some (length before) else o) (kept.settlers p)
       ∙ number_if (is_this p (settlement_of before e)) before e (settler p before);
+  handed = λ c. noted.handed c ∙ handed_more c before e number s (handover_at table c) place settles taken (kept.handed c);
   going = λ v. going_step before e fit.refers fit.notes kept.landed v (kept.going v);
   landed = (lands_bound before e fit.refers, kept.landed);
 }
 
+-- before any record
+pub settled_first : (items : List DecodedRecord) (table : Settlements) → items ≡ [] → ((p : Unsettled) → settler_at table p ≡ None) → ((c : ℕ) → handover_at table c ≡ None) → AreSettled (reverse items) table
+settled_first items table empty settlers handed = subst (λ l. AreSettled (reverse l) table) (sym empty) (record { settlers = settlers; handed = handed; going = λ v. still v; landed = tt })
+
 -- the state, whose records stand with the oldest first
 
-pub turns_refused : (items other : List DecodedRecord) (table room : Settlements) → other ≡ items → ((p : Unsettled) → settler_at room p ≡ settler_at table p) →
+pub turns_refused : (items other : List DecodedRecord) (table room : Settlements) → other ≡ items → SaysSameTurns table room →
     AreSettled (reverse items) table → AreSettled (reverse other) room
 turns_refused items other table room same says kept = settled_same (reverse other) table room says (subst (λ l. AreSettled (reverse l) table) (sym same) kept)
 
-pub turns_applied : (items other pushed : List DecodedRecord) (e : DecodedRecord) (number : ℕ) (s : Option Unsettled) (questions : Questions) (lives : ExportsImports) (bound : BoundReferences) (table room more : Settlements) →
+pub turns_applied : (items other pushed : List DecodedRecord) (e : DecodedRecord) (number : ℕ) (s : Settling) (questions : Questions) (lives : ExportsImports) (bound : BoundReferences) (table room more : Settlements) →
     other ≡ items → number ≡ length other → pushed ≡ other ++ e ∷ [] → IsFit (reverse items) e → AreTabled (reverse items) questions lives bound → AreSettled (reverse items) table →
-    s ≡ settled_by (bound_at bound) lives (question_at questions) e → ((p : Unsettled) → settler_at room p ≡ settler_at table p) →
-    ((p : Unsettled) → settler_at more p ≡ (if is_this p s then Some number else settler_at room p)) → AreSettled (reverse pushed) more
-turns_applied items other pushed e number s questions lives bound table room more same place is_pushed fit tabled kept settles says noted =
+    s.settled ≡ settled_by (bound_at bound) lives (question_at questions) e → s.by ≡ call_taken_from (reverse items) e → SaysSameTurns table room → IsNoted s number room more →
+    AreSettled (reverse pushed) more
+turns_applied items other pushed e number s questions lives bound table room more same place is_pushed fit tabled kept settles taken says noted =
     subst (λ l. AreSettled l more) (sym (ap (λ l. reverse l) (is_pushed ∙ ap (λ l. l ++ e ∷ []) same) ∙ reverse-append items (e ∷ [])))
     (settled_more (reverse items) e room more number s fit (place ∙ ap (λ l. length l) same ∙ sym (length-reverse items))
-    (settles ∙ settled_known (reverse items) questions lives bound tabled e) noted (settled_same (reverse items) table room says kept))
+    (settles ∙ settled_known (reverse items) questions lives bound tabled e) taken noted (settled_same (reverse items) table room says kept))
 
 -- ---- where views go, by the table
 
@@ -149,12 +172,20 @@ at_point test (e ∷ before) p h = elim (cases_Bool (test before e)) [
 ]
 
 module _ (items : List DecodedRecord) (table : Settlements) (kept : AreSettled (reverse items) table) where
-  settler_there : (p : Unsettled) → option_and_then (λ n. slice_get items n) (settler_at table p) ≡ option_map (λ q. q.event) (settler p (reverse items))
-  settler_there p = ap (λ o. option_and_then (λ n. slice_get items n) o) (kept.settlers p) ∙ inner (settler p (reverse items)) refl
+  behind_known : (p : Unsettled) (q : Point) → settler p (reverse items) ≡ Some q → call_behind_by table p (record_index q) ≡ call_behind p q.before q.event
+  behind_known (PromiseToKeep p) q h = refl
+  behind_known (ResultsOf c) q h = ap (λ o. by_handover (record_index q) o) (kept.handed c) ∙ matched c (reverse items) q h
+  behind_known (ImportToResolve i place) q h = refl
+
+  settler_there : (p : Unsettled) → option_and_then (settler_numbered table items p) (settler_at table p) ≡ option_map (settler_at_point p) (settler p (reverse items))
+  settler_there p = ap (λ o. option_and_then (settler_numbered table items p) o) (kept.settlers p) ∙ inner (settler p (reverse items)) refl
     where
-      inner : (o : Option Point) → settler p (reverse items) ≡ o → option_and_then (λ n. slice_get items n) (option_map record_index o) ≡ option_map (λ q. q.event) o
+      inner : (o : Option Point) → settler p (reverse items) ≡ o → option_and_then (settler_numbered table items p) (option_map record_index o) ≡ option_map (settler_at_point p) o
       inner None h = refl
-      inner (Some q) h = ap (λ l. slice_get l (record_index q)) (sym (reverse-reverse items)) ∙ at_point (λ before e. is_this p (settlement_of before e)) (reverse items) q h
+      inner (Some q) h =
+          let found : slice_get items (record_index q) ≡ Some q.event =
+          ap (λ l. slice_get l (record_index q)) (sym (reverse-reverse items)) ∙ at_point (λ before e. is_this p (settlement_of before e)) (reverse items) q h in
+          ap₂ (λ o by. option_map (λ e. (e, by)) o) found (behind_known p q h)
 
   settler_known : (v : View) → settler_by table items v ≡ settler_of v (reverse items)
   settler_known (Object object) = refl
@@ -162,9 +193,10 @@ module _ (items : List DecodedRecord) (table : Settlements) (kept : AreSettled (
   settler_known (FieldOf call path) = settler_there (ResultsOf call)
   settler_known (Import i place) = settler_there (ImportToResolve i place)
 
-  goes_named : (named other : ℕ → Option View) → ((r : ℕ) → named r ≡ other r) → (path : List ℕ) (o : Option DecodedRecord) → goes named path o ≡ goes other path o
+  goes_named : (named other : ℕ → Option View) → ((r : ℕ) → named r ≡ other r) → (path : List ℕ) (o : Option Settler) → goes named path o ≡ goes other path o
   goes_named named other h path None = refl
-  goes_named named other h path (Some e) = inner (turn_target path e)
+  goes_named named other h path (Some (e, Some by)) = refl
+  goes_named named other h path (Some (e, None)) = inner (turn_target path e)
     where
       inner : (o : Option ℕ) → on_to (option_and_then named o) ≡ on_to (option_and_then other o)
       inner None = refl
@@ -175,49 +207,18 @@ module _ (items : List DecodedRecord) (table : Settlements) (kept : AreSettled (
       goes_named (bound_at bound) (view_of_reference (reverse items)) bounds (field_path v) (settler_by table items v)
       ∙ ap (λ o. goes (view_of_reference (reverse items)) (field_path v) o) (settler_known v) ∙ sym (kept.going v)
 
--- ---- each turn lands on the view of a bound reference
-
--- the place of a reference in a table
-abbrev pub spot : ℕ → List (ℕ × Binding) → ℕ
-spot r [] = 0
-spot r (e ∷ es) = cond (is_eq (nat_cmp r e.0)) 0 (suc (spot r es))
-
--- the view at a place
-abbrev pub view_there : List (ℕ × Binding) → ℕ → Option View
-view_there es k = option_map (λ e. e.1.view) (slice_get es k)
-
--- the view of what is found
-abbrev view_in : Option Binding → Option View
-view_in o = option_map (λ binding. binding.view) o
-
-choose : (b : Bool) (e : ℕ × Binding) (es : List (ℕ × Binding)) (o : Option Binding) (s : ℕ) (w : View) → (view_in o ≡ Some w → (s < length es) × (view_there es s ≡ Some w)) →
-    view_in (cond b (Some e.1) o) ≡ Some w → (cond b 0 (suc s) < length (e ∷ es)) × (view_there (e ∷ es) (cond b 0 (suc s)) ≡ Some w)
-choose true e es o s w rest h = (omega arith, h)
-choose false e es o s w rest h = (omega (arith, (rest h).0), (rest h).1)
-
-spot_found : (r : ℕ) (es : List (ℕ × Binding)) (w : View) → view_in (lookup (λ k. is_eq (nat_cmp r k)) es) ≡ Some w → (spot r es < length es) × (view_there es (spot r es) ≡ Some w)
-spot_found r [] w h = absurd (none_some w h)
-spot_found r (e ∷ es) w h = choose (is_eq (nat_cmp r e.0)) e es (lookup (λ k. is_eq (nat_cmp r k)) es) (spot r es) w (spot_found r es w) h
+-- ---- where each turn lands
 
 turned_on_to : (o : Option View) → turned_to (on_to o) ≡ o
 turned_on_to (Some v) = refl
 turned_on_to None = refl
 
--- a view turns to the view of the reference where it lands
-pub turn_landing : (named : ℕ → Option View) (path : List ℕ) (o : Option DecodedRecord) → turned_to (goes named path o) ≡ option_and_then named (option_and_then (turn_target path) o)
-turn_landing named path (Some e) = turned_on_to (option_and_then named (turn_target path e))
+-- a view turns to the view of the reference, or to the field of the call, where it lands
+pub turn_landing : (named : ℕ → Option View) (path : List ℕ) (o : Option Settler) → turned_to (goes named path o) ≡ option_and_then (landing_view named path) (option_and_then (landing_of path) o)
+turn_landing named path (Some (e, Some by)) = refl
+turn_landing named path (Some (e, None)) = inner (turn_target path e)
+  where
+    inner : (o : Option ℕ) → turned_to (on_to (option_and_then named o)) ≡ option_and_then (landing_view named path) (option_map ToReference o)
+    inner (Some r) = turned_on_to (named r)
+    inner None = refl
 turn_landing named path None = refl
-
-module _ (events : List DecodedRecord) (table : Settlements) (bound : BoundReferences) where
-  -- the place in the table of references of the one where a view lands
-  abbrev pub place_of : View → ℕ
-  place_of v = unwrap_or (option_map (λ r. spot r bound.entries) (option_and_then (turn_target (field_path v)) (settler_by table events v))) 0
-
-  pub few : Lands (turn_by events table (bound_at bound)) place_of (view_there bound.entries) (bound_len bound)
-  few v w h = inner (option_and_then (turn_target (field_path v)) (settler_by table events v)) (sym (turn_landing (bound_at bound) (field_path v) (settler_by table events v)) ∙ h)
-    where
-      inner : (o : Option ℕ) → option_and_then (bound_at bound) o ≡ Some w →
-          (unwrap_or (option_map (λ r. spot r bound.entries) o) 0 < bound_len bound)
-          × (view_there bound.entries (unwrap_or (option_map (λ r. spot r bound.entries) o) 0) ≡ Some w)
-      inner (Some r) g = spot_found r bound.entries w g
-      inner None g = absurd (none_some w g)

@@ -4,12 +4,12 @@ use Rattle.std.specs.Prelude.{is_some, Result, Ok, Err, OnOk, OnErr}
 use Rattle.vat_view.specs.declared.tables.question.Question.{Question}
 use Rattle.vat_view.specs.declared.tables.questions.Questions.{Questions}
 use Rattle.vat_view.specs.declared.tables.exports_imports.ExportsImports.{ExportsImports}
-use Rattle.vat_view.specs.Types.{Bootstrap, Call, Return, Finish, Release, DecodedRecord, Wire, TableKey}
+use Rattle.vat_view.specs.Types.{Results, Exception, Canceled, Elsewhere, TakeFrom, Bootstrap, Call, Return, Finish, Release, DecodedRecord, Wire, TableKey}
 use Rattle.vat_view.specs.Past.{Past, Point, point, id, same_id, names, last_answer, last_since}
-use Rattle.vat_view.specs.Questions.{question_opened, noted_call, opens, releases, opening, return_of, finish_of, is_returned, is_finished, is_released, closes}
+use Rattle.vat_view.specs.Questions.{question_opened, asks_elsewhere, noted_call, opens, releases, takes_results, opening, return_of, finish_of, is_returned, is_finished, is_released, is_taken, closes}
 use Rattle.vat_view.specs.Lives.{begins, introductions, introductions_at, introduces, gives_back, introduced_count, released_count, held, is_in_life, GivesBackHeld}
 use Rattle.vat_view.specs.Uses.{UsesQuestions}
-use Rattle.vat_view.specs.Glue.Tables.{question_at, question_known, count_at, origin_at, origin_of, origins, raised_origin, count_released, given_back_by, just_opened, with_return, with_finish, with_release, changed_if, noted_by, IsPut, IsSameQuestions, IsTabled}
+use Rattle.vat_view.specs.Glue.Tables.{question_at, question_known, count_at, origin_at, origin_of, origins, raised_origin, count_released, given_back_by, just_opened, with_return, with_finish, with_release, with_taken, changed_if, noted_by, IsPut, IsSameQuestions, IsTabled}
 use Rattle.vat_view.specs.declared.record.origin.Origin.{Origin}
 use Rattle.vat_view.proofs.Beginning.{counted_origins, born_step}
 use Rattle.std.proofs.lemmas.Bool.{ltb-true}
@@ -21,41 +21,51 @@ use Rattle.vat_view.proofs.Knowing.{known_from, closed_known}
 abbrev pub known_open : TableKey → Past → Bool → Point → Question
 known_open q before b p = record {
   call = noted_call p.event;
+  tail = asks_elsewhere p.event;
   returned = is_some (if b then None else return_of q before);
   finished = is_some (if b then None else finish_of q before);
   released = is_some (if b then None else last_since (opens q) (releases q) before);
+  taken = is_some (if b then None else last_since (opens q) (takes_results q) before);
   asked = introductions p.before p.event;
   brought = introductions_at (if b then None else return_of q before);
 }
 
 opens_step : (q : TableKey) (before : Past) (e : DecodedRecord) (b : Bool) →
     option_map (known_open q before b) (if b then Some (point before e) else opening q before)
-    ≡ (if b then Some (just_opened (noted_call e) (introductions before e)) else question_known q before)
+    ≡ (if b then Some (just_opened (noted_call e) (asks_elsewhere e) (introductions before e)) else question_known q before)
 opens_step q before e true = refl
 opens_step q before e false = refl
 
-abbrev pub known_return : TableKey → Past → DecodedRecord → Bool → Point → Question
-known_return q before e b p = record {
+abbrev pub known_return : TableKey → Past → DecodedRecord → Bool → Bool → Point → Question
+known_return q before e b c p = record {
   call = noted_call p.event;
+  tail = asks_elsewhere p.event;
   returned = is_some (if b then Some (point before e) else return_of q before);
   finished = is_finished q before;
   released = is_released q before;
+  taken = is_some (if c then Some (point before e) else last_since (opens q) (takes_results q) before);
   asked = introductions p.before p.event;
   brought = introductions_at (if b then Some (point before e) else return_of q before);
 }
 
-returns_step : (q : TableKey) (before : Past) (e : DecodedRecord) (b : Bool) (o : Option Point) →
-    option_map (known_return q before e b) o ≡ changed_if b (with_return (introductions before e)) (option_map (known_from q before) o)
-returns_step q before e true (Some p) = refl
-returns_step q before e true None = refl
-returns_step q before e false o = refl
+returns_step : (q : TableKey) (before : Past) (e : DecodedRecord) (b c : Bool) (o : Option Point) →
+    option_map (known_return q before e b c) o ≡ changed_if c with_taken (changed_if b (with_return (introductions before e)) (option_map (known_from q before) o))
+returns_step q before e true true (Some p) = refl
+returns_step q before e true true None = refl
+returns_step q before e true false (Some p) = refl
+returns_step q before e true false None = refl
+returns_step q before e false true (Some p) = refl
+returns_step q before e false true None = refl
+returns_step q before e false false o = refl
 
 abbrev pub known_finish : TableKey → Past → DecodedRecord → Bool → Bool → Point → Question
 known_finish q before e b c p = record {
   call = noted_call p.event;
+  tail = asks_elsewhere p.event;
   returned = is_returned q before;
   finished = is_some (if b then Some (point before e) else finish_of q before);
   released = is_some (if c then Some (point before e) else last_since (opens q) (releases q) before);
+  taken = is_taken q before;
   asked = introductions p.before p.event;
   brought = introductions_at (return_of q before);
 }
@@ -72,11 +82,19 @@ finishes_step q before e false false o = refl
 
 -- what is known of a question after a record, by what was known before
 pub known_step : (q : TableKey) (before : Past) (e : DecodedRecord) → question_known q (e ∷ before)
-    ≡ noted_by e (introductions before e) q (if names q (question_opened e) then Some (just_opened (noted_call e) (introductions before e)) else question_known q before)
+    ≡ noted_by e (introductions before e) q (if names q (question_opened e) then Some (just_opened (noted_call e) (asks_elsewhere e) (introductions before e)) else question_known q before)
 known_step q before (Wire s k c rs (Bootstrap n)) = opens_step q before (Wire s k c rs (Bootstrap n)) (same_id q (id k s n))
 known_step q before (Wire s k c rs (Call n t f m p yourself)) = opens_step q before (Wire s k c rs (Call n t f m p yourself)) (same_id q (id k s n))
-known_step q before (Wire s k c rs (Return n release outcome light)) =
-    returns_step q before (Wire s k c rs (Return n release outcome light)) (same_id q (id k (not s) n)) (opening q before)
+known_step q before (Wire s k c rs (Return n release (Results payload) light)) =
+    returns_step q before (Wire s k c rs (Return n release (Results payload) light)) (same_id q (id k (not s) n)) false (opening q before)
+known_step q before (Wire s k c rs (Return n release Exception light)) =
+    returns_step q before (Wire s k c rs (Return n release Exception light)) (same_id q (id k (not s) n)) false (opening q before)
+known_step q before (Wire s k c rs (Return n release Canceled light)) =
+    returns_step q before (Wire s k c rs (Return n release Canceled light)) (same_id q (id k (not s) n)) false (opening q before)
+known_step q before (Wire s k c rs (Return n release Elsewhere light)) =
+    returns_step q before (Wire s k c rs (Return n release Elsewhere light)) (same_id q (id k (not s) n)) false (opening q before)
+known_step q before (Wire s k c rs (Return n release (TakeFrom m) light)) =
+    returns_step q before (Wire s k c rs (Return n release (TakeFrom m) light)) (same_id q (id k (not s) n)) (same_id q (id k s m)) (opening q before)
 known_step q before (Wire s k c rs (Finish n true)) =
     finishes_step q before (Wire s k c rs (Finish n true)) (same_id q (id k s n)) (same_id q (id k s n)) (opening q before)
 known_step q before (Wire s k c rs (Finish n false)) = finishes_step q before (Wire s k c rs (Finish n false)) (same_id q (id k s n)) false (opening q before)
@@ -153,7 +171,7 @@ module _ (before : Past) (e : DecodedRecord) (questions later : Questions) (live
       births i ∙ ap₂ (λ n l. raised_origin n (origin_at lives i) i l) (tabled.counted i) begun ∙ born_step i before e (origin_at lives i) (tabled.born i) now
 
   -- a record that opens a question
-  pub tabled_open : (q : TableKey) → question_opened e ≡ Some q → IsPut q (just_opened (noted_call e) ids) questions later →
+  pub tabled_open : (q : TableKey) → question_opened e ≡ Some q → IsPut q (just_opened (noted_call e) (asks_elsewhere e) ids) questions later →
       ((i : TableKey) → count_at after i ≡ count_at lives i + count_by (λ x. same_id i x.0) os) → IsTabled (e ∷ before) later after
   tabled_open q o put counts = record {
     known = λ j. put j ∙ ap₃ j ∙ sym (opens_notes e q o (introductions before e) j _) ∙ sym (known_step j before e);
@@ -162,11 +180,11 @@ module _ (before : Past) (e : DecodedRecord) (questions later : Questions) (live
     balanced = balanced_step before e tabled.balanced gives;
   }
     where
-      ap₃ : (j : TableKey) → (if same_id j q then Some (just_opened (noted_call e) ids) else question_at questions j)
-          ≡ (if names j (question_opened e) then Some (just_opened (noted_call e) (introductions before e)) else question_known j before)
-      ap₃ j = ap (λ l. if same_id j q then Some (just_opened (noted_call e) l) else question_at questions j) introduced
-          ∙ ap (λ k. if same_id j q then Some (just_opened (noted_call e) (introductions before e)) else k) (tabled.known j)
-          ∙ ap (λ o. if names j o then Some (just_opened (noted_call e) (introductions before e)) else question_known j before) (sym o)
+      ap₃ : (j : TableKey) → (if same_id j q then Some (just_opened (noted_call e) (asks_elsewhere e) ids) else question_at questions j)
+          ≡ (if names j (question_opened e) then Some (just_opened (noted_call e) (asks_elsewhere e) (introductions before e)) else question_known j before)
+      ap₃ j = ap (λ l. if same_id j q then Some (just_opened (noted_call e) (asks_elsewhere e) l) else question_at questions j) introduced
+          ∙ ap (λ k. if same_id j q then Some (just_opened (noted_call e) (asks_elsewhere e) (introductions before e)) else k) (tabled.known j)
+          ∙ ap (λ o. if names j o then Some (just_opened (noted_call e) (asks_elsewhere e) (introductions before e)) else question_known j before) (sym o)
 
       sum : (i : TableKey) → count_at lives i + count_by (λ x. same_id i x.0) os ≡ held i before + introduces i before e - gives_back i before e
       sum i = let none = opens_gives e q o before i in let counted = tabled.counted i in let same = intro_count i in omega (arith, none, counted, same)
@@ -183,8 +201,8 @@ module _ (before : Past) (e : DecodedRecord) (questions later : Questions) (live
     balanced = balanced_step before e tabled.balanced gives;
   }
     where
-      unopened : (j : TableKey) → question_known j before ≡ (if names j (question_opened e) then Some (just_opened (noted_call e) (introductions before e)) else question_known j before)
-      unopened j = ap (λ o. if names j o then Some (just_opened (noted_call e) (introductions before e)) else question_known j before) (sym o)
+      unopened : (j : TableKey) → question_known j before ≡ (if names j (question_opened e) then Some (just_opened (noted_call e) (asks_elsewhere e) (introductions before e)) else question_known j before)
+      unopened j = ap (λ o. if names j o then Some (just_opened (noted_call e) (asks_elsewhere e) (introductions before e)) else question_known j before) (sym o)
 
       sum : (i : TableKey) → count_at lives i + count_by (λ x. same_id i x.0) os - count_by (same_id i) (given_back_by (question_at questions) e) - count_released i e
           ≡ held i before + introduces i before e - gives_back i before e

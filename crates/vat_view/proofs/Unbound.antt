@@ -3,12 +3,12 @@ use Rattle.std.proofs.Common.{◌≡◌, inl, inr, refl, sym, ◌∙◌, ap, sub
 use Rattle.std.specs.Prelude.{is_some}
 use Rattle.std.specs.List.{list_all}
 use Rattle.std.specs.Option.{option_or}
-use Rattle.std.proofs.lemmas.Bool.{cases_Bool, and_parts, or_parts, or_left, or_right, false≢true, eqb-true}
-use Rattle.vat_view.specs.Types.{Bootstrap, Call, Return, Results, Exception, Canceled, Elsewhere, TakeFrom, DecodedRecord, Make, Deliver, Answer, Fault, Wire, Asked, TableKey}
+use Rattle.std.proofs.lemmas.Bool.{cases_Bool, and_parts, and_from, or_parts, or_left, or_right, false≢true, eqb-true}
+use Rattle.vat_view.specs.Types.{Bootstrap, Call, Return, Results, Exception, Canceled, TakeFrom, DecodedRecord, Make, Deliver, Answer, AnswerBy, Fault, Wire, Asked, TableKey}
 use Rattle.vat_view.specs.Past.{Past, point, id, is, last_answer, last_where, Each}
 use Rattle.vat_view.specs.Questions.{opens, opening, call_at, is_late}
 use Rattle.vat_view.specs.Views.{view_of_reference, view_of_target}
-use Rattle.vat_view.specs.Calls.{brings, request_of, takes, moves, delivers, boots, settles, knows, has_passed, is_settled, is_known}
+use Rattle.vat_view.specs.Calls.{brings, request_of, takes, moves, delivers, boots, settles, knows, has_passed, is_settled, is_known, call_taken_from}
 use Rattle.vat_view.specs.Bindings.{Refers, new_calls, contains, is_bound_call}
 use Rattle.vat_view.specs.Sound.{IsSound}
 
@@ -44,7 +44,7 @@ noted_bound before (Wire false k d rs (Call n t f m p yourself)) q c refers new 
 noted_bound before (Wire true k d rs (Call n t f m p yourself)) q c refers new same = named_bound before c d refers.bound_call same
 noted_bound before _ q c refers new same = absurd (false≢true new)
 
-opening_bound : (past : Past) → Each IsSound past → (q : TableKey) (c : ℕ) → is c (call_at (opening q past)) ≡ true → is_bound_call past c ≡ true
+pub opening_bound : (past : Past) → Each IsSound past → (q : TableKey) (c : ℕ) → is c (call_at (opening q past)) ≡ true → is_bound_call past c ≡ true
 opening_bound [] sound q c h = absurd (false≢true h)
 opening_bound (e ∷ before) sound q c h = elim (cases_Bool (opens q before e)) [
   | inl new ↦ noted_bound before e q c sound.0.refers new (sym (ap (λ b. is c (call_at (if b then Some (point before e) else opening q before))) new) ∙ h)
@@ -81,6 +81,9 @@ module _ (c : ℕ) (before : Past) (sound : Each IsSound before) (unbound : is_b
   }
   nothing (Deliver d object) refers h = record { brings = refl; takes = not_named d refers.bound_call; delivers = not_named d refers.bound_call; boots = refl; settles = refl; knows = refl }
   nothing (Answer d results) refers h = record { brings = refl; takes = refl; delivers = refl; boots = refl; settles = not_named d refers.bound_call; knows = not_named d refers.bound_call }
+  nothing (AnswerBy d by) refers h =
+      let apart : (d == c) ≡ false = not_named d (and_from (is_bound_call before d) true (and_parts (is_bound_call before d) (list_all (is_bound_call before) (by ∷ [])) refers.bound_call).0 refl) in
+      record { brings = refl; takes = refl; delivers = refl; boots = refl; settles = apart; knows = apart }
   nothing (Fault d) refers h = record { brings = refl; takes = not_named d refers.bound_call; delivers = refl; boots = refl; settles = not_named d refers.bound_call; knows = refl }
   nothing (Wire false k d rs (Bootstrap q)) refers h = record { brings = refl; takes = refl; delivers = refl; boots = not_new d h; settles = refl; knows = refl }
   nothing (Wire false k d rs (Call q t f m p yourself)) refers h = record {
@@ -94,8 +97,6 @@ module _ (c : ℕ) (before : Past) (sound : Each IsSound before) (unbound : is_b
   nothing (Wire true k d rs (Call q t f m p yourself)) refers h = record { brings = refl; takes = not_named d refers.bound_call; delivers = refl; boots = refl; settles = refl; knows = refl }
   nothing (Wire true k d rs (Return q release Exception light)) refers h = record { brings = refl; takes = not_opening (id k false q); delivers = refl; boots = refl; settles = refl; knows = refl }
   nothing (Wire true k d rs (Return q release Canceled light)) refers h = record { brings = refl; takes = not_opening (id k false q); delivers = refl; boots = refl; settles = refl; knows = refl }
-  nothing (Wire true k d rs (Return q release Elsewhere light)) refers h = record { brings = refl; takes = not_opening (id k false q); delivers = refl; boots = refl; settles = refl; knows = refl }
-  nothing (Wire true k d rs (Return q release (TakeFrom n) light)) refers h = record { brings = refl; takes = not_opening (id k false q); delivers = refl; boots = refl; settles = refl; knows = refl }
   nothing (Wire false k d rs (Return q release (Results payload) light)) refers h = record {
     brings = refl;
     takes = refl;
@@ -103,6 +104,14 @@ module _ (c : ℕ) (before : Past) (sound : Each IsSound before) (unbound : is_b
     boots = refl;
     settles = refl;
     knows = ap (λ b. b && not (is_late before (Wire false k d rs (Return q release (Results payload) light)))) (not_opening (id k true q));
+  }
+  nothing (Wire false k d rs (Return q release (TakeFrom n) light)) refers h = record {
+    brings = refl;
+    takes = refl;
+    delivers = refl;
+    boots = refl;
+    settles = refl;
+    knows = ap (λ b. is_some (if b then call_taken_from before (Wire false k d rs (Return q release (TakeFrom n) light)) else None)) (not_opening (id k true q));
   }
   nothing _ refers h = record { brings = refl; takes = refl; delivers = refl; boots = refl; settles = refl; knows = refl }
 

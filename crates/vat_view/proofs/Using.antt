@@ -1,13 +1,14 @@
 -- What a record uses, part by part.
-use Rattle.std.proofs.Common.{◌≡◌, ℕ, suc, ◌+◌, ◌==◌, List, [], ◌∷◌, ◌++◌, length, cond, if◌then◌else◌, Bool, true, false, ◌&&◌, Option, Some, None, refl, sym, ◌∙◌, ap, ap₂, arith}
-use Rattle.std.specs.Prelude.{option_to_list, count_by, Decides}
+use Rattle.std.proofs.Common.{◌≡◌, ℕ, suc, ◌+◌, ◌==◌, List, [], ◌∷◌, ◌++◌, length, cond, if◌then◌else◌, Bool, true, false, not, ◌&&◌, Option, Some, None, refl, sym, ◌∙◌, ap, ap₂, arith}
+use Rattle.std.specs.Prelude.{option_to_list, count_by, Decides, IfSome, IsTrue}
 use Rattle.std.specs.List.{cons_option, list_all, filter_map}
 use Rattle.std.proofs.lemmas.List.Folds.{list_all-append}
 use Rattle.std.proofs.lemmas.List.Sums.{sum_by-cons}
-use Rattle.std.proofs.lemmas.Bool.{eqb-true, eq-eqb}
+use Rattle.std.proofs.lemmas.Bool.{and_parts, and_from, eqb-true, eq-eqb}
 use Rattle.vat_view.specs.Types.{Descriptor, NoCap, SenderHosted, SenderPromise, ReceiverHosted, ReceiverAnswer, DecodedRecord, TableKey}
 use Rattle.vat_view.specs.Past.{Past}
-use Rattle.vat_view.specs.Questions.{is_late}
+use Rattle.vat_view.specs.Questions.{question_returned, question_taken, opening, is_tail, is_taken, is_unfinished, is_unreturned, is_late}
+use Rattle.vat_view.specs.Uses.{questions_used, UsesQuestions}
 use Rattle.vat_view.specs.Bindings.{NotesEach}
 use Rattle.vat_view.specs.Views.{places_from, places, references}
 use Rattle.vat_view.specs.Glue.Tables.{is_cap}
@@ -45,6 +46,36 @@ pub joined : {A : Type 0} (test : TableKey → Bool) (a b c d : Option TableKey)
     r ≡ list_all test ((option_to_list b ++ filter_map f xs) ++ option_to_list d)
 joined test a b c d f xs r first second third is_r is_first is_a is_second is_third is_c =
     is_r ∙ ap₂ (λ x y. x && y) (ap₂ (λ x y. x && y) (is_first ∙ ap (passes_if test) is_a) is_second) (is_third ∙ ap (passes_if test) is_c) ∙ passes_parts test b d f xs
+
+-- one more that may be there, after others
+pub joined_more : (test : TableKey → Bool) (a b : Option TableKey) (is : List TableKey) (r first second : Bool) →
+    r ≡ (first && second) → first ≡ list_all test is → second ≡ passes_if test a → a ≡ b → r ≡ list_all test (is ++ option_to_list b)
+joined_more test a b is r first second is_r is_first is_second is_a =
+    is_r ∙ ap₂ (λ x y. x && y) is_first (is_second ∙ ap (passes_if test) is_a ∙ passes_one test b) ∙ sym (list_all-append test is (option_to_list b))
+
+passed : (test : TableKey → Bool) (o : Option TableKey) → passes_if test o ≡ true → IfSome o (λ i. IsTrue (test i))
+passed test (Some i) h = h
+passed test None h = tt
+
+passing : (test : TableKey → Bool) (o : Option TableKey) → IfSome o (λ i. IsTrue (test i)) → passes_if test o ≡ true
+passing test (Some i) h = h
+passing test None h = refl
+
+-- a record uses questions as it should just where each of three tests says so
+pub uses_from : (before : Past) (e : DecodedRecord) (r first second third : Bool) → r ≡ ((first && second) && third) →
+    first ≡ passes_if (λ q. is_unreturned q before) (question_returned e) → second ≡ passes_if (λ q. is_tail (opening q before) && not (is_taken q before)) (question_taken e) →
+    third ≡ list_all (λ q. is_unfinished q before) (questions_used e) → Decides r (UsesQuestions before e)
+uses_from before e r first second third is_r is_first is_second is_third = (
+  λ so. (let all = and_parts (first && second) third (sym is_r ∙ so) in
+      let two = and_parts first second all.0 in record {
+        used = sym is_third ∙ all.1;
+        returned_once = passed (λ q. is_unreturned q before) (question_returned e) (sym is_first ∙ two.0);
+        taken_once = passed (λ q. is_tail (opening q before) && not (is_taken q before)) (question_taken e) (sym is_second ∙ two.1);
+      }),
+  λ uses. is_r ∙ and_from (first && second) third
+      (and_from first second (is_first ∙ passing (λ q. is_unreturned q before) (question_returned e) uses.returned_once)
+      (is_second ∙ passing (λ q. is_tail (opening q before) && not (is_taken q before)) (question_taken e) uses.taken_once)) (is_third ∙ uses.used),
+)
 
 -- as many places as capabilities
 pub caps_placed : (k : ℕ) (ds : List Descriptor) → count_by is_cap ds ≡ length (places_from k ds)

@@ -8,7 +8,7 @@ use Rattle.std.proofs.lemmas.List.Sums.{sum_by-cons}
 use Rattle.vat_view.specs.declared.record.origin.Origin.{Origin}
 use Rattle.vat_view.specs.Types.{Descriptor, NoCap, SenderHosted, SenderPromise, ReceiverHosted, ReceiverAnswer, RpcMessage, DecodedRecord, Host, Vow, Field, Wire, View, Object, Promise, FieldOf, Import, TableKey}
 use Rattle.vat_view.specs.Past.{Past, point, id, same_id, names, last_answer, record_index, Each}
-use Rattle.vat_view.specs.Questions.{question_finished, is_late, is_opened, is_returned, is_finished, is_unfinished, opening, call_at, noted_call}
+use Rattle.vat_view.specs.Questions.{question_finished, question_taken, is_late, is_opened, is_returned, is_finished, is_unfinished, opening, call_at, noted_call}
 use Rattle.vat_view.specs.Lives.{Birth, birth, begins, number_introduced, introduces, held, descriptors, is_in_life, GivesBackHeld}
 use Rattle.vat_view.specs.Views.{view_of_reference, binds, view_given, number_view, field_view, descriptor_view, described_at, placed_references, places, places_from, references}
 use Rattle.vat_view.specs.Uses.{question_targeted, question_described, number_targeted, number_described, number_released}
@@ -335,7 +335,9 @@ module _ (before : Past) (k c : ℕ) (rs : List ℕ) (m : RpcMessage) (all : Eac
       call_there (id k false n) before path
       (all_mapped (question_described e) (λ i. is_unfinished i before) (descriptors e) j (ReceiverAnswer n path) (id k false n)
       (all_back (λ i. is_unfinished i before) (option_to_list (question_targeted e)) (filter_map (question_described e) (descriptors e))
-      (all_front (λ i. is_unfinished i before) (option_to_list (question_targeted e) ++ filter_map (question_described e) (descriptors e)) (option_to_list (question_finished e)) sound.uses_questions.used))
+      (all_front (λ i. is_unfinished i before) (option_to_list (question_targeted e) ++ filter_map (question_described e) (descriptors e)) (option_to_list (question_finished e))
+      (all_front (λ i. is_unfinished i before) (option_to_list (question_targeted e) ++ filter_map (question_described e) (descriptors e) ++ option_to_list (question_finished e)) (option_to_list (question_taken e))
+      sound.uses_questions.used)))
       g refl)
 
 one_found : (q r : ℕ) (v : View) → contains r (q ∷ []) ≡ true → Has (if q == r then Some v else None)

@@ -86,29 +86,30 @@ before_reached f n k a v e lt =
       ]
     ]
 
--- each turn lands on one of r values, by a number of the value that turns
-abbrev pub Lands : {A : Type 0} → (A → Option A) → (A → ℕ) → (ℕ → Option A) → ℕ → Type 0
-Lands {A} f index land r = (v w : A) → f v ≡ Some w → (index v < r) × (land (index v) ≡ Some w)
+-- the turns of what is reached have numbers below r, and those of one number go to one value
+pub record IsFew {A : Type 0} (f : A → Option A) (a : A) (index : A → ℕ) (r : ℕ) : Type 0 where
+  pub below : (k : ℕ) (v w : A) → after_turns f k (Some a) ≡ Some v → f v ≡ Some w → index v < r
+  pub one : (k l : ℕ) (v w x y : A) → after_turns f k (Some a) ≡ Some v → f v ≡ Some w → after_turns f l (Some a) ≡ Some x → f x ≡ Some y → index v ≡ index x → w ≡ y
 
 -- then each value that is reached is reached by r turns at most
-within : {A : Type 0} (f : A → Option A) (index : A → ℕ) (land : ℕ → Option A) (r : ℕ) → Lands f index land r →
-    (a v : A) (fuel n : ℕ) → n ≤ fuel → after_turns f n (Some a) ≡ Some v → (m : ℕ) × (m ≤ r) × (after_turns f m (Some a) ≡ Some v)
-within f index land r few a v zero n le e = (n, omega arith, e)
-within f index land r few a v (suc fuel) n le e = elim (cases_lt r n) [
+within : {A : Type 0} (f : A → Option A) (a : A) (index : A → ℕ) (r : ℕ) → IsFew f a index r →
+    (v : A) (fuel n : ℕ) → n ≤ fuel → after_turns f n (Some a) ≡ Some v → (m : ℕ) × (m ≤ r) × (after_turns f m (Some a) ≡ Some v)
+within f a index r few v zero n le e = (n, omega arith, e)
+within f a index r few v (suc fuel) n le e = elim (cases_lt r n) [
   | inr short ↦ (n, short, e)
   | inl long ↦
       let h : ℕ → ℕ = λ k. index_at index (after_turns f k (Some a)) in
       let p : (i : ℕ) × (j : ℕ) × (i < j) × (j ≤ r) × (h i ≡ h j) = pigeons r h (λ k below.
-      let b = before_reached f n k (Some a) v e (omega arith) in rw b.2 (few b.0 b.1 b.3).0) in
+      let b = before_reached f n k (Some a) v e (omega arith) in rw b.2 (few.below k b.0 b.1 b.2 b.3)) in
       let b = before_reached f n p.0 (Some a) v e (omega (arith, p.2, p.3)) in
       let c = before_reached f n p.1 (Some a) v e (omega (arith, p.3)) in
       let same : index b.0 ≡ index c.0 = sym (ap (λ o. index_at index o) b.2) ∙ p.4 ∙ ap (λ o. index_at index o) c.2 in
-      let meet : Some b.1 ≡ Some c.1 = sym (few b.0 b.1 b.3).1 ∙ ap land same ∙ (few c.0 c.1 c.3).1 in
+      let meet : Some b.1 ≡ Some c.1 = ap (λ x. Some x) (few.one p.0 p.1 b.0 b.1 c.0 c.1 b.2 b.3 c.2 c.3 same) in
       let here : after_turns f (suc p.0) (Some a) ≡ after_turns f (suc p.1) (Some a) = b.4 ∙ meet ∙ sym c.4 in
       let shorter : after_turns f (suc p.0 + (n - suc p.1)) (Some a) ≡ Some v =
       reached_plus f (suc p.0) (n - suc p.1) (Some a) ∙ ap (λ o. after_turns f (n - suc p.1) o) here
       ∙ sym (reached_at f (suc p.1) (n - suc p.1) n (Some a) (omega (arith, p.3))) ∙ e in
-      within f index land r few a v fuel (suc p.0 + (n - suc p.1)) (omega (arith, p.2, p.3)) shorter
+      within f a index r few v fuel (suc p.0 + (n - suc p.1)) (omega (arith, p.2, p.3)) shorter
 ]
 
 -- a walk that ended leads nowhere else
@@ -123,11 +124,11 @@ ended f a v w t there apart before none n e = elim (cases_lt n t) [
 ]
 
 -- after r turns all has been met
-pub met : {A : Type 0} (f : A → Option A) (index : A → ℕ) (land : ℕ → Option A) (r : ℕ) → Lands f index land r →
-    (a v w : A) (t : ℕ) → r ≤ t → t ≤ r → after_turns f t (Some a) ≡ Some v → ((m : ℕ) → m < t → after_turns f m (Some a) ≡ Some w → ⊥) →
+pub met : {A : Type 0} (f : A → Option A) (a : A) (index : A → ℕ) (r : ℕ) → IsFew f a index r →
+    (v w : A) (t : ℕ) → r ≤ t → t ≤ r → after_turns f t (Some a) ≡ Some v → ((m : ℕ) → m < t → after_turns f m (Some a) ≡ Some w → ⊥) →
     (n : ℕ) → after_turns f n (Some a) ≡ Some w → v ≡ w
-met f index land r few a v w t low high there before n e =
-    let m : (m : ℕ) × (m ≤ r) × (after_turns f m (Some a) ≡ Some w) = within f index land r few a w n n (omega arith) e in
+met f a index r few v w t low high there before n e =
+    let m : (m : ℕ) × (m ≤ r) × (after_turns f m (Some a) ≡ Some w) = within f a index r few w n n (omega arith) e in
     elim (cases_lt m.0 t) [
       | inl lt ↦ absurd (before m.0 lt m.2)
       | inr le ↦ let same : m.0 ≡ t = omega (arith, m.1) in some_same v w (sym there ∙ (rw same at m.2))
@@ -144,10 +145,10 @@ one_last f a v w t n there none e last = elim (cases_lt n t) [
 ]
 
 -- a walk that goes on after r turns reaches nothing that turns no more
-pub endless : {A : Type 0} (f : A → Option A) (index : A → ℕ) (land : ℕ → Option A) (r : ℕ) → Lands f index land r →
-    (a v w : A) (t : ℕ) → r < t → after_turns f t (Some a) ≡ Some v → (n : ℕ) → after_turns f n (Some a) ≡ Some w → f w ≡ None → ⊥
-endless f index land r few a v w t long there n e last =
-    let m : (m : ℕ) × (m ≤ r) × (after_turns f m (Some a) ≡ Some w) = within f index land r few a w n n (omega arith) e in
+pub endless : {A : Type 0} (f : A → Option A) (a : A) (index : A → ℕ) (r : ℕ) → IsFew f a index r →
+    (v w : A) (t : ℕ) → r < t → after_turns f t (Some a) ≡ Some v → (n : ℕ) → after_turns f n (Some a) ≡ Some w → f w ≡ None → ⊥
+endless f a index r few v w t long there n e last =
+    let m : (m : ℕ) × (m ≤ r) × (after_turns f m (Some a) ≡ Some w) = within f a index r few w n n (omega arith) e in
     let short = m.1 in
     dead f t m.0 (Some a) v there (omega (arith, short)) (reached_more f m.0 (Some a) ∙ ap (λ o. option_and_then f o) m.2 ∙ last)
 

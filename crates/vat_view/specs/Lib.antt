@@ -9,6 +9,7 @@ pub mod Loopbacks
 pub mod Connections
 pub mod Uses
 pub mod Bindings
+pub mod Borrowed
 pub mod Sound
 pub mod Numbers
 pub mod Laws

@@ -1,13 +1,13 @@
 //! Laws of a log's records, which hold of every log and not of one call.
 
-ghost use Rattle.std.specs.Prelude.{◌≡◌, ◌≤◌, ◌++◌, ℕ, List, Some, true, false, IsSome};
-ghost use Rattle.vat_view.specs.Types.{DecodedRecord, Fulfil, Break, Wire, Resolution, Resolve, View, Object, Promise, TableKey};
+ghost use Rattle.std.specs.Prelude.{◌≡◌, ◌⊎◌, ◌≤◌, ◌++◌, ℕ, List, Some, true, false, IsSome};
+ghost use Rattle.vat_view.specs.Types.{DecodedRecord, Fulfil, Break, Wire, Resolution, Resolve, View, Object, Promise, FieldOf, TableKey};
 ghost use Rattle.vat_view.specs.Past.{Past, Each, id};
 ghost use Rattle.vat_view.specs.Questions.{opens, returns, finishes};
 ghost use Rattle.vat_view.specs.Lives.{introduced_count, released_count, is_resolved, GivesBackHeld};
 ghost use Rattle.vat_view.specs.Uses.{UsesQuestions};
 ghost use Rattle.vat_view.specs.Views.{view_of_reference, view_of_number};
-ghost use Rattle.vat_view.specs.Bindings.{Refers, is_bound};
+ghost use Rattle.vat_view.specs.Bindings.{Refers, is_bound, is_bound_call};
 ghost use Rattle.vat_view.specs.Sound.{IsSound};
 ghost use Rattle.vat_view.specs.Walks.{next, turns, stops, stays, TurnsOnce, Leads, LeadsByTurns, IsEnd};
 ghost use Rattle.vat_view.specs.Laws.{count_since, LivesOn, EachAfter};
@@ -76,10 +76,13 @@ pub fn a_life_is_resolved_once()
         → TurnsOnce before (Wire false k c rs (Resolve n resolution)) }
 {}
 
-/// What a view turns to is the view of a bound reference, where each record is as it should be after those before it.
+/// What a view turns to is the view of a bound reference, or, of a field, the field of a bound call at the same path, where
+/// each record is as it should be after those before it.
 pub fn turns_go_to_references()
     ensures { (past : Past) → Each IsSound past → (a b : View) → next past a ≡ turns b
-        → (r : ℕ) × (is_bound past r ≡ true) × (view_of_reference past r ≡ Some b) }
+        → ((r : ℕ) × (is_bound past r ≡ true) × (view_of_reference past r ≡ Some b))
+        ⊎ ((call by : ℕ) × (path : List ℕ) × (a ≡ FieldOf call path) × (b ≡ FieldOf by path)
+        × (is_bound_call past by ≡ true)) }
 {}
 
 /// An object goes on nowhere.

@@ -13,6 +13,7 @@
 
 mod apply;
 mod asked;
+mod borrowed_view;
 mod laws;
 mod lookups;
 mod preconditions;
@@ -23,6 +24,7 @@ mod view;
 mod walks;
 
 pub use asked::Asked;
+pub use borrowed_view::BorrowedView;
 pub use laws::{
     a_life_is_resolved_once, a_promise_is_kept_once, bound_references_have_views, ends_are_one,
     no_more_goes, numbers_keep_views, objects_stay, openings_are_closed_once,

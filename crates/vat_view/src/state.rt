@@ -5,20 +5,22 @@ ghost use Rattle.vat_view.specs.declared.view.View.{View};
 ghost use Rattle.std.specs.Option.{option_copied};
 ghost use Rattle.vat_view.specs.Past.{record_at};
 ghost use Rattle.vat_view.specs.Numbers.{number_held, number_stands};
-ghost use Rattle.vat_view.specs.Questions.{is_free, is_unfinished, is_finished, is_unreturned, call_at, opening, is_late};
+ghost use Rattle.vat_view.specs.Questions.{is_free, is_unfinished, is_finished, is_unreturned, is_tail, is_taken, call_at, call_of, opening, is_late};
 ghost use Rattle.vat_view.specs.Lives.{GivesBackHeld, KeepsKinds, birth, began_promised, is_in_life, is_resolved};
 ghost use Rattle.vat_view.specs.Uses.{UsesQuestions, UsesNumbers};
 ghost use Rattle.vat_view.specs.Views.{view_of_reference, view_of_target, views_of_descriptors};
 ghost use Rattle.vat_view.specs.Walks.{next, stays, Leads, LeadsByTurns, IsEnd};
 ghost use Rattle.vat_view.specs.Bindings.{Refers, NotesEach, is_bound, is_bound_call};
 ghost use Rattle.vat_view.specs.Connections.{is_aborted, LeadsOver, LeadsElsewhere};
-ghost use Rattle.vat_view.specs.Calls.{request_of, goal_of, is_at_vat, is_served, is_settled, is_known};
+ghost use Rattle.vat_view.specs.Calls.{request_of, goal_of, is_at_vat, is_served, is_settled, is_known, answered_by};
+ghost use Rattle.vat_view.specs.Borrowed.{as_view};
 ghost use Rattle.vat_view.specs.Loopbacks.{loopback_of, embargoed_view, IsHeldUp};
 
 use crate::apply::apply_record::apply_record;
 use crate::apply::tables;
 use crate::asked::Asked;
-use crate::lookups::settling::settled_by;
+use crate::borrowed_view::BorrowedView;
+use crate::lookups::settling::settling_of;
 use crate::lookups::{meaning, table_answers};
 use crate::preconditions::kinds;
 use crate::record::decoded::DecodedRecord;
@@ -167,30 +169,44 @@ impl VatState {
     pub fn stays(&self, view: &View) -> bool
         ensures { IsTrue result ↔ (next self.now view.now ≡ stays) }
     {
-        hops::stays(self.events.as_slice(), &self.turns, view)
+        hops::stays(self.events.as_slice(), &self.turns, BorrowedView::of(view))
     }
 
-    /// Whether a view leads to another, by 0 or more turns. Each of its walks, four at most, makes at most as many turns
-    /// as references are bound. It takes no memory.
+    /// Whether a view leads to another, by 0 or more turns. Each of its walks, four at most, comes to at most as many views
+    /// as one more than the references bound, times one more than the calls that were answered by others. It takes no
+    /// memory.
     pub fn leads(&self, from: &View, to: &View) -> bool
         ensures { IsTrue result ↔ Leads self.now from.now to.now }
     {
-        hops::leads(self.events.as_slice(), &self.turns, &self.bound, from, to)
+        hops::leads(
+            self.events.as_slice(),
+            &self.turns,
+            &self.bound,
+            BorrowedView::of(from),
+            BorrowedView::of(to),
+        )
     }
 
     /// Whether a view leads to another by 1 or more turns; a view of a circle leads so to itself. It takes no memory.
     pub fn leads_by_turns(&self, from: &View, to: &View) -> bool
         ensures { IsTrue result ↔ LeadsByTurns self.now from.now to.now }
     {
-        hops::leads_by_turns(self.events.as_slice(), &self.turns, &self.bound, from, to)
+        hops::leads_by_turns(
+            self.events.as_slice(),
+            &self.turns,
+            &self.bound,
+            BorrowedView::of(from),
+            BorrowedView::of(to),
+        )
     }
 
     /// The end of a view: the view to which it leads and which goes on nowhere. It has none where its walk stops or
     /// goes in a circle. It takes no memory.
-    pub fn end<'a>(&'a self, view: &'a View) -> Option<&'a View>
+    pub fn end<'a>(&'a self, view: &'a View) -> Option<BorrowedView<'a>>
         ensures { MatchOption result ((end : View) → IsEnd self.now view.now end → ⊥)
-            (λ end. IsEnd self.now view.now end.now) }
+            (λ end. IsEnd self.now view.now (as_view end)) }
     {
+        let view = BorrowedView::of(view);
         hops::end(self.events.as_slice(), &self.turns, &self.bound, view)
     }
 
@@ -235,8 +251,8 @@ impl VatState {
     {
         self.events.reserve(1)?;
         let number = self.events.len();
-        let pending = settled_by(&self.questions, &self.lives, &self.bound, &event);
-        self.turns.make_room(pending, number)?;
+        let settling = settling_of(&self.questions, &self.lives, &self.bound, &event);
+        self.turns.make_room(settling, number)?;
         let promise = effects::promise_resolved(&event);
         self.resolves.room_for(promise)?;
         self.connections.grow_for(&event)?;
@@ -251,8 +267,8 @@ impl VatState {
             &mut self.calls,
             &event,
         )?;
-        self.bound.drop_ahead(self.turns.has(pending));
-        self.turns.note(pending, number);
+        self.bound.drop_ahead(self.turns.has(settling));
+        self.turns.note(settling, number);
         self.resolves.note_resolve(promise, number);
         self.connections.note_event(&event);
         self.waits.change(&self.calls, change);
@@ -291,7 +307,8 @@ impl VatState {
         let Some(goal) = self.calls.goal(call) else {
             return;
         };
-        if let Some(first) = hops::landed_by(self.events.as_slice(), &self.turns, goal) {
+        let view = BorrowedView::of(goal);
+        if let Some(first) = hops::reference_by(self.events.as_slice(), &self.turns, view) {
             self.shorten_from(first);
         }
     }
@@ -357,7 +374,8 @@ impl VatState {
         let Some(view) = self.waits.loopbacks.embargoed_view(number) else {
             return;
         };
-        if let Some(first) = hops::landed_by(self.events.as_slice(), &self.turns, view) {
+        let view = BorrowedView::of(view);
+        if let Some(first) = hops::reference_by(self.events.as_slice(), &self.turns, view) {
             self.shorten_from(first);
         }
     }
@@ -471,6 +489,30 @@ impl VatState {
         ensures { result ≡ is_unreturned question self.now }
     {
         table_answers::is_unreturned(&self.questions, question)
+    }
+
+    /// Whether a question's last opening is a Call whose results are to be sent elsewhere, as in a tail call (rpc.capnp,
+    /// `Call.sendResultsTo.yourself`).
+    pub fn is_tail(&self, question: TableKey) -> bool
+        ensures { result ≡ is_tail (opening question self.now) }
+    {
+        table_answers::is_tail(&self.questions, question)
+    }
+
+    /// Whether a Return that takes a question's results has passed since its last opening, late or not (rpc.capnp,
+    /// `Return.takeFromOtherQuestion`).
+    pub(crate) fn is_taken(&self, question: TableKey) -> bool
+        ensures { result ≡ is_taken question self.now }
+    {
+        table_answers::is_taken(&self.questions, question)
+    }
+
+    /// The call for which a question stands: that of its last opening, if the question isn't free. A Return that takes
+    /// the results of another question names that question's call so (rpc.capnp, `Return.takeFromOtherQuestion`).
+    pub fn call_of(&self, question: TableKey) -> Option<u64>
+        ensures { result ≡ call_of question self.now }
+    {
+        meaning::call_of(&self.questions, question)
     }
 
     /// The call of a question's last opening, free or not, if it was ever opened.
@@ -637,7 +679,19 @@ impl VatState {
         self.calls.is_settled(call)
     }
 
-    /// Whether a call's results are known: by ANSWER, or by a received Return with results that isn't late.
+    /// The call by whose results a call was answered last, if it was: by ANSWERBY, or by a received Return that isn't
+    /// late and takes the results of another question (rpc.capnp, `Return.takeFromOtherQuestion`).
+    pub fn answered_by(&self, call: u64) -> Option<u64>
+        ensures { result ≡ answered_by call self.now }
+    {
+        match self.turns.handover_of(call) {
+            Some(handover) => Some(handover.by),
+            None => None,
+        }
+    }
+
+    /// Whether a call's results are known: by ANSWER, by ANSWERBY, or by a received Return that isn't late and brings
+    /// them or takes those of another question.
     pub fn is_known(&self, call: u64) -> bool
         ensures { result ≡ is_known call self.now }
     {
@@ -666,7 +720,7 @@ impl VatState {
             &self.turns,
             &self.bound,
             &self.connections,
-            from,
+            BorrowedView::of(from),
             sought,
         )
     }
@@ -683,7 +737,7 @@ impl VatState {
             &self.turns,
             &self.bound,
             &self.connections,
-            from,
+            BorrowedView::of(from),
             sought,
         )
     }

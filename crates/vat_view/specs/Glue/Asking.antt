@@ -1,13 +1,13 @@
 -- For the code's contracts, and no part of the meaning: what the tables answer.
-use Rattle.std.specs.Prelude.{ℕ, ◌+◌, ◌&&◌, Bool, true, false, not, Option, Some, None, option_map, option_and_then, unwrap_or, count_by}
+use Rattle.std.specs.Prelude.{ℕ, ◌+◌, ◌&&◌, Bool, true, false, not, Option, Some, None, if◌then◌else◌, option_map, option_and_then, unwrap_or, count_by}
 use Rattle.std.specs.BTreeMap.{get}
 use Rattle.vat_view.specs.declared.tables.question.Question.{Question}
 use Rattle.vat_view.specs.declared.tables.exports_imports.ExportsImports.{ExportsImports}
 use Rattle.vat_view.specs.declared.preconditions.key_counts.KeyCounts.{KeyCounts}
-use Rattle.vat_view.specs.Types.{Target, Imported, Promised, Release, DecodedRecord, Wire, View, FieldOf, TableKey}
+use Rattle.vat_view.specs.Types.{Target, Imported, Promised, TakeFrom, Return, Release, DecodedRecord, AnswerBy, Wire, View, FieldOf, TableKey}
 use Rattle.vat_view.specs.Past.{id, same_id}
 use Rattle.vat_view.specs.Views.{target_of}
-use Rattle.vat_view.specs.Glue.Tables.{id_cmp, number_by, call_by, count_released, given_back_by}
+use Rattle.vat_view.specs.Glue.Tables.{id_cmp, number_by, call_by, late_by, count_released, given_back_by}
 
 -- what a question's entry says of it
 abbrev pub free_in : Option Question → Bool
@@ -26,6 +26,14 @@ abbrev pub unreturned_in : Option Question → Bool
 unreturned_in (Some known) = not known.returned
 unreturned_in None = false
 
+abbrev pub tail_in : Option Question → Bool
+tail_in (Some known) = known.tail
+tail_in None = false
+
+abbrev pub taken_in : Option Question → Bool
+taken_in (Some known) = known.taken
+taken_in None = false
+
 abbrev pub opening_call_in : Option Question → Option ℕ
 opening_call_in known = option_map (λ known. known.call) known
 
@@ -38,6 +46,13 @@ target_by named lives known k sent (Promised q path) = option_map (λ call. Fiel
 abbrev pub targeted_by : (ℕ → Option View) → ExportsImports → (TableKey → Option Question) → DecodedRecord → Option View
 targeted_by named lives known (Wire sent k call rs m) = option_and_then (target_by named lives known k sent) (target_of m)
 targeted_by named lives known _ = None
+
+-- the call by whose results a record answers another, by the table of questions before the record
+abbrev pub taken_from_by : (TableKey → Option Question) → DecodedRecord → Option ℕ
+taken_from_by known (AnswerBy c by) = Some by
+taken_from_by known (Wire false k c rs (Return q release (TakeFrom n) light)) =
+    if late_by known (Wire false k c rs (Return q release (TakeFrom n) light)) then None else call_by (known (id k false n))
+taken_from_by known _ = None
 
 -- the number that a Release gives back, and how much of it
 abbrev pub let_go_of : DecodedRecord → Option (TableKey × ℕ)

@@ -1,6 +1,6 @@
 -- For the code's contracts, and no part of the meaning: the table of calls, and what looking back finds for each of
 -- them.
-use Rattle.std.specs.Prelude.{◌≡◌, ℕ, ◌==◌, Bool, true, false, Option, Some, None, if◌then◌else◌, option_map, option_and_then}
+use Rattle.std.specs.Prelude.{◌≡◌, ℕ, ◌==◌, Bool, true, false, Option, Some, None, if◌then◌else◌, is_some, option_map, option_and_then}
 use Rattle.rising_table.specs.Entries.{entry_at}
 use Rattle.vat_view.specs.declared.tables.question.Question.{Question}
 use Rattle.vat_view.specs.declared.tables.exports_imports.ExportsImports.{ExportsImports}
@@ -11,14 +11,14 @@ use Rattle.vat_view.specs.declared.tables.call_state.CallChange.{CallChange}
 use Rattle.vat_view.specs.declared.tables.call_state.CallChange.TheVariants.{Left, Delivered, Faulted, Answered, Known}
 use Rattle.vat_view.specs.declared.tables.call_state.CallEffect.{CallEffect}
 use Rattle.vat_view.specs.declared.tables.call_state.CallEffect.TheVariants.{Nothing, Begins, Moves}
-use Rattle.vat_view.specs.Types.{Bootstrap, Call, Return, Results, Exception, Canceled, Elsewhere, TakeFrom, DecodedRecord, Make, Deliver, Answer, Fault, Wire, View, Asked, TableKey}
+use Rattle.vat_view.specs.Types.{Bootstrap, Call, Return, Results, Exception, Canceled, TakeFrom, DecodedRecord, Make, Deliver, Answer, AnswerBy, Fault, Wire, View, Asked, TableKey}
 use Rattle.vat_view.specs.Past.{Past, id}
 use Rattle.vat_view.specs.Questions.{is_late, call_at, opening}
 use Rattle.vat_view.specs.Views.{view_of_reference, view_of_target}
-use Rattle.vat_view.specs.Calls.{request_of, is_at_vat, is_served, is_settled, is_known}
+use Rattle.vat_view.specs.Calls.{request_of, is_at_vat, is_served, is_settled, is_known, call_taken_from}
 use Rattle.vat_view.specs.Bindings.{is_bound_call}
 use Rattle.vat_view.specs.Glue.Tables.{late_by}
-use Rattle.vat_view.specs.Glue.Asking.{opening_call_in, targeted_by}
+use Rattle.vat_view.specs.Glue.Asking.{opening_call_in, targeted_by, taken_from_by}
 
 -- the goal that an entry has
 abbrev pub aim_in : CallEntry → Option View
@@ -104,34 +104,37 @@ sent_effect opened (Wire true k c rs (Bootstrap q)) = Begins c (bootstrap_call f
 sent_effect opened (Wire true k c rs (Call q target interface method params yourself)) = Moves c Left
 sent_effect opened (Wire true k c rs (Return q release Exception light)) = change_of_call Left (opened (id k false q))
 sent_effect opened (Wire true k c rs (Return q release Canceled light)) = change_of_call Left (opened (id k false q))
-sent_effect opened (Wire true k c rs (Return q release Elsewhere light)) = change_of_call Left (opened (id k false q))
-sent_effect opened (Wire true k c rs (Return q release (TakeFrom n) light)) = change_of_call Left (opened (id k false q))
 sent_effect opened _ = Nothing
 
--- what a received record tells of calls, by the views of targets, whether it is late, and the calls of questions
-abbrev pub received_effect : Option View → Bool → (TableKey → Option ℕ) → DecodedRecord → CallEffect
-received_effect target late opened (Wire false k c rs (Bootstrap q)) = Begins c (bootstrap_call true)
-received_effect target late opened (Wire false k c rs (Call q t interface method params yourself)) = Begins c (arriving_call target interface method)
-received_effect target late opened (Wire false k c rs (Return q release (Results payload) light)) = if late then Nothing else change_of_call Known (opened (id k true q))
-received_effect target late opened _ = Nothing
+-- what a received record tells of calls, by the views of targets, whether it is late, the call whose results it takes,
+-- and the calls of questions
+abbrev pub received_effect : Option View → Bool → Option ℕ → (TableKey → Option ℕ) → DecodedRecord → CallEffect
+received_effect target late taken opened (Wire false k c rs (Bootstrap q)) = Begins c (bootstrap_call true)
+received_effect target late taken opened (Wire false k c rs (Call q t interface method params yourself)) = Begins c (arriving_call target interface method)
+received_effect target late taken opened (Wire false k c rs (Return q release (Results payload) light)) = if late then Nothing else change_of_call Known (opened (id k true q))
+received_effect target late taken opened (Wire false k c rs (Return q release (TakeFrom n) light)) =
+    if is_some taken then change_of_call Known (opened (id k true q)) else Nothing
+received_effect target late taken opened _ = Nothing
 
 -- what a record tells of calls
-abbrev pub effect_from : (ℕ → Option View) → Option View → Bool → (TableKey → Option ℕ) → DecodedRecord → CallEffect
-effect_from named target late opened (Make c r interface method) = Begins c (arriving_call (named r) interface method)
-effect_from named target late opened (Deliver c object) = Moves c Delivered
-effect_from named target late opened (Answer c results) = Moves c Answered
-effect_from named target late opened (Fault c) = Moves c Faulted
-effect_from named target late opened (Wire true k c rs m) = sent_effect opened (Wire true k c rs m)
-effect_from named target late opened (Wire false k c rs m) = received_effect target late opened (Wire false k c rs m)
-effect_from named target late opened _ = Nothing
+abbrev pub effect_from : (ℕ → Option View) → Option View → Bool → Option ℕ → (TableKey → Option ℕ) → DecodedRecord → CallEffect
+effect_from named target late taken opened (Make c r interface method) = Begins c (arriving_call (named r) interface method)
+effect_from named target late taken opened (Deliver c object) = Moves c Delivered
+effect_from named target late taken opened (Answer c results) = Moves c Answered
+effect_from named target late taken opened (AnswerBy c by) = Moves c Answered
+effect_from named target late taken opened (Fault c) = Moves c Faulted
+effect_from named target late taken opened (Wire true k c rs m) = sent_effect opened (Wire true k c rs m)
+effect_from named target late taken opened (Wire false k c rs m) = received_effect target late taken opened (Wire false k c rs m)
+effect_from named target late taken opened _ = Nothing
 
 -- by the tables
 abbrev pub effect_by : (ℕ → Option View) → ExportsImports → (TableKey → Option Question) → DecodedRecord → CallEffect
-effect_by named lives known e = effect_from named (targeted_by named lives known e) (late_by known e) (λ q. opening_call_in (known q)) e
+effect_by named lives known e = effect_from named (targeted_by named lives known e) (late_by known e) (taken_from_by known e) (λ q. opening_call_in (known q)) e
 
 -- by looking back
 abbrev pub effect_of : Past → DecodedRecord → CallEffect
-effect_of before e = effect_from (view_of_reference before) (view_of_target before e) (is_late before e) (λ q. call_at (opening q before)) e
+effect_of before e =
+    effect_from (view_of_reference before) (view_of_target before e) (is_late before e) (call_taken_from before e) (λ q. call_at (opening q before)) e
 
 -- what is known of a call after some news
 abbrev pub after_effect : CallEffect → ℕ → Option CallState → Option CallState

@@ -90,8 +90,6 @@ call_taken_by opened (Fault c) = Some c
 call_taken_by opened (Wire true k c rs (Call q target interface method params yourself)) = Some c
 call_taken_by opened (Wire true k c rs (Return q release Exception light)) = opened (id k false q)
 call_taken_by opened (Wire true k c rs (Return q release Canceled light)) = opened (id k false q)
-call_taken_by opened (Wire true k c rs (Return q release Elsewhere light)) = opened (id k false q)
-call_taken_by opened (Wire true k c rs (Return q release (TakeFrom n) light)) = opened (id k false q)
 call_taken_by opened _ = None
 
 -- the table has room for a call, if there is one

@@ -17,7 +17,7 @@ use Rattle.vat_view.specs.contracts.record.table_key.TableKeyOrd.TheImpl as id_o
 use Rattle.vat_view.specs.Types.{Descriptor, NoCap, SenderHosted, SenderPromise, ReceiverHosted, ReceiverAnswer, Return, Finish, Release, DecodedRecord, Host, Vow, Field, Wire, View, Object, Promise, FieldOf, Import, TableKey}
 use Rattle.vat_view.specs.Glue.Sides.{value_at}
 use Rattle.vat_view.specs.Past.{Past, id, same_id, names, record_index, last_answer}
-use Rattle.vat_view.specs.Questions.{is_late, question_returned, question_finished, question_released, noted_call, opening, return_of, is_returned, is_finished, is_released}
+use Rattle.vat_view.specs.Questions.{is_late, question_returned, question_finished, question_released, question_taken, asks_elsewhere, noted_call, opening, return_of, is_returned, is_finished, is_released, is_taken}
 use Rattle.vat_view.specs.Uses.{UsesQuestions}
 use Rattle.vat_view.specs.Bindings.{Refers, NotesEach}
 use Rattle.vat_view.specs.Views.{placed_references, references, view_of_reference}
@@ -47,9 +47,11 @@ IsSameQuestions old new = (other : TableKey) → question_at new other ≡ quest
 abbrev pub question_known : TableKey → Past → Option Question
 question_known q past = option_map (λ p. record {
   call = noted_call p.event;
+  tail = asks_elsewhere p.event;
   returned = is_returned q past;
   finished = is_finished q past;
   released = is_released q past;
+  taken = is_taken q past;
   asked = introductions p.before p.event;
   brought = introductions_at (return_of q past);
 }) (opening q past)
@@ -150,10 +152,11 @@ given_back_by known (Wire sent k call references (Finish q true)) = results_intr
 given_back_by known _ = []
 
 -- a question that was just opened, with what its opening introduced
-abbrev pub just_opened : ℕ → List TableKey → Question
-just_opened call asked = record { call = call; returned = false; finished = false; released = false; asked = asked; brought = [] }
+abbrev pub just_opened : ℕ → Bool → List TableKey → Question
+just_opened call tail asked = record { call = call; tail = tail; returned = false; finished = false; released = false; taken = false; asked = asked; brought = [] }
 
--- a question whose Return has passed and introduced these, whose Finish has passed, and whose results were given back
+-- a question whose Return has passed and introduced these, whose Finish has passed, whose results were given back, and
+-- whose results were taken
 abbrev pub with_return : List TableKey → Question → Question
 with_return brought known = record known { returned = true; brought = brought }
 
@@ -163,6 +166,9 @@ with_finish known = record known { finished = true }
 abbrev pub with_release : Question → Question
 with_release known = record known { released = true }
 
+abbrev pub with_taken : Question → Question
+with_taken known = record known { taken = true }
+
 -- what is known of a question, changed so where this is the one that is named
 abbrev pub changed_if : Bool → (Question → Question) → Option Question → Option Question
 changed_if named change known = if named then option_map change known else known
@@ -170,7 +176,8 @@ changed_if named change known = if named then option_map change known else known
 -- what a record that opens no question, and introduces these numbers, makes of what is known of a question
 abbrev pub noted_by : DecodedRecord → List TableKey → TableKey → Option Question → Option Question
 noted_by e introduced q known =
-    changed_if (names q (question_released e)) with_release (changed_if (names q (question_finished e)) with_finish (changed_if (names q (question_returned e)) (with_return introduced) known))
+    changed_if (names q (question_taken e)) with_taken
+    (changed_if (names q (question_released e)) with_release (changed_if (names q (question_finished e)) with_finish (changed_if (names q (question_returned e)) (with_return introduced) known)))
 
 -- the view that the table has of a reference
 abbrev pub bound_at : BoundReferences → ℕ → Option View

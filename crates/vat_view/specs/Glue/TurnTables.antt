@@ -1,8 +1,9 @@
 -- For the code's contracts, and no part of the meaning: the table of turns, what looking back finds for its keys, and
 -- walks by so many turns.
-use Rattle.std.specs.Prelude.{◌≡◌, ◌⊎◌, ◌≤◌, ℕ, zero, suc, ◌==◌, ◌&&◌, List, ◌∷◌, [], Bool, true, false, Option, Some, None, option_map, option_and_then, find, slice_get, is_some, length}
+use Rattle.std.specs.Prelude.{◌≡◌, ◌⊎◌, ◌≤◌, ℕ, zero, suc, ◌+◌, ◌*◌, ◌==◌, ◌&&◌, List, ◌∷◌, [], Bool, true, false, Option, Some, None, if◌then◌else◌, option_map, option_and_then, find, slice_get, is_some, length}
 use Rattle.std.specs.declared.cmp.Ordering.{Ordering}
 use Rattle.std.specs.BTreeMap.{get}
+use Rattle.std.specs.Option.{option_or}
 use Rattle.std.specs.Str.{bytes_eq as same_path}
 use Rattle.rising_table.specs.Entries.{entry_at}
 use Rattle.vat_view.specs.declared.tables.question.Question.{Question}
@@ -14,12 +15,18 @@ use Rattle.vat_view.specs.declared.record.origin.Origin.{Origin}
 use Rattle.vat_view.specs.declared.record.unsettled.Unsettled.{Unsettled}
 use Rattle.vat_view.specs.declared.record.unsettled.Unsettled.TheVariants.{Promise as PromiseToKeep, Results as ResultsOf, Import as ImportToResolve}
 use Rattle.vat_view.specs.declared.tables.settlements.Settlements.{Settlements}
+use Rattle.vat_view.specs.declared.tables.settlements.Settling.{Settling}
+use Rattle.vat_view.specs.declared.tables.handovers.Handovers.{Handovers}
+use Rattle.vat_view.specs.declared.tables.handovers.Handover.{Handover}
+use Rattle.vat_view.specs.declared.walks.turn_target.Landing.{Landing}
+use Rattle.vat_view.specs.declared.walks.turn_target.Landing.TheVariants.{Reference as ToReference, Call as ToCall}
 use Rattle.vat_view.specs.contracts.record.unsettled.UnsettledOrd.TheImpl as pending_order
-use Rattle.vat_view.specs.Types.{Results, Return, Resolve, DecodedRecord, Fulfil, Break, Answer, Fault, Wire, View, Object, Promise, FieldOf, Import, TableKey}
-use Rattle.vat_view.specs.Past.{Past, Point, id, record_index, last_where, Each}
+use Rattle.vat_view.specs.Types.{Outcome, Results, Elsewhere, Return, Resolve, DecodedRecord, Fulfil, Break, Answer, AnswerBy, Fault, Wire, View, Object, Promise, FieldOf, Import, TableKey}
+use Rattle.vat_view.specs.Past.{Past, Point, id, record_index, last_answer, last_where, Each}
 use Rattle.vat_view.specs.Questions.{call_at, opening}
 use Rattle.vat_view.specs.Lives.{Birth, birth}
 use Rattle.vat_view.specs.Views.{placed_references, view_of_reference}
+use Rattle.vat_view.specs.Calls.{answerer, call_taken_from}
 use Rattle.vat_view.specs.Walks.{Next, turns, stays, on_to, next}
 use Rattle.vat_view.specs.Bindings.{is_bound}
 use Rattle.vat_view.specs.Glue.Tables.{bound_at, held_origin}
@@ -59,13 +66,19 @@ promise_of _ = None
 abbrev pub import_at : Birth → Unsettled
 import_at b = ImportToResolve (record_index b.from) b.place
 
+-- a Return settles its call, unless its results went elsewhere
+abbrev pub unless_elsewhere : Outcome → Option Unsettled → Option Unsettled
+unless_elsewhere Elsewhere s = None
+unless_elsewhere _ s = s
+
 -- what a record settles: the promise that it keeps or breaks, the call that it ends, the import that it resolves
 abbrev pub settlement_of : Past → DecodedRecord → Option Unsettled
 settlement_of before (Fulfil r to) = promise_of (view_of_reference before r)
 settlement_of before (Break r) = promise_of (view_of_reference before r)
 settlement_of before (Answer c results) = Some (ResultsOf c)
+settlement_of before (AnswerBy c by) = Some (ResultsOf c)
 settlement_of before (Fault c) = Some (ResultsOf c)
-settlement_of before (Wire false k c rs (Return q release outcome light)) = option_map ResultsOf (call_at (opening (id k true q) before))
+settlement_of before (Wire false k c rs (Return q release outcome light)) = unless_elsewhere outcome (option_map ResultsOf (call_at (opening (id k true q) before)))
 settlement_of before (Wire false k c rs (Resolve n resolution)) = option_map import_at (birth (id k false n) before)
 settlement_of before _ = None
 
@@ -82,8 +95,9 @@ abbrev pub settled_by : (ℕ → Option View) → ExportsImports → (TableKey �
 settled_by named lives known (Fulfil r to) = promise_of (named r)
 settled_by named lives known (Break r) = promise_of (named r)
 settled_by named lives known (Answer c results) = Some (ResultsOf c)
+settled_by named lives known (AnswerBy c by) = Some (ResultsOf c)
 settled_by named lives known (Fault c) = Some (ResultsOf c)
-settled_by named lives known (Wire false k c rs (Return q release outcome light)) = results_by (known (id k true q))
+settled_by named lives known (Wire false k c rs (Return q release outcome light)) = unless_elsewhere outcome (results_by (known (id k true q)))
 settled_by named lives known (Wire false k c rs (Resolve n resolution)) = import_by (held_origin lives (id k false n))
 settled_by named lives known _ = None
 
@@ -102,18 +116,55 @@ turn_target path (Wire s k c rs (Return q release (Results payload) light)) =
 turn_target path (Wire s k c rs (Resolve n resolution)) = reference_at (Wire s k c rs (Resolve n resolution)) 0
 turn_target path _ = None
 
--- where a view of this path goes by the record that settled it, where references are named; it stays where none did
-abbrev pub goes : (ℕ → Option View) → List ℕ → Option DecodedRecord → Next
-goes named path (Some e) = on_to (option_and_then named (turn_target path e))
+-- a record that settled something, and the call by whose results it did, if there is one
+abbrev pub Settler : Type 0
+Settler = DecodedRecord × Option ℕ
+
+-- where a view of this path goes by what settled it, where references are named: to the same field of the call by which
+-- it did, or to the view of a reference; it stays where nothing did
+abbrev pub goes : (ℕ → Option View) → List ℕ → Option Settler → Next
+goes named path (Some (e, Some by)) = turns (FieldOf by path)
+goes named path (Some (e, None)) = on_to (option_and_then named (turn_target path e))
 goes named path None = stays
+
+-- the same as the code has it: the reference or the call to which it turns
+abbrev pub landing_of : List ℕ → Settler → Option Landing
+landing_of path (e, Some by) = Some (ToCall by)
+landing_of path (e, None) = option_map ToReference (turn_target path e)
+
+-- the view to which it turns so
+abbrev pub landing_view : (ℕ → Option View) → List ℕ → Landing → Option View
+landing_view named path (ToReference r) = named r
+landing_view named path (ToCall c) = Some (FieldOf c path)
 
 -- the last record that settled this
 abbrev pub settler : Unsettled → Past → Option Point
 settler p past = last_where (λ before e. is_this p (settlement_of before e)) past
 
+-- the call by whose results a record settled something: only of a call's results
+abbrev pub call_behind : Unsettled → Past → DecodedRecord → Option ℕ
+call_behind (ResultsOf c) before e = call_taken_from before e
+call_behind _ before e = None
+
+-- a record that settled something, with that call
+abbrev pub settler_at_point : Unsettled → Point → Settler
+settler_at_point p q = (q.event, call_behind p q.before q.event)
+
 -- the last record that settled a view
-abbrev pub settler_of : View → Past → Option DecodedRecord
-settler_of v past = option_map (λ p. p.event) (option_and_then (λ p. settler p past) (awaited_by v))
+abbrev pub settler_of : View → Past → Option Settler
+settler_of v past = option_and_then (λ p. option_map (settler_at_point p) (settler p past)) (awaited_by v)
+
+-- the record of this number answers by this call
+abbrev pub handing : ℕ → ℕ → Handover
+handing number by = record { number = number; by = by }
+
+-- a record answers this call by another
+abbrev pub handover_by : ℕ → Past → DecodedRecord → Option Handover
+handover_by c before e = option_map (handing (length before)) (answerer c before e)
+
+-- the last record that did
+abbrev pub handover_of : ℕ → Past → Option Handover
+handover_of c past = last_answer (handover_by c) past
 
 -- each reference to which a record turns something is bound
 abbrev pub LandsBound : Past → DecodedRecord → Type 0
@@ -142,28 +193,94 @@ has_room_to_settle table (Some (ResultsOf c)) = is_some (entry_at table.results 
 has_room_to_settle table (Some (ImportToResolve i place)) = is_some (get pending_cmp table.imports (ImportToResolve i place))
 has_room_to_settle table None = true
 
--- the table of turns at a point of a log: for each thing it has the last record that settled it; each view goes where
--- the record that settled it says, and what it goes to is bound
+-- the last record that answered a call by another, by the table of these
+abbrev pub handover_in : Handovers → ℕ → Option Handover
+handover_in table c = option_and_then (λ handover. handover) (entry_at table.entries c)
+
+-- that table has room for this call, if there is one
+abbrev pub has_room_for_handover : Handovers → Option ℕ → Bool
+has_room_for_handover table (Some c) = is_some (entry_at table.entries c)
+has_room_for_handover table None = true
+
+-- how many calls have an entry in it
+abbrev pub handovers_len : Handovers → ℕ
+handovers_len table = length table.entries
+
+-- the same by the table of turns
+abbrev pub handover_at : Settlements → ℕ → Option Handover
+handover_at table c = handover_in table.handovers c
+
+-- the call that is answered by another, where a record settles so
+abbrev pub handed_call : Option Unsettled → Option ℕ → Option ℕ
+handed_call (Some (ResultsOf c)) (Some by) = Some c
+handed_call _ _ = None
+
+-- what the table has of a call after the record of this number settled so
+abbrev pub handover_after : Settling → ℕ → ℕ → Option Handover → Option Handover
+handover_after settling number c old =
+    if is_this (ResultsOf c) settling.settled then option_or (option_map (handing number) settling.by) old else old
+
+-- a table says the same as before
+pub record SaysSameTurns (old new : Settlements) : Type 0 where
+  pub settlers : (p : Unsettled) → settler_at new p ≡ settler_at old p
+  pub handed : (c : ℕ) → handover_at new c ≡ handover_at old c
+
+-- a table says what it said before, and that the record of this number settled so
+pub record IsNoted (settling : Settling) (number : ℕ) (old new : Settlements) : Type 0 where
+  pub settlers : (p : Unsettled) → settler_at new p ≡ (if is_this p settling.settled then Some number else settler_at old p)
+  pub handed : (c : ℕ) → handover_at new c ≡ handover_after settling number c (handover_at old c)
+
+-- the call by whose results the record of this number settled, where the last record that did so has this number
+abbrev pub by_handover : ℕ → Option Handover → Option ℕ
+by_handover number (Some handover) = if handover.number == number then Some handover.by else None
+by_handover number None = None
+
+-- the table of turns at a point of a log: for each thing it has the last record that settled it, and for each call the
+-- last that answered it by another; each view goes where the record that settled it says, and what it goes to is bound
 pub record AreSettled (past : Past) (table : Settlements) : Type 0 where
   pub settlers : (p : Unsettled) → settler_at table p ≡ option_map record_index (settler p past)
+  pub handed : (c : ℕ) → handover_at table c ≡ handover_of c past
   pub going : (v : View) → next past v ≡ goes (view_of_reference past) (field_path v) (settler_of v past)
   pub landed : Each LandsBound past
 
--- the record that settled a view, by the table, among these records with the oldest first
-abbrev pub settler_by : Settlements → List DecodedRecord → View → Option DecodedRecord
-settler_by table events v = option_and_then (slice_get events) (option_and_then (settler_at table) (awaited_by v))
+-- the call by whose results the record of this number settled something, by the table
+abbrev pub call_behind_by : Settlements → Unsettled → ℕ → Option ℕ
+call_behind_by table (ResultsOf c) number = by_handover number (handover_at table c)
+call_behind_by table _ number = None
+
+-- the record of this number, which settled something, with that call, among these records with the oldest first
+abbrev pub settler_numbered : Settlements → List DecodedRecord → Unsettled → ℕ → Option Settler
+settler_numbered table events p number = option_map (λ e. (e, call_behind_by table p number)) (slice_get events number)
+
+-- the record that settled a view, by the table
+abbrev pub settler_by : Settlements → List DecodedRecord → View → Option Settler
+settler_by table events v = option_and_then (λ p. option_and_then (settler_numbered table events p) (settler_at table p)) (awaited_by v)
 
 -- where a view goes next, by the table
 abbrev pub goes_by : List DecodedRecord → Settlements → (ℕ → Option View) → View → Next
 goes_by events table named v = goes named (field_path v) (settler_by table events v)
 
--- the reference to which the record that settled a view turns it, by the table
-abbrev pub landed_by : List DecodedRecord → Settlements → View → Option ℕ
-landed_by events table v = option_and_then (turn_target (field_path v)) (settler_by table events v)
+-- the reference or call to which the record that settled a view turns it, by the table
+abbrev pub landed_by : List DecodedRecord → Settlements → View → Option Landing
+landed_by events table v = option_and_then (landing_of (field_path v)) (settler_by table events v)
+
+-- the reference, where it is one
+abbrev pub landed_reference : Landing → Option ℕ
+landed_reference (ToReference r) = Some r
+landed_reference (ToCall c) = None
+
+-- the reference to which it turns, where it turns to one
+abbrev pub reference_by : List DecodedRecord → Settlements → View → Option ℕ
+reference_by events table v = option_and_then landed_reference (landed_by events table v)
 
 -- how many references are bound
 abbrev pub bound_len : BoundReferences → ℕ
 bound_len table = length table.entries
+
+-- how many turns a walk makes at most that doesn't go in a circle: it goes to references, to each once, and from the
+-- first view and from each of these by calls, to each once
+abbrev pub most_turns : Settlements → BoundReferences → ℕ
+most_turns table bound = handovers_len table.handovers * (bound_len bound + 1) + bound_len bound
 
 -- from a reference to itself
 abbrev pub own_leap : ℕ → Shortcut
@@ -184,7 +301,7 @@ IsOwnOrOld before after = (r : ℕ) (q : Shortcut) → ahead_at after r ≡ Some
 
 -- where the reference ahead of this one lands
 abbrev pub onward_by : List DecodedRecord → Settlements → BoundReferences → ℕ → Option ℕ
-onward_by events table bound r = option_and_then (landed_by events table) (option_and_then (λ leap. bound_at bound leap.to) (ahead_at bound r))
+onward_by events table bound r = option_and_then (reference_by events table) (option_and_then (λ leap. bound_at bound leap.to) (ahead_at bound r))
 
 -- ---- walks
 

@@ -2,12 +2,13 @@
 
 ghost use Rattle.std.specs.Prelude.{◌≡◌, IfOk};
 ghost use Rattle.vat_view.specs.Glue.Tables.{bound_at, question_at, late_by};
-ghost use Rattle.vat_view.specs.Glue.Asking.{opening_call_in, targeted_by};
+ghost use Rattle.vat_view.specs.Glue.Asking.{opening_call_in, targeted_by, taken_from_by};
 ghost use Rattle.vat_view.specs.Glue.CallTables.{arriving_call, bootstrap_call, change_of_call, sent_effect, received_effect, effect_by};
 
 use crate::apply::tables::is_late;
 use crate::asked::Asked;
 use crate::lookups::meaning::view_of_reference;
+use crate::lookups::settling::taken_from_by;
 use crate::lookups::table_answers::{opening_call, view_of_target};
 use crate::record::decoded::DecodedRecord;
 use crate::record::table_key::TableKey;
@@ -79,10 +80,7 @@ fn sent_effect(questions: &Questions, event: &DecodedRecord) -> CallEffect
         RpcMessage::Call { .. } => CallEffect::Moves(*call, CallChange::Left),
         RpcMessage::Return {
             answer: number,
-            outcome: Outcome::Exception
-            | Outcome::Canceled
-            | Outcome::Elsewhere
-            | Outcome::TakeFrom(_),
+            outcome: Outcome::Exception | Outcome::Canceled,
             ..
         } => {
             let question = TableKey {
@@ -107,6 +105,7 @@ fn received_effect(
         (λ news. news ≡ received_effect
         (targeted_by (bound_at bound.now) lives.now (question_at questions.now) event.now)
         (late_by (question_at questions.now) event.now)
+        (taken_from_by (question_at questions.now) event.now)
         (λ q. opening_call_in (question_at questions.now q)) event.now) }
 {
     let DecodedRecord::Wire {
@@ -144,6 +143,21 @@ fn received_effect(
             };
             Ok(step_of(CallChange::Known, opening_call(questions, question)))
         }
+        RpcMessage::Return {
+            answer: number,
+            outcome: Outcome::TakeFrom(_),
+            ..
+        } => {
+            if taken_from_by(questions, event).is_none() {
+                return Ok(CallEffect::Nothing);
+            }
+            let question = TableKey {
+                connection: *connection,
+                ours: true,
+                number: *number,
+            };
+            Ok(step_of(CallChange::Known, opening_call(questions, question)))
+        }
         _ => Ok(CallEffect::Nothing),
     }
 }
@@ -170,7 +184,9 @@ pub(crate) fn effect_of(
             Ok(CallEffect::Begins(*call, arriving_call(goal, *interface, *method)))
         }
         DecodedRecord::Deliver { call, .. } => Ok(CallEffect::Moves(*call, CallChange::Delivered)),
-        DecodedRecord::Answer { call, .. } => Ok(CallEffect::Moves(*call, CallChange::Answered)),
+        DecodedRecord::Answer { call, .. } | DecodedRecord::AnswerBy { call, .. } => {
+            Ok(CallEffect::Moves(*call, CallChange::Answered))
+        }
         DecodedRecord::Fault { call } => Ok(CallEffect::Moves(*call, CallChange::Faulted)),
         DecodedRecord::Wire { sent: true, .. } => Ok(sent_effect(questions, event)),
         DecodedRecord::Wire { sent: false, .. } => received_effect(bound, lives, questions, event),

@@ -3,7 +3,7 @@
 ghost use Rattle.std.specs.Prelude.{◌≡◌, ◌+◌, ◌-◌, ◌<◌, ◌∷◌, length, count_by, OnOk, OnErr};
 ghost use Rattle.vat_view.specs.Types.{TableKey};
 ghost use Rattle.vat_view.specs.Past.{Past, same_id};
-ghost use Rattle.vat_view.specs.Questions.{noted_call};
+ghost use Rattle.vat_view.specs.Questions.{noted_call, asks_elsewhere};
 ghost use Rattle.vat_view.specs.Lives.{GivesBackHeld};
 ghost use Rattle.vat_view.specs.Uses.{UsesQuestions};
 ghost use Rattle.vat_view.specs.Glue.TurnTables.{IsOwnOrOld};
@@ -12,8 +12,8 @@ ghost use Rattle.vat_view.specs.Glue.Tables.{question_at, late_by, given_back_by
 use crate::record::bindings::{bindings, introduced_by, new_references};
 use crate::record::decoded::DecodedRecord;
 use crate::record::effects::{
-    introductions, noted_call, origins, question_finished, question_opened, question_released,
-    question_returned,
+    asks_elsewhere, introductions, noted_call, origins, question_finished, question_opened,
+    question_released, question_returned, question_taken,
 };
 use crate::record::origin::Origin;
 use crate::record::table_key::TableKey;
@@ -91,7 +91,7 @@ pub(crate) fn release(lives: &mut ExportsImports, event: &DecodedRecord)
     }
 }
 
-/// Notes what a record does to the question that it returns or finishes.
+/// Notes what a record does to the question that it returns or finishes, and to the one whose results it takes.
 pub(crate) fn note_on_question(
     questions: &mut Questions,
     event: &DecodedRecord,
@@ -106,6 +106,9 @@ pub(crate) fn note_on_question(
     if let Some(question) = question_finished(event) {
         questions.note_finish(question, question_released(event).is_some());
     }
+    if let Some(question) = question_taken(event) {
+        questions.note_taken(question);
+    }
 }
 
 /// A record opened this question and introduced these numbers. Where memory is refused, nothing changes but the
@@ -119,7 +122,9 @@ pub(crate) fn apply_opening(
     origins: &[(TableKey, Origin)],
 ) -> Result<(), AllocError>
     ensures known { OnOk result
-        (IsPut question (just_opened (noted_call event.now) numbers) questions.old questions.new) }
+        (IsPut question
+        (just_opened (noted_call event.now) (asks_elsewhere event.now) numbers)
+        questions.old questions.new) }
     ensures counted { OnOk result
         ((i : TableKey) → count_at lives.new i
         ≡ count_at lives.old i + count_by (λ x. same_id i x.0) origins.now) }
@@ -136,9 +141,11 @@ pub(crate) fn apply_opening(
     lives.raise_each(origins)?;
     let known = Question {
         call: noted_call(event),
+        tail: asks_elsewhere(event),
         returned: false,
         finished: false,
         released: false,
+        taken: false,
         asked: numbers,
         brought: TableKeys::none(),
     };

@@ -2,16 +2,20 @@
 
 ghost use Rattle.std.specs.Prelude.{◌≡◌};
 ghost use Rattle.vat_view.specs.Glue.Tables.{bound_at, question_at, held_origin};
+ghost use Rattle.vat_view.specs.Glue.Asking.{taken_from_by};
 ghost use Rattle.vat_view.specs.Glue.TurnTables.{promise_of, results_by, import_by, settled_by};
 
+use crate::apply::tables::is_late;
+use crate::lookups::meaning::call_of;
 use crate::record::decoded::DecodedRecord;
 use crate::record::table_key::TableKey;
 use crate::record::unsettled::Unsettled;
 use crate::tables::exports_imports::ExportsImports;
 use crate::tables::questions::Questions;
 use crate::tables::references::BoundReferences;
+use crate::tables::settlements::Settling;
 use crate::view::View;
-use rpc_view::RpcMessage;
+use rpc_view::{Outcome, RpcMessage};
 
 /// The own promise for which a reference stands.
 fn promise_of(bound: &BoundReferences, reference: u64) -> Option<Unsettled>
@@ -44,7 +48,7 @@ fn import_of(lives: &ExportsImports, number: TableKey) -> Option<Unsettled>
 }
 
 /// What a record settles, by the tables before it.
-pub(crate) fn settled_by(
+fn settled_by(
     questions: &Questions,
     lives: &ExportsImports,
     bound: &BoundReferences,
@@ -57,9 +61,17 @@ pub(crate) fn settled_by(
         DecodedRecord::Fulfil { reference, .. } | DecodedRecord::Break { reference } => {
             promise_of(bound, *reference)
         }
-        DecodedRecord::Answer { call, .. } | DecodedRecord::Fault { call } => Some(
-            Unsettled::Results(*call),
-        ),
+        DecodedRecord::Answer { call, .. }
+        | DecodedRecord::AnswerBy { call, .. }
+        | DecodedRecord::Fault { call } => Some(Unsettled::Results(*call)),
+        DecodedRecord::Wire {
+            sent: false,
+            message: RpcMessage::Return {
+                outcome: Outcome::Elsewhere,
+                ..
+            },
+            ..
+        } => None,
         DecodedRecord::Wire {
             sent: false,
             connection,
@@ -90,5 +102,51 @@ pub(crate) fn settled_by(
             },
         ),
         _ => None,
+    }
+}
+
+/// The call by whose results a record answers another, by the table of questions before it.
+pub(crate) fn taken_from_by(questions: &Questions, event: &DecodedRecord) -> Option<u64>
+    ensures { result ≡ taken_from_by (question_at questions.now) event.now }
+{
+    match event {
+        DecodedRecord::AnswerBy { by, .. } => Some(*by),
+        DecodedRecord::Wire {
+            sent: false,
+            connection,
+            message: RpcMessage::Return {
+                outcome: Outcome::TakeFrom(number),
+                ..
+            },
+            ..
+        } => {
+            if is_late(questions, event) {
+                return None;
+            }
+            let question = TableKey {
+                connection: *connection,
+                ours: false,
+                number: *number,
+            };
+            call_of(questions, question)
+        }
+        _ => None,
+    }
+}
+
+/// What a record settles, and the call by whose results it does, by the tables before it.
+pub(crate) fn settling_of(
+    questions: &Questions,
+    lives: &ExportsImports,
+    bound: &BoundReferences,
+    event: &DecodedRecord,
+) -> Settling
+    ensures settled { result.settled ≡ settled_by (bound_at bound.now) lives.now
+        (question_at questions.now) event.now }
+    ensures by { result.by ≡ taken_from_by (question_at questions.now) event.now }
+{
+    Settling {
+        settled: settled_by(questions, lives, bound, event),
+        by: taken_from_by(questions, event),
     }
 }

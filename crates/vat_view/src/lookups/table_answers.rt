@@ -5,7 +5,7 @@ ghost use Rattle.vat_view.specs.Past.{same_id};
 ghost use Rattle.vat_view.specs.Types.{TableKey};
 ghost use Rattle.vat_view.specs.Lives.{descriptors};
 ghost use Rattle.vat_view.specs.Glue.Tables.{question_at, count_at, bound_at, view_by};
-ghost use Rattle.vat_view.specs.Glue.Asking.{free_in, unfinished_in, finished_in, unreturned_in, opening_call_in, targeted_by, let_go_of, given_by};
+ghost use Rattle.vat_view.specs.Glue.Asking.{free_in, unfinished_in, finished_in, unreturned_in, tail_in, taken_in, opening_call_in, targeted_by, let_go_of, given_by};
 
 use crate::apply::tables::given_back_by;
 use crate::lookups::meaning::{field_of, view_of_number};
@@ -58,6 +58,26 @@ pub(crate) fn is_unreturned(questions: &Questions, question: TableKey) -> bool
 {
     match questions.of(question) {
         Some(known) => !known.returned,
+        None => false,
+    }
+}
+
+/// Whether a question's last opening is a Call whose results are to be sent elsewhere.
+pub(crate) fn is_tail(questions: &Questions, question: TableKey) -> bool
+    ensures { result ≡ tail_in (question_at questions.now question) }
+{
+    match questions.of(question) {
+        Some(known) => known.tail,
+        None => false,
+    }
+}
+
+/// Whether a question's results were taken.
+pub(crate) fn is_taken(questions: &Questions, question: TableKey) -> bool
+    ensures { result ≡ taken_in (question_at questions.now question) }
+{
+    match questions.of(question) {
+        Some(known) => known.taken,
         None => false,
     }
 }

@@ -8,6 +8,7 @@ use crate::preconditions::reference_set::ReferenceSet;
 use crate::preconditions::uses::all_three;
 use crate::record::decoded::DecodedRecord;
 use crate::state::VatState;
+use rpc_view::RpcMessage;
 use std::alloc::{AllocError, Global};
 use vat_log::ResultReferences;
 
@@ -85,13 +86,24 @@ fn names_bound(state: &VatState, event: &DecodedRecord) -> bool
     }
 }
 
-/// Whether the other call that a record names, if it does, is bound.
-fn names_bound_call(state: &VatState, event: &DecodedRecord) -> bool
+/// Whether the other calls that a record names are bound.
+fn names_bound_calls(state: &VatState, event: &DecodedRecord) -> bool
     ensures { result ≡ list_all (is_bound_call state.now) (named_calls event.now) }
 {
-    match event.named_call() {
-        Some(call) => state.is_bound_call(call),
-        None => true,
+    match event {
+        DecodedRecord::AnswerBy { call, by } => state.is_bound_call(*call)
+            && state.is_bound_call(*by),
+        DecodedRecord::Field { call, .. }
+        | DecodedRecord::Deliver { call, .. }
+        | DecodedRecord::Answer { call, .. }
+        | DecodedRecord::Fault { call }
+        | DecodedRecord::Wire {
+            sent: true,
+            call,
+            message: RpcMessage::Call { .. },
+            ..
+        } => state.is_bound_call(*call),
+        _ => true,
     }
 }
 
@@ -123,7 +135,7 @@ impl VatState {
         );
         let names = all_three(
             names_bound(self, event),
-            names_bound_call(self, event),
+            names_bound_calls(self, event),
             notes_call(event),
         );
         Ok(binds && names)

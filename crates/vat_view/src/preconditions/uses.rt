@@ -1,8 +1,8 @@
 //! Whether a record that may be applied next names and uses things as it should.
 
-ghost use Rattle.std.specs.Prelude.{◌≡◌, ◌&&◌, count_by, Decides};
+ghost use Rattle.std.specs.Prelude.{◌≡◌, ◌&&◌, not, count_by, Decides};
 ghost use Rattle.std.specs.List.{list_all};
-ghost use Rattle.vat_view.specs.Questions.{is_unfinished};
+ghost use Rattle.vat_view.specs.Questions.{question_returned, question_taken, opening, is_tail, is_taken, is_unfinished, is_unreturned};
 ghost use Rattle.vat_view.specs.Lives.{descriptors, is_in_life};
 ghost use Rattle.vat_view.specs.Uses.{question_described, questions_used, number_described, numbers_used, OpensFree, UsesQuestions, UsesNumbers};
 ghost use Rattle.vat_view.specs.Glue.Tables.{is_cap};
@@ -19,6 +19,13 @@ pub(crate) fn all_three(first: bool, second: bool, third: bool) -> bool
     ensures { result ≡ ((first && second) && third) }
 {
     first && second && third
+}
+
+/// Whether two tests both hold; a function of its own as above.
+fn both(first: bool, second: bool) -> bool
+    ensures { result ≡ (first && second) }
+{
+    first && second
 }
 
 /// Whether a question, if there is one, is opened and not finished.
@@ -47,11 +54,35 @@ fn describes_unfinished(state: &VatState, event: &DecodedRecord) -> bool
 fn uses_unfinished(state: &VatState, event: &DecodedRecord) -> bool
     ensures { result ≡ list_all (λ q. is_unfinished q state.now) (questions_used event.now) }
 {
-    all_three(
+    let mentioned = all_three(
         is_unfinished(state, event.question_targeted()),
         describes_unfinished(state, event),
         is_unfinished(state, event.question_finished()),
-    )
+    );
+    both(mentioned, is_unfinished(state, event.question_taken()))
+}
+
+/// Whether the question that a record returns, if there is one, is opened and not returned.
+fn returns_once(state: &VatState, event: &DecodedRecord) -> bool
+    ensures { result ≡ passes_if (λ q. is_unreturned q state.now) (question_returned event.now) }
+{
+    match event.question_returned() {
+        Some(question) => state.is_unreturned(question),
+        None => true,
+    }
+}
+
+/// Whether the question whose results a record takes, if there is one, was opened by a Call whose results are to be
+/// sent elsewhere, and they weren't taken since.
+fn takes_once(state: &VatState, event: &DecodedRecord) -> bool
+    ensures { result ≡ passes_if
+        (λ q. is_tail (opening q state.now) && not (is_taken q state.now))
+        (question_taken event.now) }
+{
+    match event.question_taken() {
+        Some(question) => state.is_tail(question) && !state.is_taken(question),
+        None => true,
+    }
 }
 
 /// Whether a number, if there is one, is in life.
@@ -88,16 +119,18 @@ impl VatState {
         }
     }
 
-    /// Whether each question that it uses is opened and not finished, and one that it returns is opened and not
-    /// returned (rpc.capnp, `Return.answerId`, `Finish.questionId` and `PromisedAnswer.questionId`).
+    /// Whether each question that it uses is opened and not finished, one that it returns is opened and not returned,
+    /// and one whose results it takes was opened by a Call whose results are to be sent elsewhere, and they weren't
+    /// taken since (rpc.capnp, `Return.answerId`, `Return.takeFromOtherQuestion`, `Finish.questionId` and
+    /// `PromisedAnswer.questionId`).
     pub fn uses_questions(&self, event: &DecodedRecord) -> bool
         ensures { Decides result (UsesQuestions self.now event.now) }
     {
-        let may_return = match event.question_returned() {
-            Some(question) => self.is_unreturned(question),
-            None => true,
-        };
-        may_return && uses_unfinished(self, event)
+        all_three(
+            returns_once(self, event),
+            takes_once(self, event),
+            uses_unfinished(self, event),
+        )
     }
 
     /// Whether each export or import number that it uses is in life (rpc.capnp, `MessageTarget.importedCap`,

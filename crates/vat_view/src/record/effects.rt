@@ -2,7 +2,7 @@
 
 ghost use Rattle.std.specs.Prelude.{◌≡◌, [], IfOk, if◌then◌else◌};
 ghost use Rattle.std.specs.List.{filter_map};
-ghost use Rattle.vat_view.specs.Questions.{question_opened, question_returned, question_finished, question_released, noted_call};
+ghost use Rattle.vat_view.specs.Questions.{question_opened, question_returned, question_finished, question_released, question_taken, asks_elsewhere, noted_call};
 ghost use Rattle.vat_view.specs.Lives.{descriptors, number_introduced, promise_resolved};
 ghost use Rattle.vat_view.specs.Views.{references};
 ghost use Rattle.vat_view.specs.Glue.Tables.{is_cap, origin_by, origins_from};
@@ -82,6 +82,38 @@ pub(crate) fn question_released(event: &DecodedRecord) -> Option<TableKey>
             ..
         } => Some(TableKey::of_sender(*sent, *connection, *number)),
         _ => None,
+    }
+}
+
+/// The question whose results a record takes: a Return with takeFromOtherQuestion names one of its own sender's
+/// questions.
+pub(crate) fn question_taken(event: &DecodedRecord) -> Option<TableKey>
+    ensures { result ≡ question_taken event.now }
+{
+    match event {
+        DecodedRecord::Wire {
+            sent,
+            connection,
+            message: RpcMessage::Return {
+                outcome: Outcome::TakeFrom(taken),
+                ..
+            },
+            ..
+        } => Some(TableKey::of_sender(*sent, *connection, *taken)),
+        _ => None,
+    }
+}
+
+/// Whether a record is a Call whose results are to be sent elsewhere: sendResultsTo is yourself.
+pub(crate) fn asks_elsewhere(event: &DecodedRecord) -> bool
+    ensures { result ≡ asks_elsewhere event.now }
+{
+    match event {
+        DecodedRecord::Wire {
+            message: RpcMessage::Call { yourself, .. },
+            ..
+        } => *yourself,
+        _ => false,
     }
 }
 

@@ -1,7 +1,7 @@
 //! What one record opens, binds, names and uses.
 
 ghost use Rattle.std.specs.Prelude.{◌≡◌, option_to_list};
-ghost use Rattle.vat_view.specs.Questions.{question_opened, question_returned, question_finished};
+ghost use Rattle.vat_view.specs.Questions.{question_opened, question_returned, question_finished, question_taken};
 ghost use Rattle.vat_view.specs.Lives.{descriptors};
 ghost use Rattle.vat_view.specs.Views.{references};
 ghost use Rattle.vat_view.specs.Uses.{question_targeted, question_described, number_targeted, number_described, number_released};
@@ -32,6 +32,13 @@ impl DecodedRecord {
         ensures { result ≡ question_finished self.now }
     {
         effects::question_finished(self)
+    }
+
+    /// The question whose results it takes: one of its own sender's.
+    pub(crate) fn question_taken(&self) -> Option<TableKey>
+        ensures { result ≡ question_taken self.now }
+    {
+        effects::question_taken(self)
     }
 
     /// Its descriptors, by place, counted from 0; a Resolve's stands at place 0.
@@ -68,25 +75,6 @@ impl DecodedRecord {
             }
             | DecodedRecord::Wire {
                 sent: false,
-                call,
-                message: RpcMessage::Call { .. },
-                ..
-            } => Some(*call),
-            _ => None,
-        }
-    }
-
-    /// The other call that it names.
-    pub(crate) fn named_call(&self) -> Option<u64>
-        ensures { option_to_list result ≡ named_calls self.now }
-    {
-        match self {
-            DecodedRecord::Field { call, .. }
-            | DecodedRecord::Deliver { call, .. }
-            | DecodedRecord::Answer { call, .. }
-            | DecodedRecord::Fault { call }
-            | DecodedRecord::Wire {
-                sent: true,
                 call,
                 message: RpcMessage::Call { .. },
                 ..

@@ -7,6 +7,7 @@ pub(crate) mod connections;
 pub(crate) mod embargoes;
 pub(crate) mod exports_imports;
 pub(crate) mod goal_key;
+pub(crate) mod handovers;
 pub(crate) mod loopbacks;
 pub(crate) mod question;
 pub(crate) mod questions;

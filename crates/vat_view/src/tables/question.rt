@@ -7,12 +7,16 @@ use crate::record::table_keys::TableKeys;
 pub(crate) struct Question {
     /// The call noted beside its opening.
     pub(crate) call: u64,
+    /// Whether its opening is a Call whose results are to be sent elsewhere.
+    pub(crate) tail: bool,
     /// Whether its Return has passed.
     pub(crate) returned: bool,
     /// Whether its Finish has passed.
     pub(crate) finished: bool,
     /// Whether a Finish of it with releaseResultCaps true has passed.
     pub(crate) released: bool,
+    /// Whether a Return that takes its results has passed.
+    pub(crate) taken: bool,
     /// The numbers that its opening introduced.
     pub(crate) asked: TableKeys,
     /// The numbers that its Return introduced.
@@ -24,9 +28,11 @@ impl Question {
     pub(crate) fn blank() -> Question {
         Question {
             call: 0,
+            tail: false,
             returned: false,
             finished: false,
             released: false,
+            taken: false,
             asked: TableKeys::none(),
             brought: TableKeys::none(),
         }

@@ -3,7 +3,7 @@
 ghost use Rattle.std.specs.Prelude.{◌≡◌, None, OnOk, OnErr, if◌then◌else◌};
 ghost use Rattle.std.specs.Option.{option_copied};
 ghost use Rattle.vat_view.specs.declared.record.table_key.TableKey.{TableKey};
-ghost use Rattle.vat_view.specs.Glue.Tables.{question_at, params_introduced_in, results_introduced_in, with_return, with_finish, with_release, IsPut, IsSameQuestions, IsChanged};
+ghost use Rattle.vat_view.specs.Glue.Tables.{question_at, params_introduced_in, results_introduced_in, with_return, with_finish, with_release, with_taken, IsPut, IsSameQuestions, IsChanged};
 
 use crate::record::table_key::TableKey;
 use crate::record::table_keys::TableKeys;
@@ -82,6 +82,16 @@ impl Questions {
         if let Some(mut known) = self.entries.replace(question, Question::blank()) {
             known.finished = true;
             known.released = known.released || released;
+            let _ = self.entries.replace(question, known);
+        }
+    }
+
+    /// This question's results were taken.
+    pub(crate) fn note_taken(&mut self, question: TableKey)
+        ensures { IsChanged question with_taken self.old self.new }
+    {
+        if let Some(mut known) = self.entries.replace(question, Question::blank()) {
+            known.taken = true;
             let _ = self.entries.replace(question, known);
         }
     }

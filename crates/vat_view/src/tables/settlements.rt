@@ -1,23 +1,44 @@
 //! The table of turns.
 
-ghost use Rattle.std.specs.Prelude.{◌≡◌, ◌==◌, ◌<◌, ◌^◌, ℕ, None, Some, OnOk, IsTrue, is_some, option_and_then, if◌then◌else◌};
+ghost use Rattle.std.specs.Prelude.{◌≡◌, ◌==◌, ◌<◌, ◌^◌, ℕ, Option, None, Some, OnOk, IsTrue, is_some, option_and_then, if◌then◌else◌};
 ghost use Rattle.rising_table.specs.Entries.{entry_at};
 ghost use Rattle.vat_view.specs.declared.record.unsettled.Unsettled.{Unsettled};
 ghost use Rattle.vat_view.specs.declared.record.unsettled.Unsettled.TheVariants.{Import as ImportToResolve};
-ghost use Rattle.vat_view.specs.Glue.TurnTables.{settler_at, number_in, has_room_to_settle, is_this};
+ghost use Rattle.vat_view.specs.Glue.TurnTables.{settler_at, number_in, has_room_to_settle, is_this, handed_call, handover_at, handover_after, handovers_len, has_room_for_handover, call_behind_by, SaysSameTurns, IsNoted};
 
 use crate::record::unsettled::Unsettled;
+use crate::tables::handovers::{Handover, Handovers};
 use rising_table::RisingTable;
 use std::alloc::{AllocError, Global};
 use std::collections::BTreeMap;
 
-/// The number of the record that settled each thing for which views wait, where one did. An entry without a number
-/// says nothing: it holds room.
+/// What a record settles.
+#[derive(Clone, Copy)]
+pub(crate) struct Settling {
+    /// That for which views wait, if it settles something.
+    pub(crate) settled: Option<Unsettled>,
+    /// The call by whose results it answers another, if there is one.
+    pub(crate) by: Option<u64>,
+}
+
+/// The call that a record answers by another.
+fn handed_call(settled: Option<Unsettled>, by: Option<u64>) -> Option<u64>
+    ensures { result ≡ handed_call settled by }
+{
+    match (settled, by) {
+        (Some(Unsettled::Results(call)), Some(_)) => Some(call),
+        _ => None,
+    }
+}
+
+/// The number of the record that settled each thing for which views wait, where one did, and of the calls that were
+/// answered by others the last such record. An entry without a number says nothing: it holds room.
 #[derive(Drop)]
 pub(crate) struct Settlements {
     promises: RisingTable<Option<u32>>,
     results: RisingTable<Option<u32>>,
     imports: BTreeMap<Unsettled, Option<usize>>,
+    handovers: Handovers,
 }
 
 /// Makes room for what is settled under this key.
@@ -54,12 +75,14 @@ fn number_in(table: &RisingTable<Option<u32>>, key: u64) -> Option<usize>
 impl Settlements {
     /// Before anything is settled.
     pub(crate) fn new(alloc: Global) -> Settlements
-        ensures { (p : Unsettled) → settler_at result p ≡ None }
+        ensures settlers { (p : Unsettled) → settler_at result p ≡ None }
+        ensures handed { (c : ℕ) → handover_at result c ≡ None }
     {
         Settlements {
             promises: RisingTable::new(alloc),
             results: RisingTable::new(alloc),
             imports: BTreeMap::new(alloc),
+            handovers: Handovers::new(alloc),
         }
     }
 
@@ -77,11 +100,38 @@ impl Settlements {
         }
     }
 
-    /// Whether a record settled before what a record settles.
-    pub(crate) fn has(&self, settled: Option<Unsettled>) -> bool
-        ensures { result ≡ is_some (option_and_then (settler_at self.now) settled) }
+    /// The last record that answered this call by another, if one did.
+    pub(crate) fn handover_of(&self, call: u64) -> Option<Handover>
+        ensures { result ≡ handover_at self.now call }
     {
-        match settled {
+        self.handovers.of(call)
+    }
+
+    /// How many calls have an entry that says so, or room for one.
+    pub(crate) fn handovers_len(&self) -> usize
+        ensures { result ≡ handovers_len self.now.handovers }
+    {
+        self.handovers.len()
+    }
+
+    /// The call by whose results the record of this number settled something, if it did so.
+    pub(crate) fn call_behind(&self, pending: Unsettled, number: usize) -> Option<u64>
+        ensures { result ≡ call_behind_by self.now pending number }
+    {
+        let Unsettled::Results(call) = pending else {
+            return None;
+        };
+        match self.handovers.of(call) {
+            Some(handover) if handover.number == number => Some(handover.by),
+            _ => None,
+        }
+    }
+
+    /// Whether a record settled before what a record settles.
+    pub(crate) fn has(&self, settling: Settling) -> bool
+        ensures { result ≡ is_some (option_and_then (settler_at self.now) settling.settled) }
+    {
+        match settling.settled {
             Some(pending) => self.of(pending).is_some(),
             None => false,
         }
@@ -90,6 +140,7 @@ impl Settlements {
     /// Makes room for an import that is resolved. What the table says stays as it is, where memory is refused too.
     fn make_room_for_import(&mut self, number: usize, place: usize) -> Result<(), AllocError>
         ensures same { (p : Unsettled) → settler_at self.new p ≡ settler_at self.old p }
+        ensures handovers { self.new.handovers ≡ self.old.handovers }
         ensures room { OnOk result
             (IsTrue (has_room_to_settle self.new (Some (ImportToResolve number place)))) }
     {
@@ -101,20 +152,13 @@ impl Settlements {
         Ok(())
     }
 
-    /// Makes room for what the record of this number settles. What the table says stays as it is, where memory is
-    /// refused too; a number that is too great, which no log in memory reaches, is answered so.
-    pub(crate) fn make_room(
-        &mut self,
-        settled: Option<Unsettled>,
-        number: usize,
-    ) -> Result<(), AllocError>
+    /// Makes room for the record that settled something. What the table says stays as it is, where memory is refused
+    /// too.
+    fn make_room_to_settle(&mut self, settled: Option<Unsettled>) -> Result<(), AllocError>
         ensures same { (p : Unsettled) → settler_at self.new p ≡ settler_at self.old p }
+        ensures handovers { self.new.handovers ≡ self.old.handovers }
         ensures room { OnOk result (IsTrue (has_room_to_settle self.new settled)) }
-        ensures small { OnOk result (number < 2 ^ 32) }
     {
-        if number > u32::MAX as usize {
-            return Err(AllocError);
-        }
         match settled {
             Some(Unsettled::Promise(promise)) => make_room_in(&mut self.promises, promise),
             Some(Unsettled::Results(call)) => make_room_in(&mut self.results, call),
@@ -123,12 +167,45 @@ impl Settlements {
         }
     }
 
+    /// Makes room for a call that is answered by another, if there is one. What the table says stays as it is, where
+    /// memory is refused too.
+    fn make_room_for_handover(&mut self, call: Option<u64>) -> Result<(), AllocError>
+        ensures same { (p : Unsettled) → settler_at self.new p ≡ settler_at self.old p }
+        ensures same_handed { (c : ℕ) → handover_at self.new c ≡ handover_at self.old c }
+        ensures same_room { (s : Option Unsettled) → has_room_to_settle self.new s
+            ≡ has_room_to_settle self.old s }
+        ensures room { OnOk result (IsTrue (has_room_for_handover self.new.handovers call)) }
+    {
+        self.handovers.make_room(call)
+    }
+
+    /// Makes room for what the record of this number settles. What the table says stays as it is, where memory is
+    /// refused too; a number that is too great, which no log in memory reaches, is answered so.
+    pub(crate) fn make_room(
+        &mut self,
+        settling: Settling,
+        number: usize,
+    ) -> Result<(), AllocError>
+        ensures same { SaysSameTurns self.old self.new }
+        ensures room { OnOk result (IsTrue (has_room_to_settle self.new settling.settled)) }
+        ensures room_handed { OnOk result (IsTrue (has_room_for_handover self.new.handovers
+            (handed_call settling.settled settling.by))) }
+        ensures small { OnOk result (number < 2 ^ 32) }
+    {
+        if number > u32::MAX as usize {
+            return Err(AllocError);
+        }
+        self.make_room_to_settle(settling.settled)?;
+        self.make_room_for_handover(handed_call(settling.settled, settling.by))
+    }
+
     /// The record of this number resolved an import, for which there is room.
     fn note_import(&mut self, brought: usize, place: usize, number: usize)
         requires { IsTrue (has_room_to_settle self.old (Some (ImportToResolve brought place))) }
-        ensures { (p : Unsettled) → settler_at self.new p
+        ensures settlers { (p : Unsettled) → settler_at self.new p
             ≡ (if is_this p (Some (ImportToResolve brought place)) then Some number
             else settler_at self.old p) }
+        ensures handovers { self.new.handovers ≡ self.old.handovers }
     {
         let import = Unsettled::Import(brought, place);
         if let Some(settler) = self.imports.get_mut(&import) {
@@ -137,11 +214,12 @@ impl Settlements {
     }
 
     /// The record of this number settled this, for which there is room.
-    pub(crate) fn note(&mut self, settled: Option<Unsettled>, number: usize)
+    fn note_settled(&mut self, settled: Option<Unsettled>, number: usize)
         requires room { IsTrue (has_room_to_settle self.old settled) }
         requires small { number < 2 ^ 32 }
-        ensures { (p : Unsettled) → settler_at self.new p
+        ensures settlers { (p : Unsettled) → settler_at self.new p
             ≡ (if is_this p settled then Some number else settler_at self.old p) }
+        ensures handovers { self.new.handovers ≡ self.old.handovers }
     {
         match settled {
             Some(Unsettled::Promise(promise)) => note_in(&mut self.promises, promise, number),
@@ -149,5 +227,30 @@ impl Settlements {
             Some(Unsettled::Import(brought, place)) => self.note_import(brought, place, number),
             None => {}
         }
+    }
+
+    /// The record of this number answered a call by another, for which there is room, if it did so.
+    fn note_handover(&mut self, settling: Settling, number: usize)
+        requires { IsTrue (has_room_for_handover self.old.handovers
+            (handed_call settling.settled settling.by)) }
+        ensures handed { (c : ℕ) → handover_at self.new c
+            ≡ handover_after settling number c (handover_at self.old c) }
+        ensures same { (p : Unsettled) → settler_at self.new p ≡ settler_at self.old p }
+    {
+        if let (Some(Unsettled::Results(call)), Some(by)) = (settling.settled, settling.by) {
+            self.handovers.note(call, Handover { number, by });
+        }
+    }
+
+    /// The record of this number settled this, for which there is room.
+    pub(crate) fn note(&mut self, settling: Settling, number: usize)
+        requires room { IsTrue (has_room_to_settle self.old settling.settled) }
+        requires room_handed { IsTrue (has_room_for_handover self.old.handovers
+            (handed_call settling.settled settling.by)) }
+        requires small { number < 2 ^ 32 }
+        ensures { IsNoted settling number self.old self.new }
+    {
+        self.note_settled(settling.settled, number);
+        self.note_handover(settling, number);
     }
 }

@@ -94,10 +94,7 @@ pub(crate) fn call_taken_by(questions: &Questions, event: &DecodedRecord) -> Opt
             connection,
             message: RpcMessage::Return {
                 answer: number,
-                outcome: Outcome::Exception
-                | Outcome::Canceled
-                | Outcome::Elsewhere
-                | Outcome::TakeFrom(_),
+                outcome: Outcome::Exception | Outcome::Canceled,
                 ..
             },
             ..

@@ -1,37 +1,28 @@
 //! Walks from view to view.
 
-ghost use Rattle.std.specs.Prelude.{◌≡◌, ◌↔◌, ◌<◌, ◌^◌, IsTrue, Some, IfSome, MatchOption, None, if◌then◌else◌, is_none, slice_get};
+ghost use Rattle.std.specs.Prelude.{◌≡◌, ◌↔◌, ◌<◌, ◌^◌, IsTrue, Some, IfSome, MatchOption, None, if◌then◌else◌, is_none, option_map, slice_get};
 ghost use Rattle.std.specs.Option.{option_copied};
 ghost use Rattle.vat_view.specs.Types.{View};
+ghost use Rattle.vat_view.specs.Borrowed.{as_view};
 ghost use Rattle.vat_view.specs.Glue.Tables.{bound_at};
-ghost use Rattle.vat_view.specs.Glue.TurnTables.{awaited_by, field_path, settler_by, goes_by, turn_by, landed_by, turns_of, after_turns, Reaches, TurnsAndThen, TurnsOn, ReachesByTurns, EndsBy, HaveAhead};
+ghost use Rattle.vat_view.specs.Glue.TurnTables.{Settler, awaited_by, settler_by, goes_by, turn_by, landed_by, reference_by, turns_of, most_turns, after_turns, Reaches, TurnsAndThen, TurnsOn, ReachesByTurns, EndsBy, HaveAhead};
 
+use crate::borrowed_view::BorrowedView;
 use crate::record::decoded::DecodedRecord;
 use crate::record::unsettled::Unsettled;
 use crate::tables::references::BoundReferences;
 use crate::tables::settlements::Settlements;
-use crate::view::View;
-use crate::walks::turn_target::turn_target;
+use crate::walks::turn_target::{Landing, landing_of};
 
 /// What a view waits for.
-fn awaited_by(view: &View) -> Option<Unsettled>
-    ensures { result ≡ awaited_by view.now }
+fn awaited_by(view: BorrowedView<'_>) -> Option<Unsettled>
+    ensures { result ≡ awaited_by (as_view view.entry) }
 {
     match view {
-        View::Object(_) => None,
-        View::Promise(promise) => Some(Unsettled::Promise(*promise)),
-        View::Field(call, _) => Some(Unsettled::Results(*call)),
-        View::Import(number, place) => Some(Unsettled::Import(*number, *place)),
-    }
-}
-
-/// The path of a field; the empty one of every other view.
-fn path_of(view: &View) -> &[u16]
-    ensures { result.now ≡ field_path view.now }
-{
-    match view {
-        View::Field(_, path) => path.as_slice(),
-        _ => &[],
+        BorrowedView::Object(_) => None,
+        BorrowedView::Promise(promise) => Some(Unsettled::Promise(promise)),
+        BorrowedView::Field(call, _) => Some(Unsettled::Results(call)),
+        BorrowedView::Import(number, place) => Some(Unsettled::Import(number, place)),
     }
 }
 
@@ -42,32 +33,66 @@ pub(crate) fn event_at(events: &[DecodedRecord], number: usize) -> Option<&Decod
     events.get(number)
 }
 
-/// The record that settled a view, if one did.
+/// The record that settled a view, if one did, and the call by whose results it did, if there is one.
 fn settler<'a>(
     events: &'a [DecodedRecord],
     turns: &Settlements,
-    view: &View,
-) -> Option<&'a DecodedRecord>
-    ensures { option_copied result ≡ settler_by turns.now events.now view.now }
+    view: BorrowedView<'_>,
+) -> Option<(&'a DecodedRecord, Option<u64>)>
+    ensures { option_map (λ settler. (settler.0.now, settler.1)) result
+        ≡ settler_by turns.now events.now (as_view view.entry) }
 {
     let pending = awaited_by(view)?;
     let number = turns.of(pending)?;
-    event_at(events, number)
+    let event = event_at(events, number)?;
+    Some((event, turns.call_behind(pending, number)))
 }
 
 /// Whether no record settled a view.
-pub(crate) fn stays(events: &[DecodedRecord], turns: &Settlements, view: &View) -> bool
-    ensures { result ≡ is_none (settler_by turns.now events.now view.now) }
+pub(crate) fn stays(
+    events: &[DecodedRecord],
+    turns: &Settlements,
+    view: BorrowedView<'_>,
+) -> bool
+    ensures { result ≡ is_none (settler_by turns.now events.now (as_view view.entry)) }
 {
     settler(events, turns, view).is_none()
 }
 
-/// The reference where a view lands: to which the record that settled it, if one did, turns it.
-pub(crate) fn landed_by(events: &[DecodedRecord], turns: &Settlements, view: &View) -> Option<u64>
-    ensures { result ≡ landed_by events.now turns.now view.now }
+/// Where a view lands: the reference or call to which the record that settled it, if one did, turns it.
+fn landed_by(
+    events: &[DecodedRecord],
+    turns: &Settlements,
+    view: BorrowedView<'_>,
+) -> Option<Landing>
+    ensures { result ≡ landed_by events.now turns.now (as_view view.entry) }
 {
-    let event = settler(events, turns, view)?;
-    turn_target(path_of(view), event)
+    let (event, by) = settler(events, turns, view)?;
+    landing_of(view.path(), event, by)
+}
+
+/// The reference where a view lands, where it lands on one.
+pub(crate) fn reference_by(
+    events: &[DecodedRecord],
+    turns: &Settlements,
+    view: BorrowedView<'_>,
+) -> Option<u64>
+    ensures { result ≡ reference_by events.now turns.now (as_view view.entry) }
+{
+    match landed_by(events, turns, view) {
+        Some(Landing::Reference(reference)) => Some(reference),
+        _ => None,
+    }
+}
+
+/// The view of a reference, lent.
+fn view_of(bound: &BoundReferences, reference: u64) -> Option<BorrowedView<'_>>
+    ensures { option_map as_view result ≡ bound_at bound.now reference }
+{
+    match bound.of(reference) {
+        Some(view) => Some(BorrowedView::of(view)),
+        None => None,
+    }
 }
 
 /// The view to which a view turns, if it does.
@@ -75,31 +100,47 @@ pub(crate) fn turned_to<'a>(
     events: &[DecodedRecord],
     turns: &Settlements,
     bound: &'a BoundReferences,
-    view: &View,
-) -> Option<&'a View>
-    ensures { option_copied result ≡ turn_by events.now turns.now (bound_at bound.now) view.now }
+    view: BorrowedView<'a>,
+) -> Option<BorrowedView<'a>>
+    ensures { option_map as_view result
+        ≡ turn_by events.now turns.now (bound_at bound.now) (as_view view.entry) }
 {
-    let reference = landed_by(events, turns, view)?;
-    bound.of(reference)
+    match landed_by(events, turns, view)? {
+        Landing::Reference(reference) => view_of(bound, reference),
+        Landing::Call(call) => Some(BorrowedView::Field(call, view.path())),
+    }
 }
 
-/// Follows one turn to a reference, then that reference's shortcut. Answers the view reached and how many turns the
-/// shortcut skipped.
+/// How many turns a walk makes at most that doesn't go in a circle.
+pub(crate) fn most_turns(turns: &Settlements, bound: &BoundReferences) -> u128
+    ensures { result ≡ most_turns turns.now bound.now }
+{
+    let references = bound.len() as u128;
+    let calls = turns.handovers_len() as u128;
+    calls * (references + 1) + references
+}
+
+/// Follows one turn, and where that goes to a reference, that reference's shortcut. Answers the view reached and how many
+/// turns the shortcut skipped.
 fn hop<'a>(
     events: &[DecodedRecord],
     turns: &Settlements,
     bound: &'a BoundReferences,
-    view: &View,
-) -> Option<(&'a View, u64)>
+    view: BorrowedView<'a>,
+) -> Option<(BorrowedView<'a>, u64)>
     requires { HaveAhead events.now turns.now bound.now }
-    ensures { MatchOption result (turns_of events.now turns.now bound.now view.now ≡ None)
+    ensures { MatchOption result (turns_of events.now turns.now bound.now (as_view view.entry) ≡ None)
         (λ made. TurnsAndThen
-        (turns_of events.now turns.now bound.now) view.now made.1 made.0.now) }
+        (turns_of events.now turns.now bound.now) (as_view view.entry) made.1 (as_view made.0)) }
 {
-    let reference = landed_by(events, turns, view)?;
-    let leap = bound.ahead(reference)?;
-    let next = bound.of(leap.to)?;
-    Some((next, leap.turns))
+    match landed_by(events, turns, view)? {
+        Landing::Reference(reference) => {
+            let leap = bound.ahead(reference)?;
+            let next = view_of(bound, leap.to)?;
+            Some((next, leap.turns))
+        }
+        Landing::Call(call) => Some((BorrowedView::Field(call, view.path()), 0)),
+    }
 }
 
 /// A view to which a view leads by 1 or more turns, if it turns: by a hop.
@@ -107,11 +148,11 @@ pub(crate) fn hop_by<'a>(
     events: &[DecodedRecord],
     turns: &Settlements,
     bound: &'a BoundReferences,
-    view: &View,
-) -> Option<&'a View>
+    view: BorrowedView<'a>,
+) -> Option<BorrowedView<'a>>
     requires { HaveAhead events.now turns.now bound.now }
-    ensures { MatchOption result (turns_of events.now turns.now bound.now view.now ≡ None)
-        (λ next. ReachesByTurns (turns_of events.now turns.now bound.now) view.now next.now) }
+    ensures { MatchOption result (turns_of events.now turns.now bound.now (as_view view.entry) ≡ None)
+        (λ next. ReachesByTurns (turns_of events.now turns.now bound.now) (as_view view.entry) (as_view next)) }
 {
     match hop(events, turns, bound, view) {
         Some((next, _)) => Some(next),
@@ -124,10 +165,10 @@ pub(crate) fn further<'a>(
     events: &[DecodedRecord],
     turns: &Settlements,
     bound: &'a BoundReferences,
-    view: &'a View,
-) -> &'a View
+    view: BorrowedView<'a>,
+) -> BorrowedView<'a>
     requires { HaveAhead events.now turns.now bound.now }
-    ensures { Reaches (turns_of events.now turns.now bound.now) view.now result.now }
+    ensures { Reaches (turns_of events.now turns.now bound.now) (as_view view.entry) (as_view result) }
 {
     match hop_by(events, turns, bound, view) {
         Some(next) => next,
@@ -141,19 +182,19 @@ fn remaining<'a>(
     events: &[DecodedRecord],
     turns: &Settlements,
     bound: &'a BoundReferences,
-    view: &'a View,
+    view: BorrowedView<'a>,
     most: u64,
-) -> Option<(&'a View, u64)>
+) -> Option<(BorrowedView<'a>, u64)>
     requires { HaveAhead events.now turns.now bound.now }
     ensures count { IfSome result
         (λ made. TurnsOn
-        (turns_of events.now turns.now bound.now) view.now most made.0.now made.1) }
+        (turns_of events.now turns.now bound.now) (as_view view.entry) most (as_view made.0) made.1) }
     ensures fits { IfSome result (λ made. made.1 < 2 ^ 64) }
 {
     let mut at = view;
     let mut mark = view;
     let mut made: u64 = 0;
-    for hops in 0..bound.len() {
+    for hops in 0..most_turns(turns, bound) {
         let Some((next, more)) = hop(events, turns, bound, at) else {
             return Some((at, made));
         };
@@ -178,14 +219,14 @@ fn stride<'a>(
     events: &[DecodedRecord],
     turns: &Settlements,
     bound: &'a BoundReferences,
-    view: &View,
+    view: BorrowedView<'a>,
     left: u64,
-) -> Option<(&'a View, u64)>
+) -> Option<(BorrowedView<'a>, u64)>
     requires ahead { HaveAhead events.now turns.now bound.now }
     requires left { 0 < left }
-    ensures { MatchOption result (turns_of events.now turns.now bound.now view.now ≡ None)
+    ensures { MatchOption result (turns_of events.now turns.now bound.now (as_view view.entry) ≡ None)
         (λ made. (made.1 < left)
-        × TurnsAndThen (turns_of events.now turns.now bound.now) view.now made.1 made.0.now) }
+        × TurnsAndThen (turns_of events.now turns.now bound.now) (as_view view.entry) made.1 (as_view made.0)) }
 {
     match hop(events, turns, bound, view) {
         Some((next, more)) if more < left => Some((next, more)),
@@ -201,12 +242,12 @@ fn nth<'a>(
     events: &[DecodedRecord],
     turns: &Settlements,
     bound: &'a BoundReferences,
-    view: &'a View,
+    view: BorrowedView<'a>,
     count: u64,
-) -> Option<&'a View>
+) -> Option<BorrowedView<'a>>
     requires { HaveAhead events.now turns.now bound.now }
-    ensures { option_copied result
-        ≡ after_turns (turns_of events.now turns.now bound.now) count (Some view.now) }
+    ensures { option_map as_view result
+        ≡ after_turns (turns_of events.now turns.now bound.now) count (Some (as_view view.entry)) }
 {
     let mut at = view;
     let mut left = count;
@@ -228,12 +269,12 @@ fn leads_by_count(
     events: &[DecodedRecord],
     turns: &Settlements,
     bound: &BoundReferences,
-    from: &View,
-    to: &View,
+    from: BorrowedView<'_>,
+    to: BorrowedView<'_>,
 ) -> Option<bool>
     requires { HaveAhead events.now turns.now bound.now }
     ensures { IfSome result
-        (λ led. IsTrue led ↔ Reaches (turns_of events.now turns.now bound.now) from.now to.now) }
+        (λ led. IsTrue led ↔ Reaches (turns_of events.now turns.now bound.now) (as_view from.entry) (as_view to.entry)) }
 {
     let (last, whole) = remaining(events, turns, bound, from, u64::MAX)?;
     let (_, rest) = remaining(events, turns, bound, to, whole)?;
@@ -248,21 +289,21 @@ fn leads_by_count(
 }
 
 /// Whether a view leads to another by 0 or more turns. Of two walks side by side one makes each turn, and at most as many
-/// as references are bound; the other hops, and may pass a view by.
+/// as a walk makes that doesn't go in a circle; the other hops, and may pass a view by.
 fn leads_turn_by_turn(
     events: &[DecodedRecord],
     turns: &Settlements,
     bound: &BoundReferences,
-    from: &View,
-    to: &View,
+    from: BorrowedView<'_>,
+    to: BorrowedView<'_>,
 ) -> bool
     requires { HaveAhead events.now turns.now bound.now }
     ensures { IsTrue result
-        ↔ Reaches (turn_by events.now turns.now (bound_at bound.now)) from.now to.now }
+        ↔ Reaches (turn_by events.now turns.now (bound_at bound.now)) (as_view from.entry) (as_view to.entry) }
 {
     let mut view = from;
     let mut far = from;
-    for _made in 0..bound.len() {
+    for _made in 0..most_turns(turns, bound) {
         if far.is_same(to) || view.is_same(to) {
             return true;
         }
@@ -281,12 +322,12 @@ pub(crate) fn leads(
     events: &[DecodedRecord],
     turns: &Settlements,
     bound: &BoundReferences,
-    from: &View,
-    to: &View,
+    from: BorrowedView<'_>,
+    to: BorrowedView<'_>,
 ) -> bool
     requires { HaveAhead events.now turns.now bound.now }
     ensures { IsTrue result
-        ↔ Reaches (turn_by events.now turns.now (bound_at bound.now)) from.now to.now }
+        ↔ Reaches (turn_by events.now turns.now (bound_at bound.now)) (as_view from.entry) (as_view to.entry) }
 {
     match leads_by_count(events, turns, bound, from, to) {
         Some(led) => led,
@@ -299,12 +340,12 @@ pub(crate) fn leads_by_turns(
     events: &[DecodedRecord],
     turns: &Settlements,
     bound: &BoundReferences,
-    from: &View,
-    to: &View,
+    from: BorrowedView<'_>,
+    to: BorrowedView<'_>,
 ) -> bool
     requires { HaveAhead events.now turns.now bound.now }
     ensures { IsTrue result
-        ↔ ReachesByTurns (turn_by events.now turns.now (bound_at bound.now)) from.now to.now }
+        ↔ ReachesByTurns (turn_by events.now turns.now (bound_at bound.now)) (as_view from.entry) (as_view to.entry) }
 {
     match turned_to(events, turns, bound, from) {
         Some(next) => leads(events, turns, bound, next, to),
@@ -313,9 +354,9 @@ pub(crate) fn leads_by_turns(
 }
 
 /// A view, where no record settled it.
-fn end_here<'a>(events: &[DecodedRecord], turns: &Settlements, view: &'a View) -> Option<&'a View>
-    ensures { option_copied result
-        ≡ (if is_none (settler_by turns.now events.now view.now) then Some view.now else None) }
+fn end_here<'a>(events: &[DecodedRecord], turns: &Settlements, view: BorrowedView<'a>) -> Option<BorrowedView<'a>>
+    ensures { option_map as_view result
+        ≡ (if is_none (settler_by turns.now events.now (as_view view.entry)) then Some (as_view view.entry) else None) }
 {
     if stays(events, turns, view) {
         Some(view)
@@ -330,16 +371,16 @@ pub(crate) fn end<'a>(
     events: &[DecodedRecord],
     turns: &Settlements,
     bound: &'a BoundReferences,
-    view: &'a View,
-) -> Option<&'a View>
+    view: BorrowedView<'a>,
+) -> Option<BorrowedView<'a>>
     requires { HaveAhead events.now turns.now bound.now }
     ensures { MatchOption result
-        ((v : View) → EndsBy (goes_by events.now turns.now (bound_at bound.now)) view.now v → ⊥)
-        (λ v. EndsBy (goes_by events.now turns.now (bound_at bound.now)) view.now v.now) }
+        ((v : View) → EndsBy (goes_by events.now turns.now (bound_at bound.now)) (as_view view.entry) v → ⊥)
+        (λ v. EndsBy (goes_by events.now turns.now (bound_at bound.now)) (as_view view.entry) (as_view v)) }
 {
     let mut at = view;
     let mut mark = view;
-    for hop in 0..bound.len() {
+    for hop in 0..most_turns(turns, bound) {
         match hop_by(events, turns, bound, at) {
             Some(next) => at = next,
             None => return end_here(events, turns, at),

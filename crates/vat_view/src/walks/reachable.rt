@@ -2,17 +2,18 @@
 
 ghost use Rattle.std.specs.Prelude.{◌≡◌, ◌↔◌, IsTrue};
 ghost use Rattle.vat_view.specs.Past.{is};
+ghost use Rattle.vat_view.specs.Borrowed.{as_view};
 ghost use Rattle.vat_view.specs.Glue.Tables.{bound_at};
 ghost use Rattle.vat_view.specs.Connections.{connection_of, is_own, is_another};
 ghost use Rattle.vat_view.specs.Glue.TurnTables.{turn_by, HaveAhead};
 ghost use Rattle.vat_view.specs.Glue.ConnectionTables.{over_by, sought_by, ReachesOne};
 
+use crate::borrowed_view::BorrowedView;
 use crate::record::decoded::DecodedRecord;
 use crate::tables::connections::Connections;
 use crate::tables::references::BoundReferences;
 use crate::tables::settlements::Settlements;
-use crate::view::View;
-use crate::walks::hops::{event_at, further, turned_to};
+use crate::walks::hops::{event_at, further, most_turns, turned_to};
 
 /// Which views a walk seeks.
 #[derive(Clone, Copy)]
@@ -34,23 +35,27 @@ fn connection_of(event: &DecodedRecord) -> Option<u32>
 }
 
 /// The connection over which a view is reached.
-fn reached_over(events: &[DecodedRecord], connections: &Connections, view: &View) -> Option<u32>
-    ensures { result ≡ over_by events.now connections.now view.now }
+fn reached_over(
+    events: &[DecodedRecord],
+    connections: &Connections,
+    view: BorrowedView<'_>,
+) -> Option<u32>
+    ensures { result ≡ over_by events.now connections.now (as_view view.entry) }
 {
     match view {
-        View::Object(_) | View::Promise(_) => None,
-        View::Field(call, _) => connections.asked_on(*call),
-        View::Import(number, _) => connection_of(event_at(events, *number)?),
+        BorrowedView::Object(_) | BorrowedView::Promise(_) => None,
+        BorrowedView::Field(call, _) => connections.asked_on(call),
+        BorrowedView::Import(number, _) => connection_of(event_at(events, number)?),
     }
 }
 
 /// Whether a view is an own object or promise.
-fn is_own(view: &View) -> bool
-    ensures { result ≡ is_own view.now }
+fn is_own(view: BorrowedView<'_>) -> bool
+    ensures { result ≡ is_own (as_view view.entry) }
 {
     match view {
-        View::Object(_) | View::Promise(_) => true,
-        View::Field(_, _) | View::Import(_, _) => false,
+        BorrowedView::Object(_) | BorrowedView::Promise(_) => true,
+        BorrowedView::Field(_, _) | BorrowedView::Import(_, _) => false,
     }
 }
 
@@ -79,9 +84,9 @@ fn is_sought(
     events: &[DecodedRecord],
     connections: &Connections,
     sought: Sought,
-    view: &View,
+    view: BorrowedView<'_>,
 ) -> bool
-    ensures { result ≡ sought_by events.now connections.now sought view.now }
+    ensures { result ≡ sought_by events.now connections.now sought (as_view view.entry) }
 {
     let over = reached_over(events, connections, view);
     match sought {
@@ -90,24 +95,24 @@ fn is_sought(
     }
 }
 
-/// Whether a view leads, by 0 or more turns, to one that is sought. A walk makes at most as many turns as references
-/// are bound, so that it meets each view of a circle; beside it a walk hops, which may pass a view by.
+/// Whether a view leads, by 0 or more turns, to one that is sought. A walk makes at most as many turns as one that doesn't
+/// go in a circle, so that it meets each view of a circle; beside it a walk hops, which may pass a view by.
 pub(crate) fn leads_to(
     events: &[DecodedRecord],
     turns: &Settlements,
     bound: &BoundReferences,
     connections: &Connections,
-    from: &View,
+    from: BorrowedView<'_>,
     sought: Sought,
 ) -> bool
     requires { HaveAhead events.now turns.now bound.now }
     ensures { IsTrue result
         ↔ ReachesOne (turn_by events.now turns.now (bound_at bound.now))
-        (sought_by events.now connections.now sought) from.now }
+        (sought_by events.now connections.now sought) (as_view from.entry) }
 {
     let mut view = from;
     let mut far = from;
-    for _made in 0..bound.len() {
+    for _made in 0..most_turns(turns, bound) {
         if is_sought(events, connections, sought, far)
             || is_sought(events, connections, sought, view)
         {

@@ -4,15 +4,13 @@ ghost use Rattle.std.specs.Prelude.{◌≡◌, ℕ, Some, IfSome};
 ghost use Rattle.vat_view.specs.Glue.Tables.{bound_at};
 ghost use Rattle.vat_view.specs.Glue.TurnTables.{turns_of, onward_by, HaveAhead, IsAhead};
 
+use crate::borrowed_view::BorrowedView;
 use crate::record::decoded::DecodedRecord;
 use crate::record::table_key::TableKey;
-use crate::record::unsettled::Unsettled;
 use crate::tables::exports_imports::ExportsImports;
 use crate::tables::references::{BoundReferences, Shortcut};
 use crate::tables::settlements::Settlements;
-use crate::view::View;
-use crate::walks::hops::{event_at, landed_by};
-use crate::walks::turn_target::turn_target;
+use crate::walks::hops::reference_by;
 
 /// How high a reference stands among others: half of all stand at 0, a quarter at 1, and so on, in no order.
 fn level(reference: u64) -> u32 {
@@ -32,7 +30,7 @@ fn onward(
 {
     let near = bound.ahead(reference)?;
     let view = bound.of(near.to)?;
-    landed_by(events, turns, view)
+    reference_by(events, turns, BorrowedView::of(view))
 }
 
 /// What is further ahead of a reference than the one now ahead of it, which lands on `next`: what is ahead of `next`. A
@@ -123,8 +121,7 @@ pub(crate) fn first_turn_of_field(
     call: u64,
     path: &[u16],
 ) -> Option<u64> {
-    let number = turns.of(Unsettled::Results(call))?;
-    turn_target(path, event_at(events, number)?)
+    reference_by(events, turns, BorrowedView::Field(call, path))
 }
 
 /// Where the walk goes on from the field at a path of a call, after its first turn: where the view lands to which the
@@ -147,7 +144,7 @@ pub(crate) fn turn_of_reference(
     bound: &BoundReferences,
     reference: u64,
 ) -> Option<u64> {
-    landed_by(events, turns, bound.of(reference)?)
+    reference_by(events, turns, BorrowedView::of(bound.of(reference)?))
 }
 
 /// Where what an export or import number stands for lands.
@@ -162,7 +159,7 @@ pub(crate) fn first_turn_of_number(
     if number.ours {
         turn_of_reference(events, turns, bound, origin.reference?)
     } else {
-        landed_by(events, turns, &View::Import(origin.number, origin.place))
+        reference_by(events, turns, BorrowedView::Import(origin.number, origin.place))
     }
 }
 

@@ -2,13 +2,22 @@
 
 ghost use Rattle.std.specs.Prelude.{◌≡◌, find, option_map, option_and_then};
 ghost use Rattle.std.specs.Str.{bytes_eq as same_path};
-ghost use Rattle.vat_view.specs.Glue.TurnTables.{reference_at, turn_target};
+ghost use Rattle.vat_view.specs.Glue.TurnTables.{reference_at, turn_target, landing_of};
 
 use crate::record::bindings::reference_by;
 use crate::record::decoded::DecodedRecord;
 use crate::record::effects::{descriptors, is_cap, references};
 use cap_frame::Path;
 use rpc_view::{Outcome, Payload, RpcMessage};
+
+/// Where a record turns a view that it settles.
+#[derive(Clone, Copy)]
+pub(crate) enum Landing {
+    /// To the view of this reference.
+    Reference(u64),
+    /// A field of a call, to the field of this call at the same path.
+    Call(u64),
+}
 
 /// The reference noted for the descriptor at a place of a record.
 fn reference_at(event: &DecodedRecord, place: usize) -> Option<u64>
@@ -64,7 +73,7 @@ fn returned_at(event: &DecodedRecord, payload: &Payload, path: &[u16]) -> Option
 }
 
 /// The reference to which a record turns a view of this path that it settles.
-pub(crate) fn turn_target(path: &[u16], event: &DecodedRecord) -> Option<u64>
+fn turn_target(path: &[u16], event: &DecodedRecord) -> Option<u64>
     ensures { result ≡ turn_target path.now event.now }
 {
     match event {
@@ -82,5 +91,15 @@ pub(crate) fn turn_target(path: &[u16], event: &DecodedRecord) -> Option<u64>
             ..
         } => reference_at(event, 0),
         _ => None,
+    }
+}
+
+/// Where a record turns a view of this path that it settles, by the results of this call, if there is one.
+pub(crate) fn landing_of(path: &[u16], event: &DecodedRecord, by: Option<u64>) -> Option<Landing>
+    ensures { result ≡ landing_of path.now (event.now, by) }
+{
+    match by {
+        Some(call) => Some(Landing::Call(call)),
+        None => turn_target(path, event).map(Landing::Reference),
     }
 }

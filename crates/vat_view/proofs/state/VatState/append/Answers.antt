@@ -6,6 +6,7 @@ use Rattle.vat_view.specs.Glue.Tables.{IsFit}
 use Rattle.vat_view.specs.Glue.KindTables.{AreResolved}
 use Rattle.vat_view.specs.Glue.LoopTables.{AreWaiting}
 use Rattle.vat_view.specs.Glue.Kept.{AreKept}
+use Rattle.vat_view.proofs.Answering.{taken_from_known}
 use Rattle.vat_view.proofs.Keeping.{fits, state_refused, state_applied}
 use Rattle.vat_view.proofs.Settled.{turns_refused, turns_applied}
 use Rattle.vat_view.proofs.Promising.{resolves_after}
@@ -100,9 +101,12 @@ invariant_of-self-2 c =
           c.push_reserved.new.self.items c.push_reserved.ensures.items
           (λ before at kept good. resolves_after before c.args.event c.room_for.new.self c.note_resolve.new.self (λ i. c.room_for.ensures.same i ∙ kept i) c.promise_resolved-promise.result
           c.promise_resolved-promise.ensures c.len-number.result at c.note_resolve.ensures),
-      turns_applied c.self.inside.events.items c.reserve.new.self.items c.push_reserved.new.self.items c.args.event c.len-number.result c.settled_by-pending.result c.self.inside.questions c.self.inside.lives
+      turns_applied c.self.inside.events.items c.reserve.new.self.items c.push_reserved.new.self.items c.args.event c.len-number.result c.settling_of-settling.result c.self.inside.questions c.self.inside.lives
           c.self.inside.bound c.self.inside.turns c.make_room.new.self c.note.new.self c.in_ok-reserve.ensures.items place c.push_reserved.ensures.items
-          (subst (λ p. IsFit p c.args.event) (sym c.self.view_is) fit) c.self.invariant.0.tabled c.self.invariant.2 c.settled_by-pending.ensures c.make_room.ensures.same c.note.ensures,
+          (subst (λ p. IsFit p c.args.event) (sym c.self.view_is) fit) c.self.invariant.0.tabled c.self.invariant.2 c.settling_of-settling.ensures.settled
+          (c.settling_of-settling.ensures.by
+          ∙ taken_from_known (reverse c.self.inside.events.items) c.self.inside.questions c.self.inside.lives c.self.inside.bound c.self.inside.calls c.self.invariant.0 c.args.event)
+          c.make_room.ensures.same c.note.ensures,
       connected_applied c.self.inside.events.items c.reserve.new.self.items c.push_reserved.new.self.items c.args.event c.self.inside.connections c.grow_for.new.self c.note_event.new.self
           c.in_ok-reserve.ensures.items c.push_reserved.ensures.items c.grow_for.ensures.asked c.grow_for.ensures.aborted c.note_event.ensures.asked c.note_event.ensures.aborted c.self.invariant.3,
       state_applied c.self.inside.events.items c.reserve.new.self.items c.args.self.now c.args.event c.len-number.result
@@ -111,7 +115,7 @@ invariant_of-self-2 c =
           (λ before at kept good. waits_after before c.self.inside.questions c.self.inside.lives c.self.inside.bound c.self.inside.calls kept.0 c.args.event good.refers c.len-number.result at
           c.in_ok-change.change c.in_ok-change.ensures.change c.prepare.new.self c.change-2.new.self
           (waits_same before c.self.inside.waits c.prepare.new.self c.prepare.ensures.same kept.1) c.in_ok-change.ensures.joins c.change-2.ensures),
-      ahead_applied c.self.inside.events.items c.reserve.new.self.items c.push_reserved.new.self.items c.args.event c.len-number.result c.settled_by-pending.result c.self.inside.turns c.make_room.new.self
+      ahead_applied c.self.inside.events.items c.reserve.new.self.items c.push_reserved.new.self.items c.args.event c.len-number.result c.settling_of-settling.result c.self.inside.turns c.make_room.new.self
           c.note.new.self c.in_ok-reserve.ensures.items c.push_reserved.ensures.items c.make_room.ensures.same c.note.ensures c.self.inside.bound c.apply_record.new.bound c.drop_ahead.new.self c.has.result
           c.has.ensures (subst (λ p. IsFit p c.args.event) (sym c.self.view_is) fit).refers c.self.invariant.0.tabled.bounds kept.tabled.bounds c.drop_ahead.ensures.views c.apply_record.ensures.ahead
           c.drop_ahead.ensures.ahead c.drop_ahead.ensures.own c.self.invariant.5,

@@ -1,6 +1,7 @@
-use Rattle.std.proofs.Common.{◌≡◌, Bor}
+use Rattle.std.proofs.Common.{◌≡◌, subst, MatchOption}
 use Rattle.vat_view.specs.Types.{View}
-use Rattle.vat_view.specs.Walks.{Next, next}
+use Rattle.vat_view.specs.Borrowed.{as_view}
+use Rattle.vat_view.specs.Walks.{Next, next, IsEnd}
 use Rattle.vat_view.specs.Glue.Tables.{bound_at}
 use Rattle.vat_view.specs.Glue.TurnTables.{goes_by}
 use Rattle.vat_view.proofs.Ending.{end_known, goes_so}
@@ -12,4 +13,5 @@ returns c =
     let same : (v : View) → going v ≡ next c.args.self.now v =
     goes_so c.self.inside.events.items c.as_slice.result.now c.args.self.now c.self.inside.questions c.self.inside.lives c.self.inside.bound c.self.inside.turns
     c.self.view_is c.as_slice.ensures.value c.self.invariant.0.tabled c.self.invariant.2 in
-    let now : Bor View → View = λ r. r.now in end_known going c.args.self.now same now c.args.view.now c.end.result c.end.ensures
+    subst (λ v. MatchOption c.end.result ((end : View) → IsEnd c.args.self.now v end → ⊥) (λ end. IsEnd c.args.self.now v (as_view end))) c.of-view.ensures
+    (end_known going c.args.self.now same as_view (as_view c.of-view.result) c.end.result c.end.ensures)

@@ -1,6 +1,7 @@
-use Rattle.std.proofs.Common.{◌≡◌}
+use Rattle.std.proofs.Common.{◌≡◌, ◌↔◌, subst, IsTrue}
 use Rattle.vat_view.specs.Types.{View}
-use Rattle.vat_view.specs.Walks.{Next, next}
+use Rattle.vat_view.specs.Borrowed.{as_view}
+use Rattle.vat_view.specs.Walks.{Next, next, LeadsByTurns}
 use Rattle.vat_view.specs.Glue.Tables.{bound_at}
 use Rattle.vat_view.specs.Glue.TurnTables.{goes_by}
 use Rattle.vat_view.proofs.Ending.{by_turns_known, goes_so}
@@ -12,4 +13,6 @@ returns c =
     let same : (v : View) → going v ≡ next c.args.self.now v =
     goes_so c.self.inside.events.items c.as_slice.result.now c.args.self.now c.self.inside.questions c.self.inside.lives c.self.inside.bound c.self.inside.turns
     c.self.view_is c.as_slice.ensures.value c.self.invariant.0.tabled c.self.invariant.2 in
-    by_turns_known going c.args.self.now same c.args.from.now c.args.to.now c.leads_by_turns.result c.leads_by_turns.ensures
+    subst (λ v. IsTrue c.leads_by_turns.result ↔ LeadsByTurns c.args.self.now v c.args.to.now) c.of.ensures
+    (subst (λ v. IsTrue c.leads_by_turns.result ↔ LeadsByTurns c.args.self.now (as_view c.of.result) v) c.of-2.ensures
+    (by_turns_known going c.args.self.now same (as_view c.of.result) (as_view c.of-2.result) c.leads_by_turns.result c.leads_by_turns.ensures))

@@ -1,6 +1,7 @@
-use Rattle.std.proofs.Common.{◌≡◌, refl}
+use Rattle.std.proofs.Common.{◌≡◌, ◌↔◌, refl, subst, IsTrue}
 use Rattle.vat_view.specs.Types.{View}
-use Rattle.vat_view.specs.Walks.{Next, next}
+use Rattle.vat_view.specs.Borrowed.{as_view}
+use Rattle.vat_view.specs.Walks.{Next, next, stays}
 use Rattle.vat_view.specs.Glue.Tables.{bound_at}
 use Rattle.vat_view.specs.Glue.TurnTables.{goes_by}
 use Rattle.vat_view.proofs.Ending.{stays_known, goes_so}
@@ -12,4 +13,5 @@ returns c =
     let same : (v : View) → going v ≡ next c.args.self.now v =
     goes_so c.self.inside.events.items c.as_slice.result.now c.args.self.now c.self.inside.questions c.self.inside.lives c.self.inside.bound c.self.inside.turns
     c.self.view_is c.as_slice.ensures.value c.self.invariant.0.tabled c.self.invariant.2 in
-    stays_known going c.args.self.now same c.as_slice.result.now c.self.inside.turns (bound_at c.self.inside.bound) (λ v. refl) c.args.view.now c.stays.result c.stays.ensures
+    subst (λ v. IsTrue c.stays.result ↔ (next c.args.self.now v ≡ stays)) c.of.ensures
+    (stays_known going c.args.self.now same c.as_slice.result.now c.self.inside.turns (bound_at c.self.inside.bound) (λ v. refl) (as_view c.of.result) c.stays.result c.stays.ensures)

@@ -1,11 +1,12 @@
 use Rattle.std.proofs.Common.{◌≡◌, sym, ◌∙◌, ap, below_more, add-one, Bool, true, arith}
 use Rattle.std.specs.Prelude.{Some, option_and_then}
 use Rattle.vat_view.specs.Types.{View}
+use Rattle.vat_view.specs.Borrowed.{as_view}
 use Rattle.vat_view.specs.Glue.Tables.{bound_at}
 use Rattle.vat_view.specs.Glue.TurnTables.{turn_by}
 use Rattle.vat_view.specs.Glue.ConnectionTables.{sought_by}
 use Rattle.vat_view.proofs.Walking.{ended, met, reached_more, some_same}
-use Rattle.vat_view.proofs.Settled.{few, place_of, view_there}
+use Rattle.vat_view.proofs.Bounded.{few, turn_number}
 use Rattle.vat_view.proofs.Hopping.{on_from}
 use Rattle.vat_view.proofs.walks.reachable.leads_to.Goals as goal
 
@@ -14,7 +15,7 @@ returns-in-None c =
     let f = turn_by c.args.events.now c.args.turns.now (bound_at c.args.bound.now) in
     let test : View → Bool = λ v. sought_by c.args.events.now c.args.connections.now c.args.sought v in (
       (λ h. let no : ⊥ = cc in absurd no),
-      λ l. absurd (ended f c.args.from.now c.loop-made.view.now l.1 c.loop-made._made c.loop-made.invariant.here
+      λ l. absurd (ended f (as_view c.args.from) (as_view c.loop-made.view) l.1 c.loop-made._made c.loop-made.invariant.here
           (λ e. let found : c.is_sought-else-is_sought.result ≡ true = c.is_sought-else-is_sought.ensures ∙ ap (λ v. test v) e ∙ l.3 in let no : ⊥ = cc in no)
           (λ m lt e. c.loop-made.invariant.before m lt l.1 e l.3) (sym c.in-None.ensures) l.0 l.2),
     )
@@ -23,22 +24,22 @@ pub loop-made-preserved : goal.loop-made-preserved
 loop-made-preserved c =
     let f = turn_by c.args.events.now c.args.turns.now (bound_at c.args.bound.now) in
     let test : View → Bool = λ v. sought_by c.args.events.now c.args.connections.now c.args.sought v in record {
-      ahead = on_from f c.args.from.now c.loop-made.far.now c.further-far.result.now c.loop-made.invariant.ahead c.further-far.ensures;
+      ahead = on_from f (as_view c.args.from) (as_view c.loop-made.far) (as_view c.further-far.result) c.loop-made.invariant.ahead c.further-far.ensures;
       here = rw (add-one c.loop-made._made)
-          (reached_more f c.loop-made._made (Some c.args.from.now) ∙ ap (λ o. option_and_then f o) c.loop-made.invariant.here ∙ sym c.in-Some.ensures);
+          (reached_more f c.loop-made._made (Some (as_view c.args.from)) ∙ ap (λ o. option_and_then f o) c.loop-made.invariant.here ∙ sym c.in-Some.ensures);
       before = below_more _ _ c.loop-made.invariant.before
           (λ v e good. let found : c.is_sought-else-is_sought.result ≡ true =
-          c.is_sought-else-is_sought.ensures ∙ ap (λ w. test w) (some_same c.loop-made.view.now v (sym c.loop-made.invariant.here ∙ e)) ∙ good in let no : ⊥ = cc in no);
+          c.is_sought-else-is_sought.ensures ∙ ap (λ w. test w) (some_same (as_view c.loop-made.view) v (sym c.loop-made.invariant.here ∙ e)) ∙ good in let no : ⊥ = cc in no);
     }
 
 pub returns : goal.returns
 returns c =
     let f = turn_by c.args.events.now c.args.turns.now (bound_at c.args.bound.now) in
     let test : View → Bool = λ v. sought_by c.args.events.now c.args.connections.now c.args.sought v in (
-      (λ h. (c.loop-made._made, c.loop-made.view.now, c.loop-made.invariant.here, sym c.is_sought-2.ensures ∙ h)),
+      (λ h. (c.loop-made._made, (as_view c.loop-made.view), c.loop-made.invariant.here, sym c.is_sought-2.ensures ∙ h)),
       λ l. c.is_sought-2.ensures ∙ ap (λ v. test v)
-          (met f (place_of c.args.events.now c.args.turns.now c.args.bound.now) (view_there c.args.bound.now.entries) _
-          (few c.args.events.now c.args.turns.now c.args.bound.now) c.args.from.now c.loop-made.view.now l.1 c.loop-made._made
-          (omega (arith, c.loop-made-test.false, c.len-made-end.ensures)) (omega (arith, c.loop-made.auto._made-end, c.len-made-end.ensures)) c.loop-made.invariant.here
+          (met f (as_view c.args.from) (turn_number c.args.events.now c.args.turns.now c.args.bound.now (as_view c.args.from)) _
+          (few c.args.events.now c.args.turns.now c.args.bound.now (as_view c.args.from)) (as_view c.loop-made.view) l.1 c.loop-made._made
+          (omega (arith, c.loop-made-test.false, c.most_turns-made-end.ensures)) (omega (arith, c.loop-made.auto._made-end, c.most_turns-made-end.ensures)) c.loop-made.invariant.here
           (λ m lt e. c.loop-made.invariant.before m lt l.1 e l.3) l.0 l.2) ∙ l.3,
     )

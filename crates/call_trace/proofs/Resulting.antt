@@ -121,8 +121,7 @@ taken_told v call by es steps k c rs q release n light s says own late from =
     let came = in_time (is_late es e) says.message (message.Taken t.name t.by_name) (message.Late t.name) late
     (taken_heard es e says.message t.name t.by_name (subst (λ m. heard es e says.message m ≡ read es e says.message) t.is heard_so.2)) in
     let same = call_is (is_free (id k true q) es) (call_at (opening (id k true q) es)) call t.call own t.answered in
-    let same_by : t.by ≡ by = some_same (sym t.taken ∙ from) in
-    (
+    let same_by : t.by ≡ by = some_same (sym t.taken ∙ from) in (
       t.name,
       t.by_name,
       ap names.call (sym same) ∙ t.named,

@@ -190,6 +190,10 @@ fn event_of(alloc: Global, body: &Body) -> Result<DecodedRecord, Refused> {
             call: *call,
             results: results.copy()?,
         }),
+        Body::AnswerBy { call, by } => Ok(DecodedRecord::AnswerBy {
+            call: *call,
+            by: *by,
+        }),
         Body::Send {
             connection,
             call,

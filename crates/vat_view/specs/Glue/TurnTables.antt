@@ -206,6 +206,10 @@ handover_in table c = option_map (λ handed. handed.handover) (handed_call_in ta
 abbrev pub own_leap : ℕ → Shortcut
 own_leap r = record { to = r; turns = 0 }
 
+-- two, with a turn between them
+abbrev pub joined : Shortcut → Shortcut → Shortcut
+joined near far = record { to = far.to; turns = near.turns + far.turns + 1 }
+
 -- what is ahead of a call, by what is kept of it: itself, where the calls ahead are dropped
 abbrev pub call_ahead_of : Bool → ℕ → HandedCall → Shortcut
 call_ahead_of true c handed = own_leap c

@@ -2,7 +2,7 @@
 
 ghost use Rattle.std.specs.Prelude.{◌≡◌, ℕ, Some, IfSome};
 ghost use Rattle.vat_view.specs.Glue.Tables.{bound_at};
-ghost use Rattle.vat_view.specs.Glue.TurnTables.{turns_of, onward_by, call_onward_by, SaysSameTurns, HaveAhead, IsAhead, IsCallAhead};
+ghost use Rattle.vat_view.specs.Glue.TurnTables.{turns_of, onward_by, call_onward_by, joined, SaysSameTurns, HaveAhead, IsAhead, IsCallAhead};
 
 use crate::borrowed_view::BorrowedView;
 use crate::record::decoded::DecodedRecord;
@@ -16,6 +16,15 @@ use crate::walks::turn_target::Landing;
 /// How high a reference or a call stands among others: half of all stand at 0, a quarter at 1, and so on, in no order.
 fn level(number: u64) -> u32 {
     number.wrapping_mul(0x9E37_79B9_7F4A_7C15).leading_zeros()
+}
+
+/// From where the first of two leads from to where the second leads to, with a turn between them, if the turns can be
+/// counted.
+fn joined(near: Shortcut, far: Shortcut) -> Option<Shortcut>
+    ensures { IfSome result (λ leap. leap ≡ joined near far) }
+{
+    let turns = near.turns.checked_add(far.turns)?.checked_add(1)?;
+    Some(Shortcut { to: far.to, turns })
 }
 
 /// Where the reference ahead of this one lands.
@@ -55,11 +64,8 @@ fn longer(
     }
     let near = bound.ahead(reference)?;
     let far = bound.ahead(next)?;
-    let count = near.turns.checked_add(far.turns)?.checked_add(1)?;
-    Some(Shortcut {
-        to: far.to,
-        turns: count,
-    })
+    let leap = joined(near, far)?;
+    Some(leap)
 }
 
 /// Remembers of a reference what is further ahead of it than the one now ahead of it, which lands on `next`, if there is
@@ -147,11 +153,8 @@ fn longer_for_call(
     }
     let near = turns.call_ahead(call);
     let far = turns.call_ahead(next);
-    let count = near.turns.checked_add(far.turns)?.checked_add(1)?;
-    Some(Shortcut {
-        to: far.to,
-        turns: count,
-    })
+    let leap = joined(near, far)?;
+    Some(leap)
 }
 
 /// Remembers of a call what is further ahead of it than the one now ahead of it, which lands on `next`, if there is one

@@ -102,6 +102,7 @@ fn own_event(body: &Body) -> Result<DecodedRecord, AllocError>
             results: results.copy()?,
         },
         Body::Fault { call } => DecodedRecord::Fault { call },
+        Body::AnswerBy { call, by } => DecodedRecord::AnswerBy { call, by },
         Body::Send { .. } | Body::Receive { .. } => unreachable!(),
     })
 }

@@ -12,7 +12,7 @@ use Rattle.vat_rules.specs.Audit.{Found, IsTrueOf, reads_within}
 use Rattle.vat_rules.specs.Events.{Reader, with_message, event_of, event_or_none}
 use Rattle.vat_rules.specs.LogFacts.{Told}
 use Rattle.vat_rules.specs.Telling.{is_delivery}
-use Rattle.vat_rules.specs.Types.{RpcMessage, DecodedRecord, Host, Vow, Fulfil, Break, Make, Field, Deliver, Answer, Fault, Wire}
+use Rattle.vat_rules.specs.Types.{RpcMessage, DecodedRecord, Host, Vow, Fulfil, Break, Make, Field, Deliver, Answer, AnswerBy, Fault, Wire}
 use Rattle.vat_rules.specs.declared.outcome.Outcome.{Outcome}
 use Rattle.vat_rules.specs.declared.outcome.Outcome.TheVariants.{Good}
 use Rattle.vat_rules.specs.declared.outcome.Why.{Why}
@@ -43,6 +43,7 @@ one_event read (body.Answer call results) rest = kept (Answer call results) fals
 one_event read (body.Fault call) rest = kept (Fault call) false rest refl
 one_event read (body.Send connection call references frame) rest = wired (Wire true connection call references) (λ m. refl) (read frame) rest
 one_event read (body.Receive connection call references frame) rest = wired (Wire false connection call references) (λ m. refl) (read frame) rest
+one_event read (body.AnswerBy call by) rest = kept (AnswerBy call by) false rest refl
 
 deliveries : (read : Reader) (bs : List Body) → count_by is_delivery (filter_map (λ b. event_or_none (event_of read b)) bs) ≡ count_by delivers bs
 deliveries read [] = refl

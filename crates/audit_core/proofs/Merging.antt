@@ -4,7 +4,7 @@ use Rattle.std.specs.Prelude.{◌==◌, not, filter, sum_by, nat_lt, nat_le, sli
 use Rattle.std.specs.Option.{option_map}
 use Rattle.std.proofs.lemmas.List.Sums.{sum_by-cons}
 use Rattle.vat_log.specs.declared.body.Body.{Body}
-use Rattle.vat_log.specs.declared.body.Body.TheVariants.{Host, Vow, Fulfil, Break, Make, Field, Deliver, Answer, Fault, Send, Receive}
+use Rattle.vat_log.specs.declared.body.Body.TheVariants.{Host, Vow, Fulfil, Break, Make, Field, Deliver, Answer, Fault, Send, Receive, AnswerBy}
 use Rattle.vat_log.specs.Log.{Log}
 use Rattle.vat_log.specs.Migrated.{migrated}
 use Rattle.merge_order.specs.Fits.{Part, sent_so_far, received_so_far, part_of, sent_by_the_others, may_follow, may_come_from, may_come, further, after, used_up, begin, FitsFrom, IsFitting, TakesLeastFrom, TakesLeast, fault_from, finding_at, finding_of_order}
@@ -48,6 +48,7 @@ follow_moved v ps own (Some (Answer call results)) = refl
 follow_moved v ps own (Some (Fault call)) = refl
 follow_moved v ps own (Some (Send connection call references frame)) = refl
 follow_moved v ps own (Some (Receive connection call references frame)) = ap (λ n. nat_lt (received_so_far connection own) n) (others_moved v connection ps)
+follow_moved v ps own (Some (AnswerBy call by)) = refl
 
 from_moved : (v : ℕ) (ps : List Part) (own : Option Part) → may_come_from v (map moved ps) (option_map moved own) ≡ may_come_from v ps own
 from_moved v ps None = refl

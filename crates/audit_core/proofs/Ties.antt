@@ -64,6 +64,7 @@ used (body.Answer call results) k e = absurd cc
 used (body.Fault call) k e = absurd cc
 used (body.Send connection call references frame) k e = ap Some (eqb-true connection k (true_of (connection == k) e))
 used (body.Receive connection call references frame) k e = ap Some (eqb-true connection k e)
+used (body.AnswerBy call by) k e = absurd cc
 
 none_pass_here : (p : ℕ → Bool) (o : Option ℕ) (rest : List ℕ) (k : ℕ) → filter p (cons_option o rest) ≡ [] → o ≡ Some k → p k ≡ false
 none_pass_here p None rest k e is = absurd cc

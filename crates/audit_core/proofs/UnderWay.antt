@@ -59,6 +59,7 @@ sends_on (body.Answer call results) e = absurd cc
 sends_on (body.Fault call) e = absurd cc
 sends_on (body.Send connection call references frame) e = (connection, rw (eq-eqb connection connection refl) refl)
 sends_on (body.Receive connection call references frame) e = absurd cc
+sends_on (body.AnswerBy call by) e = absurd cc
 
 sends_it : (b : Body) (k : ℕ) → is_some (frame_sent k b) ≡ true → (sends b ≡ true) × ((sends_frame k b || receives_frame k b) ≡ true)
 sends_it (body.Host reference object) k e = absurd cc
@@ -72,6 +73,7 @@ sends_it (body.Answer call results) k e = absurd cc
 sends_it (body.Fault call) k e = absurd cc
 sends_it (body.Send connection call references frame) k e = (refl, or_left (connection == k) false (holds (connection == k) frame e))
 sends_it (body.Receive connection call references frame) k e = absurd cc
+sends_it (body.AnswerBy call by) k e = absurd cc
 
 receives_on : (b : Body) → receives b ≡ true → (k : ℕ) × (is_some (frame_received k b) ≡ true)
 receives_on (body.Host reference object) e = absurd cc
@@ -85,6 +87,7 @@ receives_on (body.Answer call results) e = absurd cc
 receives_on (body.Fault call) e = absurd cc
 receives_on (body.Send connection call references frame) e = absurd cc
 receives_on (body.Receive connection call references frame) e = (connection, rw (eq-eqb connection connection refl) refl)
+receives_on (body.AnswerBy call by) e = absurd cc
 
 receives_it : (b : Body) (k : ℕ) → is_some (frame_received k b) ≡ true → (receives b ≡ true) × ((sends_frame k b || receives_frame k b) ≡ true)
 receives_it (body.Host reference object) k e = absurd cc
@@ -98,6 +101,7 @@ receives_it (body.Answer call results) k e = absurd cc
 receives_it (body.Fault call) k e = absurd cc
 receives_it (body.Send connection call references frame) k e = absurd cc
 receives_it (body.Receive connection call references frame) k e = (refl, holds (connection == k) frame e)
+receives_it (body.AnswerBy call by) k e = absurd cc
 
 sending : IsKind frame_sent sends
 sending = record { somewhere = sends_on; anywhere = sends_it }

@@ -3,7 +3,7 @@ use Rattle.std.specs.Prelude.{ℕ, ◌==◌, if◌then◌else◌, List, [], ◌�
 use Rattle.std.specs.Fmt.{decimal}
 use Rattle.std.specs.List.{join_by}
 use Rattle.vat_log.specs.declared.body.Body.{Body}
-use Rattle.vat_log.specs.declared.body.Body.TheVariants.{Host, Vow, Fulfil, Break, Make, Field, Deliver, Answer, Fault, Send, Receive}
+use Rattle.vat_log.specs.declared.body.Body.TheVariants.{Host, Vow, Fulfil, Break, Make, Field, Deliver, Answer, Fault, Send, Receive, AnswerBy}
 use Rattle.report_lines.specs.declared.answer.Answer.{Answer as Answered}
 use Rattle.report_lines.specs.Lines.{answer_text}
 use Rattle.report_lines.specs.MessageText.{hexadecimal, path_text}
@@ -43,6 +43,7 @@ body_text (Answer call results) = codes "answer call " ++ (decimal call ++ (code
 body_text (Fault call) = codes "fault call " ++ decimal call
 body_text (Send connection call references frame) = codes "send" ++ noted_text connection call references
 body_text (Receive connection call references frame) = codes "receive" ++ noted_text connection call references
+body_text (AnswerBy call by) = codes "answerby call " ++ (decimal call ++ (codes " by " ++ decimal by))
 
 -- a record with its number, counted from 0; behind it what is answered to its frame, if it has one
 abbrev pub record_text : ℕ → Body → Option Answered → List ℕ

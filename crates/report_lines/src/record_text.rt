@@ -172,6 +172,7 @@ impl Display for Shown<&Body> {
                 references,
                 ..
             } => put_noted(f, "receive", *connection, *call, references),
+            Body::AnswerBy { call, by } => write!(f, "answerby call {call} by {by}"),
         }
     }
 }

@@ -4,12 +4,12 @@ use Rattle.vat_log.specs.declared.body.Body.{Body}
 use Rattle.vat_log.specs.declared.body.Body.TheVariants as body
 use Rattle.vat_log.specs.declared.error.LogError.{LogError}
 use Rattle.vat_log.specs.declared.kind.RecordKind.{RecordKind}
-use Rattle.vat_log.specs.declared.kind.RecordKind.TheVariants.{Host, Vow, Fulfil, Break, Make, Field, Deliver, Answer, Fault, Send, Receive}
+use Rattle.vat_log.specs.declared.kind.RecordKind.TheVariants.{Host, Vow, Fulfil, Break, Make, Field, Deliver, Answer, Fault, Send, Receive, AnswerBy}
 use Rattle.vat_log.specs.declared.passage.Passage.{Passage}
 use Rattle.vat_log.specs.declared.version.LogVersion.{LogVersion}
 use Rattle.vat_log.specs.Fits.{count_reach, IsCounted, IsWide, IsListed, Fits}
 use Rattle.vat_log.specs.Log.{written_version}
-use Rattle.vat_log.specs.Reading.{◌>>=◌, passage_at, host_at, vow_at, fulfil_at, break_at, make_at, field_at, deliver_at, answer_at, fault_at, send_at, receive_at, fields_at}
+use Rattle.vat_log.specs.Reading.{◌>>=◌, passage_at, host_at, vow_at, fulfil_at, break_at, make_at, field_at, deliver_at, answer_at, fault_at, send_at, receive_at, answer_by_at, fields_at}
 use Rattle.vat_log.specs.Spelling.{passage_bytes, kind_in, fields_bytes}
 use Rattle.vat_log.proofs.Spans.{IsBytes, ok_is, Spans, Spans-join, Spans-first, Spans-second, IsField, then_takes}
 use Rattle.vat_log.proofs.FieldLaws.{IsNumber, IsList, IsFrame, u16_field, u32_field, u64_field, nonzero_field, path_field, references_field, results_field, frame_field}
@@ -33,6 +33,7 @@ listed_as_written (body.Answer call results) h = (omega (arith, h.0), λ k d lt.
 listed_as_written (body.Fault call) h = tt
 listed_as_written (body.Send connection call references frame) h = omega (arith, h.0)
 listed_as_written (body.Receive connection call references frame) h = omega (arith, h.0)
+listed_as_written (body.AnswerBy call by) h = tt
 
 -- ---- fields that follow one another
 
@@ -248,6 +249,12 @@ receive_takes version bytes fits at x le e =
     let made : Body × ℕ = (received a.0.0, a.0.1) in
     subst (λ (y : Body × ℕ). Taken version bytes at y.1 Receive y.0) (ok_is made x a.3) (a.1, (passage_fits version a.0.0 a.2).1, refl)
 
+answer_by_takes : (version : LogVersion) (bytes : List ℕ) → IsBytes bytes → (at : ℕ) (x : Body × ℕ) → at ≤ length bytes → answer_by_at bytes at ≡ Ok x → Taken version bytes at x.1 AnswerBy x.0
+unfolding answer_by_at
+answer_by_takes version bytes fits at x le e =
+    let t = two_take (nonzero_field bytes) (nonzero_field bytes) fits (λ a b. body.AnswerBy a b) at x le e in
+    subst (Taken version bytes at x.1 AnswerBy) t.5 (t.2, record { fits = record { numbered = (t.3.0, t.4.0); counted = tt }; listed = tt; wide = (t.3.1, t.4.1) }, refl)
+
 -- what is read of a kind is a body of that kind, spelled so
 pub fields_take : (version : LogVersion) (kind : RecordKind) (bytes : List ℕ) → IsBytes bytes → (at : ℕ) (x : Body × ℕ) → at ≤ length bytes → fields_at version kind bytes at ≡ Ok x → Taken version bytes at x.1 kind x.0
 fields_take version Host bytes fits at x le e = host_takes version bytes fits at x le e
@@ -261,6 +268,7 @@ fields_take version Answer bytes fits at x le e = answer_takes version bytes fit
 fields_take version Fault bytes fits at x le e = fault_takes version bytes fits at x le e
 fields_take version Send bytes fits at x le e = send_takes version bytes fits at x le e
 fields_take version Receive bytes fits at x le e = receive_takes version bytes fits at x le e
+fields_take version AnswerBy bytes fits at x le e = answer_by_takes version bytes fits at x le e
 
 -- ---- what is spelled so is read
 
@@ -274,7 +282,7 @@ passage_is version connection call references frame numbered counted wide listed
 }
 
 pub fields_again : (version : LogVersion) (said : Body) (bytes : List ℕ) (at after : ℕ) → FitsWide version said → Spans bytes at (fields_bytes version said) after → fields_at version (kind_in said) bytes at ≡ Ok (said, after)
-unfolding host_at vow_at fulfil_at break_at make_at field_at deliver_at answer_at fault_at send_at receive_at
+unfolding host_at vow_at fulfil_at break_at make_at field_at deliver_at answer_at fault_at send_at receive_at answer_by_at
 fields_again version (body.Host reference object) bytes at after is p =
     two_again (nonzero_field bytes) (u64_field bytes) (λ a b. body.Host a b) at reference object after (is.fits.numbered, is.wide.0) is.wide.1 p
 fields_again version (body.Vow reference) bytes at after is p =
@@ -298,3 +306,5 @@ fields_again version (body.Send connection call references frame) bytes at after
     rw (passage_again version bytes at (passage connection call references frame) after (passage_is version connection call references frame is.fits.numbered is.fits.counted is.wide is.listed) p) refl
 fields_again version (body.Receive connection call references frame) bytes at after is p =
     rw (passage_again version bytes at (passage connection call references frame) after (passage_is version connection call references frame is.fits.numbered is.fits.counted is.wide is.listed) p) refl
+fields_again version (body.AnswerBy call by) bytes at after is p =
+    two_again (nonzero_field bytes) (nonzero_field bytes) (λ a b. body.AnswerBy a b) at call by after (is.fits.numbered.0, is.wide.0) (is.fits.numbered.1, is.wide.1) p

@@ -13,7 +13,7 @@ use Rattle.vat_log.specs.declared.body.Body.{Body}
 use Rattle.vat_log.specs.declared.error.LogError.{LogError}
 use Rattle.vat_log.specs.declared.error.LogError.TheVariants.{BadMagic, TooLong}
 use Rattle.vat_log.specs.declared.kind.RecordKind.{RecordKind}
-use Rattle.vat_log.specs.declared.kind.RecordKind.TheVariants.{Host, Vow, Fulfil, Break, Make, Field, Deliver, Answer, Fault, Send, Receive}
+use Rattle.vat_log.specs.declared.kind.RecordKind.TheVariants.{Host, Vow, Fulfil, Break, Make, Field, Deliver, Answer, Fault, Send, Receive, AnswerBy}
 use Rattle.vat_log.specs.declared.version.LogVersion.{LogVersion}
 use Rattle.vat_log.specs.declared.version.LogVersion.TheVariants.{One, Two}
 use Rattle.vat_log.specs.Fits.{LogFits}
@@ -45,7 +45,8 @@ unfolding kind_with
 kind_was byte kind e =
     kind_step byte 1 Host kind _ refl (kind_step byte 2 Vow kind _ refl (kind_step byte 3 Fulfil kind _ refl (kind_step byte 4 Break kind _ refl
     (kind_step byte 5 Make kind _ refl (kind_step byte 6 Field kind _ refl (kind_step byte 7 Deliver kind _ refl (kind_step byte 8 Answer kind _ refl
-    (kind_step byte 9 Fault kind _ refl (kind_step byte 10 Send kind _ refl (kind_step byte 11 Receive kind None refl (λ none. absurd cc))))))))))) e
+    (kind_step byte 9 Fault kind _ refl (kind_step byte 10 Send kind _ refl (kind_step byte 11 Receive kind _ refl
+    (kind_step byte 12 AnswerBy kind None refl (λ none. absurd cc)))))))))))) e
 
 kind_is : (kind : RecordKind) → kind_with (kind_byte kind) ≡ found kind
 unfolding kind_with
@@ -60,6 +61,7 @@ kind_is Answer = refl
 kind_is Fault = refl
 kind_is Send = refl
 kind_is Receive = refl
+kind_is AnswerBy = refl
 
 known_ok : (o : Option RecordKind) (at : ℕ) (kind : RecordKind) → known_kind o at ≡ Ok kind → o ≡ found kind
 known_ok (Some k) at kind e = ap found (ok_is k kind e)

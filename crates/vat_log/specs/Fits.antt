@@ -2,7 +2,7 @@
 use Rattle.std.specs.Prelude.{◌≡◌, ℕ, ◌^◌, ◌<◌, ◌≤◌, length, Result, Ok, Err, nat_lt, if◌then◌else◌}
 use Rattle.std.specs.List.{All}
 use Rattle.vat_log.specs.declared.body.Body.{Body}
-use Rattle.vat_log.specs.declared.body.Body.TheVariants.{Host, Vow, Fulfil, Break, Make, Field, Deliver, Answer, Fault, Send, Receive}
+use Rattle.vat_log.specs.declared.body.Body.TheVariants.{Host, Vow, Fulfil, Break, Make, Field, Deliver, Answer, Fault, Send, Receive, AnswerBy}
 use Rattle.vat_log.specs.declared.error.LogError.{LogError}
 use Rattle.vat_log.specs.declared.error.LogError.TheVariants.{ZeroNumber, TooLong, OutOfMemory}
 use Rattle.vat_log.specs.declared.version.LogVersion.{LogVersion}
@@ -41,6 +41,7 @@ IsNumbered (Send connection call references frame) =
     All (λ reference. 0 < reference) references
 IsNumbered (Receive connection call references frame) =
     All (λ reference. 0 < reference) references
+IsNumbered (AnswerBy call by) = (0 < call) × (0 < by)
 
 -- No list is past the limit of its count, and no frame past that of its bytes.
 abbrev pub IsCounted : Body → Type 0
@@ -80,6 +81,7 @@ IsWide (Send connection call references frame) =
     (connection < 2 ^ 32) × (call < 2 ^ 64) × All (λ reference. reference < 2 ^ 64) references
 IsWide (Receive connection call references frame) =
     (connection < 2 ^ 32) × (call < 2 ^ 64) × All (λ reference. reference < 2 ^ 64) references
+IsWide (AnswerBy call by) = (call < 2 ^ 64) × (by < 2 ^ 64)
 
 -- what a record can say
 pub record Fits (body : Body) : Type 0 where

@@ -8,7 +8,7 @@ use Rattle.vat_log.specs.declared.body.Body.TheVariants as body
 use Rattle.vat_log.specs.declared.error.LogError.{LogError}
 use Rattle.vat_log.specs.declared.error.LogError.TheVariants.{BadMagic, Short, BadKind, ZeroNumber, TooLong, OutOfMemory}
 use Rattle.vat_log.specs.declared.kind.RecordKind.{RecordKind}
-use Rattle.vat_log.specs.declared.kind.RecordKind.TheVariants.{Host, Vow, Fulfil, Break, Make, Field, Deliver, Answer, Fault, Send, Receive}
+use Rattle.vat_log.specs.declared.kind.RecordKind.TheVariants.{Host, Vow, Fulfil, Break, Make, Field, Deliver, Answer, Fault, Send, Receive, AnswerBy}
 use Rattle.vat_log.specs.declared.passage.Passage.{Passage}
 use Rattle.vat_log.specs.declared.version.LogVersion.{LogVersion}
 use Rattle.vat_log.specs.declared.version.LogVersion.TheVariants.{One, Two}
@@ -155,6 +155,12 @@ receive_at version bytes at = do
   passage ← passage_at version bytes at
   Ok (body.Receive passage.0.connection passage.0.call passage.0.references passage.0.frame, passage.1)
 
+unfoldable pub answer_by_at : List ℕ → ℕ → Result (Body × ℕ) LogError
+answer_by_at bytes at = do
+  call ← nonzero_at bytes at
+  by ← nonzero_at bytes call.1
+  Ok (body.AnswerBy call.0 by.0, by.1)
+
 -- the fields of a record of this kind
 abbrev pub fields_at : LogVersion → RecordKind → List ℕ → ℕ → Result (Body × ℕ) LogError
 fields_at version Host bytes at = host_at bytes at
@@ -168,6 +174,7 @@ fields_at version Answer bytes at = answer_at version bytes at
 fields_at version Fault bytes at = fault_at bytes at
 fields_at version Send bytes at = send_at version bytes at
 fields_at version Receive bytes at = receive_at version bytes at
+fields_at version AnswerBy bytes at = answer_by_at bytes at
 
 -- the kind that a byte stands for
 unfoldable pub kind_with : ℕ → Option RecordKind
@@ -183,6 +190,7 @@ kind_with byte =
     else if byte == 9 then Some Fault
     else if byte == 10 then Some Send
     else if byte == 11 then Some Receive
+    else if byte == 12 then Some AnswerBy
     else None
 
 abbrev pub known_kind : Option RecordKind → ℕ → Result RecordKind LogError

@@ -5,7 +5,7 @@ use Rattle.std.specs.Int.{Width, w16, w32, w64, to_le_bytes}
 use Rattle.vat_log.specs.declared.body.Body.{Body}
 use Rattle.vat_log.specs.declared.body.Body.TheVariants as body
 use Rattle.vat_log.specs.declared.kind.RecordKind.{RecordKind}
-use Rattle.vat_log.specs.declared.kind.RecordKind.TheVariants.{Host, Vow, Fulfil, Break, Make, Field, Deliver, Answer, Fault, Send, Receive}
+use Rattle.vat_log.specs.declared.kind.RecordKind.TheVariants.{Host, Vow, Fulfil, Break, Make, Field, Deliver, Answer, Fault, Send, Receive, AnswerBy}
 use Rattle.vat_log.specs.declared.version.LogVersion.{LogVersion}
 use Rattle.vat_log.specs.declared.version.LogVersion.TheVariants.{One, Two}
 use Rattle.vat_log.specs.Log.{Log}
@@ -33,6 +33,7 @@ kind_byte Answer = 8
 kind_byte Fault = 9
 kind_byte Send = 10
 kind_byte Receive = 11
+kind_byte AnswerBy = 12
 
 -- a number of this width, its lowest byte first
 unfoldable pub number_bytes : Width → ℕ → List ℕ
@@ -76,6 +77,7 @@ kind_in (body.Answer call results) = Answer
 kind_in (body.Fault call) = Fault
 kind_in (body.Send connection call references frame) = Send
 kind_in (body.Receive connection call references frame) = Receive
+kind_in (body.AnswerBy call by) = AnswerBy
 
 -- its fields, one after the other
 abbrev pub fields_bytes : LogVersion → Body → List ℕ
@@ -92,6 +94,7 @@ fields_bytes version (body.Answer call results) = number_bytes w64 call ++ count
 fields_bytes version (body.Fault call) = number_bytes w64 call
 fields_bytes version (body.Send connection call references frame) = passage_bytes version connection call references frame
 fields_bytes version (body.Receive connection call references frame) = passage_bytes version connection call references frame
+fields_bytes version (body.AnswerBy call by) = number_bytes w64 call ++ number_bytes w64 by
 
 -- a record: the byte of its kind, then its fields
 abbrev pub record_bytes : LogVersion → Body → List ℕ

@@ -219,6 +219,13 @@ pub enum Body {
         /// One message in stream framing, as it passed the wire.
         frame: Bytes,
     },
+    /// The results of a call are those of another, to which its vat handed it on.
+    AnswerBy {
+        /// The call, which isn't 0.
+        call: u64,
+        /// The call whose results are its results, which isn't 0.
+        by: u64,
+    },
 }
 
 /// What a MAKE says.
@@ -283,6 +290,7 @@ impl Body {
                 references,
                 frame,
             } => Passage::copied(*connection, *call, references, frame)?.as_receive(),
+            &Body::AnswerBy { call, by } => Body::AnswerBy { call, by },
         })
     }
 }

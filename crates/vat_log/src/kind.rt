@@ -19,6 +19,7 @@ pub(crate) enum RecordKind {
     Fault,
     Send,
     Receive,
+    AnswerBy,
 }
 
 /// The kind that a byte stands for.
@@ -38,6 +39,7 @@ fn kind_of(byte: u8) -> Option<RecordKind>
         0x09 => Some(RecordKind::Fault),
         0x0a => Some(RecordKind::Send),
         0x0b => Some(RecordKind::Receive),
+        0x0c => Some(RecordKind::AnswerBy),
         _ => None,
     }
 }

@@ -1,7 +1,7 @@
 //! Reading records.
 
 ghost use Rattle.std.specs.Prelude.{◌≤◌, length, IfOk};
-ghost use Rattle.vat_log.specs.Reading.{GivesInMemory, passage_at, host_at, vow_at, fulfil_at, break_at, make_at, field_at, deliver_at, answer_at, fault_at, send_at, receive_at, fields_at};
+ghost use Rattle.vat_log.specs.Reading.{GivesInMemory, passage_at, host_at, vow_at, fulfil_at, break_at, make_at, field_at, deliver_at, answer_at, fault_at, send_at, receive_at, answer_by_at, fields_at};
 
 use crate::body::{Body, field_body, make_body};
 use crate::error::LogError;
@@ -177,6 +177,17 @@ fn receive_of(
     Ok((passage.as_receive(), after))
 }
 
+#[tactic(auto, unfolding(crate::specs::Reading::answer_by_at))]
+fn answer_by_of(bytes: &[u8], at: usize) -> Result<(Body, usize), LogError>
+    requires { at ≤ length bytes.now }
+    ensures gives { GivesInMemory (λ x. (x.0, x.1)) result (answer_by_at bytes.now at) }
+    ensures within { IfOk result (λ x. x.1 ≤ length bytes.now) }
+{
+    let (call, after) = nonzero_of(bytes, at)?;
+    let (by, after) = nonzero_of(bytes, after)?;
+    Ok((Body::AnswerBy { call, by }, after))
+}
+
 /// The fields of a record of this kind.
 pub(crate) fn body_of(
     alloc: Global,
@@ -201,5 +212,6 @@ pub(crate) fn body_of(
         RecordKind::Fault => fault_of(bytes.as_slice(), at),
         RecordKind::Send => send_of(alloc, version, bytes, at),
         RecordKind::Receive => receive_of(alloc, version, bytes, at),
+        RecordKind::AnswerBy => answer_by_of(bytes.as_slice(), at),
     }
 }

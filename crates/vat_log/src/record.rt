@@ -135,6 +135,7 @@ fn is_numbered(body: &Body) -> bool
             ..
         } => *reference != 0 && *call != 0,
         Body::Deliver { call, .. } | Body::Fault { call } => *call != 0,
+        Body::AnswerBy { call, by } => *call != 0 && *by != 0,
         Body::Answer { call, results } => *call != 0 && are_results_numbered(results),
         Body::Send { references, .. } | Body::Receive { references, .. } => {
             are_references_numbered(references)
@@ -164,6 +165,7 @@ fn is_counted(body: &Body) -> bool
     match body {
         Body::Host { .. } | Body::Vow { .. } | Body::Fulfil { .. } | Body::Break { .. } => true,
         Body::Make { .. } | Body::Deliver { .. } | Body::Fault { .. } => true,
+        Body::AnswerBy { .. } => true,
         Body::Field { path, .. } => is_path_counted(path),
         Body::Answer { results, .. } => are_results_counted(results),
         Body::Send {

@@ -180,6 +180,7 @@ fn byte_of(body: &Body) -> u8
         Body::Fault { .. } => 0x09,
         Body::Send { .. } => 0x0a,
         Body::Receive { .. } => 0x0b,
+        Body::AnswerBy { .. } => 0x0c,
     }
 }
 
@@ -219,6 +220,7 @@ fn put_fields(out: &mut Vec<u8>, body: &Body) -> Result<(), AllocError>
             references,
             frame,
         } => put_passage(out, *connection, *call, references, frame),
+        Body::AnswerBy { call, by } => put_pair(out, *call, *by),
     }
 }
 

@@ -1,12 +1,13 @@
 //! Messages in the notation, written as frames by the layouts of rpc.capnp.
 //!
-//! `boot qN` · `call qN TARGET CAP..` · `ret qN CAP..`, `ret qN exception`, `ret qN canceled` · `fin qN` ·
-//! `resolve promise N CAP`, `resolve promise N exception` · `release id N count N` · `disembargo N senderLoopback TARGET`, or
-//! `receiverLoopback` · `abort` · `hex DIGITS..`, the bytes themselves. TARGET is `import N` or `answer N PATH`, behind which
-//! `method N` may stand in a call. CAP is an entry of the capability table, `none`, `senderHosted N`, `senderPromise N`,
-//! `receiverHosted N` or `receiverAnswer N PATH`, with `@PATH` at its end where the content has it. `keep` behind `ret qN` is
-//! releaseParamCaps false, behind `fin qN` releaseResultCaps false. Each call has interface 0x1234, and method 2 where it
-//! says no other.
+//! `boot qN` · `call qN TARGET CAP..` · `ret qN CAP..`, `ret qN exception`, `ret qN canceled`, `ret qN elsewhere`,
+//! `ret qN takes N` · `fin qN` · `resolve promise N CAP`, `resolve promise N exception` · `release id N count N` ·
+//! `disembargo N senderLoopback TARGET`, or `receiverLoopback` · `abort` · `hex DIGITS..`, the bytes themselves. TARGET is
+//! `import N` or `answer N PATH`, behind which `method N` may stand in a call. CAP is an entry of the capability table,
+//! `none`, `senderHosted N`, `senderPromise N`, `receiverHosted N` or `receiverAnswer N PATH`, with `@PATH` at its end where
+//! the content has it. `yourself` at the end of a call is its sendResultsTo, in the place of caller. `keep` behind `ret qN`
+//! is releaseParamCaps false, behind `fin qN` releaseResultCaps false. Each call has interface 0x1234, and method 2 where
+//! it says no other.
 
 use crate::fault::Fault;
 use crate::segment::Segment;
@@ -188,6 +189,7 @@ fn put_call(alloc: Global, segment: &mut Segment, words: &mut Words<'_>) {
     segment.put(call.wrapping_add(1), 0, INTERFACE);
     put_target(alloc, segment, call.wrapping_add(3), words);
     segment.put(call, 32, method_of(words) as u64);
+    segment.put(call, 48, words.takes_last("yourself") as u64);
     put_payload(alloc, segment, call.wrapping_add(4), words);
 }
 
@@ -197,6 +199,11 @@ fn put_ending(alloc: Global, segment: &mut Segment, returned: usize, words: &mut
         segment.put(returned, 48, 1);
     } else if words.takes("canceled") {
         segment.put(returned, 48, 2);
+    } else if words.takes("elsewhere") {
+        segment.put(returned, 48, 3);
+    } else if words.takes("takes") {
+        segment.put(returned, 48, 4);
+        segment.put(returned.wrapping_add(1), 0, words.small() as u64);
     } else {
         put_payload(alloc, segment, returned.wrapping_add(2), words);
     }

@@ -1,8 +1,9 @@
 //! Records in the notation, written as the bytes of a log.
 //!
 //! `HOST rN OBJECT` · `VOW rN` · `FULFIL rN rN` · `BREAK rN` · `MAKE cN rN`, with `method N` behind it or method 2 ·
-//! `FIELD rN cN PATH` · `DELIVER cN OBJECT` · `ANSWER cN rN@PATH..` · `FAULT cN` · `SN cN rN.. MESSAGE`, a message sent on
-//! connection N with the call and the references noted beside it, if any, and `RN cN rN.. MESSAGE`, one received.
+//! `FIELD rN cN PATH` · `DELIVER cN OBJECT` · `ANSWER cN rN@PATH..` · `ANSWERBY cN cN` · `FAULT cN` · `SN cN rN.. MESSAGE`,
+//! a message sent on connection N with the call and the references noted beside it, if any, and `RN cN rN.. MESSAGE`, one
+//! received.
 
 use crate::fault::Fault;
 use crate::message::{INTERFACE, METHOD, frame_of};
@@ -23,7 +24,7 @@ enum Rest {
 type Form = (u8, &'static [char], Rest);
 
 /// The forms and their words.
-const FORMS: [(&str, Form); 9] = [
+const FORMS: [(&str, Form); 10] = [
     ("HOST", (1, &['r', '#'], Rest::Nothing)),
     ("VOW", (2, &['r'], Rest::Nothing)),
     ("FULFIL", (3, &['r', 'r'], Rest::Nothing)),
@@ -33,6 +34,7 @@ const FORMS: [(&str, Form); 9] = [
     ("DELIVER", (7, &['c', '#'], Rest::Nothing)),
     ("ANSWER", (8, &['c'], Rest::Results)),
     ("FAULT", (9, &['c'], Rest::Nothing)),
+    ("ANSWERBY", (12, &['c', 'c'], Rest::Nothing)),
 ];
 
 /// Where in a log its fields begin, and which of these places begin a record.

@@ -105,6 +105,17 @@ impl<'a> Words<'a> {
         }
     }
 
+    /// Reads the last word if it is this one, and says whether it is.
+    pub fn takes_last(&mut self, word: &str) -> bool {
+        match self.rest {
+            [rest @ .., last] if *last == word => {
+                self.rest = rest;
+                true
+            }
+            _ => false,
+        }
+    }
+
     /// Reads the next word, which has to be this one.
     pub fn expect(&mut self, word: &str) {
         if !self.takes(word) {

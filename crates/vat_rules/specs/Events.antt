@@ -3,7 +3,7 @@ use Rattle.std.specs.Prelude.{ℕ, List, take, reverse, true, false, Option, Som
 use Rattle.std.specs.List.{filter_map}
 use Rattle.vat_log.specs.declared.body.Body.{Body}
 use Rattle.vat_log.specs.declared.body.Body.TheVariants as body
-use Rattle.vat_rules.specs.Types.{RpcMessage, DecodedRecord, Host, Vow, Fulfil, Break, Make, Field, Deliver, Answer, Fault, Wire}
+use Rattle.vat_rules.specs.Types.{RpcMessage, DecodedRecord, Host, Vow, Fulfil, Break, Make, Field, Deliver, Answer, AnswerBy, Fault, Wire}
 use Rattle.vat_view.specs.Past.{Past}
 use Rattle.vat_rules.specs.declared.outcome.Why.{Why}
 
@@ -29,6 +29,7 @@ event_of read (body.Answer call results) = Ok (Answer call results)
 event_of read (body.Fault call) = Ok (Fault call)
 event_of read (body.Send connection call references frame) = with_message (Wire true connection call references) (read frame)
 event_of read (body.Receive connection call references frame) = with_message (Wire false connection call references) (read frame)
+event_of read (body.AnswerBy call by) = Ok (AnswerBy call by)
 
 -- the event, where the record is read
 abbrev pub event_or_none : Result DecodedRecord Why → Option DecodedRecord

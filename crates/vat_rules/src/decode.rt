@@ -20,7 +20,6 @@ fn why_outside(reason: Outside) -> Why
         Outside::Level => Why::Level,
         Outside::Unimplemented => Why::Unimplemented,
         Outside::LaterField => Why::LaterField,
-        Outside::TailCall => Why::TailCall,
     }
 }
 
@@ -102,6 +101,7 @@ fn own_event(body: &Body) -> Result<DecodedRecord, AllocError>
             results: results.copy()?,
         },
         Body::Fault { call } => DecodedRecord::Fault { call },
+        Body::AnswerBy { call, by } => DecodedRecord::AnswerBy { call, by },
         Body::Send { .. } | Body::Receive { .. } => unreachable!(),
     })
 }

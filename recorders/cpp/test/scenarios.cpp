@@ -368,7 +368,7 @@ void numberTakenOver(World& world) {
 }
 
 // An object of vat 2 ends its method with a tail call to vat 3, whose results are then its own. Where vat 1 calls the
-// result before it is there, vat 2 sends that on before it can say what the result is.
+// result before it is there, vat 2 sends that on to where its own call's result will be.
 void handOver(World& world, bool isEarly) {
   Chain chain(world);
   Counter::Client between = chain.second.host<CounterObject>(chain.second);
@@ -387,6 +387,15 @@ void handOver(World& world, bool isEarly) {
 void handedOn(World& world) { handOver(world, false); }
 
 void handedOnEarly(World& world) { handOver(world, true); }
+
+// An object of vat 2 ends its method with a tail call to vat 1, from which the call came: the results stay at vat 1, and
+// vat 2's Return says which they are.
+void handedBack(World& world) {
+  Two two(world);
+  two.hold(two.counter, two.firsts(10));
+  auto result = two.wait(two.counter.handOnRequest().send()).getCounter();
+  KJ_ASSERT(two.next(result, 1) == 11);
+}
 
 // Calls that wait in vat 1 for a promise of its own, which becomes an object of vat 2; and others for one that becomes
 // an object of vat 1.
@@ -622,6 +631,7 @@ const Conversations scenarios = {
   { "promise_twice", promiseTwice }, { "promise_of_promise", promiseOfPromise },
   { "number_taken_over", numberTakenOver }, { "gone", gone }, { "two_connections", twoConnections },
   { "refused", refused }, { "handed_on", handedOn }, { "handed_on_early", handedOnEarly },
+  { "handed_back", handedBack },
   { "queued", queued }, { "canceled_waiting", canceledWaiting }, { "server", server },
   { "streaming", streaming }, { "null_promise", nullPromise }, { "this_cap", thisCap }, { "taken", taken },
   { "accepted", accepted }, { "listened", listened }, { "descriptors", descriptors },

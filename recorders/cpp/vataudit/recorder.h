@@ -29,10 +29,9 @@
 // What it can't do:
 // - EzRpcClient and EzRpcServer let no recorder in.
 // - A bootstrap object that is made anew for each client (BootstrapFactory) has to be given by `asBootstrap`.
-// - Where a method ends by `tailCall` or names its results beforehand by `setPipeline`, a log has no record for "the
-//   results of this call are those of that one" before they are there. A call that goes on to such a result before
-//   is told `no .. rule GOAL`. The runtime's own tail calls, back over the connection by which a call came, are
-//   `outside .. TailCall`.
+// - Where a method names its results beforehand by `setPipeline`, no record says so before they are there. A call that
+//   goes on to such a result before is told `no .. rule GOAL`. A method that ends by `tailCall` is recorded, by
+//   ANSWERBY. The runtime's own tail calls, back over the connection by which a call came, are `outside .. TailCall`.
 // - Where a call waits in a queue of the runtime for a promise and then goes out, or is delivered, as a copy, its
 //   MAKE is found by interface, method and parameters, the oldest first. If the runtime exchanged two such calls
 //   that are alike in all of this, the log couldn't tell. All other calls are found by where their parameters lie.
@@ -285,8 +284,8 @@ struct Call {
   std::vector<Reference> paramsByIndex, paramsAsMet;
   std::vector<Reference> resultsByIndex, resultsAsMet;
   std::vector<std::pair<Path, Reference>> fields;
-  std::shared_ptr<Call> answeredBy;  // the call that this one was handed on to by `tailCall`
-  std::vector<std::weak_ptr<Call>> handedOn;  // the calls that were handed on to this one
+  std::shared_ptr<Call> answeredBy;  // the call whose results are this one's: by `tailCall`, or by a Return that says so
+  std::vector<std::weak_ptr<Call>> handedOn;  // the calls whose results are this one's
   const void* params = nullptr;      // where its parameters lie, until it is delivered
   bool hasContent = false;           // whether `content` is known
   uint64_t content = 0;              // a hash of its parameters
@@ -482,24 +481,44 @@ public:
       log.number(call.number), log.count(call.fields.size());
       for (auto& field: call.fields) log.number(field.second.number), addPath(field.first);
     });
-    answerHandedOn(call);
+    shareResults(call);
   }
 
-  // The results of a call are those of each call that was handed on to it. ANSWER of these stands right behind: what
-  // the runtime does next may already go by them, as a Resolve.
-  void answerHandedOn(Call& call) {
+  // ANSWERBY: the method of the first call ends by handing it on to the second one. It stands behind the second one's
+  // MAKE and before its SEND or DELIVER: what the runtime does next may already go by it. No ANSWER or FAULT of the
+  // first call follows.
+  void answerBy(const std::shared_ptr<Call>& call, const std::shared_ptr<Call>& by) {
+    if (call->answeredBy != nullptr) return;
+    begin(0x0c, [&] { log.number(call->number), log.number(by->number); });
+    handOn(call, by);
+  }
+
+  // A Return came by which the first call's results are those of the second one. Where these are said to be the first
+  // one's themselves, nothing is noted: then there are none.
+  static void takeResults(const std::shared_ptr<Call>& call, const std::shared_ptr<Call>& of) {
+    for (const Call* at = of.get(); at != nullptr; at = at->answeredBy.get()) {
+      if (at == call.get()) return;
+    }
+    handOn(call, of);
+    shareResults(*of);
+  }
+
+  // The results of a call are those of each call that was handed on to it.
+  static void shareResults(const Call& call) {
     for (auto& one: call.handedOn) {
       auto handed = one.lock();
-      if (handed == nullptr || handed->isLocallyAnswered) continue;
+      if (handed == nullptr) continue;
       handed->fields = call.fields;
       handed->resultsAsMet = call.resultsAsMet;
-      answer(*handed);
+      shareResults(*handed);
     }
   }
 
   // Of a call that was delivered and failed: where it came from another vat its Return says so as well, where it is
-  // the vat's own no frame does. A call that was sent on has left, and gets none; nor does one that was canceled.
+  // the vat's own no frame does. A call that was sent on has left, and gets none; nor does one that was canceled, or
+  // one that was handed on: the other call fails.
   void fault(Call& call) {
+    if (call.answeredBy != nullptr) return;
     begin(0x09, [&] { log.number(call.number); });
   }
 
@@ -660,6 +679,11 @@ private:
     for (auto& segment: segments) log.number(static_cast<uint32_t>(segment.size()));
     if (segments.size() % 2 == 0) log.number(static_cast<uint32_t>(0));
     for (auto& segment: segments) log.add(segment.begin(), segment.asBytes().size());
+  }
+
+  static void handOn(const std::shared_ptr<Call>& call, const std::shared_ptr<Call>& by) {
+    call->answeredBy = by;
+    by->handedOn.push_back(call);
   }
 
   static Reference nextOf(const View& view) {
@@ -1035,14 +1059,10 @@ public:
   kj::Promise<AnyPointer::Pipeline> onTailCall() override { return inner->onTailCall(); }
   kj::Own<capnp::CallContextHook> addRef() override { return kj::addRef(*this); }
 
-  // Records ANSWER: each capability in the results with its path. Those of a call that was handed on are the results
-  // of that call, and mostly recorded with them.
+  // Records ANSWER: each capability in the results with its path. A call that was handed on has ANSWERBY instead.
   void answer() {
-    if (!vat->isRecording() || call->isLocallyAnswered) return;
-    if (call->answeredBy != nullptr) {
-      call->fields = call->answeredBy->fields;
-      call->resultsAsMet = call->answeredBy->resultsAsMet;
-    } else if (hasResults && !results.byIndex.empty()) {
+    if (!vat->isRecording() || call->isLocallyAnswered || call->answeredBy != nullptr) return;
+    if (hasResults && !results.byIndex.empty()) {
       Content content(inner->getResults(capnp::MessageSize { 0, 0 }).asReader());
       call->setResults(kj::mv(results.byIndex), content.met);
     }
@@ -1057,13 +1077,12 @@ private:
   WriteTable results;
   bool hasResults = false;
 
-  // The call is handed on: its results are those of the call that the request makes.
+  // The call is handed on: its results are those of the call that the request makes. ANSWERBY says so.
   template <typename TailCall>
   auto handOn(kj::Own<capnp::RequestHook>&& request, TailCall&& tailCall) -> decltype(tailCall(kj::mv(request))) {
     auto made = dynamic_cast<Request*>(request.get());
     if (made == nullptr || !made->begin()) return tailCall(kj::mv(request));
-    call->answeredBy = made->call;
-    made->call->handedOn.push_back(call);
+    vat->answerBy(call, made->call);
     return made->whileSending([&] { return tailCall(kj::mv(made->inner)); });
   }
 };
@@ -1202,7 +1221,7 @@ public:
   std::shared_ptr<Call> received(rpc::Message::Reader message,
                                  kj::ArrayPtr<const kj::ArrayPtr<const capnp::word>> segments) {
     std::vector<Reference> references;
-    std::shared_ptr<Call> call, returned;
+    std::shared_ptr<Call> call;
     switch (message.which()) {
       case rpc::Message::BOOTSTRAP:
         call = vat->newCall(0, 0);
@@ -1213,7 +1232,7 @@ public:
         call = receivedCall(message.getCall(), references);
         break;
       case rpc::Message::RETURN:
-        returned = receivedReturn(message.getReturn(), references);
+        receivedReturn(message.getReturn(), references);
         break;
       case rpc::Message::RESOLVE:
         receivedResolve(message.getResolve(), references);
@@ -1231,7 +1250,6 @@ public:
         break;
     }
     vat->frame(false, connection, call == nullptr ? 0 : call->number, references, segments);
-    if (returned != nullptr) vat->answerHandedOn(*returned);
     return message.isCall() ? call : nullptr;
   }
 
@@ -1299,7 +1317,7 @@ private:
       }
       if (bootstrap.number != 0) vat->answer(call);
     }
-    bool isWrittenHere = answered.isBootstrap || (call.isLocallyAnswered && call.answeredBy == nullptr);
+    bool isWrittenHere = answered.isBootstrap || call.isLocallyAnswered;
     return isWrittenHere ? call.resultsByIndex : copied(payload, call.resultsAsMet);
   }
 
@@ -1368,22 +1386,23 @@ private:
     return call;
   }
 
-  // A late Return, one after a Finish with releaseResultCaps, notes no reference. Answers the call whose results come.
-  std::shared_ptr<Call> receivedReturn(rpc::Return::Reader message, std::vector<Reference>& references) {
+  // A late Return, one after a Finish with releaseResultCaps, notes no reference.
+  void receivedReturn(rpc::Return::Reader message, std::vector<Reference>& references) {
     auto found = asked.find(message.getAnswerId());
-    if (found == asked.end()) return nullptr;
+    if (found == asked.end()) return;
     Question& answered = found->second;
-    std::shared_ptr<Call> returned;
     if (message.isResults() && !answered.isLate) {
-      returned = answered.call;
       auto payload = message.getResults();
       auto byIndex = take(payload.getCapTable(), references, answered.broughtByReturn);
       if (!byIndex.empty()) answered.call->setResults(kj::mv(byIndex), Content(payload.getContent()).met);
+      Vat::shareResults(*answered.call);
+    } else if (message.isTakeFromOtherQuestion() && !answered.isLate) {
+      auto other = answering.find(message.getTakeFromOtherQuestion());
+      if (other != answering.end()) Vat::takeResults(answered.call, other->second.call);
     }
     answered.isReturned = true;
     if (message.getReleaseParamCaps()) giveBack(exports, answered.broughtByCall);
     if (answered.isLate) asked.erase(found);
-    return returned;
   }
 
   void receivedResolve(rpc::Resolve::Reader message, std::vector<Reference>& references) {

@@ -10,7 +10,7 @@ use vat_log::{Body, LogError, Record, References, VatLog, migrate, parse_log, wr
 use worked_cases::{Refused, ask_again, bytes_of_log, bytes_of_new_log, is_so};
 
 /// Records in the notation, as the bytes of vat 3's log in hexadecimal, and as they are read.
-const RECORDS: [(&str, &str, &str); 8] = [
+const RECORDS: [(&str, &str, &str); 9] = [
     (
         "VOW r2; FULFIL r2 r1; BREAK r3; FIELD r4 c5 [0,258]; FAULT c5",
         "02 0200000000000000 03 0200000000000000 0100000000000000 04 0300000000000000 \
@@ -49,6 +49,11 @@ const RECORDS: [(&str, &str, &str); 8] = [
         "R6 hex 6162",
         "0b 06000000 0000000000000000 0000 02000000 6162",
         "vat 3: Receive { connection: 6, call: 0, references: References { items: [] }, frame: b\"ab\" };",
+    ),
+    (
+        "ANSWERBY c2 c258",
+        "0c 0200000000000000 0201000000000000",
+        "vat 3: AnswerBy { call: 2, by: 258 };",
     ),
     ("", "", "vat 3:"),
 ];
@@ -166,6 +171,10 @@ pub(super) fn copied(body: &Body) -> Result<Body, Refused> {
             call: *call,
             references: references.copy()?,
             frame: frame.clone()?,
+        },
+        Body::AnswerBy { call, by } => Body::AnswerBy {
+            call: *call,
+            by: *by,
         },
     })
 }

@@ -173,11 +173,14 @@ with_taken known = record known { taken = true }
 abbrev pub changed_if : Bool → (Question → Question) → Option Question → Option Question
 changed_if named change known = if named then option_map change known else known
 
+-- what a record that introduces these numbers makes of what is known of a question, by its return or its finish
+abbrev pub ended_by : DecodedRecord → List TableKey → TableKey → Option Question → Option Question
+ended_by e introduced q known =
+    changed_if (names q (question_released e)) with_release (changed_if (names q (question_finished e)) with_finish (changed_if (names q (question_returned e)) (with_return introduced) known))
+
 -- what a record that opens no question, and introduces these numbers, makes of what is known of a question
 abbrev pub noted_by : DecodedRecord → List TableKey → TableKey → Option Question → Option Question
-noted_by e introduced q known =
-    changed_if (names q (question_taken e)) with_taken
-    (changed_if (names q (question_released e)) with_release (changed_if (names q (question_finished e)) with_finish (changed_if (names q (question_returned e)) (with_return introduced) known)))
+noted_by e introduced q known = changed_if (names q (question_taken e)) with_taken (ended_by e introduced q known)
 
 -- the view that the table has of a reference
 abbrev pub bound_at : BoundReferences → ℕ → Option View

@@ -2,12 +2,12 @@
 
 ghost use Rattle.std.specs.Prelude.{◌≡◌, ◌+◌, ◌-◌, ◌<◌, ◌∷◌, length, count_by, OnOk, OnErr};
 ghost use Rattle.vat_view.specs.Types.{TableKey};
-ghost use Rattle.vat_view.specs.Past.{Past, same_id};
-ghost use Rattle.vat_view.specs.Questions.{noted_call, asks_elsewhere};
+ghost use Rattle.vat_view.specs.Past.{Past, same_id, names};
+ghost use Rattle.vat_view.specs.Questions.{noted_call, asks_elsewhere, question_taken};
 ghost use Rattle.vat_view.specs.Lives.{GivesBackHeld};
 ghost use Rattle.vat_view.specs.Uses.{UsesQuestions};
 ghost use Rattle.vat_view.specs.Glue.TurnTables.{IsOwnOrOld};
-ghost use Rattle.vat_view.specs.Glue.Tables.{question_at, late_by, given_back_by, count_at, origin_at, raised_origin, count_released, just_opened, noted_by, IsPut, IsSameQuestions, IsTabled, AreTabled, IsFit};
+ghost use Rattle.vat_view.specs.Glue.Tables.{question_at, late_by, given_back_by, count_at, origin_at, raised_origin, count_released, just_opened, with_taken, changed_if, ended_by, noted_by, IsPut, IsSameQuestions, IsTabled, AreTabled, IsFit};
 
 use crate::record::bindings::{bindings, introduced_by, new_references};
 use crate::record::decoded::DecodedRecord;
@@ -91,6 +91,29 @@ pub(crate) fn release(lives: &mut ExportsImports, event: &DecodedRecord)
     }
 }
 
+/// Notes what a record does to the question that it returns or finishes.
+fn note_return_or_finish(questions: &mut Questions, event: &DecodedRecord, introduced: TableKeys)
+    ensures { (q : TableKey) → question_at questions.new q
+        ≡ ended_by event.now introduced q (question_at questions.old q) }
+{
+    if let Some(question) = question_returned(event) {
+        questions.note_return(question, introduced);
+    }
+    if let Some(question) = question_finished(event) {
+        questions.note_finish(question, question_released(event).is_some());
+    }
+}
+
+/// Notes that a record takes the results of a question, where it does.
+fn note_taking(questions: &mut Questions, event: &DecodedRecord)
+    ensures { (q : TableKey) → question_at questions.new q
+        ≡ changed_if (names q (question_taken event.now)) with_taken (question_at questions.old q) }
+{
+    if let Some(question) = question_taken(event) {
+        questions.note_taken(question);
+    }
+}
+
 /// Notes what a record does to the question that it returns or finishes, and to the one whose results it takes.
 pub(crate) fn note_on_question(
     questions: &mut Questions,
@@ -100,15 +123,8 @@ pub(crate) fn note_on_question(
     ensures { (q : TableKey) → question_at questions.new q
         ≡ noted_by event.now introduced q (question_at questions.old q) }
 {
-    if let Some(question) = question_returned(event) {
-        questions.note_return(question, introduced);
-    }
-    if let Some(question) = question_finished(event) {
-        questions.note_finish(question, question_released(event).is_some());
-    }
-    if let Some(question) = question_taken(event) {
-        questions.note_taken(question);
-    }
+    note_return_or_finish(questions, event, introduced);
+    note_taking(questions, event);
 }
 
 /// A record opened this question and introduced these numbers. Where memory is refused, nothing changes but the

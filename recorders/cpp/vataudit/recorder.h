@@ -32,7 +32,7 @@
 // - Where a method ends by `tailCall` or names its results beforehand by `setPipeline`, a log has no record for "the
 //   results of this call are those of that one" before they are there. A call that goes on to such a result before
 //   is told `no .. rule GOAL`. The runtime's own tail calls, back over the connection by which a call came, are
-//   `outside .. TailCall`.
+//   told `no .. rule RESULT`.
 // - Where a call waits in a queue of the runtime for a promise and then goes out, or is delivered, as a copy, its
 //   MAKE is found by interface, method and parameters, the oldest first. If the runtime exchanged two such calls
 //   that are alike in all of this, the log couldn't tell. All other calls are found by where their parameters lie.

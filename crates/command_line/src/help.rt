@@ -188,7 +188,7 @@ message of rpc.capnp, and prints one line:
   call .. yourself, the same where its results stay with their answerer
   return answer Q releaseParamCaps B results PAYLOAD
   return answer Q releaseParamCaps B exception, or in its place canceled,
-                   resultsSentElsewhere or takeFromOtherQuestion Q
+                   resultsSentElsewhere or takeFromOtherQuestion N
   finish question Q releaseResultCaps B
   resolve promise P DESCRIPTOR, or exception in its place
   release id N count C

@@ -151,8 +151,7 @@ VATLOG01 or VATLOG02, and prints one line:
   good vat V records N delivered D   every record keeps the rules
   no vat V record I rule CODE        record I is the first that breaks a rule
   outside vat V record I WHY         record I is the first that isn't judged:
-                                     Level, Unimplemented, LaterField, TailCall,
-                                     Unread
+                                     Level, Unimplemented, LaterField, Unread
   bad log NAME [OFFSET]              the bytes aren't a log: BadMagic, Short,
                                      BadKind, ZeroNumber, TooLong
   cannot read                        the file can't be read, or has over
@@ -186,14 +185,16 @@ message of rpc.capnp, and prints one line:
 
   bootstrap question Q
   call question Q target TARGET interface H method M PAYLOAD
+  call .. yourself, the same where its results stay with their answerer
   return answer Q releaseParamCaps B results PAYLOAD
-  return answer Q releaseParamCaps B exception, or canceled in its place
+  return answer Q releaseParamCaps B exception, or in its place canceled,
+                   resultsSentElsewhere or takeFromOtherQuestion N
   finish question Q releaseResultCaps B
   resolve promise P DESCRIPTOR, or exception in its place
   release id N count C
   disembargo N senderLoopback TARGET, or receiverLoopback TARGET
   abort
-  outside WHY      not judged here: Level, Unimplemented, LaterField, TailCall
+  outside WHY      not judged here: Level, Unimplemented, LaterField
   bad tag          a number that stands for no message or no part of one
   bad read NAME    a pointer can't be followed: OutOfSegment, NoSegment, BadPad,
                    WrongKind, Reserved, TooDeep (over 64), TooMuch (over 8388608

@@ -49,7 +49,6 @@ abbrev pub outside_name : OutsideOf → List ℕ
 outside_name outside.Level = codes "Level"
 outside_name outside.Unimplemented = codes "Unimplemented"
 outside_name outside.LaterField = codes "LaterField"
-outside_name outside.TailCall = codes "TailCall"
 
 -- why bytes aren't a log, with the offset where there is one
 abbrev pub log_fault_name : LogError → List ℕ

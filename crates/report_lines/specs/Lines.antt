@@ -39,7 +39,6 @@ abbrev pub word_of : Why → List ℕ
 word_of why.Level = codes "Level"
 word_of why.Unimplemented = codes "Unimplemented"
 word_of why.LaterField = codes "LaterField"
-word_of why.TailCall = codes "TailCall"
 word_of why.Unread = codes "Unread"
 
 -- a record of a vat breaks what has this code

@@ -51,7 +51,6 @@ impl Display for Shown<Outside> {
             Outside::Level => "Level",
             Outside::Unimplemented => "Unimplemented",
             Outside::LaterField => "LaterField",
-            Outside::TailCall => "TailCall",
         })
     }
 }

@@ -39,7 +39,6 @@ pub fn word_of(why: Why) -> &'static str
         Why::Level => "Level",
         Why::Unimplemented => "Unimplemented",
         Why::LaterField => "LaterField",
-        Why::TailCall => "TailCall",
         Why::Unread => "Unread",
     }
 }

@@ -72,8 +72,6 @@ pub fn why_sentence(why: Why) -> &'static str
         Why::Unimplemented => "its message says that another wasn't understood",
         Why::LaterField =>
             "it sets a bit by which later editions of the protocol change the life of a number",
-        Why::TailCall =>
-            "results are sent elsewhere than to the caller, or taken from another question",
         Why::Unread => "its frame isn't read as a message, for the reason that its line ends with",
     }
 }

@@ -294,7 +294,7 @@ module _ (sections : Sections) (whole : ℕ → Tree) (p : (n : ℕ) → Cut (se
 
   outcome_whole : Whole (outcome_in sections) (outcome_in (with_child sections whole))
   unfolding outcome_in
-  outcome_whole = search (choice, given, refused, of_both, payload_whole, p)
+  outcome_whole = search (choice, given, refused, of_both, payload_whole, p) depth 8
 
   returned_whole : Whole (returned_in sections) (returned_in (with_child sections whole))
   unfolding returned_in

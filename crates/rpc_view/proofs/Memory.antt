@@ -301,7 +301,7 @@ called_whole call p = of_both (target_in (call.child 0)) _ (target_whole (call.c
 
 outcome_whole : (answer : Sections) → SoundSections answer → Whole (outcome_in answer)
 unfolding outcome_in
-outcome_whole answer p = search (choice, given, refused, of_both, payload_whole, p)
+outcome_whole answer p = search (choice, given, refused, of_both, payload_whole, p) depth 8
 
 returned_whole : (answer : Sections) → SoundSections answer → Whole (returned_in answer)
 unfolding returned_in

@@ -9,7 +9,7 @@ use Rattle.rpc_view.specs.declared.message.RpcMessage.{RpcMessage}
 use Rattle.rpc_view.specs.declared.message.Loopback.TheVariants.{Sender, Receiver}
 use Rattle.rpc_view.specs.Reading.{part}
 use Rattle.rpc_view.specs.Message.{message_of, message_in, body_in, bootstrap_in, unless_refused, call_in, called_in, return_in, returned_in, outcome_in, finish_in, resolve_in, release_in, disembargo_in, disembargoed_in, target_in, promised_in, operations_in, payload_in, descriptors_in, descriptor_in, described_in}
-use Rattle.rpc_view.specs.Spelling.{Spells, bootstrap, call, import_call, exception, canceled, results, finish, resolve, broken, release, disembargo, abort}
+use Rattle.rpc_view.specs.Spelling.{Spells, bootstrap, call, import_call, yourself_call, exception, canceled, elsewhere, taken, results, finish, resolve, broken, release, disembargo, abort}
 use Rattle.rpc_view.proofs.Prices.{with_more}
 
 -- ---- numbers in their parts of a word
@@ -115,6 +115,65 @@ bare_kept_2_1 n lt = omega arith
 bare_answer_2_1 : (n : ℕ) → n < 2 ^ 32 → (((n + 4294967296) + 562949953421312) / 1) % 2 ^ 32 ≡ n
 bare_answer_2_1 n lt = omega arith
 
+bare_tag_3_0 : (n : ℕ) → n < 2 ^ 32 → (((n + 0) + 844424930131968) / 2 ^ 48) % 2 ^ 16 ≡ 3
+bare_tag_3_0 n lt = omega arith
+
+bare_later_3_0 : (n : ℕ) → n < 2 ^ 32 → (((n + 0) + 844424930131968) / 2 ^ 33) % 2 ≡ 0
+bare_later_3_0 n lt = omega arith
+
+bare_kept_3_0 : (n : ℕ) → n < 2 ^ 32 → (((n + 0) + 844424930131968) / 2 ^ 32) % 2 ≡ 0
+bare_kept_3_0 n lt = omega arith
+
+bare_answer_3_0 : (n : ℕ) → n < 2 ^ 32 → (((n + 0) + 844424930131968) / 1) % 2 ^ 32 ≡ n
+bare_answer_3_0 n lt = omega arith
+
+bare_tag_3_1 : (n : ℕ) → n < 2 ^ 32 → (((n + 4294967296) + 844424930131968) / 2 ^ 48) % 2 ^ 16 ≡ 3
+bare_tag_3_1 n lt = omega arith
+
+bare_later_3_1 : (n : ℕ) → n < 2 ^ 32 → (((n + 4294967296) + 844424930131968) / 2 ^ 33) % 2 ≡ 0
+bare_later_3_1 n lt = omega arith
+
+bare_kept_3_1 : (n : ℕ) → n < 2 ^ 32 → (((n + 4294967296) + 844424930131968) / 2 ^ 32) % 2 ≡ 1
+bare_kept_3_1 n lt = omega arith
+
+bare_answer_3_1 : (n : ℕ) → n < 2 ^ 32 → (((n + 4294967296) + 844424930131968) / 1) % 2 ^ 32 ≡ n
+bare_answer_3_1 n lt = omega arith
+
+bare_tag_4_0 : (n : ℕ) → n < 2 ^ 32 → (((n + 0) + 1125899906842624) / 2 ^ 48) % 2 ^ 16 ≡ 4
+bare_tag_4_0 n lt = omega arith
+
+bare_later_4_0 : (n : ℕ) → n < 2 ^ 32 → (((n + 0) + 1125899906842624) / 2 ^ 33) % 2 ≡ 0
+bare_later_4_0 n lt = omega arith
+
+bare_kept_4_0 : (n : ℕ) → n < 2 ^ 32 → (((n + 0) + 1125899906842624) / 2 ^ 32) % 2 ≡ 0
+bare_kept_4_0 n lt = omega arith
+
+bare_answer_4_0 : (n : ℕ) → n < 2 ^ 32 → (((n + 0) + 1125899906842624) / 1) % 2 ^ 32 ≡ n
+bare_answer_4_0 n lt = omega arith
+
+bare_tag_4_1 : (n : ℕ) → n < 2 ^ 32 → (((n + 4294967296) + 1125899906842624) / 2 ^ 48) % 2 ^ 16 ≡ 4
+bare_tag_4_1 n lt = omega arith
+
+bare_later_4_1 : (n : ℕ) → n < 2 ^ 32 → (((n + 4294967296) + 1125899906842624) / 2 ^ 33) % 2 ≡ 0
+bare_later_4_1 n lt = omega arith
+
+bare_kept_4_1 : (n : ℕ) → n < 2 ^ 32 → (((n + 4294967296) + 1125899906842624) / 2 ^ 32) % 2 ≡ 1
+bare_kept_4_1 n lt = omega arith
+
+bare_answer_4_1 : (n : ℕ) → n < 2 ^ 32 → (((n + 4294967296) + 1125899906842624) / 1) % 2 ^ 32 ≡ n
+bare_answer_4_1 n lt = omega arith
+
+-- the first word of a Call whose results stay with their answerer
+
+yourself_tag : (n m : ℕ) → n < 2 ^ 32 → m < 2 ^ 16 → (((n + 4294967296 * m) + 281474976710656) / 2 ^ 48) % 2 ^ 16 ≡ 1
+yourself_tag n m lt lt' = omega arith
+
+yourself_method : (n m : ℕ) → n < 2 ^ 32 → m < 2 ^ 16 → (((n + 4294967296 * m) + 281474976710656) / 2 ^ 32) % 2 ^ 16 ≡ m
+yourself_method n m lt lt' = omega arith
+
+yourself_question : (n m : ℕ) → n < 2 ^ 32 → (((n + 4294967296 * m) + 281474976710656) / 1) % 2 ^ 32 ≡ n
+yourself_question n m lt = omega arith
+
 -- ---- with just the words that it costs
 
 at_price : (words : List ℕ) (message : RpcMessage) (cost least depth : ℕ) → Spells words message cost least → least ≤ depth → message_of (words ∷ []) (record { words = cost; depth = depth }) ≡ Ok message
@@ -128,6 +187,9 @@ at_price words message cost least depth (call {question} {answer} {interface} {m
 at_price words message cost least depth (import_call {question} {export} {interface} {method} question_fits export_fits method_fits) deep =
     let d : depth ≡ suc (suc (suc (depth - 3))) = omega arith in
     rw (d, message_of, last question method question_fits method_fits, third_of_16 export export_fits, before question method question_fits, third question method question_fits method_fits, first_of_32 export export_fits) refl
+at_price words message cost least depth (yourself_call {question} {export} {interface} {method} question_fits export_fits method_fits) deep =
+    let d : depth ≡ suc (suc (suc (depth - 3))) = omega arith in
+    rw (d, message_of, yourself_tag question method question_fits method_fits, third_of_16 export export_fits, yourself_question question method question_fits, yourself_method question method question_fits method_fits, first_of_32 export export_fits) refl
 at_price words message cost least depth (exception {answer} {released = true} fits) deep =
     let d : depth ≡ suc (suc (depth - 2)) = omega arith in
     rw (d, message_of, bare_tag_1_0 answer fits, bare_later_1_0 answer fits, bare_kept_1_0 answer fits, bare_answer_1_0 answer fits) refl
@@ -140,6 +202,18 @@ at_price words message cost least depth (canceled {answer} {released = true} fit
 at_price words message cost least depth (canceled {answer} {released = false} fits) deep =
     let d : depth ≡ suc (suc (depth - 2)) = omega arith in
     rw (d, message_of, bare_tag_2_1 answer fits, bare_later_2_1 answer fits, bare_kept_2_1 answer fits, bare_answer_2_1 answer fits) refl
+at_price words message cost least depth (elsewhere {answer} {released = true} fits) deep =
+    let d : depth ≡ suc (suc (depth - 2)) = omega arith in
+    rw (d, message_of, bare_tag_3_0 answer fits, bare_later_3_0 answer fits, bare_kept_3_0 answer fits, bare_answer_3_0 answer fits) refl
+at_price words message cost least depth (elsewhere {answer} {released = false} fits) deep =
+    let d : depth ≡ suc (suc (depth - 2)) = omega arith in
+    rw (d, message_of, bare_tag_3_1 answer fits, bare_later_3_1 answer fits, bare_kept_3_1 answer fits, bare_answer_3_1 answer fits) refl
+at_price words message cost least depth (taken {answer} {question} {released = true} fits question_fits) deep =
+    let d : depth ≡ suc (suc (depth - 2)) = omega arith in
+    rw (d, message_of, bare_tag_4_0 answer fits, bare_later_4_0 answer fits, bare_kept_4_0 answer fits, bare_answer_4_0 answer fits, first_of_32 question question_fits) refl
+at_price words message cost least depth (taken {answer} {question} {released = false} fits question_fits) deep =
+    let d : depth ≡ suc (suc (depth - 2)) = omega arith in
+    rw (d, message_of, bare_tag_4_1 answer fits, bare_later_4_1 answer fits, bare_kept_4_1 answer fits, bare_answer_4_1 answer fits, first_of_32 question question_fits) refl
 at_price words message cost least depth (results {answer} {export} answer_fits export_fits) deep =
     let d : depth ≡ suc (suc (suc (suc (depth - 4)))) = omega arith in
     rw (d, message_of, last_of_16 answer answer_fits, bit_33 answer answer_fits, tag_before export export_fits, bit_32 answer answer_fits, first_of_32 answer answer_fits, behind_tag export export_fits) refl

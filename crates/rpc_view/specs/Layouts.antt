@@ -80,6 +80,11 @@ return_later answer = bit_in 33 answer.word
 abbrev pub return_tag : Sections → ℕ
 return_tag answer = u16_in 6 answer.word
 
+-- takeFromOtherQuestion: "The sender has also sent (before this message) a `Call` with the given question ID and with
+-- `sendResultsTo.yourself` set, and the results of that other call should be used as the results here"
+abbrev pub return_take_from_other_question : Sections → ℕ
+return_take_from_other_question answer = u32_in 8 answer.word
+
 -- results: "The result"; by default a payload without a capability
 abbrev pub return_results : Sections → Tree
 return_results answer = answer.child 0

@@ -1,7 +1,7 @@
 -- The message of a tree, by the layouts of rpc.capnp. Each tag, and the data of a body, is judged where it is read: a
 -- number that this profile doesn't list first, then what belongs to another level, then unimplemented, which only
--- Message's tag says, then tail calls, then what later editions use. The data of a body is judged whole before its
--- pointers are followed; pointers that a union doesn't select are unread.
+-- Message's tag says, then what later editions use. The data of a body is judged whole before its pointers are
+-- followed; pointers that a union doesn't select are unread.
 use Rattle.std.specs.Prelude.{◌≡◌, ℕ, ◌<◌, ◌≤◌, ◌==◌, Bool, false, ◌||◌, List, [], ◌∷◌, Result, Ok, Err, nat_lt, if◌then◌else◌}
 use Rattle.cap_frame.specs.declared.frame_error.FrameError.{FrameError}
 use Rattle.cap_frame.specs.Segments.{segments_of}
@@ -22,11 +22,11 @@ use Rattle.rpc_view.specs.declared.message.Loopback.{Loopback}
 use Rattle.rpc_view.specs.declared.message.Loopback.TheVariants as loopbacks
 use Rattle.rpc_view.specs.declared.message.RpcMessage.{RpcMessage}
 use Rattle.rpc_view.specs.declared.message.RpcMessage.TheVariants as messages
-use Rattle.rpc_view.specs.declared.view_error.Outside.TheVariants.{Level, Unimplemented, LaterField, TailCall}
+use Rattle.rpc_view.specs.declared.view_error.Outside.TheVariants.{Level, Unimplemented, LaterField}
 use Rattle.rpc_view.specs.declared.view_error.ViewError.{ViewError}
 use Rattle.rpc_view.specs.declared.view_error.ViewError.TheVariants as errors
 use Rattle.rpc_view.specs.Reading.{part, struct_in, list_in, run}
-use Rattle.rpc_view.specs.Layouts.{message_tag, message_body, bootstrap_question, call_question, call_method, call_send_results_to, call_interface, call_later, call_target, call_params, return_answer, return_release_param_caps, return_later, return_tag, return_results, finish_question, finish_release_result_caps, resolve_promise, resolve_tag, resolve_cap, release_id, release_count, disembargo_number, disembargo_tag, disembargo_target, target_tag, target_imported, target_promised, promised_question, promised_transform, operation_tag, operation_field, payload_content, payload_cap_table, descriptor_tag, descriptor_number, descriptor_answer}
+use Rattle.rpc_view.specs.Layouts.{message_tag, message_body, bootstrap_question, call_question, call_method, call_send_results_to, call_interface, call_later, call_target, call_params, return_answer, return_release_param_caps, return_later, return_tag, return_take_from_other_question, return_results, finish_question, finish_release_result_caps, resolve_promise, resolve_tag, resolve_cap, release_id, release_count, disembargo_number, disembargo_tag, disembargo_target, target_tag, target_imported, target_promised, promised_question, promised_transform, operation_tag, operation_field, payload_content, payload_cap_table, descriptor_tag, descriptor_number, descriptor_answer}
 
 -- ---- results of questions
 
@@ -103,19 +103,19 @@ bootstrap_in tree = do
   bootstrap ← struct_in tree
   done (messages.Bootstrap (bootstrap_question bootstrap))
 
--- what the pointers of a Call hold; its results go to the caller, since a Call that says otherwise is refused
+-- what the pointers of a Call hold; its results go to the caller or stay with their answerer, since a Call that says
+-- otherwise is refused
 unfoldable pub called_in : Sections → Reading ViewError RpcMessage
 called_in call = do
   target ← target_in (call_target call)
   params ← payload_in (call_params call)
-  done (messages.Call (call_question call) target (call_interface call) (call_method call) params false)
+  done (messages.Call (call_question call) target (call_interface call) (call_method call) params (call_send_results_to call == 1))
 
 -- why the data of a Call is refused, by whom its results are wanted: 0 the caller, 1 yourself, 2 a third party
 abbrev pub call_refusals : Sections → List (Bool × ViewError)
 call_refusals call =
     (nat_lt 2 (call_send_results_to call), errors.BadTag)
     ∷ (call_send_results_to call == 2, errors.Outside Level)
-    ∷ (call_send_results_to call == 1, errors.Outside TailCall)
     ∷ (call_later call, errors.Outside LaterField)
     ∷ []
 
@@ -125,13 +125,15 @@ call_in tree = do
   call ← struct_in tree
   unless_refused (call_refusals call) (called_in call)
 
--- what a Return says of its call: 0 results, 1 exception, 2 canceled
+-- what a Return says of its call: 0 results, 1 exception, 2 canceled, 3 resultsSentElsewhere, 4 takeFromOtherQuestion
 unfoldable pub outcome_in : Sections → Reading ViewError Outcome
 outcome_in answer =
     if return_tag answer == 0 then (payload_in (return_results answer) >>= λ results. done (outcomes.Results results))
     else (if return_tag answer == 1 then done outcomes.Exception
     else (if return_tag answer == 2 then done outcomes.Canceled
-    else fault errors.BadTag))
+    else (if return_tag answer == 3 then done outcomes.Elsewhere
+    else (if return_tag answer == 4 then done (outcomes.TakeFrom (return_take_from_other_question answer))
+    else fault errors.BadTag))))
 
 -- what the pointer of a Return holds; a Finish follows it, since a Return that says otherwise is refused
 unfoldable pub returned_in : Sections → Reading ViewError RpcMessage
@@ -139,12 +141,11 @@ returned_in answer = do
   outcome ← outcome_in answer
   done (messages.Return (return_answer answer) (return_release_param_caps answer) outcome false)
 
--- why the data of a Return is refused, by its tag: 3 and 4 are tail calls, 5 is of a third party
+-- why the data of a Return is refused, by its tag: 5 is of a third party
 abbrev pub return_refusals : Sections → List (Bool × ViewError)
 return_refusals answer =
     (nat_lt 5 (return_tag answer), errors.BadTag)
     ∷ (return_tag answer == 5, errors.Outside Level)
-    ∷ (return_tag answer == 3 || return_tag answer == 4, errors.Outside TailCall)
     ∷ (return_later answer, errors.Outside LaterField)
     ∷ []
 

@@ -1,12 +1,13 @@
 -- Some messages from the writer's side, of each kind one form or a few: a Bootstrap; a Call to an answer itself or to
--- an import, without parameters; a Return that gives the capabilities of the parameters back, and whose results are one
--- senderHosted; a Return with an exception, or canceled; a Finish; a Resolve to a senderHosted, or to an exception; a
--- Release; a Disembargo to an import; an Abort. Other forms, such as a path or another descriptor, aren't spelled here.
--- The one segment of a frame holds nothing but the message, its structs one behind another in the order in which the
--- pointers to them are met.
+-- an import, without parameters; such a Call to an import whose results stay with their answerer; a Return that gives
+-- the capabilities of the parameters back, and whose results are one senderHosted; a Return with an exception, or
+-- canceled, or whose results were sent elsewhere or are taken from another question; a Finish; a Resolve to a
+-- senderHosted, or to an exception; a Release; a Disembargo to an import; an Abort. Other forms, such as a path or
+-- another descriptor, aren't spelled here. The one segment of a frame holds nothing but the message, its structs one
+-- behind another in the order in which the pointers to them are met.
 use Rattle.std.specs.Prelude.{ℕ, ◌+◌, ◌*◌, ◌^◌, ◌<◌, Bool, true, false, if◌then◌else◌, List, [], ◌∷◌}
 use Rattle.rpc_view.specs.declared.message.Descriptor.TheVariants.{SenderHosted}
-use Rattle.rpc_view.specs.declared.message.Outcome.TheVariants.{Results, Canceled}
+use Rattle.rpc_view.specs.declared.message.Outcome.TheVariants.{Results, Canceled, Elsewhere, TakeFrom}
 use Rattle.rpc_view.specs.declared.message.Outcome.TheVariants as outcomes
 use Rattle.rpc_view.specs.declared.message.RpcMessage.{RpcMessage}
 use Rattle.rpc_view.specs.declared.message.RpcMessage.TheVariants.{Bootstrap, Call, Return, Finish, Resolve, Release, Disembargo, Abort}
@@ -46,6 +47,15 @@ import_call_segment question export interface method =
     ∷ export ∷ 0
     ∷ []
 
+-- the same with sendResultsTo's tag, which is 1
+abbrev pub yourself_call_segment : ℕ → ℕ → ℕ → ℕ → List ℕ
+yourself_call_segment question export interface method =
+    struct_pointer 0 1 1
+    ∷ 2 ∷ struct_pointer 0 3 3
+    ∷ (question + 2 ^ 32 * method + 2 ^ 48) ∷ interface ∷ 0 ∷ struct_pointer 2 1 1 ∷ 0 ∷ 0
+    ∷ export ∷ 0
+    ∷ []
+
 -- a Message, whose tag is 3, and a Return with a tag and no pointer; releaseParamCaps is stored as the exclusive or
 -- with true
 abbrev pub bare_return_segment : ℕ → Bool → ℕ → List ℕ
@@ -53,6 +63,14 @@ bare_return_segment answer released tag =
     struct_pointer 0 1 1
     ∷ 3 ∷ struct_pointer 0 2 1
     ∷ (answer + 2 ^ 32 * (if released then 0 else 1) + 2 ^ 48 * tag) ∷ 0 ∷ 0
+    ∷ []
+
+-- the same with a question in its second word, whose tag is 4
+abbrev pub taken_segment : ℕ → Bool → ℕ → List ℕ
+taken_segment answer released question =
+    struct_pointer 0 1 1
+    ∷ 3 ∷ struct_pointer 0 2 1
+    ∷ (answer + 2 ^ 32 * (if released then 0 else 1) + 2 ^ 48 * 4) ∷ question ∷ 0
     ∷ []
 
 -- a Message, whose tag is 3, a Return with results, a Payload, whose content is the first entry of the table, and that
@@ -128,8 +146,12 @@ pub data Spells : List ℕ → RpcMessage → ℕ → ℕ → Type 0 where
       → Spells (call_segment question answer interface method) (Call question (Promised answer []) interface method (record { descriptors = []; fields = [] }) false) 12 4
   import_call : {question export interface method : ℕ} → question < 2 ^ 32 → export < 2 ^ 32 → method < 2 ^ 16
       → Spells (import_call_segment question export interface method) (Call question (Imported export) interface method (record { descriptors = []; fields = [] }) false) 10 3
+  yourself_call : {question export interface method : ℕ} → question < 2 ^ 32 → export < 2 ^ 32 → method < 2 ^ 16
+      → Spells (yourself_call_segment question export interface method) (Call question (Imported export) interface method (record { descriptors = []; fields = [] }) true) 10 3
   exception : {answer : ℕ} {released : Bool} → answer < 2 ^ 32 → Spells (bare_return_segment answer released 1) (Return answer released outcomes.Exception false) 5 2
   canceled : {answer : ℕ} {released : Bool} → answer < 2 ^ 32 → Spells (bare_return_segment answer released 2) (Return answer released Canceled false) 5 2
+  elsewhere : {answer : ℕ} {released : Bool} → answer < 2 ^ 32 → Spells (bare_return_segment answer released 3) (Return answer released Elsewhere false) 5 2
+  taken : {answer question : ℕ} {released : Bool} → answer < 2 ^ 32 → question < 2 ^ 32 → Spells (taken_segment answer released question) (Return answer released (TakeFrom question) false) 5 2
   results : {answer export : ℕ} → answer < 2 ^ 32 → export < 2 ^ 32
       → Spells (return_segment answer export) (Return answer true (Results (record { descriptors = SenderHosted export ∷ []; fields = ([], 0) ∷ [] })) false) 9 4
   finish : {question : ℕ} {released : Bool} → question < 2 ^ 32 → Spells (finish_segment question released) (Finish question released) 3 2

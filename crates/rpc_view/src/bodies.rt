@@ -9,7 +9,7 @@ use crate::layouts::{
     CALL_SEND_RESULTS_TO, CALL_TARGET, DISEMBARGO_NUMBER, DISEMBARGO_TAG, DISEMBARGO_TARGET,
     FINISH_QUESTION, FINISH_RELEASE_RESULT_CAPS, MESSAGE_BODY, RELEASE_COUNT, RELEASE_ID,
     RESOLVE_CAP, RESOLVE_PROMISE, RESOLVE_TAG, RETURN_ANSWER, RETURN_LATER,
-    RETURN_RELEASE_PARAM_CAPS, RETURN_RESULTS, RETURN_TAG,
+    RETURN_RELEASE_PARAM_CAPS, RETURN_RESULTS, RETURN_TAG, RETURN_TAKE_FROM_OTHER_QUESTION,
 };
 use crate::message::{Loopback, Outcome, Resolution, RpcMessage};
 use crate::payload::payload;
@@ -56,7 +56,7 @@ fn read_call_parts(
         interface: u64_of(frame, call, CALL_INTERFACE),
         method: u16_of(frame, call, CALL_METHOD),
         params,
-        yourself: false,
+        yourself: u16_of(frame, call, CALL_SEND_RESULTS_TO) == 1,
     })
 }
 
@@ -79,16 +79,13 @@ pub fn call(
     if send_results_to == 2 {
         return Err(ViewError::Outside(Outside::Level));
     }
-    if send_results_to == 1 {
-        return Err(ViewError::Outside(Outside::TailCall));
-    }
     if bit_of(frame, &call, CALL_LATER) {
         return Err(ViewError::Outside(Outside::LaterField));
     }
     read_call_parts(alloc, frame, &call, limits)
 }
 
-/// What a Return says of its call, as results, an exception or canceled.
+/// What a Return says of its call: results, or what stands in their place.
 #[tactic(auto, using(crate::proofs::Running::run_then), unfolding(crate::specs::Message::outcome_in, cap_reader::specs::Reading::pay_for, cap_reader::specs::Reading::and_then))]
 fn outcome(
     alloc: Global,
@@ -103,6 +100,11 @@ fn outcome(
         0 => Ok(Outcome::Results(payload(alloc, frame, answer, RETURN_RESULTS, limits)?)),
         1 => Ok(Outcome::Exception),
         2 => Ok(Outcome::Canceled),
+        3 => Ok(Outcome::Elsewhere),
+        4 => {
+            let question = u32_of(frame, answer, RETURN_TAKE_FROM_OTHER_QUESTION);
+            Ok(Outcome::TakeFrom(question))
+        }
         _ => Err(ViewError::BadTag),
     }
 }
@@ -145,9 +147,6 @@ pub fn answer(
     }
     if tag == 5 {
         return Err(ViewError::Outside(Outside::Level));
-    }
-    if tag == 3 || tag == 4 {
-        return Err(ViewError::Outside(Outside::TailCall));
     }
     if bit_of(frame, &answer, RETURN_LATER) {
         return Err(ViewError::Outside(Outside::LaterField));

@@ -46,6 +46,9 @@ pub const RETURN_LATER: u32 = 33;
 /// `Return`'s union, by default `results`.
 pub const RETURN_TAG: u32 = 6;
 
+/// `Return.takeFromOtherQuestion`.
+pub const RETURN_TAKE_FROM_OTHER_QUESTION: u32 = 8;
+
 /// `Return.results`, by default a payload without a capability.
 pub const RETURN_RESULTS: u16 = 0;
 

@@ -82,10 +82,9 @@ pub enum Outcome {
     Exception,
     /// `canceled`.
     Canceled,
-    /// `resultsSentElsewhere`: the results stay with their answerer, as its caller asked. It isn't read for now.
+    /// `resultsSentElsewhere`: the results stay with their answerer, as its caller asked.
     Elsewhere,
-    /// `takeFromOtherQuestion`: the results are those of this other question of the Return's sender. It isn't read for
-    /// now.
+    /// `takeFromOtherQuestion`: the results are those of this other question of the Return's sender.
     TakeFrom(u32),
 }
 
@@ -127,8 +126,7 @@ pub enum RpcMessage {
         method: u16,
         /// `params`.
         params: Payload,
-        /// `sendResultsTo` is `yourself`: the results stay with their answerer, to be taken from there. For now false of
-        /// all that is read.
+        /// `sendResultsTo` is `yourself`: the results stay with their answerer, to be taken from there.
         yourself: bool,
     },
     /// Answers a Bootstrap or a Call.

@@ -66,7 +66,7 @@ fn message(alloc: Global, frame: &Frame, limits: &mut Limits) -> Result<RpcMessa
 /// Errors: `Read` where a pointer can't be followed within the limits, `BadTag` for a tag that this profile doesn't
 /// list, `Outside` for what is listed and outside of this profile, `OutOfMemory`. The first one in the order of reading
 /// is answered: the Message and its tag; then the data of the body, judged whole, where of several faults the one is
-/// answered that comes first in the order `BadTag`, `Level`, `TailCall`, `LaterField`; then what its pointers hold, a
+/// answered that comes first in the order `BadTag`, `Level`, `LaterField`; then what its pointers hold, a
 /// capability table before the content, and each entry of a table, and each operation of a transform, with what it
 /// holds before the next one.
 pub fn read_message(alloc: Global, frame: &Frame, limits: Limits) -> Result<RpcMessage, ViewError>

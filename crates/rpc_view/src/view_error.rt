@@ -8,7 +8,7 @@ use cap_frame::FrameError;
 use cap_reader::ReadError;
 use std::alloc::{AllocError, AllocFailed};
 
-/// What a message has that is outside of this profile, which is level 1 without tail calls.
+/// What a message has that is outside of this profile, which is level 1.
 #[derive(Clone, Copy, Debug, PartialEq, Eq)]
 pub enum Outside {
     /// Part of a level above 1: provide, accept, join, the obsolete messages of persistence, and what has to do with
@@ -18,8 +18,6 @@ pub enum Outside {
     Unimplemented,
     /// A bit that later editions of rpc.capnp use for what changes the life of a number.
     LaterField,
-    /// Results that are sent elsewhere than to the caller, or taken from another question.
-    TailCall,
 }
 
 /// Why a frame isn't read as a message.

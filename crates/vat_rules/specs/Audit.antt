@@ -14,12 +14,11 @@ use Rattle.vat_rules.specs.declared.outcome.Why.TheVariants as why
 use Rattle.vat_rules.specs.Events.{Reader}
 use Rattle.vat_rules.specs.First.{IsFirst}
 
--- what a message has that is outside of level 1 without tail calls
+-- what a message has that is outside of level 1
 abbrev pub why_outside : Outside → Why
 why_outside outside.Level = why.Level
 why_outside outside.Unimplemented = why.Unimplemented
 why_outside outside.LaterField = why.LaterField
-why_outside outside.TailCall = why.TailCall
 
 -- why a record is outside whose frame isn't read as a message
 abbrev pub why_of : ViewError → Why

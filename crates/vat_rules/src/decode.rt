@@ -20,7 +20,6 @@ fn why_outside(reason: Outside) -> Why
         Outside::Level => Why::Level,
         Outside::Unimplemented => Why::Unimplemented,
         Outside::LaterField => Why::LaterField,
-        Outside::TailCall => Why::TailCall,
     }
 }
 

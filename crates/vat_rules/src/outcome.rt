@@ -3,7 +3,7 @@
 use crate::facts::story::Story;
 use crate::rule::Rule;
 
-/// Why a record isn't judged. The first four are what rpc_view has as outside of what it reads.
+/// Why a record isn't judged. The first three are what rpc_view has as outside of what it reads.
 #[derive(Clone, Copy, Debug, PartialEq, Eq)]
 pub enum Why {
     /// Its message is part of a level above 1.
@@ -12,8 +12,6 @@ pub enum Why {
     Unimplemented,
     /// Its message has a bit that later editions of rpc.capnp use for what changes the life of a number.
     LaterField,
-    /// Its message sends results elsewhere than to the caller, or takes them from another question.
-    TailCall,
     /// Its frame isn't read as a message: its bytes aren't a frame, it has a tag that isn't known, or a pointer that
     /// can't be followed within the limits.
     Unread,

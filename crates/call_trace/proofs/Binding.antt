@@ -10,14 +10,14 @@ use Rattle.agree.proofs.Openings.{passing_is}
 use Rattle.agree.proofs.Points.{before_it}
 use Rattle.vat_rules.specs.declared.rule.Rule.TheVariants as rule
 use Rattle.vat_rules.specs.Judged.{IsGood}
-use Rattle.vat_view.specs.Past.{Past}
-use Rattle.vat_view.specs.Questions.{is_late}
+use Rattle.vat_view.specs.Past.{Past, id}
+use Rattle.vat_view.specs.Questions.{is_late, call_of}
 use Rattle.vat_view.specs.Lives.{descriptors_of}
 use Rattle.vat_view.specs.Views.{view_of_reference, descriptor_view, described_at, places_from, places}
 use Rattle.vat_view.specs.Bindings.{contains, is_distinct}
-use Rattle.call_trace.specs.Types.{Descriptor, NoCap, SenderHosted, SenderPromise, ReceiverHosted, ReceiverAnswer, Results, Return, RpcMessage, DecodedRecord, Wire, View, Name, Cap, Message, Step}
+use Rattle.call_trace.specs.Types.{Descriptor, NoCap, SenderHosted, SenderPromise, ReceiverHosted, ReceiverAnswer, Results, Exception, Canceled, Elsewhere, TakeFrom, Return, RpcMessage, DecodedRecord, Wire, View, Name, Cap, Message, Step}
 use Rattle.call_trace.specs.Naming.{Naming, naming, message_at, message_of_step}
-use Rattle.call_trace.specs.Said.{all_there, message_of_record, say_return, descriptor_named, caps_named, call_answered, caps_at_paths}
+use Rattle.call_trace.specs.Said.{all_there, message_of_record, say_return, say_taken, descriptor_named, caps_named, call_answered, caps_at_paths}
 use Rattle.call_trace.specs.Part.{reference_named, PairsOff}
 use Rattle.call_trace.specs.Running.{AreMet}
 use Rattle.call_trace.proofs.Naming.{then_is, mapped_is, names_are_caps}
@@ -157,8 +157,21 @@ late_binds names es k c rs (Return q release (Results payload) light) M before d
     at true name caps h = let same : message.Late name ≡ M = cc in subst (λ M. MayBind M []) same refl
     at false name None h = absurd (let no : ⊥ = cc in no)
     at false name (Some caps) h = let same : message.Return name (caps_at_paths caps payload.fields) caps ≡ M = cc in subst (λ M. MayBind M []) same (inr refl)
-late_binds names es k c rs (Return q release _ light) M before d references late h =
+late_binds names es k c rs (Return q release Exception light) M before d references late h =
     let name = mapped_is message.Failed (call_answered names es k true q) M h in subst (λ M. MayBind M []) name.2 refl
+late_binds names es k c rs (Return q release Canceled light) M before d references late h =
+    let name = mapped_is message.Failed (call_answered names es k true q) M h in subst (λ M. MayBind M []) name.2 refl
+late_binds names es k c rs (Return q release Elsewhere light) M before d references late h =
+    let name = mapped_is message.Elsewhere (call_answered names es k true q) M h in subst (λ M. MayBind M []) name.2 refl
+late_binds names es k c rs (Return q release (TakeFrom n) light) M before d references late h =
+    let gone = is_late es (Wire true k c rs (Return q release (TakeFrom n) light)) in
+    let by = option_and_then names.call (call_of (id k true n) es) in
+    let name = then_is (λ name. say_taken gone name by) (call_answered names es k true q) M h in
+    at gone name.0 by name.2
+  where
+    at : (b : Bool) (name : Name) (by : Option Name) → say_taken b name by ≡ Some M → MayBind M []
+    at true name by h = let same : message.Late name ≡ M = cc in subst (λ M. MayBind M []) same refl
+    at false name by h = let other = mapped_is (λ by. message.Taken name by) by M h in subst (λ M. MayBind M []) other.2 refl
 late_binds names es k c rs m M before d references late h = absurd (false≢true late)
 
 -- ---- together

@@ -13,7 +13,7 @@ use Rattle.agree.proofs.Openings.{passing_is}
 use Rattle.agree.proofs.Points.{before_it, heads, tails, shorter, no_longer, kept, at_each_before}
 use Rattle.vat_view.specs.Past.{Past, Each}
 use Rattle.vat_rules.specs.Judged.{IsGood}
-use Rattle.call_trace.specs.Types.{RpcMessage, DecodedRecord, Host, Vow, Fulfil, Break, Make, Field, Deliver, Answer, Fault, Wire, Cap, Message, Step}
+use Rattle.call_trace.specs.Types.{RpcMessage, DecodedRecord, Host, Vow, Fulfil, Break, Make, Field, Deliver, Answer, AnswerBy, Fault, Wire, Cap, Message, Step}
 use Rattle.call_trace.specs.Carried.{IsCarried}
 use Rattle.call_trace.specs.Naming.{naming, message_at, message_of_step}
 use Rattle.call_trace.specs.Part.{reference_named, promise_in, result_named, Says, PairsOff}
@@ -88,6 +88,11 @@ says_alike v es steps (Answer c results) s says =
     let name = then_is (λ name. option_map (λ caps. step.Answer v name caps) (all_there (map (result_named names es) results))) (names.call c) s says in
     let caps = mapped_is (λ caps. step.Answer v name.0 caps) (all_there (map (result_named names es) results)) s name.2 in
     alike_of v (Answer c results) (step.Answer v name.0 caps.0) s caps.2 refl (λ k sent. refl)
+says_alike v es steps (AnswerBy c by) s says =
+    let names = naming v (AnswerBy c by ∷ es) (s ∷ steps) in
+    let name = then_is (λ name. option_map (λ other. step.AnswerBy v name other) (names.call by)) (names.call c) s says in
+    let other = mapped_is (λ other. step.AnswerBy v name.0 other) (names.call by) s name.2 in
+    alike_of v (AnswerBy c by) (step.AnswerBy v name.0 other.0) s other.2 refl (λ k sent. refl)
 says_alike v es steps (Fault c) s says =
     let names = naming v (Fault c ∷ es) (s ∷ steps) in
     let name = mapped_is (λ name. step.Fault v name) (names.call c) s says in

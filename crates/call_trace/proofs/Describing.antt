@@ -16,7 +16,7 @@ use Rattle.agree.proofs.Good.{good_agree}
 use Rattle.vat_rules.specs.declared.rule.Rule.TheVariants as rule
 use Rattle.vat_rules.specs.Judged.{IsGood}
 use Rattle.vat_view.specs.Past.{Past, Each, id, names, last_answer, record_index}
-use Rattle.vat_view.specs.Questions.{question_finished, is_unfinished, is_late, call_of}
+use Rattle.vat_view.specs.Questions.{question_finished, question_taken, is_unfinished, is_late, call_of}
 use Rattle.vat_view.specs.Lives.{begins, number_introduced, introduces, held, descriptors_of, descriptors, is_in_life, GivesBackHeld}
 use Rattle.vat_view.specs.Views.{view_of_reference, view_given, number_view, field_view, view_of_number, view_of_target, target_view, target_of}
 use Rattle.vat_view.specs.Uses.{question_targeted, question_described, UsesQuestions}
@@ -27,9 +27,9 @@ use Rattle.vat_view.proofs.Counting.{no_more_went}
 use Rattle.vat_view.proofs.Describing.{sender_keeps}
 use Rattle.vat_view.proofs.Lasting.{birth_kept}
 use Rattle.vat_view.proofs.Viewed.{begins_some, begins_parts, introduced_there}
-use Rattle.call_trace.specs.Types.{Descriptor, NoCap, SenderHosted, SenderPromise, ReceiverHosted, ReceiverAnswer, Target, Imported, Promised, Results, Capped, Unkept, Bootstrap, Call, Return, Finish, Resolve, Release, Disembargo, Abort, RpcMessage, DecodedRecord, Wire, View, FieldOf, Import, Name, Cap, Message, Step}
+use Rattle.call_trace.specs.Types.{Descriptor, NoCap, SenderHosted, SenderPromise, ReceiverHosted, ReceiverAnswer, Target, Imported, Promised, Results, Exception, Canceled, Elsewhere, TakeFrom, Capped, Unkept, Bootstrap, Call, Return, Finish, Resolve, Release, Disembargo, Abort, RpcMessage, DecodedRecord, Wire, View, FieldOf, Import, Name, Cap, Message, Step}
 use Rattle.call_trace.specs.Naming.{Naming, naming, cap_at, names_call, call_named, cap_named, message_of_step}
-use Rattle.call_trace.specs.Said.{all_there, message_of_record, say_call, say_return, say_resolve, descriptor_named, caps_named, promise_named, call_answered, caps_at_paths}
+use Rattle.call_trace.specs.Said.{all_there, message_of_record, say_call, say_return, say_taken, say_resolve, descriptor_named, caps_named, promise_named, call_answered, caps_at_paths}
 use Rattle.call_trace.specs.Part.{PairsOff}
 use Rattle.call_trace.specs.Carried.{number_named}
 use Rattle.call_trace.specs.Running.{AreMet}
@@ -111,6 +111,10 @@ resolved_is promise (Some x) m h =
 nothing_is : (m n : Message) → caps_brought m ≡ [] → ◌≡◌ {A = Option Message} (Some m) (Some n) → CapsAre (Some []) n
 nothing_is m n none h = let same : m ≡ n = cc in ([], refl, brings_just n [] (ap caps_brought (sym same) ∙ none))
 
+taken_brings : (late : Bool) (name : Name) (by : Option Name) (m : Message) → say_taken late name by ≡ Some m → CapsAre (Some []) m
+taken_brings true name by m h = nothing_is (message.Late name) m refl h
+taken_brings false name by m h = let other = mapped_is (λ by. message.Taken name by) by m h in nothing_is (message.Taken name other.0) m refl (ap (λ m. Some m) other.2)
+
 -- the caps of a message that is sent have names, and the message brings them, where it isn't a late Return
 pub says_brings : (names : Naming) (es : Past) (k c : ℕ) (rs : List ℕ) (m : RpcMessage) (M : Message) → is_late es (Wire true k c rs m) ≡ false → message_of_record names es (Wire true k c rs m) ≡ Some M →
     (caps : List Cap) × (caps_named names es (Wire true k c rs m) ≡ Some caps) × Brings caps M
@@ -122,7 +126,17 @@ says_brings names es k c rs (Return q release (Results payload) light) M late h 
     let e = Wire true k c rs (Return q release (Results payload) light) in
     let name = then_is (λ name. say_return (is_late es e) payload.fields name (caps_named names es e)) (call_answered names es k true q) M h in
     return_is (is_late es e) payload.fields name.0 (caps_named names es e) M late name.2
-says_brings names es k c rs (Return q release _ light) M late h = let name = mapped_is message.Failed (call_answered names es k true q) M h in nothing_is (message.Failed name.0) M refl (ap (λ m. Some m) name.2)
+says_brings names es k c rs (Return q release Exception light) M late h =
+    let name = mapped_is message.Failed (call_answered names es k true q) M h in nothing_is (message.Failed name.0) M refl (ap (λ m. Some m) name.2)
+says_brings names es k c rs (Return q release Canceled light) M late h =
+    let name = mapped_is message.Failed (call_answered names es k true q) M h in nothing_is (message.Failed name.0) M refl (ap (λ m. Some m) name.2)
+says_brings names es k c rs (Return q release Elsewhere light) M late h =
+    let name = mapped_is message.Elsewhere (call_answered names es k true q) M h in nothing_is (message.Elsewhere name.0) M refl (ap (λ m. Some m) name.2)
+says_brings names es k c rs (Return q release (TakeFrom n) light) M late h =
+    let gone = is_late es (Wire true k c rs (Return q release (TakeFrom n) light)) in
+    let by = option_and_then names.call (call_of (id k true n) es) in
+    let name = then_is (λ name. say_taken gone name by) (call_answered names es k true q) M h in
+    taken_brings gone name.0 by M name.2
 says_brings names es k c rs (Resolve n (Capped d)) M late h =
     let e = Wire true k c rs (Resolve n (Capped d)) in
     let promise = then_is (λ promise. option_map (say_resolve promise) (caps_named names es e)) (promise_named names es k true n) M h in
@@ -260,7 +274,8 @@ described_used k d references m other uses j q path there =
     let caps_at_paths = filter_map (question_described e) (descriptors_of m) in
     let last = option_to_list (question_finished e) in
     all_given (question_described e) test (descriptors_of m) j (ReceiverAnswer q path) (id k false q)
-    (both_of test (option_to_list (question_targeted e)) caps_at_paths (both_of test (option_to_list (question_targeted e) ++ caps_at_paths) last uses.used).0).1 there refl
+    (both_of test (option_to_list (question_targeted e)) caps_at_paths
+    (both_of test (option_to_list (question_targeted e) ++ caps_at_paths) last (both_of test (option_to_list (question_targeted e) ++ caps_at_paths ++ last) (option_to_list (question_taken e)) uses.used).0).0).1 there refl
 
 target_used : (k d : ℕ) (references : List ℕ) (m : RpcMessage) (other : Past) → UsesQuestions other (Wire false k d references m) → (q : ℕ) (path : List ℕ) → target_of m ≡ Some (Promised q path) →
     is_unfinished (id k false q) other ≡ true
@@ -269,7 +284,9 @@ target_used k d references m other uses q path is =
     let test : TableKey → Bool = λ i. is_unfinished i other in
     let target_view = option_to_list (question_targeted e) in
     let caps_at_paths = filter_map (question_described e) (descriptors_of m) in
-    let first : list_all test target_view ≡ true = (both_of test target_view caps_at_paths (both_of test (target_view ++ caps_at_paths) (option_to_list (question_finished e)) uses.used).0).0 in
+    let last = option_to_list (question_finished e) in
+    let first : list_all test target_view ≡ true =
+    (both_of test target_view caps_at_paths (both_of test (target_view ++ caps_at_paths) last (both_of test (target_view ++ caps_at_paths ++ last) (option_to_list (question_taken e)) uses.used).0).0).0 in
     (and_parts (test (id k false q)) true (sym (ap (λ o. list_all test (option_to_list o)) (named k d references m q path is)) ∙ first)).0
   where
     named : (k d : ℕ) (references : List ℕ) (m : RpcMessage) (q : ℕ) (path : List ℕ) → target_of m ≡ Some (Promised q path) → question_targeted (Wire false k d references m) ≡ Some (id k false q)

@@ -10,7 +10,7 @@ use Rattle.call_trace.specs.Named.{IsRunOf}
 use Rattle.call_trace.specs.Part.{Says}
 use Rattle.call_trace.specs.Running.{steps_of_row}
 use Rattle.call_trace.specs.Taking.{row_of}
-use Rattle.call_trace.specs.Types.{Bootstrap, Call, Return, Finish, Resolve, Release, Disembargo, Abort, DecodedRecord, Host, Vow, Fulfil, Break, Make, Field, Deliver, Answer, Fault, Wire, Step}
+use Rattle.call_trace.specs.Types.{Bootstrap, Call, Return, Finish, Resolve, Release, Disembargo, Abort, DecodedRecord, Host, Vow, Fulfil, Break, Make, Field, Deliver, Answer, AnswerBy, Fault, Wire, Step}
 use Rattle.call_trace.specs.Within.{IsWithin}
 use Rattle.call_trace.proofs.Binding.{receipts_bind}
 use Rattle.call_trace.proofs.Making.{own_may_come}
@@ -19,7 +19,7 @@ use Rattle.call_trace.proofs.Receipts.{message_read}
 use Rattle.call_trace.proofs.Resulting.{return_comes, resolve_comes}
 use Rattle.call_trace.proofs.Running.{TakesStep, findings_run}
 use Rattle.call_trace.proofs.Sayable.{step_there, used_had}
-use Rattle.call_trace.proofs.Settling.{answer_may_come, fault_may_come}
+use Rattle.call_trace.proofs.Settling.{answer_may_come, answer_by_may_come, fault_may_come}
 use Rattle.run_model.specs.Legal.{MayCome}
 
 -- each kind of record by its own law
@@ -33,6 +33,7 @@ step_may_come v es steps before (Make c r interface method) s w goods good own s
 step_may_come v es steps before (Field r c path) s w goods good own says = own_may_come v es steps before (Field r c path) s w good refl says
 step_may_come v es steps before (Deliver c object) s w goods good own says = delivery_may_come v es steps before c object s w goods good says
 step_may_come v es steps before (Answer c results) s w goods good own says = answer_may_come v es steps before c results s w goods good says
+step_may_come v es steps before (AnswerBy c by) s w goods good own says = answer_by_may_come v es steps before c by s w goods good says
 step_may_come v es steps before (Fault c) s w goods good own says = fault_may_come v es steps before c s w goods good says
 step_may_come v es steps before (Wire true k c rs (Bootstrap q)) s w goods good own says = own_may_come v es steps before (Wire true k c rs (Bootstrap q)) s w good refl says
 step_may_come v es steps before (Wire true k c rs (Call q target interface method params yourself)) s w goods good own says =

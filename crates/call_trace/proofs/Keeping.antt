@@ -10,7 +10,7 @@ use Rattle.vat_rules.specs.OfCaps.{is_received}
 use Rattle.vat_rules.specs.LogFacts.{Sight}
 use Rattle.vat_rules.specs.Telling.{seen_of}
 use Rattle.call_trace.specs.declared.records.vat_ledger.VatLedger.{VatLedger}
-use Rattle.call_trace.specs.Types.{RpcMessage, Bootstrap, Call, Return, Finish, Resolve, Release, Disembargo, Abort, DecodedRecord, Host, Vow, Fulfil, Break, Make, Field, Deliver, Answer, Fault, Wire, View, Object, Promise, FieldOf, Import, Name, Cap, Message, Step}
+use Rattle.call_trace.specs.Types.{RpcMessage, Bootstrap, Call, Return, Finish, Resolve, Release, Disembargo, Abort, DecodedRecord, Host, Vow, Fulfil, Break, Make, Field, Deliver, Answer, AnswerBy, Fault, Wire, View, Object, Promise, FieldOf, Import, Name, Cap, Message, Step}
 use Rattle.call_trace.specs.Naming.{Naming, naming, cap_at, names_call, call_named, cap_named, message_at, message_of_step}
 use Rattle.call_trace.specs.Part.{reference_named, step_said}
 use Rattle.call_trace.specs.Running.{step_received, step_of}
@@ -165,6 +165,7 @@ binding_names v c (Break r) s o = refl
 binding_names v c (Field r d path) s o = refl
 binding_names v c (Deliver d object) s o = refl
 binding_names v c (Answer d results) s o = refl
+binding_names v c (AnswerBy d by) s o = refl
 binding_names v c (Fault d) s o = refl
 
 -- what isn't received gives no name that a message has
@@ -177,6 +178,7 @@ binding_own v (Break r) m own = refl
 binding_own v (Field r d path) m own = refl
 binding_own v (Deliver d object) m own = refl
 binding_own v (Answer d results) m own = refl
+binding_own v (AnswerBy d by) m own = refl
 binding_own v (Fault d) m own = refl
 binding_own v (Wire false k d references message) m own = absurd (let no : ⊥ = cc in no)
 binding_own v (Wire true k d references (Bootstrap q)) m own = refl
@@ -251,6 +253,7 @@ own_step_of v es own before (Make c r interface method) mine = refl
 own_step_of v es own before (Field r c path) mine = refl
 own_step_of v es own before (Deliver c object) mine = refl
 own_step_of v es own before (Answer c results) mine = refl
+own_step_of v es own before (AnswerBy c by) mine = refl
 own_step_of v es own before (Fault c) mine = refl
 own_step_of v es own before (Wire true k c references m) mine = refl
 own_step_of v es own before (Wire false k c references m) mine = absurd (let none : ⊥ = cc in none)

@@ -39,6 +39,7 @@ pub mod Storied
 pub mod Rowing
 pub mod Trailing
 mod PipelinedCall
+mod TailCall
 mod UnderWay
 pub mod Turning
 pub mod Searching

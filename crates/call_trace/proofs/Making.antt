@@ -13,10 +13,10 @@ use Rattle.vat_view.specs.Lives.{birth, descriptors}
 use Rattle.vat_view.specs.Views.{binds, descriptor_view, described_at, placed_references, view_given, view_of_reference, view_of_target}
 use Rattle.vat_view.specs.Walks.{Next, stays, stops, on_to, keeps, is_promise, turn, next}
 use Rattle.vat_view.specs.Questions.{is_late, call_of}
-use Rattle.call_trace.specs.Types.{Descriptor, SenderHosted, SenderPromise, ReceiverHosted, ReceiverAnswer, Results, RpcMessage, Bootstrap, Call, Return, Finish, Resolve, Release, Disembargo, Abort, DecodedRecord, Host, Vow, Fulfil, Break, Make, Field, Deliver, Answer, Fault, Wire, View, Object, Promise, FieldOf, Name, Cap, Message, Step}
+use Rattle.call_trace.specs.Types.{Descriptor, SenderHosted, SenderPromise, ReceiverHosted, ReceiverAnswer, Results, Exception, Canceled, Elsewhere, TakeFrom, RpcMessage, Bootstrap, Call, Return, Finish, Resolve, Release, Disembargo, Abort, DecodedRecord, Host, Vow, Fulfil, Break, Make, Field, Deliver, Answer, AnswerBy, Fault, Wire, View, Object, Promise, FieldOf, Name, Cap, Message, Step}
 use Rattle.call_trace.specs.Kinds.{is_own_making}
 use Rattle.call_trace.specs.Naming.{Naming, naming, call_named}
-use Rattle.call_trace.specs.Said.{all_there, message_of_record, say_call, say_return, say_resolve, caps_named, promise_named, call_answered}
+use Rattle.call_trace.specs.Said.{all_there, message_of_record, say_call, say_return, say_taken, say_resolve, caps_named, promise_named, call_answered}
 use Rattle.call_trace.specs.Part.{reference_named, promise_in, result_named, Says, SaysReceive, PairsOff}
 use Rattle.call_trace.specs.Within.{IsWithin}
 use Rattle.call_trace.proofs.Naming.{then_is, mapped_is}
@@ -40,6 +40,8 @@ Form v es steps (Deliver c object) s = (name : Name) × (call_named v es steps c
 Form v es steps (Answer c results) s =
     (name : Name) × (caps : List (List ℕ × Cap)) × (call_named v es steps c ≡ Some name)
     × (all_there (map (result_named (naming v (Answer c results ∷ es) (s ∷ steps)) es) results) ≡ Some caps) × (step.Answer v name caps ≡ s)
+Form v es steps (AnswerBy c by) s =
+    (name : Name) × (by_name : Name) × (call_named v es steps c ≡ Some name) × (call_named v es steps by ≡ Some by_name) × (step.AnswerBy v name by_name ≡ s)
 Form v es steps (Fault c) s = (name : Name) × (call_named v es steps c ≡ Some name) × (step.Fault v name ≡ s)
 Form v es steps (Wire true k c rs m) s =
     (M : Message) × (message_of_record (naming v (Wire true k c rs m ∷ es) (s ∷ steps)) es (Wire true k c rs m) ≡ Some M) × (step.Send v k M ≡ s)
@@ -70,6 +72,10 @@ form v es steps (Answer c results) s says =
     let name = then_is (λ name. option_map (λ caps. step.Answer v name caps) all) (call_named v es steps c) s says in
     let caps = mapped_is (λ caps. step.Answer v name.0 caps) all s name.2 in
     (name.0, caps.0, name.1, caps.1, caps.2)
+form v es steps (AnswerBy c by) s says =
+    let name = then_is (λ name. option_map (λ other. step.AnswerBy v name other) (call_named v es steps by)) (call_named v es steps c) s says in
+    let other = mapped_is (λ other. step.AnswerBy v name.0 other) (call_named v es steps by) s name.2 in
+    (name.0, other.0, name.1, other.1, other.2)
 form v es steps (Fault c) s says = mapped_is (λ name. step.Fault v name) (call_named v es steps c) s says
 form v es steps (Wire true k c rs m) s says =
     mapped_is (λ M. step.Send v k M) (message_of_record (naming v (Wire true k c rs m ∷ es) (s ∷ steps)) es (Wire true k c rs m)) s says
@@ -191,6 +197,7 @@ ends_said v p es steps (Make c r interface method) s says h = subst (λ s. ends 
 ends_said v p es steps (Field r c path) s says h = subst (λ s. ends v p s ≡ false) (form v es steps (Field r c path) s says).1 refl
 ends_said v p es steps (Deliver c object) s says h = subst (λ s. ends v p s ≡ false) (form v es steps (Deliver c object) s says).2 refl
 ends_said v p es steps (Answer c results) s says h = subst (λ s. ends v p s ≡ false) (form v es steps (Answer c results) s says).4 refl
+ends_said v p es steps (AnswerBy c by) s says h = subst (λ s. ends v p s ≡ false) (form v es steps (AnswerBy c by) s says).4 refl
 ends_said v p es steps (Fault c) s says h = subst (λ s. ends v p s ≡ false) (form v es steps (Fault c) s says).2 refl
 ends_said v p es steps (Wire true k c rs m) s says h = subst (λ s. ends v p s ≡ false) (form v es steps (Wire true k c rs m) s says).2 refl
 ends_said v p es steps (Wire false k c rs m) s says h = subst (λ s. ends v p s ≡ false) (sym says.step) refl
@@ -265,6 +272,10 @@ return_said true fields name caps m h = ap is_boot (sym (only (message.Late name
 return_said false fields name None m h = absurd (let no : ⊥ = cc in no)
 return_said false fields name (Some caps) m h = ap is_boot (sym (only _ m h))
 
+taken_said : (late : Bool) (name : Name) (by : Option Name) (m : Message) → say_taken late name by ≡ Some m → is_boot m ≡ false
+taken_said true name by m h = ap is_boot (sym (only (message.Late name) m h))
+taken_said false name by m h = ap is_boot (sym (mapped_is (λ by. message.Taken name by) by m h).2)
+
 resolve_said : (promise : Cap) (caps : List Cap) → is_boot (say_resolve promise caps) ≡ false
 resolve_said promise [] = refl
 resolve_said promise (cap.Nothing ∷ rest) = refl
@@ -279,8 +290,14 @@ no_boot_said names es sent k c rs (Return q release (Results payload) light) M o
     let e = Wire sent k c rs (Return q release (Results payload) light) in
     let name = then_is (λ name. say_return (is_late es e) payload.fields name (caps_named names es e)) (call_answered names es k sent q) M h in
     return_said (is_late es e) payload.fields name.0 (caps_named names es e) M name.2
-no_boot_said names es sent k c rs (Return q release outcome light) M other h =
-    let name = mapped_is message.Failed (call_answered names es k sent q) M h in ap is_boot (sym name.2)
+no_boot_said names es sent k c rs (Return q release Exception light) M other h = ap is_boot (sym (mapped_is message.Failed (call_answered names es k sent q) M h).2)
+no_boot_said names es sent k c rs (Return q release Canceled light) M other h = ap is_boot (sym (mapped_is message.Failed (call_answered names es k sent q) M h).2)
+no_boot_said names es sent k c rs (Return q release Elsewhere light) M other h = ap is_boot (sym (mapped_is message.Elsewhere (call_answered names es k sent q) M h).2)
+no_boot_said names es sent k c rs (Return q release (TakeFrom n) light) M other h =
+    let late = sent && is_late es (Wire sent k c rs (Return q release (TakeFrom n) light)) in
+    let by = option_and_then names.call (call_of (id k sent n) es) in
+    let name = then_is (λ name. say_taken late name by) (call_answered names es k sent q) M h in
+    taken_said late name.0 by M name.2
 no_boot_said names es sent k c rs (Resolve n resolution) M other h =
     let e = Wire sent k c rs (Resolve n resolution) in
     let promise = then_is (λ promise. option_map (say_resolve promise) (caps_named names es e)) (promise_named names es k sent n) M h in
@@ -297,7 +314,7 @@ boot_name v es steps k d rs q s name h =
     let first : call_named v (Wire true k d rs (Bootstrap q) ∷ es) (s ∷ steps) d ≡ Some (call v d) = ap (λ b. option_or (if b then Some (call v d) else None) (call_named v es steps d)) (eq-eqb d d refl) in
     only (call v d) name (sym first ∙ h)
 
-boot_said : (v : ℕ) (es : Past) (steps : List Step) (k d : ℕ) (rs : List ℕ) (q : ℕ) (s : Step) → Says v es steps (Wire true k d rs (Bootstrap q)) s → step.Send v k (message.Boot (call v d)) ≡ s
+pub boot_said : (v : ℕ) (es : Past) (steps : List Step) (k d : ℕ) (rs : List ℕ) (q : ℕ) (s : Step) → Says v es steps (Wire true k d rs (Bootstrap q)) s → step.Send v k (message.Boot (call v d)) ≡ s
 boot_said v es steps k d rs q s says =
     let f = form v es steps (Wire true k d rs (Bootstrap q)) s says in
     let name = mapped_is message.Boot (call_named v (Wire true k d rs (Bootstrap q) ∷ es) (s ∷ steps) d) f.0 f.1 in
@@ -325,6 +342,7 @@ begins_said v c es steps (Break r) s says h = subst (λ s. begins_call (call v c
 begins_said v c es steps (Field r d path) s says h = subst (λ s. begins_call (call v c) s ≡ false) (form v es steps (Field r d path) s says).1 refl
 begins_said v c es steps (Deliver d object) s says h = subst (λ s. begins_call (call v c) s ≡ false) (form v es steps (Deliver d object) s says).2 refl
 begins_said v c es steps (Answer d results) s says h = subst (λ s. begins_call (call v c) s ≡ false) (form v es steps (Answer d results) s says).4 refl
+begins_said v c es steps (AnswerBy d by) s says h = subst (λ s. begins_call (call v c) s ≡ false) (form v es steps (AnswerBy d by) s says).4 refl
 begins_said v c es steps (Fault d) s says h = subst (λ s. begins_call (call v c) s ≡ false) (form v es steps (Fault d) s says).2 refl
 
 -- another vat begins no call of this vat's numbers

@@ -14,7 +14,7 @@ use Rattle.call_trace.specs.Types.{Bootstrap, Call, DecodedRecord, Host, Vow, Fi
 use Rattle.call_trace.specs.Naming.{Naming, naming, cap_at, names_call, call_named, cap_named, message_at, message_of_step}
 use Rattle.call_trace.specs.Said.{all_there, message_of_record, say_call, caps_named}
 use Rattle.call_trace.specs.Part.{reference_named, resolves_released, SaysReceive, Says, PairsOff}
-use Rattle.call_trace.proofs.AsSent.{read, says_read}
+use Rattle.call_trace.proofs.AsSent.{read, says_read, takes_from}
 use Rattle.run_model.specs.Has.{call_in_message}
 use Rattle.run_model.specs.Steps.{call}
 use Rattle.run_model.specs.declared.message.Message.TheVariants as message
@@ -158,10 +158,10 @@ say_call_is interface method None name target m h = absurd (let no : ⊥ = cc in
 say_call_is interface method (Some caps) None target m h = absurd (let no : ⊥ = cc in no)
 say_call_is interface method (Some caps) (Some name) None m h = absurd (let no : ⊥ = cc in no)
 
-received_call : (names : Naming) (es : Past) (e : DecodedRecord) (k : ℕ) (references : List ℕ) (s : Step) → SaysReceive names es e k references s → ((m : Message) → message_of_record names es e ≡ Some m → Has (call_in_message m)) →
+received_call : (names : Naming) (es : Past) (e : DecodedRecord) (k : ℕ) (references : List ℕ) (s : Step) → SaysReceive names es e k references s → takes_from e ≡ false → ((m : Message) → message_of_record names es e ≡ Some m → Has (call_in_message m)) →
     Has (option_and_then call_in_message (message_of_step s))
-received_call names es e k references s says says_call =
-    let name = says_call (read es e says.message) (says_read says) in
+received_call names es e k references s says none says_call =
+    let name = says_call (read es e says.message) (says_read says none) in
     (name.0, ap (λ s. option_and_then call_in_message (message_of_step s)) says.step ∙ read_called es e says.message name.0 name.1)
 
 if_own : {A : Type 0} (b : Bool) (o : Option A) → b ≡ true → Has o → Has (if b then o else None)
@@ -174,12 +174,12 @@ names_some v es steps (Wire false k d references (Bootstrap q)) s c says there =
     let e = Wire false k d references (Bootstrap q) in
     let names = naming v (e ∷ es) (s ∷ steps) in
     if_own (d == c) _ (is_one (d == c) there)
-    (received_call names es e k references s says (λ m h. let name = mapped_is message.Boot (names.call d) m h in (name.0, ap call_in_message (sym name.2))))
+    (received_call names es e k references s says refl (λ m h. let name = mapped_is message.Boot (names.call d) m h in (name.0, ap call_in_message (sym name.2))))
 names_some v es steps (Wire false k d references (Call q target interface method params yourself)) s c says there =
     let e = Wire false k d references (Call q target interface method params yourself) in
     let names = naming v (e ∷ es) (s ∷ steps) in
     if_own (d == c) _ (is_one (d == c) there)
-    (received_call names es e k references s says (λ m h. say_call_is interface method (caps_named names es e) (names.call d) (option_and_then names.cap (view_of_target es e)) m h))
+    (received_call names es e k references s says refl (λ m h. say_call_is interface method (caps_named names es e) (names.call d) (option_and_then names.cap (view_of_target es e)) m h))
 names_some v es steps e s c says there = absurd (let no : ⊥ = cc in no)
 
 pub calls_named : (v : ℕ) (es : Past) (steps : List Step) → PairsOff v es steps → (c : ℕ) → is_bound_call es c ≡ true → Has (call_named v es steps c)

@@ -15,7 +15,7 @@ use Rattle.call_trace.specs.Part.{reference_named, promise_in, result_named, Say
 use Rattle.call_trace.specs.Running.{steps_by, IsNamedRow, MayRun}
 use Rattle.call_trace.specs.Said.{all_there, message_of_record}
 use Rattle.call_trace.specs.Taking.{finding_of, row_of}
-use Rattle.call_trace.specs.Types.{DecodedRecord, Host, Vow, Fulfil, Break, Make, Field, Deliver, Answer, Fault, Wire, Cap, Step}
+use Rattle.call_trace.specs.Types.{DecodedRecord, Host, Vow, Fulfil, Break, Make, Field, Deliver, Answer, AnswerBy, Fault, Wire, Cap, Step}
 use Rattle.call_trace.proofs.Naming.{mapped_is, then_is, cap_step}
 use Rattle.call_trace.proofs.Next.{may_run, logs_good}
 use Rattle.call_trace.proofs.Running.{refers_all}
@@ -74,6 +74,10 @@ made_now v es steps (Answer c results) s says refers r a made =
     let names = naming v (Answer c results ∷ es) (s ∷ steps) in
     let name = then_is (λ name. option_map (λ caps. step.Answer v name caps) (all_there (map (result_named names es) results))) (names.call c) s says in
     absurd (subst (MakesThrough v r a) (sym (mapped_is (λ caps. step.Answer v name.0 caps) (all_there (map (result_named names es) results)) s name.2).2) made)
+made_now v es steps (AnswerBy c by) s says refers r a made =
+    let names = naming v (AnswerBy c by ∷ es) (s ∷ steps) in
+    let name = then_is (λ name. option_map (λ other. step.AnswerBy v name other) (names.call by)) (names.call c) s says in
+    absurd (subst (MakesThrough v r a) (sym (mapped_is (λ other. step.AnswerBy v name.0 other) (names.call by) s name.2).2) made)
 made_now v es steps (Fault c) s says refers r a made =
     let names = naming v (Fault c ∷ es) (s ∷ steps) in absurd (subst (MakesThrough v r a) (sym (mapped_is (λ name. step.Fault v name) (names.call c) s says).2) made)
 made_now v es steps (Wire true k c rs m) s says refers r a made =

@@ -77,7 +77,7 @@ pub in_order : early run ≡ []
 in_order = refl
 
 pub lives_1 : EachRecord UsesLives (reverse log_1)
-lives_1 = (record { numbers = refl; questions = record { used = refl; returned_once = refl }; openings = tt; resolves = tt; echoes = tt }, (record { numbers = refl; questions = record { used = refl; returned_once = refl }; openings = tt; resolves = tt; echoes = tt }, (record { numbers = refl; questions = record { used = refl; returned_once = tt }; openings = refl; resolves = tt; echoes = tt }, (record { numbers = refl; questions = record { used = refl; returned_once = tt }; openings = tt; resolves = tt; echoes = tt }, (record { numbers = refl; questions = record { used = refl; returned_once = tt }; openings = tt; resolves = tt; echoes = tt }, (record { numbers = refl; questions = record { used = refl; returned_once = tt }; openings = refl; resolves = tt; echoes = tt }, tt))))))
+lives_1 = (record { numbers = refl; questions = record { used = refl; returned_once = refl; taken_once = tt }; openings = tt; resolves = tt; echoes = tt }, (record { numbers = refl; questions = record { used = refl; returned_once = refl; taken_once = tt }; openings = tt; resolves = tt; echoes = tt }, (record { numbers = refl; questions = record { used = refl; returned_once = tt; taken_once = tt }; openings = refl; resolves = tt; echoes = tt }, (record { numbers = refl; questions = record { used = refl; returned_once = tt; taken_once = tt }; openings = tt; resolves = tt; echoes = tt }, (record { numbers = refl; questions = record { used = refl; returned_once = tt; taken_once = tt }; openings = tt; resolves = tt; echoes = tt }, (record { numbers = refl; questions = record { used = refl; returned_once = tt; taken_once = tt }; openings = refl; resolves = tt; echoes = tt }, tt))))))
 
 pub lives_2 : EachRecord UsesLives (reverse log_2)
-lives_2 = (record { numbers = refl; questions = record { used = refl; returned_once = refl }; openings = tt; resolves = tt; echoes = tt }, (record { numbers = refl; questions = record { used = refl; returned_once = tt }; openings = tt; resolves = tt; echoes = tt }, (record { numbers = refl; questions = record { used = refl; returned_once = refl }; openings = tt; resolves = tt; echoes = tt }, (record { numbers = refl; questions = record { used = refl; returned_once = tt }; openings = tt; resolves = tt; echoes = tt }, (record { numbers = refl; questions = record { used = refl; returned_once = tt }; openings = tt; resolves = tt; echoes = tt }, (record { numbers = refl; questions = record { used = refl; returned_once = tt }; openings = refl; resolves = tt; echoes = tt }, (record { numbers = refl; questions = record { used = refl; returned_once = tt }; openings = refl; resolves = tt; echoes = tt }, (record { numbers = refl; questions = record { used = refl; returned_once = tt }; openings = tt; resolves = tt; echoes = tt }, tt))))))))
+lives_2 = (record { numbers = refl; questions = record { used = refl; returned_once = refl; taken_once = tt }; openings = tt; resolves = tt; echoes = tt }, (record { numbers = refl; questions = record { used = refl; returned_once = tt; taken_once = tt }; openings = tt; resolves = tt; echoes = tt }, (record { numbers = refl; questions = record { used = refl; returned_once = refl; taken_once = tt }; openings = tt; resolves = tt; echoes = tt }, (record { numbers = refl; questions = record { used = refl; returned_once = tt; taken_once = tt }; openings = tt; resolves = tt; echoes = tt }, (record { numbers = refl; questions = record { used = refl; returned_once = tt; taken_once = tt }; openings = tt; resolves = tt; echoes = tt }, (record { numbers = refl; questions = record { used = refl; returned_once = tt; taken_once = tt }; openings = refl; resolves = tt; echoes = tt }, (record { numbers = refl; questions = record { used = refl; returned_once = tt; taken_once = tt }; openings = refl; resolves = tt; echoes = tt }, (record { numbers = refl; questions = record { used = refl; returned_once = tt; taken_once = tt }; openings = tt; resolves = tt; echoes = tt }, tt))))))))

@@ -4,24 +4,24 @@ use Rattle.std.specs.Prelude.{map, filter, unwrap_or}
 use Rattle.std.specs.List.{list_any}
 use Rattle.std.specs.Option.{option_or}
 use Rattle.std.proofs.lemmas.Bool.{cases_Bool, eq-eqb, and_left, and_right, and_from, and_parts, or_left, or_right, false_from_ne_true, false≢true}
-use Rattle.vat_view.specs.Past.{Past, Each, point, last_answer, last_where}
+use Rattle.vat_view.specs.Past.{Past, Each, point, id, last_answer, last_where}
 use Rattle.vat_view.specs.Bindings.{Refers}
 use Rattle.vat_view.specs.Calls.{brings, takes, request_of, delivers, boots, has_passed, is_at_vat, is_served, is_settled}
 use Rattle.vat_view.specs.Calls.{moves as log_moves}
 use Rattle.vat_view.specs.Views.{view_of_reference, view_of_target}
-use Rattle.vat_view.specs.Questions.{is_late}
+use Rattle.vat_view.specs.Questions.{is_late, call_of}
 use Rattle.vat_view.specs.declared.asked.Asked.{Asked as AskedOf}
 use Rattle.vat_rules.specs.Judged.{IsGood}
 use Rattle.vat_rules.specs.Ways.{LeadsTo}
 use Rattle.vat_rules.specs.declared.rule.Rule.TheVariants as rule
 use Rattle.rpc_view.specs.declared.message.Payload.{Payload}
-use Rattle.call_trace.specs.Types.{RpcMessage, Target, Results, Exception, Canceled, Elsewhere, TakeFrom, Bootstrap, Call, Return, Finish, Resolve, Release, Disembargo, Abort, DecodedRecord, Host, Vow, Fulfil, Break, Make, Field, Deliver, Answer, Fault, Wire, View, Object, Name, Cap, Message, Step}
+use Rattle.call_trace.specs.Types.{RpcMessage, Target, Results, Exception, Canceled, Elsewhere, TakeFrom, Bootstrap, Call, Return, Finish, Resolve, Release, Disembargo, Abort, DecodedRecord, Host, Vow, Fulfil, Break, Make, Field, Deliver, Answer, AnswerBy, Fault, Wire, View, Object, Name, Cap, Message, Step}
 use Rattle.call_trace.specs.Naming.{Naming, naming, call_named, cap_named}
-use Rattle.call_trace.specs.Said.{message_of_record, say_call, say_return, say_resolve, caps_named, promise_named, call_answered, all_there, caps_at_paths}
-use Rattle.call_trace.specs.Part.{reference_named, promise_in, result_named, resolves_released, Says, PairsOff}
+use Rattle.call_trace.specs.Said.{message_of_record, say_call, say_return, say_taken, say_resolve, caps_named, promise_named, call_answered, all_there, caps_at_paths}
+use Rattle.call_trace.specs.Part.{reference_named, promise_in, result_named, resolves_released, heard_late, Says, PairsOff}
 use Rattle.call_trace.specs.Placed.{AsksFor, IsThere}
 use Rattle.call_trace.specs.Within.{IsWithin}
-use Rattle.call_trace.proofs.AsSent.{read, says_read}
+use Rattle.call_trace.proofs.AsSent.{read, heard, says_read, says_heard}
 use Rattle.call_trace.proofs.Naming.{mapped_is, then_is, call_keeps, cap_keeps}
 use Rattle.call_trace.proofs.Within.{heads, tails, each_earlier, all_leads}
 use Rattle.run_model.specs.Leads.{Leads as RunLeads}
@@ -169,7 +169,7 @@ boot_arrives : (v k c q : ℕ) (rs : List ℕ) (es : Past) (steps : List Step) (
     HasArrived v (Wire false k c rs (Bootstrap q) ∷ es) (s ∷ steps) c
 boot_arrives v k c q rs es steps s says =
     let e = Wire false k c rs (Bootstrap q) in
-    let name = mapped_is message.Boot (call_named v (e ∷ es) (s ∷ steps) c) (read es e says.message) (says_read says) in
+    let name = mapped_is message.Boot (call_named v (e ∷ es) (s ∷ steps) c) (read es e says.message) (says_read says refl) in
     let booted = read_boot es e says.message name.0 (sym name.2) in
     let is : s ≡ step.Receive v k (message.Boot name.0) says.bound = says.step ∙ ap (λ m. step.Receive v k m says.bound) booted in
     (name.0, name.1, or_left (arrives name.0 v s) (list_any (arrives name.0 v) steps) (ap (arrives name.0 v) is ∙ arrived_here v name.0))
@@ -260,6 +260,15 @@ read_call_in es e (message.Broken promise) = at (resolves_released es e)
     at false = refl
 read_call_in es e m = refl
 
+heard_late_call_in : (late : Bool) (said : Message) → call_in (heard_late late said) ≡ call_in said
+heard_late_call_in true (message.Taken c by) = refl
+heard_late_call_in true said = refl
+heard_late_call_in false said = refl
+
+heard_call_in : (es : Past) (e : DecodedRecord) (m said : Message) → call_in (heard es e m said) ≡ call_in said
+heard_call_in es e (message.Late c) said = heard_late_call_in (is_late es e) said
+heard_call_in es e m said = refl
+
 -- what is read as a Call is one
 read_call : (es : Past) (e : DecodedRecord) (m : Message) (c : Name) (target : Cap) (interface method : ℕ) (caps : List Cap) →
     read es e m ≡ message.Call c target interface method caps → m ≡ message.Call c target interface method caps
@@ -283,6 +292,10 @@ return_no_call true fields name caps m h = let same : message.Late name ≡ m = 
 return_no_call false fields name (Some caps) m h = ap call_in (sym (mapped_is (λ caps. message.Return name (caps_at_paths caps fields) caps) (Some caps) m h).2)
 return_no_call false fields name None m h = absurd (let no : ⊥ = cc in no)
 
+taken_no_call : (late : Bool) (name : Name) (by : Option Name) (m : Message) → say_taken late name by ≡ Some m → call_in m ≡ false
+taken_no_call true name by m h = let same : message.Late name ≡ m = cc in ap call_in (sym same)
+taken_no_call false name by m h = ap call_in (sym (mapped_is (λ by. message.Taken name by) by m h).2)
+
 resolve_no_call : (promise : Cap) (caps : List Cap) → call_in (say_resolve promise caps) ≡ false
 resolve_no_call promise (cap.Nothing ∷ rest) = refl
 resolve_no_call promise (c ∷ rest) = refl
@@ -298,8 +311,12 @@ said_no_call names es sent k c rs (Return q release (Results payload) light) M i
     return_no_call (is_late es e) payload.fields name.0 (caps_named names es e) M name.2
 said_no_call names es sent k c rs (Return q release Exception light) M isnt h = ap call_in (sym (mapped_is message.Failed (call_answered names es k sent q) M h).2)
 said_no_call names es sent k c rs (Return q release Canceled light) M isnt h = ap call_in (sym (mapped_is message.Failed (call_answered names es k sent q) M h).2)
-said_no_call names es sent k c rs (Return q release Elsewhere light) M isnt h = ap call_in (sym (mapped_is message.Failed (call_answered names es k sent q) M h).2)
-said_no_call names es sent k c rs (Return q release (TakeFrom n) light) M isnt h = ap call_in (sym (mapped_is message.Failed (call_answered names es k sent q) M h).2)
+said_no_call names es sent k c rs (Return q release Elsewhere light) M isnt h = ap call_in (sym (mapped_is message.Elsewhere (call_answered names es k sent q) M h).2)
+said_no_call names es sent k c rs (Return q release (TakeFrom n) light) M isnt h =
+    let late = sent && is_late es (Wire sent k c rs (Return q release (TakeFrom n) light)) in
+    let by = option_and_then names.call (call_of (id k sent n) es) in
+    let name = then_is (λ name. say_taken late name by) (call_answered names es k sent q) M h in
+    taken_no_call late name.0 by M name.2
 said_no_call names es sent k c rs (Resolve n resolution) M isnt h =
     let e = Wire sent k c rs (Resolve n resolution) in
     let promise = then_is (λ promise. option_map (say_resolve promise) (caps_named names es e)) (promise_named names es k sent n) M h in
@@ -375,7 +392,7 @@ module _ (v : ℕ) (es : Past) (steps earlier : List Step) (w : IsWithin v es st
       let e = Wire false k d rs (Call q target interface method params yourself) in
       let names = naming v (e ∷ es) (s ∷ steps) in
       let goal = view_of_target es e in
-      let call_is = call_said interface method (caps_named names es e) (names.call d) (option_and_then names.cap goal) (read es e says.message) (says_read says) in
+      let call_is = call_said interface method (caps_named names es e) (names.call d) (option_and_then names.cap goal) (read es e says.message) (says_read says refl) in
       let was = read_call es e says.message call_is.call call_is.to interface method call_is.caps call_is.is in
       let is : s ≡ step.Receive v k (message.Call call_is.call call_is.to interface method call_is.caps) says.bound = says.step ∙ ap (λ m. step.Receive v k m says.bound) was in
       let nowhere = at_no_vat earlier w.legal w.linked call_is.call v k v call_is.to interface method call_is.caps says.bound (subst (IsLinked earlier) is linked) in
@@ -394,7 +411,8 @@ module _ (v : ℕ) (es : Past) (steps earlier : List Step) (w : IsWithin v es st
   received_effect k d rs m s isnt none says =
       let e = Wire false k d rs m in
       let names = naming v (e ∷ es) (s ∷ steps) in
-      let still = sym (read_call_in es e says.message) ∙ said_no_call names es false k d rs m (read es e says.message) isnt (says_read says) in
+      let said = says_heard says in
+      let still = sym (read_call_in es e says.message) ∙ ap call_in (sym said.2) ∙ heard_call_in es e says.message said.0 ∙ said_no_call names es false k d rs m said.0 isnt said.1 in
       quiet none (λ name. ap (move_of name v) says.step ∙ receive_stays v k says.message says.bound still name)
 
   effect : (e : DecodedRecord) (s : Step) → IsLegal earlier s → IsLinked earlier s → IsGood es e → Says v es steps e s → Effect v es steps e s
@@ -420,6 +438,10 @@ module _ (v : ℕ) (es : Past) (steps earlier : List Step) (w : IsWithin v es st
       let name = then_is (λ name. option_map (λ caps. step.Answer v name caps) (all_there (map (result_named names es) results))) (call_named v es steps d) s says in
       let caps = mapped_is (λ caps. step.Answer v name.0 caps) (all_there (map (result_named names es) results)) s name.2 in
       quiet (λ c. refl) (λ name. ap (move_of name v) (sym caps.2))
+  effect (AnswerBy d by) s legal linked good says =
+      let name = then_is (λ name. option_map (λ other. step.AnswerBy v name other) (call_named v es steps by)) (call_named v es steps d) s says in
+      let other = mapped_is (λ other. step.AnswerBy v name.0 other) (call_named v es steps by) s name.2 in
+      quiet (λ c. refl) (λ name. ap (move_of name v) (sym other.2))
   effect (Fault d) s legal linked good says = fault_effect d s (and_parts (is_at_vat d es || is_served d es) (not (is_settled d es)) (good rule.Answer)).0 says
   effect (Wire true k d rs (Call q target interface method params yourself)) s legal linked good says = call_sent_effect k d rs q target interface method params yourself s (good rule.Here) says
   effect (Wire true k d rs m) s legal linked good says = sent_effect k d rs m s refl says

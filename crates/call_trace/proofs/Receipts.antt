@@ -13,19 +13,20 @@ use Rattle.vat_rules.specs.Judged.{IsGood}
 use Rattle.vat_rules.specs.declared.rule.Rule.TheVariants as rule
 use Rattle.vat_view.specs.Past.{Past, Each, id, last_answer}
 use Rattle.vat_view.specs.Lives.{begins, is_in_life}
-use Rattle.vat_view.specs.Questions.{is_late, is_unreturned, call_of}
+use Rattle.vat_view.specs.Questions.{is_late, is_unfinished, is_unreturned, call_of}
 use Rattle.vat_view.specs.Views.{view_of_reference, view_of_number, view_of_target, view_given}
 use Rattle.rpc_view.specs.declared.message.Payload.{Payload}
 use Rattle.call_trace.specs.Types.{Target, Outcome, Results, Exception, Canceled, Elsewhere, TakeFrom, Resolution, RpcMessage, Bootstrap, Call, Return, Finish, Resolve, Release, Disembargo, Abort, DecodedRecord, Wire, Name, Cap, Message, Step}
 use Rattle.call_trace.specs.Naming.{Naming, naming, cap_named, call_named, message_at}
-use Rattle.call_trace.specs.Said.{message_of_record, say_call, say_return, say_resolve, caps_named, promise_named, call_answered, caps_at_paths}
+use Rattle.call_trace.specs.Said.{message_of_record, say_call, say_return, say_taken, say_resolve, caps_named, promise_named, call_answered, caps_at_paths}
 use Rattle.call_trace.specs.Part.{resolves_released, ReadsAsSent}
 use Rattle.call_trace.specs.Carried.{HasOneName}
 use Rattle.call_trace.specs.Running.{AreMet}
-use Rattle.call_trace.proofs.AsSent.{read, reads_so}
-use Rattle.call_trace.proofs.Naming.{mapped_is, then_is, cap_step, call_keeps}
+use Rattle.call_trace.proofs.AsSent.{read, reads_so, reads_late}
+use Rattle.call_trace.proofs.Naming.{mapped_is, then_is, cap_step, call_keeps, calls_named}
 use Rattle.call_trace.proofs.Carried.{pairs_as_long, one_name}
-use Rattle.call_trace.proofs.Asking.{answerer_names, call_lasts, all_refer, answer_is_one}
+use Rattle.call_trace.proofs.Asking.{answerer_names, call_lasts, all_refer, answer_is_one, call_is_one}
+use Rattle.call_trace.proofs.Using.{unfinished_bound, taken_unfinished}
 use Rattle.call_trace.proofs.Describing.{IsHeard, met_before, caps_are_one, targets_are_one}
 use Rattle.call_trace.proofs.Binding.{pair, passed_is_heard}
 use Rattle.run_model.specs.Has.{call_in_message}
@@ -80,6 +81,9 @@ pub record IsReadAlike (mine : Naming) (from : Past) (sent : DecodedRecord) (the
   pub target : (t : Cap) → option_and_then mine.cap (view_of_target from sent) ≡ Some t → option_and_then theirs.cap (view_of_target other e) ≡ Some t
   pub late : is_late from sent ≡ true → is_late other e ≡ true
   pub answers : (q : ℕ) (release : Bool) (outcome : Outcome) (light : Bool) → m ≡ Return q release outcome light → (name : Name) → call_answered mine from k true q ≡ Some name → call_answered theirs other k false q ≡ Some name
+  pub taken : (q : ℕ) (release : Bool) (n : ℕ) (light : Bool) → m ≡ Return q release (TakeFrom n) light → (by : Name) → option_and_then mine.call (call_of (id k true n) from) ≡ Some by →
+      option_and_then theirs.call (call_of (id k false n) other) ≡ Some by
+  pub takes : (q : ℕ) (release : Bool) (n : ℕ) (light : Bool) → m ≡ Return q release (TakeFrom n) light → (by : Name) × (option_and_then theirs.call (call_of (id k false n) other) ≡ Some by)
   pub promise : (n : ℕ) (x : Cap) → promise_named mine from k true n ≡ Some x → promise_named theirs other k false n ≡ Some (if not (is_in_life (id k false n) other) then cap.Nothing else x)
 
 module _ (mine : Naming) (from : Past) (theirs : Naming) (other : Past) (k d c : ℕ) (noted references : List ℕ) (M : Message) where
@@ -113,12 +117,40 @@ module _ (mine : Naming) (from : Past) (theirs : Naming) (other : Past) (k d c :
       ap (λ o. option_and_then (λ name. say_return (is_late other e) payload.fields name (caps_named theirs other e)) o) (alike.answers q release (Results payload) light refl name.0 name.1)
       ∙ return_read other e (is_late from sent) (is_late other e) payload.fields name.0 (caps_named mine from sent) (caps_named theirs other e) M alike.late alike.caps refl name.2
 
-  failed_read : (q : ℕ) (release : Bool) (outcome : Outcome) (light : Bool) → Alike (Return q release outcome light) → option_map message.Failed (call_answered mine from k true q) ≡ Some M →
-      option_map message.Failed (call_answered theirs other k false q) ≡ Some (read other (Wire false k c references (Return q release outcome light)) M)
-  failed_read q release outcome light alike h =
+  -- a Return that says its call alone
+  bare_read : (q : ℕ) (release : Bool) (outcome : Outcome) (light : Bool) (answer : Name → Message) → ((name : Name) → answer name ≡ read other (Wire false k c references (Return q release outcome light)) (answer name)) →
+      Alike (Return q release outcome light) → option_map answer (call_answered mine from k true q) ≡ Some M →
+      option_map answer (call_answered theirs other k false q) ≡ Some (read other (Wire false k c references (Return q release outcome light)) M)
+  bare_read q release outcome light answer same alike h =
       let e = Wire false k c references (Return q release outcome light) in
-      let name = mapped_is message.Failed (call_answered mine from k true q) M h in
-      ap (λ o. option_map message.Failed o) (alike.answers q release outcome light refl name.0 name.1) ∙ ap (λ m. Some (read other e m)) name.2
+      let name = mapped_is answer (call_answered mine from k true q) M h in
+      ap (λ o. option_map answer o) (alike.answers q release outcome light refl name.0 name.1) ∙ ap (λ m. Some m) (same name.0) ∙ ap (λ m. Some (read other e m)) name.2
+
+  -- one that takes the results of another call: it is read whole, or was late where it was sent
+  module _ (q : ℕ) (release : Bool) (n : ℕ) (light : Bool) (alike : Alike (Return q release (TakeFrom n) light)) where
+    abbrev taking : DecodedRecord
+    taking = Wire false k c references (Return q release (TakeFrom n) light)
+
+    taken_said : (name by : Name) → call_answered mine from k true q ≡ Some name → option_and_then theirs.call (call_of (id k false n) other) ≡ Some by → message_of_record theirs other taking ≡ Some (message.Taken name by)
+    taken_said name by answered from_named =
+        ap (λ o. option_and_then (λ name. say_taken false name (option_and_then theirs.call (call_of (id k false n) other))) o) (alike.answers q release (TakeFrom n) light refl name answered)
+        ∙ ap (λ o. say_taken false name o) from_named
+
+    taken_read : (gone : Bool) → is_late from (Wire true k d noted (Return q release (TakeFrom n) light)) ≡ gone → (name : Name) → call_answered mine from k true q ≡ Some name →
+        say_taken gone name (option_and_then mine.call (call_of (id k true n) from)) ≡ Some M → ReadsAsSent theirs other taking M
+    taken_read true gone name answered h =
+        let by = alike.takes q release n light refl in
+        let is : message.Late name ≡ M = cc in
+        subst (ReadsAsSent theirs other taking) is (reads_late theirs other taking name by.0 (alike.late gone) (taken_said name by.0 answered by.1))
+    taken_read false gone name answered h =
+        let by = mapped_is (λ by. message.Taken name by) (option_and_then mine.call (call_of (id k true n) from)) M h in
+        subst (ReadsAsSent theirs other taking) by.2 (taken_said name by.0 answered (alike.taken q release n light refl by.0 by.1))
+
+    taking_read : message_of_record mine from (Wire true k d noted (Return q release (TakeFrom n) light)) ≡ Some M → ReadsAsSent theirs other taking M
+    taking_read h =
+        let gone = is_late from (Wire true k d noted (Return q release (TakeFrom n) light)) in
+        let name = then_is (λ name. say_taken gone name (option_and_then mine.call (call_of (id k true n) from))) (call_answered mine from k true q) M h in
+        taken_read gone refl name.0 name.1 name.2
 
   resolved_read : (n : ℕ) (resolution : Resolution) → Alike (Resolve n resolution) → IsRead (Resolve n resolution)
   resolved_read n resolution alike h =
@@ -133,19 +165,24 @@ module _ (mine : Naming) (from : Past) (theirs : Naming) (other : Past) (k d c :
   plain_read : (e : DecodedRecord) (p : Message) → read other e p ≡ p → ◌≡◌ {A = Option Message} (Some p) (Some M) → ◌≡◌ {A = Option Message} (Some p) (Some (read other e M))
   plain_read e p same h = let is : p ≡ M = cc in ap (λ m. Some m) (sym same) ∙ ap (λ m. Some (read other e m)) is
 
-  pub read_as_said : (m : RpcMessage) → Alike m → IsRead m
-  read_as_said (Bootstrap q) alike h = boot_read q alike h
-  read_as_said (Call q target interface method params yourself) alike h = call_read q target interface method params yourself alike h
-  read_as_said (Return q release (Results payload) light) alike h = results_read q release payload light alike h
-  read_as_said (Return q release Exception light) alike h = failed_read q release Exception light alike h
-  read_as_said (Return q release Canceled light) alike h = failed_read q release Canceled light alike h
-  read_as_said (Return q release Elsewhere light) alike h = failed_read q release Elsewhere light alike h
-  read_as_said (Return q release (TakeFrom n) light) alike h = failed_read q release (TakeFrom n) light alike h
-  read_as_said (Resolve n resolution) alike h = resolved_read n resolution alike h
-  read_as_said (Finish q release) alike h = plain_read (Wire false k c references (Finish q release)) (message.Plain plain.Finish) refl h
-  read_as_said (Release n count) alike h = plain_read (Wire false k c references (Release n count)) (message.Plain plain.Release) refl h
-  read_as_said (Disembargo n loopback target) alike h = plain_read (Wire false k c references (Disembargo n loopback target)) (message.Plain plain.Disembargo) refl h
-  read_as_said Abort alike h = plain_read (Wire false k c references Abort) (message.Plain plain.Abort) refl h
+  -- it is read as its log says
+  so : (m : RpcMessage) → message_of_record theirs other (Wire false k c references m) ≡ Some (read other (Wire false k c references m) M) → ReadsAsSent theirs other (Wire false k c references m) M
+  so m h = reads_so theirs other (Wire false k c references m) M h
+
+  pub read_as_said : (m : RpcMessage) → Alike m → message_of_record mine from (Wire true k d noted m) ≡ Some M → ReadsAsSent theirs other (Wire false k c references m) M
+  read_as_said (Bootstrap q) alike h = so (Bootstrap q) (boot_read q alike h)
+  read_as_said (Call q target interface method params yourself) alike h = so (Call q target interface method params yourself) (call_read q target interface method params yourself alike h)
+  read_as_said (Return q release (Results payload) light) alike h = so (Return q release (Results payload) light) (results_read q release payload light alike h)
+  read_as_said (Return q release Exception light) alike h = so (Return q release Exception light) (bare_read q release Exception light message.Failed (λ name. refl) alike h)
+  read_as_said (Return q release Canceled light) alike h = so (Return q release Canceled light) (bare_read q release Canceled light message.Failed (λ name. refl) alike h)
+  read_as_said (Return q release Elsewhere light) alike h = so (Return q release Elsewhere light) (bare_read q release Elsewhere light message.Elsewhere (λ name. refl) alike h)
+  read_as_said (Return q release (TakeFrom n) light) alike h = taking_read q release n light alike h
+  read_as_said (Resolve n resolution) alike h = so (Resolve n resolution) (resolved_read n resolution alike h)
+  read_as_said (Finish q release) alike h = so (Finish q release) (plain_read (Wire false k c references (Finish q release)) (message.Plain plain.Finish) refl h)
+  read_as_said (Release n count) alike h = so (Release n count) (plain_read (Wire false k c references (Release n count)) (message.Plain plain.Release) refl h)
+  read_as_said (Disembargo n loopback target) alike h =
+      so (Disembargo n loopback target) (plain_read (Wire false k c references (Disembargo n loopback target)) (message.Plain plain.Disembargo) refl h)
+  read_as_said Abort alike h = so Abort (plain_read (Wire false k c references Abort) (message.Plain plain.Abort) refl h)
 
 -- ---- what the ends agree on
 
@@ -196,7 +233,27 @@ module _ (k v : ℕ) (one : Past) (its_steps : List Step) (w : ℕ) (other : Pas
       let d = answer_is_one k v w one its_steps other steps m from sent e h.met h.linked h.good h.passed q release outcome light c.0 name is used c.1 lasts in
       ap (λ o. option_and_then (call_named w (e ∷ other) (r ∷ steps)) o) d.1 ∙ call_keeps w (e ∷ []) other (r ∷ []) steps refl (h.good rule.Ref, tt) d.0 name d.2
 
+  -- the call whose results a Return takes is named alike, and has a name in any case
+  taken_alike : (r : Step) (n : ℕ) → is_unfinished (id k false n) other ≡ true → (by : Name) → option_and_then (call_named v (sent ∷ from) (s ∷ its_from)) (call_of (id k true n) from) ≡ Some by →
+      option_and_then (call_named w (e ∷ other) (r ∷ steps)) (call_of (id k false n) other) ≡ Some by
+  taken_alike r n used by named =
+      let c = then_is (call_named v (sent ∷ from) (s ∷ its_from)) (call_of (id k true n) from) by named in
+      let lasts =
+      call_lasts v one (sent ∷ from) its_steps (s ∷ its_from) h.passed.sent_there (h.added, h.whole) (pairs_as_long v one its_steps h.met.one_paired)
+      (pairs_as_long v (sent ∷ from) (s ∷ its_from) h.paired) (all_refer one h.met.one_good) c.0 by c.2 in
+      let d = call_is_one k v w one its_steps other steps m from sent e h.met h.linked h.good h.passed n c.0 by used c.1 lasts in
+      ap (λ o. option_and_then (call_named w (e ∷ other) (r ∷ steps)) o) d.1 ∙ call_keeps w (e ∷ []) other (r ∷ []) steps refl (h.good rule.Ref, tt) d.0 by d.2
+
+  taken_there : (r : Step) (n : ℕ) → is_unfinished (id k false n) other ≡ true → (by : Name) × (option_and_then (call_named w (e ∷ other) (r ∷ steps)) (call_of (id k false n) other) ≡ Some by)
+  taken_there r n used =
+      let c = unfinished_bound other (all_refer other h.met.other_good) (id k false n) used in
+      let name = calls_named w other steps h.met.other_paired c.0 c.2 in
+      (name.0, ap (λ o. option_and_then (call_named w (e ∷ other) (r ∷ steps)) o) c.1 ∙ call_keeps w (e ∷ []) other (r ∷ []) steps refl (h.good rule.Ref, tt) c.0 name.0 name.1)
+
 -- ---- together
+
+taken_waiting : (k c q n : ℕ) (references : List ℕ) (release light : Bool) (es : Past) → IsGood es (Wire false k c references (Return q release (TakeFrom n) light)) → is_unfinished (id k false n) es ≡ true
+taken_waiting k c q n references release light es good = taken_unfinished es false k c references q release n light (good rule.QUse)
 
 returns_waiting : (k c q : ℕ) (references : List ℕ) (release : Bool) (outcome : Outcome) (light : Bool) (es : Past) → IsGood es (Wire false k c references (Return q release outcome light)) → is_unreturned (id k true q) es ≡ true
 returns_waiting k c q references release outcome light es good = (good rule.QUse).returned_once
@@ -207,7 +264,7 @@ module _ (k v w c : ℕ) (one : Past) (its_steps : List Step) (other : Past) (st
 
   -- a message that is heard is read as it was sent
   heard_read : (its_from : List Step) (s : Step) (bound : List Cap) → IsHeard k v one its_steps w other steps received m from its_from sent s message →
-      message_of_record (naming w (received ∷ other) (step.Receive w k message bound ∷ steps)) other received ≡ Some (read other received message)
+      ReadsAsSent (naming w (received ∷ other) (step.Receive w k message bound ∷ steps)) other received message
   heard_read its_from s bound h =
       let r = step.Receive w k message bound in
       let mine = naming v (sent ∷ from) (s ∷ its_from) in
@@ -221,6 +278,10 @@ module _ (k v w c : ℕ) (one : Past) (its_steps : List Step) (other : Past) (st
         late = late;
         answers = λ q release outcome light is name named. answers_alike k v one its_steps w other steps received m from its_from sent s message h r q release outcome light is
             (returns_waiting k c q references release outcome light other (subst (λ m. IsGood other (Wire false k c references m)) is h.good)) name named;
+        taken = λ q release n light is by named. taken_alike k v one its_steps w other steps received m from its_from sent s message h r n
+            (taken_waiting k c q n references release light other (subst (λ m. IsGood other (Wire false k c references m)) is h.good)) by named;
+        takes = λ q release n light is. taken_there k v one its_steps w other steps received m from its_from sent s message h r n
+            (taken_waiting k c q n references release light other (subst (λ m. IsGood other (Wire false k c references m)) is h.good));
         promise = promise_alike k v one its_steps w other steps received m from its_from sent s message h r;
       } in
       read_as_said mine from theirs other k went.0 c went.1 references message m (subst (λ x. IsReadAlike mine from x theirs other received k c m message) went.2 alike)
@@ -230,5 +291,4 @@ module _ (k v w c : ℕ) (one : Past) (its_steps : List Step) (other : Past) (st
       message_at (length from) its_steps ≡ Some message → ReadsAsSent (naming w (received ∷ other) (step.Receive w k message bound ∷ steps)) other received message
   message_read bound met linked good passed there =
       let p = pair k v one its_steps w other steps c references m from sent message met linked good passed there in
-      reads_so (naming w (received ∷ other) (step.Receive w k message bound ∷ steps)) other received message
-      (heard_read p.earlier p.step bound (passed_is_heard k v one its_steps w other steps c references m from sent message met linked good passed there))
+      heard_read p.earlier p.step bound (passed_is_heard k v one its_steps w other steps c references m from sent message met linked good passed there)

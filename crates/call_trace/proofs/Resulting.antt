@@ -2,39 +2,41 @@
 use Rattle.std.proofs.Common.{◌≡◌, ◌⊎◌, inl, inr, refl, sym, ◌∙◌, ap, ap₂, subst, ℕ, zero, suc, ◌==◌, List, [], ◌∷◌, ◌++◌, Bool, true, false, not, ◌&&◌, Option, Some, None, if◌then◌else◌, option_and_then, option_map, slice_get, eqb-true}
 use Rattle.std.specs.Prelude.{map, IsSomeAnd, is_some}
 use Rattle.std.specs.List.{AllByRecursion, cons_option, list_any}
-use Rattle.std.proofs.lemmas.Bool.{and_parts, or_left, cases_Bool, false≢true, not-true, eq-eqb}
+use Rattle.std.specs.Option.{option_or}
+use Rattle.std.proofs.lemmas.Bool.{and_parts, or_left, or_right, cases_Bool, false≢true, not-true, eq-eqb}
 use Rattle.agree.proofs.Good.{all_sound}
-use Rattle.vat_view.specs.Past.{Past, point, Each, id, is, last_where}
+use Rattle.vat_view.specs.Past.{Past, point, Each, id, is, last_answer, last_where}
 use Rattle.vat_view.specs.Questions.{is_late, is_free, call_at, call_of, opening}
 use Rattle.vat_view.specs.Lives.{descriptors}
 use Rattle.vat_view.specs.Views.{view_of_reference, view_of_descriptor, descriptor_view}
-use Rattle.vat_view.specs.Calls.{knows, has_passed, is_known}
+use Rattle.vat_view.specs.Calls.{knows, has_passed, is_known, call_taken_from, answerer, answered_by}
 use Rattle.vat_view.specs.Bindings.{Refers}
 use Rattle.vat_view.specs.Walks.{LeadsByTurns}
 use Rattle.vat_rules.specs.Judged.{IsGood}
 use Rattle.vat_rules.specs.OfCaps.{is_cap_at}
-use Rattle.vat_rules.specs.OfResults.{ReturnsField, ReturnsFields}
+use Rattle.vat_rules.specs.OfResults.{ReturnsField, ReturnsFields, ReturnsTaken}
 use Rattle.vat_rules.specs.Ways.{LeadsOnTo}
 use Rattle.vat_rules.specs.declared.rule.Rule.TheVariants as rule
 use Rattle.rpc_view.specs.declared.message.Payload.{Payload}
-use Rattle.call_trace.specs.Types.{Descriptor, NoCap, Outcome, Results, Resolution, RpcMessage, Return, Resolve, DecodedRecord, Answer, Wire, View, FieldOf, Name, Cap, Message, Step}
+use Rattle.call_trace.specs.Types.{Descriptor, NoCap, Outcome, Results, Exception, Canceled, Elsewhere, TakeFrom, Resolution, RpcMessage, Return, Resolve, DecodedRecord, Answer, AnswerBy, Wire, View, FieldOf, Name, Cap, Message, Step}
 use Rattle.call_trace.specs.Naming.{Naming, naming, cap_at, call_named, cap_named}
-use Rattle.call_trace.specs.Said.{all_there, say_return, say_resolve, descriptor_named, caps_named, promise_named, call_answered, caps_at_paths, message_of_record}
+use Rattle.call_trace.specs.Said.{all_there, say_return, say_taken, say_resolve, descriptor_named, caps_named, promise_named, call_answered, caps_at_paths, message_of_record}
 use Rattle.call_trace.specs.Part.{result_named, Says, PairsOff}
 use Rattle.call_trace.specs.Within.{IsWithin}
-use Rattle.call_trace.proofs.AsSent.{read, says_read}
+use Rattle.call_trace.proofs.AsSent.{read, heard, says_read, says_heard, taken_heard, taken_parts}
 use Rattle.call_trace.proofs.Naming.{then_is, mapped_is, call_keeps, cap_step}
 use Rattle.call_trace.proofs.Carried.{paired_at, each_after}
-use Rattle.call_trace.proofs.Tells.{read_return, return_said, call_is}
+use Rattle.call_trace.proofs.Tells.{read_return, return_said, call_is, in_time}
 use Rattle.call_trace.proofs.Within.{StandsIn, stands_in, each_earlier, by_turns_lead}
 use Rattle.call_trace.proofs.Using.{number_known, known_had}
 use Rattle.call_trace.proofs.Sayable.{cap_at_is, unresolved_lives}
 use Rattle.run_model.specs.Leads.{LeadsByTurns as RunLeadsByTurns}
-use Rattle.run_model.specs.Legal.{is_present, answers_call, IsLegal, MayCome, MaySend}
+use Rattle.run_model.specs.Legal.{is_present, answers_call, hands, IsLegal, MayCome, MaySend}
 use Rattle.run_model.specs.Links.{IsLinked}
 use Rattle.run_model.specs.Steps.{is_same_call, vat_of}
 use Rattle.run_model.specs.Steps.{EachStep}
-use Rattle.run_model.proofs.Sending.{passes_later, received_answered}
+use Rattle.run_model.proofs.Once.{or_either}
+use Rattle.run_model.proofs.Sending.{passes_later, received_answered, received_taken}
 use Rattle.run_model.specs.declared.cap.Cap.TheVariants as cap
 use Rattle.run_model.specs.declared.message.Message.TheVariants as message
 use Rattle.run_model.specs.declared.step.Step.TheVariants as step
@@ -44,6 +46,10 @@ some_same e = cc
 
 none_some : {A : Type 0} {x : A} → None ≡ Some x → ⊥
 none_some e = cc
+
+there : {A : Type 0} (o : Option A) → is_some o ≡ true → (x : A) × (o ≡ Some x)
+there (Some x) h = (x, refl)
+there None h = absurd (false≢true h)
 
 -- ---- a call whose results are known was answered
 
@@ -59,9 +65,13 @@ passed_at test (e ∷ before) h = elim (cases_Bool (test before e)) [
       let r = passed_at test before (sym (ap (λ b. is_some (if b then Some (point before e) else last_where test before)) other) ∙ h) in (e ∷ r.0, r.1, r.2, ap (λ l. e ∷ l) r.3, r.4)
 ]
 
--- a step answers a call of this name, or receives its results
+-- a step answers a call by another, or receives a Return that takes the results of that one
+abbrev TellsTaken : Name → Name → Step → Type 0
+TellsTaken name other s = (hands name other s ≡ true) ⊎ ((v : ℕ) × (k : ℕ) × (bound : List Cap) × (s ≡ step.Receive v k (message.Taken name other) bound))
+
+-- a step answers a call of this name, or receives its results, or that it is answered by another
 abbrev TellsResults : Name → Step → Type 0
-TellsResults name s = (answers_call name s ≡ true) ⊎ ((v : ℕ) × (k : ℕ) × (results : List (List ℕ × Cap)) × (caps bound : List Cap) × (s ≡ step.Receive v k (message.Return name results caps) bound))
+TellsResults name s = (answers_call name s ≡ true) ⊎ ((other : Name) × TellsTaken name other s) ⊎ ((v : ℕ) × (k : ℕ) × (results : List (List ℕ × Cap)) × (caps bound : List Cap) × (s ≡ step.Receive v k (message.Return name results caps) bound))
 
 own_same : (name : Name) → is_same_call name name ≡ true
 own_same name = ap₂ (λ a b. a && b) (eq-eqb name.maker name.maker refl) (eq-eqb name.number name.number refl)
@@ -81,12 +91,64 @@ results_told v call es steps k c rs q release payload light s says own late =
     let e = Wire false k c rs (Return q release (Results payload) light) in
     let names = naming v (e ∷ es) (s ∷ steps) in
     let caps = caps_named names es e in
-    let name = then_is (λ name. say_return (is_late es e) payload.fields name caps) (call_answered names es k false q) (read es e says.message) (says_read says) in
+    let name = then_is (λ name. say_return (is_late es e) payload.fields name caps) (call_answered names es k false q) (read es e says.message) (says_read says refl) in
     let asked = then_is names.call (call_of (id k true q) es) name.0 name.1 in
     let same = call_is (is_free (id k true q) es) (call_at (opening (id k true q) es)) call asked.0 own asked.1 in
     let told = return_said (is_late es e) payload.fields name.0 caps (read es e says.message) late name.2 in
     let came = read_return es e says.message name.0 (caps_at_paths told.0 payload.fields) told.0 told.2 in
-    (name.0, ap names.call (sym same) ∙ asked.2, inr (v, k, caps_at_paths told.0 payload.fields, told.0, says.bound, says.step ∙ ap (λ m. step.Receive v k m says.bound) came))
+    (name.0, ap names.call (sym same) ∙ asked.2, inr (inr (v, k, caps_at_paths told.0 payload.fields, told.0, says.bound, says.step ∙ ap (λ m. step.Receive v k m says.bound) came)))
+
+-- the two calls have names, and the step tells that the first is answered by the second
+abbrev AreTakenNames : ℕ → Past → List Step → ℕ → ℕ → Step → Type 0
+AreTakenNames v es steps call by s = (name : Name) × (other : Name) × (call_named v es steps call ≡ Some name) × (call_named v es steps by ≡ Some other) × TellsTaken name other s
+
+by_told : (v : ℕ) (es : Past) (steps : List Step) (c by : ℕ) (s : Step) → Says v es steps (AnswerBy c by) s → AreTakenNames v (AnswerBy c by ∷ es) (s ∷ steps) c by s
+by_told v es steps c by s says =
+    let names = naming v (AnswerBy c by ∷ es) (s ∷ steps) in
+    let name = then_is (λ name. option_map (λ other. step.AnswerBy v name other) (names.call by)) (names.call c) s says in
+    let other = mapped_is (λ other. step.AnswerBy v name.0 other) (names.call by) s name.2 in
+    let own : hands name.0 other.0 (step.AnswerBy v name.0 other.0) ≡ true = ap₂ (λ a b. a && b) (own_same name.0) (own_same other.0) in
+    (name.0, other.0, name.1, other.1, inl (subst (λ s. hands name.0 other.0 s ≡ true) other.2 own))
+
+taken_told : (v call by : ℕ) (es : Past) (steps : List Step) (k c : ℕ) (rs : List ℕ) (q : ℕ) (release : Bool) (n : ℕ) (light : Bool) (s : Step) → Says v es steps (Wire false k c rs (Return q release (TakeFrom n) light)) s →
+    is call (call_at (opening (id k true q) es)) ≡ true → is_late es (Wire false k c rs (Return q release (TakeFrom n) light)) ≡ false → call_of (id k false n) es ≡ Some by →
+    AreTakenNames v (Wire false k c rs (Return q release (TakeFrom n) light) ∷ es) (s ∷ steps) call by s
+taken_told v call by es steps k c rs q release n light s says own late from =
+    let e = Wire false k c rs (Return q release (TakeFrom n) light) in
+    let names = naming v (e ∷ es) (s ∷ steps) in
+    let heard_so = says_heard says in
+    let t = taken_parts names es k c rs q release n light heard_so.0 heard_so.1 in
+    let came = in_time (is_late es e) says.message (message.Taken t.name t.by_name) (message.Late t.name) late
+    (taken_heard es e says.message t.name t.by_name (subst (λ m. heard es e says.message m ≡ read es e says.message) t.is heard_so.2)) in
+    let same = call_is (is_free (id k true q) es) (call_at (opening (id k true q) es)) call t.call own t.answered in
+    let same_by : t.by ≡ by = some_same (sym t.taken ∙ from) in (
+      t.name,
+      t.by_name,
+      ap names.call (sym same) ∙ t.named,
+      ap names.call (sym same_by) ∙ t.by_named,
+      inr (v, k, says.bound, says.step ∙ ap (λ m. step.Receive v k m says.bound) came),
+    )
+
+-- where a record answers a call by another
+taken_in_time : (late : Bool) (o : Option ℕ) (by : ℕ) → (if late then None else o) ≡ Some by → (late ≡ false) × (o ≡ Some by)
+taken_in_time true o by h = absurd (none_some h)
+taken_in_time false o by h = (refl, h)
+
+answerer_is : (b : Bool) (o : Option ℕ) (by : ℕ) → (if b then o else None) ≡ Some by → (b ≡ true) × (o ≡ Some by)
+answerer_is true o by h = (refl, h)
+answerer_is false o by h = absurd (none_some h)
+
+answerer_told : (v call by : ℕ) (es : Past) (steps : List Step) (e : DecodedRecord) (s : Step) → Says v es steps e s → answerer call es e ≡ Some by → AreTakenNames v (e ∷ es) (s ∷ steps) call by s
+answerer_told v call by es steps (AnswerBy c other) s says h =
+    let t = answerer_is (c == call) (Some other) by h in
+    subst (λ call. AreTakenNames v (AnswerBy c other ∷ es) (s ∷ steps) call by s) (eqb-true c call t.0)
+    (subst (λ by. AreTakenNames v (AnswerBy c other ∷ es) (s ∷ steps) c by s) (some_same t.1) (by_told v es steps c other s says))
+answerer_told v call by es steps (Wire false k c rs (Return q release (TakeFrom n) light)) s says h =
+    let e = Wire false k c rs (Return q release (TakeFrom n) light) in
+    let t = answerer_is (is call (call_at (opening (id k true q) es))) (call_taken_from es e) by h in
+    let on = taken_in_time (is_late es e) (call_of (id k false n) es) by t.1 in
+    taken_told v call by es steps k c rs q release n light s says t.0 on.0 on.1
+answerer_told v call by es steps e s says h = absurd (none_some h)
 
 known_told : (v call : ℕ) (es : Past) (steps : List Step) (e : DecodedRecord) (s : Step) → Says v es steps e s → knows call es e ≡ true → (name : Name) × (call_named v (e ∷ es) (s ∷ steps) call ≡ Some name) × TellsResults name s
 known_told v call es steps (Answer c results) s says h =
@@ -95,16 +157,47 @@ known_told v call es steps (Wire false k c rs (Return q release (Results payload
     let e = Wire false k c rs (Return q release (Results payload) light) in
     let parts = and_parts (is call (call_at (opening (id k true q) es))) (not (is_late es e)) h in
     results_told v call es steps k c rs q release payload light s says parts.0 (not-true (is_late es e) parts.1)
+known_told v call es steps (Wire false k c rs (Return q release (TakeFrom n) light)) s says h =
+    let e = Wire false k c rs (Return q release (TakeFrom n) light) in
+    let by = there (answerer call es e) h in
+    let t = answerer_told v call by.0 es steps e s says by.1 in
+    (t.0, t.2, inr (inl (t.1, t.4)))
+known_told v call es steps (AnswerBy c by) s says h =
+    let t = by_told v es steps c by s says in
+    subst (λ call. (name : Name) × (call_named v (AnswerBy c by ∷ es) (s ∷ steps) call ≡ Some name) × TellsResults name s) (eqb-true c call h) (t.0, t.2, inr (inl (t.1, t.4)))
 known_told v call es steps e s says h = absurd (false≢true h)
 
-told_answered : (before : List Step) (name : Name) (s : Step) → EachStep IsLegal before → EachStep IsLinked before → StandsIn before s → TellsResults name s → list_any (answers_call name) before ≡ true
-told_answered before name s legal linked at tells =
+-- such a step stands behind one that answers the call by the other
+told_taken : (before : List Step) (name other : Name) (s : Step) → EachStep IsLegal before → EachStep IsLinked before → StandsIn before s → TellsTaken name other s → list_any (hands name other) before ≡ true
+told_taken before name other s legal linked at tells =
     let legal_then = each_earlier IsLegal at.0 (s ∷ at.1) (subst (EachStep IsLegal) at.2 legal) in
     let linked_then = each_earlier IsLinked at.0 (s ∷ at.1) (subst (EachStep IsLinked) at.2 linked) in
-    subst (λ l. list_any (answers_call name) l ≡ true) (sym at.2) (passes_later (answers_call name) at.0 (s ∷ at.1) (elim tells [
-      | inl own ↦ or_left (answers_call name s) (list_any (answers_call name) at.1) own
-      | inr r ↦ passes_later (answers_call name) (s ∷ []) at.1 (received_answered at.1 legal_then.1 r.0 r.1 name r.2 r.3 r.4 (subst (IsLinked at.1) r.5 linked_then.0))
+    subst (λ l. list_any (hands name other) l ≡ true) (sym at.2) (passes_later (hands name other) at.0 (s ∷ at.1) (elim tells [
+      | inl own ↦ or_left (hands name other s) (list_any (hands name other) at.1) own
+      | inr r ↦ passes_later (hands name other) (s ∷ []) at.1 (received_taken at.1 legal_then.1 r.0 r.1 name other r.2 (subst (IsLinked at.1) r.3 linked_then.0))
     ]))
+
+-- and answers it so
+hands_answers : (name other : Name) (s : Step) → hands name other s ≡ true → answers_call name s ≡ true
+hands_answers name other (step.AnswerBy v c d) h = (and_parts (is_same_call c name) (is_same_call d other) h).0
+hands_answers name other s h = absurd (false≢true h)
+
+handed_answered : (name other : Name) (before : List Step) → list_any (hands name other) before ≡ true → list_any (answers_call name) before ≡ true
+handed_answered name other [] h = h
+handed_answered name other (s ∷ before) h = elim (or_either (hands name other s) (list_any (hands name other) before) h) [
+  | inl now ↦ or_left (answers_call name s) (list_any (answers_call name) before) (hands_answers name other s now)
+  | inr old ↦ or_right (answers_call name s) (list_any (answers_call name) before) (handed_answered name other before old)
+]
+
+told_answered : (before : List Step) (name : Name) (s : Step) → EachStep IsLegal before → EachStep IsLinked before → StandsIn before s → TellsResults name s → list_any (answers_call name) before ≡ true
+told_answered before name s legal linked at (inr (inl taken)) = handed_answered name taken.0 before (told_taken before name taken.0 s legal linked at taken.1)
+told_answered before name s legal linked at (inl own) =
+    subst (λ l. list_any (answers_call name) l ≡ true) (sym at.2) (passes_later (answers_call name) at.0 (s ∷ at.1) (or_left (answers_call name s) (list_any (answers_call name) at.1) own))
+told_answered before name s legal linked at (inr (inr r)) =
+    let legal_then = each_earlier IsLegal at.0 (s ∷ at.1) (subst (EachStep IsLegal) at.2 legal) in
+    let linked_then = each_earlier IsLinked at.0 (s ∷ at.1) (subst (EachStep IsLinked) at.2 linked) in
+    subst (λ l. list_any (answers_call name) l ≡ true) (sym at.2) (passes_later (answers_call name) at.0 (s ∷ at.1)
+    (passes_later (answers_call name) (s ∷ []) at.1 (received_answered at.1 legal_then.1 r.0 r.1 name r.2 r.3 r.4 (subst (IsLinked at.1) r.5 linked_then.0))))
 
 known_answered : (v : ℕ) (es : Past) (steps before : List Step) → IsWithin v es steps before → (call : ℕ) (name : Name) → is_known call es ≡ true → call_named v es steps call ≡ Some name →
     list_any (answers_call name) before ≡ true
@@ -116,6 +209,34 @@ known_answered v es steps before w call name known named =
     let later = call_keeps v t.0 (t.1 ∷ t.2) pair.added (pair.step ∷ pair.earlier) pair.as_long (each_after t.0 (t.1 ∷ t.2) (subst (Each Refers) t.3 w.refers)) call told.0 told.1 in
     let same : told.0 ≡ name = some_same (sym later ∙ sym (ap₂ (λ es steps. call_named v es steps call) t.3 pair.whole) ∙ named) in
     subst (λ name. list_any (answers_call name) before ≡ true) same (told_answered before told.0 pair.step w.legal w.linked at told.2)
+
+-- ---- a call that was answered by another was so in the run
+
+-- a record of the log gives this answer
+abbrev Given : {A : Type 0} → (Past → DecodedRecord → Option A) → Past → A → Type 0
+Given ask past x = (later : List DecodedRecord) × (e : DecodedRecord) × (before : Past) × (past ≡ later ++ e ∷ before) × (ask before e ≡ Some x)
+
+given_at : {A : Type 0} (ask : Past → DecodedRecord → Option A) (past : Past) (x : A) → last_answer ask past ≡ Some x → Given ask past x
+given_at ask [] x h = absurd (none_some h)
+given_at ask (e ∷ before) x h = at (ask before e) refl h (given_at ask before x)
+  where
+    at : (o : Option _) → ask before e ≡ o → option_or o (last_answer ask before) ≡ Some x → (last_answer ask before ≡ Some x → Given ask before x) → Given ask (e ∷ before) x
+    at None n h rest = let r = rest h in (e ∷ r.0, r.1, r.2, ap (λ l. e ∷ l) r.3, r.4)
+    at (Some y) n h rest = ([], e, before, refl, n ∙ h)
+
+answered_handed : (v : ℕ) (es : Past) (steps before : List Step) → IsWithin v es steps before → (call by : ℕ) (name other : Name) → answered_by call es ≡ Some by → call_named v es steps call ≡ Some name →
+    call_named v es steps by ≡ Some other → list_any (hands name other) before ≡ true
+answered_handed v es steps before w call by name other answered named by_named =
+    let t = given_at (answerer call) es by answered in
+    let pair = paired_at v t.0 t.1 t.2 steps (subst (λ es. PairsOff v es steps) t.3 w.paired) in
+    let at = stands_in (λ s. vat_of s == v) before pair.added pair.earlier pair.step (w.own ∙ pair.whole) in
+    let told = answerer_told v call by t.2 pair.earlier t.1 pair.step pair.paired.0 t.4 in
+    let refers = each_after t.0 (t.1 ∷ t.2) (subst (Each Refers) t.3 w.refers) in
+    let later = call_keeps v t.0 (t.1 ∷ t.2) pair.added (pair.step ∷ pair.earlier) pair.as_long refers in
+    let same : told.0 ≡ name = some_same (sym (later call told.0 told.2) ∙ sym (ap₂ (λ es steps. call_named v es steps call) t.3 pair.whole) ∙ named) in
+    let same_by : told.1 ≡ other = some_same (sym (later by told.1 told.3) ∙ sym (ap₂ (λ es steps. call_named v es steps by) t.3 pair.whole) ∙ by_named) in
+    subst (λ name. list_any (hands name other) before ≡ true) same
+    (subst (λ other. list_any (hands told.0 other) before ≡ true) same_by (told_taken before told.0 told.1 pair.step w.legal w.linked at told.4))
 
 -- ---- what stands at a place of a record's caps is led to where the log says so
 
@@ -171,6 +292,10 @@ module _ (v : ℕ) (es : Past) (steps before : List Step) (w : IsWithin v es ste
 
 -- ---- together
 
+and_then_there : {A : Type 0} (o : Option A) (P : A → Type 0) → IsSomeAnd o P → (x : A) × (o ≡ Some x) × P x
+and_then_there (Some x) P h = (x, refl, h)
+and_then_there None P h = absurd h
+
 call_here : (free : Bool) (o : Option ℕ) (c : ℕ) → (if free then None else o) ≡ Some c → o ≡ Some c
 call_here true o c h = absurd (none_some h)
 call_here false o c h = h
@@ -192,7 +317,7 @@ module _ (v : ℕ) (es : Past) (steps before : List Step) (w : IsWithin v es ste
         let same : message.Late name ≡ M = some_same (sym (ap (λ b. say_return b payload.fields name (caps_named names es giving)) late) ∙ h) in subst (MaySend before v) same tt
     results_sent false late M name call asked named h =
         let told = return_said (is_late es giving) payload.fields name (caps_named names es giving) M late h in
-        let known : ReturnsFields es giving payload.fields call = subst (λ o. IsSomeAnd o (ReturnsFields es giving payload.fields)) asked (g rule.Result late) in
+        let known : ReturnsFields es giving payload.fields call = subst (λ o. IsSomeAnd o (ReturnsFields es giving payload.fields)) asked (g rule.Result late).1 in
         subst (MaySend before v) (sym told.2)
         (known_answered v es steps before w call name known.0 named, results_lead v es steps before w giving s (g rule.Ref) call name told.0 payload.fields named told.1 known.1)
 
@@ -203,13 +328,48 @@ module _ (v : ℕ) (es : Past) (steps before : List Step) (w : IsWithin v es ste
         let asked = then_is names.call (call_of (id k false q) es) name.0 name.1 in
         subst (MayCome before) M.2 (results_sent (is_late es giving) refl M.0 name.0 asked.0 (call_here (is_free (id k false q) es) (call_at (opening (id k false q) es)) asked.0 asked.1) asked.2 name.2)
 
-  failed_comes : (q : ℕ) (release : Bool) (outcome : Outcome) (light : Bool) (s : Step) (M : Message) → option_map message.Failed (call_answered (naming v (Wire true k c rs (Return q release outcome light) ∷ es) (s ∷ steps)) es k true q) ≡ Some M → MaySend before v M
-  failed_comes q release outcome light s M h =
-      let name = mapped_is message.Failed (call_answered (naming v (Wire true k c rs (Return q release outcome light) ∷ es) (s ∷ steps)) es k true q) M h in subst (MaySend before v) name.2 tt
+  module _ (q : ℕ) (release : Bool) (n : ℕ) (light : Bool) (s : Step) (g : IsGood es (Wire true k c rs (Return q release (TakeFrom n) light))) where
+    abbrev taking : DecodedRecord
+    taking = Wire true k c rs (Return q release (TakeFrom n) light)
+
+    abbrev from : Option Name
+    from = option_and_then (naming v (taking ∷ es) (s ∷ steps)).call (call_of (id k true n) es)
+
+    taken_sent : (late : Bool) → is_late es taking ≡ late → (M : Message) (name : Name) (call : ℕ) → call_at (opening (id k false q) es) ≡ Some call → call_named v es steps call ≡ Some name →
+        say_taken (is_late es taking) name from ≡ Some M → MaySend before v M
+    taken_sent true late M name call asked named h =
+        let same : message.Late name ≡ M = some_same (sym (ap (λ b. say_taken b name from) late) ∙ h) in subst (MaySend before v) same tt
+    taken_sent false late M name call asked named h =
+        let other = mapped_is (λ by. message.Taken name by) from M (sym (ap (λ b. say_taken b name from) late) ∙ h) in
+        let by = then_is (naming v (taking ∷ es) (s ∷ steps)).call (call_of (id k true n) es) other.0 other.1 in
+        let known : ReturnsTaken es (call_of (id k true n) es) call = subst (λ o. IsSomeAnd o (ReturnsTaken es (call_of (id k true n) es))) asked (g rule.Result late) in
+        let answered = and_then_there (answered_by call es) (λ d. call_of (id k true n) es ≡ Some d) known in
+        let same : answered.0 ≡ by.0 = some_same (sym answered.2 ∙ by.1) in
+        subst (MaySend before v) other.2 (answered_handed v es steps before w call by.0 name other.0 (answered.1 ∙ ap (λ d. Some d) same) named by.2)
+
+    taken_comes : Says v es steps taking s → MayCome before s
+    taken_comes says =
+        let names = naming v (taking ∷ es) (s ∷ steps) in
+        let M = sent_is (Return q release (TakeFrom n) light) s says in
+        let name = then_is (λ name. say_taken (is_late es taking) name from) (call_answered names es k true q) M.0 M.1 in
+        let asked = then_is names.call (call_of (id k false q) es) name.0 name.1 in
+        subst (MayCome before) M.2 (taken_sent (is_late es taking) refl M.0 name.0 asked.0 (call_here (is_free (id k false q) es) (call_at (opening (id k false q) es)) asked.0 asked.1) asked.2 name.2)
+
+  -- a message of which nothing is asked
+  free_comes : (m : RpcMessage) (s : Step) (answer : Name → Message) → ((name : Name) → MaySend before v (answer name)) → (q : ℕ) → ((names : Naming) → message_of_record names es (Wire true k c rs m) ≡ option_map answer (call_answered names es k true q)) →
+      Says v es steps (Wire true k c rs m) s → MayCome before s
+  free_comes m s answer may q is says =
+      let names = naming v (Wire true k c rs m ∷ es) (s ∷ steps) in
+      let M = sent_is m s says in
+      let name = mapped_is answer (call_answered names es k true q) M.0 (sym (is names) ∙ M.1) in
+      subst (MayCome before) M.2 (subst (MaySend before v) name.2 (may name.0))
 
   pub return_comes : (q : ℕ) (release : Bool) (outcome : Outcome) (light : Bool) (s : Step) → IsGood es (Wire true k c rs (Return q release outcome light)) → Says v es steps (Wire true k c rs (Return q release outcome light)) s → MayCome before s
   return_comes q release (Results payload) light s g says = results_come q release payload light s g says
-  return_comes q release outcome light s g says = let M = sent_is (Return q release outcome light) s says in subst (MayCome before) M.2 (failed_comes q release outcome light s M.0 M.1)
+  return_comes q release Exception light s g says = free_comes (Return q release Exception light) s message.Failed (λ name. tt) q (λ names. refl) says
+  return_comes q release Canceled light s g says = free_comes (Return q release Canceled light) s message.Failed (λ name. tt) q (λ names. refl) says
+  return_comes q release Elsewhere light s g says = free_comes (Return q release Elsewhere light) s message.Elsewhere (λ name. tt) q (λ names. refl) says
+  return_comes q release (TakeFrom n) light s g says = taken_comes q release n light s g says
 
   promise_leads : (n : ℕ) (resolution : Resolution) (s : Step) (promise : Cap) (cs : List Cap) → IsGood es (Wire true k c rs (Resolve n resolution)) →
       promise_named (naming v (Wire true k c rs (Resolve n resolution) ∷ es) (s ∷ steps)) es k true n ≡ Some promise → caps_named (naming v (Wire true k c rs (Resolve n resolution) ∷ es) (s ∷ steps)) es (Wire true k c rs (Resolve n resolution)) ≡ Some cs →

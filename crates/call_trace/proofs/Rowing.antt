@@ -4,7 +4,7 @@ use Rattle.std.proofs.lemmas.List.{reverse-append}
 use Rattle.agree.specs.Rows.{Row, log_of_vat}
 use Rattle.vat_view.specs.Past.{Past}
 use Rattle.call_trace.specs.declared.records.vat_ledger.VatLedger.{VatLedger}
-use Rattle.call_trace.specs.Types.{DecodedRecord, Host, Vow, Fulfil, Break, Make, Field, Deliver, Answer, Fault, Wire, Step}
+use Rattle.call_trace.specs.Types.{DecodedRecord, Host, Vow, Fulfil, Break, Make, Field, Deliver, Answer, AnswerBy, Fault, Wire, Step}
 use Rattle.call_trace.specs.Naming.{naming}
 use Rattle.call_trace.specs.Part.{result_named, promise_in}
 use Rattle.call_trace.specs.Said.{all_there}
@@ -44,6 +44,9 @@ own_vat v es own before (Deliver c object) s is = by_map v (λ name. step.Delive
 own_vat v es own before (Answer c results) s is =
     let names = naming v (Answer c results ∷ es) (step.Host v 0 ∷ own) in
     by_then v _ s (λ name. by_map v (λ caps. step.Answer v name caps) s (λ caps. refl) (all_there (map (result_named names es) results))) (names.call c) is
+own_vat v es own before (AnswerBy c by) s is =
+    let names = naming v (AnswerBy c by ∷ es) (step.Host v 0 ∷ own) in
+    by_then v _ s (λ name. by_map v (λ other. step.AnswerBy v name other) s (λ other. refl) (names.call by)) (names.call c) is
 own_vat v es own before (Fault c) s is = by_map v (λ name. step.Fault v name) s (λ name. refl) _ is
 own_vat v es own before (Wire true k c references m) s is = by_map v (λ sent. step.Send v k sent) s (λ sent. refl) _ is
 own_vat v es own before (Wire false k c references m) s is =

@@ -20,7 +20,7 @@ use Rattle.call_trace.specs.Part.{reference_named, ReadsAsSent, Says, PairsOff}
 use Rattle.call_trace.specs.Running.{step_received, step_of, steps_by, steps_of_row, AreMet, IsNamedRow, IsGoodNext, MayRun}
 use Rattle.call_trace.specs.Said.{all_there}
 use Rattle.call_trace.specs.Taking.{row_of}
-use Rattle.call_trace.specs.Types.{Bootstrap, Call, RpcMessage, DecodedRecord, Host, Vow, Fulfil, Break, Make, Field, Deliver, Answer, Fault, Wire, View, Object, Promise, FieldOf, Import, Cap, Message, Step}
+use Rattle.call_trace.specs.Types.{Bootstrap, Call, RpcMessage, DecodedRecord, Host, Vow, Fulfil, Break, Make, Field, Deliver, Answer, AnswerBy, Fault, Wire, View, Object, Promise, FieldOf, Import, Cap, Message, Step}
 use Rattle.call_trace.specs.Within.{IsWithin}
 use Rattle.call_trace.proofs.Carrying.{says_alike, log_here, log_there, steps_here, steps_there}
 use Rattle.call_trace.proofs.Next.{may_run, run_before, logs_good, is_end, keeps_link, received_here, is_coming}
@@ -136,6 +136,7 @@ next_step takes reads brings v (Make c r interface method) row before run named 
 next_step takes reads brings v (Field r c path) row before run named = own_step takes v (Field r c path) row before run named refl
 next_step takes reads brings v (Deliver c object) row before run named = own_step takes v (Deliver c object) row before run named refl
 next_step takes reads brings v (Answer c results) row before run named = own_step takes v (Answer c results) row before run named refl
+next_step takes reads brings v (AnswerBy c by) row before run named = own_step takes v (AnswerBy c by) row before run named refl
 next_step takes reads brings v (Fault c) row before run named = own_step takes v (Fault c) row before run named refl
 
 pairs_more : (w v : ℕ) (e : DecodedRecord) (row : Row) (before : List Step) (s : Step) → vat_of s ≡ v → Says v (log_of_vat v row) (steps_by v before) e s → PairsOff w (log_of_vat w row) (steps_by w before) →

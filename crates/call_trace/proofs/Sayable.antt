@@ -7,7 +7,7 @@ use Rattle.std.specs.Option.{option_or}
 use Rattle.std.proofs.lemmas.Bool.{and_parts, false≢true, eq-eqb}
 use Rattle.agree.proofs.Good.{all_sound}
 use Rattle.vat_view.specs.Past.{Past, Each, id, last_answer}
-use Rattle.vat_view.specs.Questions.{is_late}
+use Rattle.vat_view.specs.Questions.{is_late, call_of}
 use Rattle.vat_view.specs.Lives.{birth, begins, began_promised, descriptors, is_in_life, is_resolved}
 use Rattle.vat_view.specs.Views.{view_of_reference, view_of_number, view_of_target, descriptor_view}
 use Rattle.vat_view.specs.Bindings.{Refers, is_bound, is_bound_call}
@@ -18,15 +18,15 @@ use Rattle.vat_rules.specs.OfPromises.{IsUnkept, is_unresolved}
 use Rattle.vat_rules.specs.declared.rule.Rule.TheVariants as rule
 use Rattle.vat_view.specs.declared.record.table_key.TableKey.{TableKey}
 use Rattle.rpc_view.specs.declared.message.Payload.{Payload}
-use Rattle.call_trace.specs.Types.{Descriptor, NoCap, Target, Outcome, Results, Resolution, RpcMessage, Bootstrap, Call, Return, Finish, Resolve, Release, Disembargo, Abort, DecodedRecord, Host, Vow, Fulfil, Break, Make, Field, Deliver, Answer, Fault, Wire, View, Promise, Name, Cap, Message, Step}
+use Rattle.call_trace.specs.Types.{Descriptor, NoCap, Target, Outcome, Results, Exception, Canceled, Elsewhere, TakeFrom, Resolution, RpcMessage, Bootstrap, Call, Return, Finish, Resolve, Release, Disembargo, Abort, DecodedRecord, Host, Vow, Fulfil, Break, Make, Field, Deliver, Answer, AnswerBy, Fault, Wire, View, Promise, Name, Cap, Message, Step}
 use Rattle.call_trace.specs.Naming.{naming, cap_at, call_named, cap_named}
-use Rattle.call_trace.specs.Said.{all_there, say_call, say_return, say_resolve, descriptor_named, caps_named, call_answered, caps_at_paths, message_of_record}
+use Rattle.call_trace.specs.Said.{all_there, say_call, say_return, say_taken, say_resolve, descriptor_named, caps_named, call_answered, caps_at_paths, message_of_record}
 use Rattle.call_trace.specs.Part.{reference_named, promise_in, result_named, step_said, Says}
 use Rattle.call_trace.specs.Running.{step_of}
 use Rattle.call_trace.specs.Within.{IsWithin}
 use Rattle.call_trace.proofs.Naming.{then_is, call_keeps, cap_step, calls_named}
 use Rattle.call_trace.proofs.Having.{call_had}
-use Rattle.call_trace.proofs.Using.{StandsKnown, unreturned_bound, reference_known, number_known, descriptor_known, target_known, known_had}
+use Rattle.call_trace.proofs.Using.{StandsKnown, unfinished_bound, unreturned_bound, taken_unfinished, reference_known, number_known, descriptor_known, target_known, known_had}
 use Rattle.run_model.specs.Has.{Has}
 use Rattle.run_model.specs.Legal.{is_present, present, caps_of, HasUsed}
 use Rattle.run_model.specs.Steps.{call}
@@ -201,6 +201,20 @@ module _ (v : ℕ) (es : Past) (steps before : List Step) (w : IsWithin v es ste
         used = present_had before v (map (λ result. result.1) caps.0) (answers_had before v caps.0 caps.2);
       }
 
+  answer_by_says : (c by : ℕ) → IsGood es (AnswerBy c by) → SaysHad v es steps before (AnswerBy c by)
+  answer_by_says c by g =
+      let e = AnswerBy c by in
+      let refers = g rule.Ref in
+      let name = call_usable v es steps before w good e refers c (first_bound (is_bound_call es) c (by ∷ []) refers.bound_call) in
+      let other = call_usable v es steps before w good e refers by (first_bound (is_bound_call es) by [] (and_parts (is_bound_call es c) (list_all (is_bound_call es) (by ∷ [])) refers.bound_call).1) in
+      record {
+        step = step.AnswerBy v name.0 other.0;
+        said = λ s.
+            ap (λ o. option_and_then (λ name. option_map (λ other. step.AnswerBy v name other) (call_named v (e ∷ es) (s ∷ steps) by)) o) (name.1 s)
+            ∙ ap (λ o. option_map (λ other. step.AnswerBy v name.0 other) o) (other.1 s);
+        used = tt;
+      }
+
   deliver_says : (c object : ℕ) → IsGood es (Deliver c object) → SaysHad v es steps before (Deliver c object)
   deliver_says c object g =
       let refers = g rule.Ref in
@@ -322,6 +336,39 @@ module _ (v : ℕ) (es : Past) (steps before : List Step) (w : IsWithin v es ste
           used = both_had before v (map (λ result. result.1) (caps_at_paths caps.0 payload.fields)) caps.0 (given_had before v caps.0 payload.fields caps.2) caps.2;
         }
 
+  module _ (q : ℕ) (release : Bool) (n : ℕ) (light : Bool) (g : IsGood es (Wire true k c rs (Return q release (TakeFrom n) light))) where
+    abbrev taking : DecodedRecord
+    taking = Wire true k c rs (Return q release (TakeFrom n) light)
+
+    -- the call whose results it takes, whatever step stands beside it
+    abbrev from : Step → Option Name
+    from s = option_and_then (call_named v (taking ∷ es) (s ∷ steps)) (call_of (id k true n) es)
+
+    from_named : (name : Name) × ((s : Step) → from s ≡ Some name)
+    from_named =
+        let asked = unfinished_bound es w.refers (id k true n) (taken_unfinished es true k c rs q release n light (g rule.QUse)) in
+        let name = call_usable v es steps before w good taking (g rule.Ref) asked.0 asked.2 in
+        (name.0, λ s. ap (λ o. option_and_then (call_named v (taking ∷ es) (s ∷ steps)) o) asked.1 ∙ name.1 s)
+
+    taken_says : (late : Bool) → is_late es taking ≡ late → SaysMessage v es steps before taking
+    taken_says true late =
+        let name = answered_named q release (TakeFrom n) light g in
+        record {
+          sent = message.Late name.0;
+          says = λ s. ap (λ o. option_and_then (λ name. say_taken (is_late es taking) name (from s)) o) (name.1 s) ∙ ap (λ b. say_taken b name.0 (from s)) late;
+          used = tt;
+        }
+    taken_says false late =
+        let name = answered_named q release (TakeFrom n) light g in
+        let by = from_named in
+        record {
+          sent = message.Taken name.0 by.0;
+          says = λ s.
+              ap (λ o. option_and_then (λ name. say_taken (is_late es taking) name (from s)) o) (name.1 s) ∙ ap (λ b. say_taken b name.0 (from s)) late
+              ∙ ap (λ o. say_taken false name.0 o) (by.1 s);
+          used = tt;
+        }
+
   resolve_says : (n : ℕ) (resolution : Resolution) → IsGood es (Wire true k c rs (Resolve n resolution)) → SaysMessage v es steps before (Wire true k c rs (Resolve n resolution))
   resolve_says n resolution g =
       let m = Resolve n resolution in
@@ -342,8 +389,13 @@ module _ (v : ℕ) (es : Past) (steps before : List Step) (w : IsWithin v es ste
   message_says (Bootstrap q) g = boot_says q
   message_says (Call q target interface method params yourself) g = call_says q target interface method params yourself g
   message_says (Return q release (Results payload) light) g = results_say q release payload light g (is_late es (Wire true k c rs (Return q release (Results payload) light))) refl
-  message_says (Return q release outcome light) g =
-      let name = answered_named q release outcome light g in record { sent = message.Failed name.0; says = λ s. ap (λ o. option_map message.Failed o) (name.1 s); used = tt }
+  message_says (Return q release Exception light) g =
+      let name = answered_named q release Exception light g in record { sent = message.Failed name.0; says = λ s. ap (λ o. option_map message.Failed o) (name.1 s); used = tt }
+  message_says (Return q release Canceled light) g =
+      let name = answered_named q release Canceled light g in record { sent = message.Failed name.0; says = λ s. ap (λ o. option_map message.Failed o) (name.1 s); used = tt }
+  message_says (Return q release Elsewhere light) g =
+      let name = answered_named q release Elsewhere light g in record { sent = message.Elsewhere name.0; says = λ s. ap (λ o. option_map message.Elsewhere o) (name.1 s); used = tt }
+  message_says (Return q release (TakeFrom n) light) g = taken_says q release n light g (is_late es (Wire true k c rs (Return q release (TakeFrom n) light))) refl
   message_says (Finish q release) g = record { sent = message.Plain plain.Finish; says = λ s. refl; used = tt }
   message_says (Resolve n resolution) g = resolve_says n resolution g
   message_says (Release n count) g = record { sent = message.Plain plain.Release; says = λ s. refl; used = tt }
@@ -370,6 +422,7 @@ says_had v es steps before w good (Make c r interface method) g out = make_says 
 says_had v es steps before w good (Field r c path) g out = field_says v es steps before w good r c path g
 says_had v es steps before w good (Deliver c object) g out = deliver_says v es steps before w good c object g
 says_had v es steps before w good (Answer c results) g out = answer_says v es steps before w good c results g
+says_had v es steps before w good (AnswerBy c by) g out = answer_by_says v es steps before w good c by g
 says_had v es steps before w good (Fault c) g out = fault_says v es steps before w good c g
 says_had v es steps before w good (Wire true k c rs m) g out = send_says v es steps before w good k c rs m g
 says_had v es steps before w good (Wire false k c rs m) g out = absurd (false≢true (sym out))

@@ -5,10 +5,10 @@ use Rattle.vat_view.specs.Lives.{descriptors}
 use Rattle.vat_view.specs.Questions.{is_late, call_of}
 use Rattle.vat_view.specs.Views.{view_of_reference, descriptor_view}
 use Rattle.vat_rules.specs.OfCaps.{is_received}
-use Rattle.vat_rules.specs.Telling.{seen_of, seen_question}
-use Rattle.call_trace.specs.Types.{Descriptor, NoCap, SenderHosted, SenderPromise, ReceiverHosted, ReceiverAnswer, Outcome, Results, Exception, Canceled, Elsewhere, TakeFrom, RpcMessage, Bootstrap, Call, Return, Finish, Resolve, Release, Disembargo, Abort, DecodedRecord, Host, Vow, Fulfil, Break, Make, Field, Deliver, Answer, Fault, Wire, View, FieldOf}
+use Rattle.vat_rules.specs.Telling.{seen_of, seen_question, seen_taken}
+use Rattle.call_trace.specs.Types.{Descriptor, NoCap, SenderHosted, SenderPromise, ReceiverHosted, ReceiverAnswer, Outcome, Results, Exception, Canceled, Elsewhere, TakeFrom, RpcMessage, Bootstrap, Call, Return, Finish, Resolve, Release, Disembargo, Abort, DecodedRecord, Host, Vow, Fulfil, Break, Make, Field, Deliver, Answer, AnswerBy, Fault, Wire, View, FieldOf}
 use Rattle.call_trace.specs.Naming.{Naming}
-use Rattle.call_trace.specs.Said.{all_there, descriptor_named, caps_named, call_answered, say_call, say_return, say_resolve, message_of_record}
+use Rattle.call_trace.specs.Said.{all_there, descriptor_named, caps_named, call_answered, say_call, say_return, say_taken, say_resolve, message_of_record}
 use Rattle.call_trace.specs.Part.{result_named, step_said}
 use Rattle.call_trace.specs.Glue.Ledgers.{seen_at, cap_said, caps_from, caps_said, call_of_question, answered_in, sent_said, results_from, step_by}
 use Rattle.run_model.specs.declared.message.Message.TheVariants as message
@@ -65,6 +65,10 @@ question_as : (names : Naming) (es : Past) (k c : ℕ) (references : List ℕ) (
     answered_in names.call (seen_question es (Wire true k c references (Return q release outcome light))) ≡ call_answered names es k true q
 question_as names es k c references q release outcome light = ap (option_and_then names.call) (called_field (call_of (id k false q) es))
 
+taken_as : (names : Naming) (es : Past) (k c : ℕ) (references : List ℕ) (q : ℕ) (release : Bool) (n : ℕ) (light : Bool) →
+    answered_in names.call (seen_taken es (Wire true k c references (Return q release (TakeFrom n) light))) ≡ option_and_then names.call (call_of (id k true n) es)
+taken_as names es k c references q release n light = ap (option_and_then names.call) (called_field (call_of (id k true n) es))
+
 -- ---- messages
 
 sent_as : (names : Naming) (es : Past) (k c : ℕ) (references : List ℕ) (m : RpcMessage) → let e = Wire true k c references m in
@@ -78,8 +82,10 @@ sent_as names es k c references (Return q release (Results payload) light) =
     ap₂ (λ o caps. option_and_then (λ name. say_return (is_late es e) payload.fields name caps) o) (question_as names es k c references q release (Results payload) light) (caps_are names es e)
 sent_as names es k c references (Return q release Exception light) = ap (option_map message.Failed) (question_as names es k c references q release Exception light)
 sent_as names es k c references (Return q release Canceled light) = ap (option_map message.Failed) (question_as names es k c references q release Canceled light)
-sent_as names es k c references (Return q release Elsewhere light) = ap (option_map message.Failed) (question_as names es k c references q release Elsewhere light)
-sent_as names es k c references (Return q release (TakeFrom n) light) = ap (option_map message.Failed) (question_as names es k c references q release (TakeFrom n) light)
+sent_as names es k c references (Return q release Elsewhere light) = ap (option_map message.Elsewhere) (question_as names es k c references q release Elsewhere light)
+sent_as names es k c references (Return q release (TakeFrom n) light) =
+    let e = Wire true k c references (Return q release (TakeFrom n) light) in
+    ap₂ (λ by o. option_and_then (λ name. say_taken (is_late es e) name by) o) (taken_as names es k c references q release n light) (question_as names es k c references q release (TakeFrom n) light)
 sent_as names es k c references (Resolve n resolution) =
     let e = Wire true k c references (Resolve n resolution) in
     ap (λ caps. option_and_then (λ promise. option_map (say_resolve promise) caps) (option_and_then names.cap (seen_of es e).promise)) (caps_are names es e)
@@ -100,6 +106,7 @@ step_as names es (Field r c path) own = refl
 step_as names es (Deliver c object) own = refl
 step_as names es (Answer c results) own =
     ap (λ caps. option_and_then (λ name. option_map (λ caps. step.Answer names.vat name caps) caps) (names.call c)) (ap all_there (results_as names es [] results))
+step_as names es (AnswerBy c by) own = refl
 step_as names es (Fault c) own = refl
 step_as names es (Wire true k c references m) own = ap (option_map (λ sent. step.Send names.vat k sent)) (sent_as names es k c references m)
 step_as names es (Wire false k c references m) own = absurd (let no : ⊥ = cc in no)

@@ -1,7 +1,8 @@
 -- A call is answered or faulted once, at the vat at which it arrived or where it is.
-use Rattle.std.proofs.Common.{◌≡◌, ◌≤◌, refl, sym, ◌∙◌, ap, subst, append_assoc, ℕ, suc, ◌==◌, List, [], ◌∷◌, ◌++◌, Bool, true, false, not, ◌||◌, ◌&&◌, Option, Some, None, if◌then◌else◌, is_some, IsSome, arith, eqb-true, ◌⊎◌, inl, inr}
+use Rattle.std.proofs.Common.{◌≡◌, ◌≤◌, refl, sym, ◌∙◌, ap, subst, append_assoc, ℕ, suc, ◌==◌, List, [], ◌∷◌, ◌++◌, Bool, true, false, not, ◌||◌, ◌&&◌, Option, Some, None, if◌then◌else◌, is_some, IsSome, option_and_then, arith, eqb-true, ◌⊎◌, inl, inr}
 use Rattle.std.specs.Prelude.{⊤, map, filter}
 use Rattle.std.specs.List.{list_any}
+use Rattle.std.specs.Option.{option_or}
 use Rattle.std.specs.Str.{bytes_eq as same_path}
 use Rattle.std.proofs.lemmas.Bool.{eq-eqb, cases_Bool, and_from, and_parts, or_left, or_right, or_from, or_parts, false_from_ne_true, false≢true}
 use Rattle.vat_rules.specs.Judged.{IsGood}
@@ -12,19 +13,20 @@ use Rattle.vat_view.specs.Past.{Past, Point, Each, point, last_where}
 use Rattle.vat_view.specs.Bindings.{Refers}
 use Rattle.vat_view.specs.Calls.{boots, has_passed, is_at_vat, is_served, is_settled}
 use Rattle.vat_view.specs.Calls.{delivers as delivers_call, settles as settles_call}
-use Rattle.call_trace.specs.Types.{Bootstrap, DecodedRecord, Host, Vow, Fulfil, Break, Make, Field, Deliver, Answer, Fault, Wire, Name, Cap, Message, Step}
-use Rattle.call_trace.specs.Naming.{Naming, naming, call_named}
+use Rattle.call_trace.specs.Types.{Bootstrap, Call, DecodedRecord, Host, Vow, Fulfil, Break, Make, Field, Deliver, Answer, AnswerBy, Fault, Wire, Name, Cap, Message, Step}
+use Rattle.call_trace.specs.Naming.{Naming, naming, names_call, call_named, message_of_step}
 use Rattle.call_trace.specs.Said.{all_there}
 use Rattle.call_trace.specs.Part.{reference_named, result_named, Says, PairsOff}
 use Rattle.call_trace.specs.Within.{IsWithin}
 use Rattle.call_trace.proofs.AsSent.{read, says_read}
 use Rattle.call_trace.proofs.Naming.{mapped_is, call_keeps}
 use Rattle.call_trace.proofs.Placing.{is_here, step_back}
-use Rattle.call_trace.proofs.Making.{form, only, some_in_run}
+use Rattle.call_trace.proofs.Making.{form, boot_said, only, some_in_run}
+use Rattle.run_model.specs.Has.{call_in_message, comes_to}
 use Rattle.run_model.specs.Legal.{IsLegal, MayCome, arrives, has_distinct_paths, answers_or_faults}
 use Rattle.run_model.specs.Links.{IsLinked}
 use Rattle.run_model.specs.Places.{at_vat}
-use Rattle.run_model.specs.Steps.{count_steps, is_same_call, vat_of}
+use Rattle.run_model.specs.Steps.{call, count_steps, is_same_call, vat_of}
 use Rattle.run_model.specs.Steps.{EachStep}
 use Rattle.run_model.proofs.Alone.{unsettled_here}
 use Rattle.run_model.proofs.Arriving.{arrives_at_one, arrives_once, booted_unsettled}
@@ -201,7 +203,7 @@ module _ (v : ℕ) (final : ℕ → Option Name) where
       let same = named_so c d name f.0 is (grows d f.0 f.1) h in
       subst (λ s. arrives name v s ≡ true) f.2 (and_from (v == v) (is_same_call f.0 name) (eq-eqb v v refl) (subst (λ n. is_same_call f.0 n ≡ true) same (same_to_itself f.0)))
   served_said es steps (Wire false k d rs (Bootstrap q)) s says grows c name is h =
-      let boot = mapped_is message.Boot (call_named v (Wire false k d rs (Bootstrap q) ∷ es) (s ∷ steps) d) (read es (Wire false k d rs (Bootstrap q)) says.message) (says_read says) in
+      let boot = mapped_is message.Boot (call_named v (Wire false k d rs (Bootstrap q) ∷ es) (s ∷ steps) d) (read es (Wire false k d rs (Bootstrap q)) says.message) (says_read says refl) in
       let same = named_so c d name boot.0 is (grows d boot.0 boot.1) h in
       let came : message.Boot boot.0 ≡ says.message = boot.2 ∙ read_boot es k d rs q says.message in
       subst (λ s. arrives name v s ≡ true) (ap (λ m. step.Receive v k m says.bound) came ∙ sym says.step)
@@ -267,6 +269,11 @@ module _ (v : ℕ) (final : ℕ → Option Name) (c : ℕ) (name : Name) where
       let same = names_same f.0 name (subst (λ s. answers_or_faults name s ≡ true) (sym f.4) h) in
       let here_now = and_parts (is_served d es && not (is_settled d es)) (are_distinct results) may in
       clash (eq-eqb d c (sole d (grows d f.0 f.2 ∙ ap (λ n. Some n) same) (and_parts (is_served d es) (not (is_settled d es)) here_now.0).0)) none
+  settles_said es steps before (AnswerBy d by) s w all good says grows sole left none h =
+      let may : MayAnswer es (AnswerBy d by) = good rule.Answer in
+      let f = form v es steps (AnswerBy d by) s says in
+      let same = names_same f.0 name (subst (λ s. answers_or_faults name s ≡ true) (sym f.4) h) in
+      clash (eq-eqb d c (sole d (grows d f.0 f.2 ∙ ap (λ n. Some n) same) (and_parts (is_served d es) (not (is_settled d es)) may).0)) none
   settles_said es steps before (Fault d) s w all good says grows sole left none h =
       let may : MayAnswer es (Fault d) = good rule.Answer in
       let f = form v es steps (Fault d) s says in
@@ -298,9 +305,53 @@ module _ (v : ℕ) (final : ℕ → Option Name) (c : ℕ) (name : Name) where
       (false_from_ne_true (answers_or_faults name s) (λ h. settles_said es steps at.earlier e s at.within all.1 all.0 w.paired.0 back alone (left at.later s at.earlier at.whole h) parts.0 h))
       (unsettled es steps at.earlier at.within all.1 back alone (earlier_gone name v before at.later s at.earlier at.whole left) parts.1)
 
+-- ---- a call that a vat names came to it
+
+own_comes : (v : ℕ) (x name : Name) → x ≡ name → ((v == v) && is_same_call x name) ≡ true
+own_comes v x name same = and_from (v == v) (is_same_call x name) (eq-eqb v v refl) (subst (λ n. is_same_call x n ≡ true) same (same_to_itself x))
+
+received_comes : (v k : ℕ) (m : Message) (bound : List Cap) (name : Name) → call_in_message m ≡ Some name → comes_to v name (step.Receive v k m bound) ≡ true
+received_comes v k (message.Boot d) bound name h = own_comes v d name (only d name h)
+received_comes v k (message.Call d target interface method caps) bound name h = own_comes v d name (only d name h)
+received_comes v k m bound name h = absurd (let no : ⊥ = cc in no)
+
+if_there : {A : Type 0} (b : Bool) (o : Option A) (x : A) → (if b then o else None) ≡ Some x → (b ≡ true) × (o ≡ Some x)
+if_there true o x h = (refl, h)
+if_there false o x h = absurd (let no : ⊥ = cc in no)
+
+heard_comes : (v c k d : ℕ) (rs : List ℕ) (s : Step) (name : Name) (m : Message) (bound : List Cap) → s ≡ step.Receive v k m bound → (if d == c then option_and_then call_in_message (message_of_step s) else None) ≡ Some name →
+    comes_to v name s ≡ true
+heard_comes v c k d rs s name m bound is h =
+    let called = (if_there (d == c) (option_and_then call_in_message (message_of_step s)) name h).1 in
+    subst (λ s. comes_to v name s ≡ true) (sym is) (received_comes v k m bound name (ap (λ s. option_and_then call_in_message (message_of_step s)) (sym is) ∙ called))
+
+names_come : (v c : ℕ) (es : Past) (steps : List Step) (e : DecodedRecord) (s : Step) (name : Name) → Says v es steps e s → names_call v c e s ≡ Some name → comes_to v name s ≡ true
+names_come v c es steps (Make d r interface method) s name says h =
+    let own = if_there (d == c) (Some (call v c)) name h in
+    subst (λ s. comes_to v name s ≡ true) (form v es steps (Make d r interface method) s says).1 (own_comes v (call v d) name (ap (call v) (eqb-true d c own.0) ∙ only (call v c) name own.1))
+names_come v c es steps (Wire true k d rs (Bootstrap q)) s name says h =
+    let own = if_there (d == c) (Some (call v c)) name h in
+    subst (λ s. comes_to v name s ≡ true) (boot_said v es steps k d rs q s says) (own_comes v (call v d) name (ap (call v) (eqb-true d c own.0) ∙ only (call v c) name own.1))
+names_come v c es steps (Wire false k d rs (Bootstrap q)) s name says h = heard_comes v c k d rs s name says.message says.bound says.step h
+names_come v c es steps (Wire false k d rs (Call q target interface method params yourself)) s name says h = heard_comes v c k d rs s name says.message says.bound says.step h
+names_come v c es steps e s name says h = absurd (let no : ⊥ = cc in no)
+
+named_comes : (v : ℕ) (es : Past) (steps : List Step) → PairsOff v es steps → (c : ℕ) (name : Name) → call_named v es steps c ≡ Some name → list_any (comes_to v name) steps ≡ true
+named_comes v [] steps part c name h = absurd (let no : ⊥ = cc in no)
+named_comes v (e ∷ es) [] part c name h = absurd part
+named_comes v (e ∷ es) (s ∷ steps) part c name h = at (names_call v c e s) refl h (named_comes v es steps part.1 c name)
+  where
+    at : (o : Option Name) → names_call v c e s ≡ o → option_or o (call_named v es steps c) ≡ Some name → (call_named v es steps c ≡ Some name → list_any (comes_to v name) steps ≡ true) →
+        (comes_to v name s || list_any (comes_to v name) steps) ≡ true
+    at None n h rest = or_right (comes_to v name s) (list_any (comes_to v name) steps) (rest h)
+    at (Some x) n h rest = or_left (comes_to v name s) (list_any (comes_to v name) steps) (names_come v c es steps e s name part.0 (n ∙ h))
+
 -- ---- together
 
 module _ (v : ℕ) (es : Past) (steps before : List Step) (w : IsWithin v es steps before) (all : Each IsGood es) (c : ℕ) (name : Name) (is : call_named v es steps c ≡ Some name) where
+  call_came : list_any (comes_to v name) before ≡ true
+  call_came = some_in_run (λ s. vat_of s == v) (comes_to v name) before (ap (list_any (comes_to v name)) w.own ∙ named_comes v es steps w.paired c name is)
+
   call_arrived : is_served c es ≡ true → list_any (arrives name v) before ≡ true
   call_arrived served =
       some_in_run (λ s. vat_of s == v) (arrives name v) before
@@ -372,6 +423,18 @@ answer_may_come v es steps before c results s w all good says =
       call_arrived v es steps before w all c f.0 f.2 served.0,
       served_unsettled v es steps before w all c f.0 f.2 served.0 (is_not (is_settled c es) served.1),
       paths_kept (result_named names es) (result_path names es) results f.1 f.3 parts.1,
+    )
+
+pub answer_by_may_come : (v : ℕ) (es : Past) (steps before : List Step) (c by : ℕ) (s : Step) → IsWithin v es steps before → Each IsGood es → IsGood es (AnswerBy c by) → Says v es steps (AnswerBy c by) s →
+    MayCome before s
+answer_by_may_come v es steps before c by s w all good says =
+    let may : MayAnswer es (AnswerBy c by) = good rule.Answer in
+    let f = form v es steps (AnswerBy c by) s says in
+    let served = and_parts (is_served c es) (not (is_settled c es)) may in
+    subst (MayCome before) f.4 (
+      call_arrived v es steps before w all c f.0 f.2 served.0,
+      served_unsettled v es steps before w all c f.0 f.2 served.0 (is_not (is_settled c es) served.1),
+      call_came v es steps before w all by f.1 f.3,
     )
 
 pub fault_may_come : (v : ℕ) (es : Past) (steps before : List Step) (c : ℕ) (s : Step) → IsWithin v es steps before → Each IsGood es → IsGood es (Fault c) → Says v es steps (Fault c) s → MayCome before s

@@ -1,21 +1,21 @@
 -- Where a record turns a view to another, its step turns the one's name to the other's, or tells that it leads there.
-use Rattle.std.proofs.Common.{◌≡◌, refl, sym, ◌∙◌, ap, ap₂, subst, ℕ, ◌==◌, List, [], ◌∷◌, Bool, true, false, ◌&&◌, Option, Some, None, if◌then◌else◌, option_and_then, option_map, slice_get, eqb-true, inl, inr}
+use Rattle.std.proofs.Common.{◌≡◌, refl, sym, ◌∙◌, ap, ap₂, subst, ℕ, ◌==◌, List, [], ◌∷◌, Bool, true, false, ◌&&◌, Option, Some, None, if◌then◌else◌, option_and_then, option_map, slice_get, eqb-true, ◌⊎◌, inl, inr}
 use Rattle.std.specs.Prelude.{map, find, unwrap_or}
 use Rattle.std.specs.List.{cons_option, filter_map}
 use Rattle.std.specs.Str.{bytes_eq as same_path}
-use Rattle.std.proofs.lemmas.Bool.{cases_Bool}
+use Rattle.std.proofs.lemmas.Bool.{cases_Bool, false≢true}
 use Rattle.std.proofs.lemmas.Slice.Eq.{bytes_eq-Decides}
 use Rattle.vat_view.specs.Past.{Past, id, is, record_index}
 use Rattle.vat_view.specs.Questions.{call_at, call_of, opening, is_late, is_free}
 use Rattle.vat_view.specs.Lives.{Birth, birth, descriptors}
-use Rattle.vat_view.specs.Views.{view_of_reference, view_of_number, view_of_descriptor, view_given, descriptor_view}
+use Rattle.vat_view.specs.Views.{field_view, view_of_reference, view_of_number, view_of_descriptor, view_given, descriptor_view}
 use Rattle.vat_view.specs.Walks.{Next, turns, stops, on_to, is_promise, keeps, began_at, resolves, answer_view_at, result_at, answers, turn}
-use Rattle.call_trace.specs.Types.{Outcome, Results, Resolution, Capped, Unkept, Return, Resolve, DecodedRecord, Fulfil, Break, Answer, Fault, Wire, View, Object, Promise, FieldOf, Import, Name, Cap, Message, Step}
+use Rattle.call_trace.specs.Types.{Outcome, Results, Exception, Canceled, TakeFrom, Resolution, Capped, Unkept, Return, Resolve, DecodedRecord, Fulfil, Break, Answer, AnswerBy, Fault, Wire, View, Object, Promise, FieldOf, Import, Name, Cap, Message, Step}
 use Rattle.call_trace.specs.Naming.{Naming, naming, cap_at, cap_named}
 use Rattle.call_trace.specs.Said.{all_there, say_return, say_resolve, descriptor_named, caps_named, promise_named, call_answered, caps_at_paths}
 use Rattle.call_trace.specs.Part.{reference_named, promise_in, result_named, Says, resolves_released}
 use Rattle.call_trace.specs.Tells.{Tells, TurnsNames}
-use Rattle.call_trace.proofs.AsSent.{read, says_read}
+use Rattle.call_trace.proofs.AsSent.{read, heard, says_read, says_heard, taken_heard, taken_parts}
 use Rattle.call_trace.proofs.Naming.{then_is, mapped_is, names_are_caps}
 use Rattle.call_trace.proofs.Carried.{together_at, descriptor_is, resolve_is}
 use Rattle.run_model.specs.Leads.{MakesTurn}
@@ -136,6 +136,21 @@ answer_tells v call path es steps c results s b says same there =
       turned = inl (subst (MakesTurn (cap.Field name.0 path) y.0) caps.2 y.2);
     }
 
+-- a call that is answered by another leads to it, at each path
+by_tells : (v call : ℕ) (path : List ℕ) (es : Past) (steps : List Step) (c by : ℕ) (s : Step) → Says v es steps (AnswerBy c by) s → c ≡ call →
+    TurnsNames (naming v (AnswerBy c by ∷ es) (s ∷ steps)) (FieldOf call path) (FieldOf by path) s
+by_tells v call path es steps c by s says same =
+    let names = naming v (AnswerBy c by ∷ es) (s ∷ steps) in
+    let name = then_is (λ name. option_map (λ other. step.AnswerBy v name other) (names.call by)) (names.call c) s says in
+    let other = mapped_is (λ other. step.AnswerBy v name.0 other) (names.call by) s name.2 in
+    record {
+      from = cap.Field name.0 path;
+      to = cap.Field other.0 path;
+      from_named = ap (λ o. option_map (λ n. cap.Field n path) o) (ap names.call (sym same) ∙ name.1);
+      to_named = ap (λ o. option_map (λ n. cap.Field n path) o) other.1;
+      turned = inl (subst (MakesTurn (cap.Field name.0 path) (cap.Field other.0 path)) other.2 (path, refl, refl));
+    }
+
 -- ---- received messages
 
 -- what is read as such a Return or Resolve is one
@@ -214,7 +229,7 @@ return_tells v call path es steps k c rs q release (Results payload) light s b s
     let e = Wire false k c rs (Return q release (Results payload) light) in
     let names = naming v (e ∷ es) (s ∷ steps) in
     let caps = caps_named names es e in
-    let name = then_is (λ name. say_return (is_late es e) payload.fields name caps) (call_answered names es k false q) (read es e says.message) (says_read says) in
+    let name = then_is (λ name. say_return (is_late es e) payload.fields name caps) (call_answered names es k false q) (read es e says.message) (says_read says refl) in
     let asked = then_is names.call (call_of (id k true q) es) name.0 name.1 in
     let same = call_is (is_free (id k true q) es) (call_at (opening (id k true q) es)) call asked.0 own asked.1 in
     let told = return_said (is_late es e) payload.fields name.0 caps (read es e says.message) late name.2 in
@@ -228,6 +243,33 @@ return_tells v call path es steps k c rs q release (Results payload) light s b s
       turned = inr (subst (Tells (cap.Field name.0 path) y.0) (sym (says.step ∙ ap (λ m. step.Receive v k m says.bound) came)) y.2);
     }
 return_tells v call path es steps k c rs q release outcome light s b says own late there = absurd (let no : ⊥ = cc in no)
+
+-- one that takes the results of another call, where it isn't late
+pub in_time : (late : Bool) (m came gone : Message) → late ≡ false → (m ≡ came) ⊎ ((late ≡ true) × (m ≡ gone)) → m ≡ came
+in_time late m came gone not_late (inl is) = is
+in_time late m came gone not_late (inr is) = absurd (false≢true (sym not_late ∙ is.0))
+
+field_is : (o : Option ℕ) (c : ℕ) (path : List ℕ) (b : View) → o ≡ Some c → option_map (λ call. FieldOf call path) o ≡ Some b → FieldOf c path ≡ b
+field_is o c path b is h = let same : ◌≡◌ {A = Option View} (Some (FieldOf c path)) (Some b) = sym (ap (option_map (λ call. FieldOf call path)) is) ∙ h in cc
+
+taken_tells : (v call : ℕ) (path : List ℕ) (es : Past) (steps : List Step) (k c : ℕ) (rs : List ℕ) (q : ℕ) (release : Bool) (n : ℕ) (light : Bool) (s : Step) (b : View) →
+    Says v es steps (Wire false k c rs (Return q release (TakeFrom n) light)) s → is call (call_at (opening (id k true q) es)) ≡ true → is_late es (Wire false k c rs (Return q release (TakeFrom n) light)) ≡ false →
+    field_view (id k false n) path es ≡ Some b → TurnsNames (naming v (Wire false k c rs (Return q release (TakeFrom n) light) ∷ es) (s ∷ steps)) (FieldOf call path) b s
+taken_tells v call path es steps k c rs q release n light s b says own late there =
+    let e = Wire false k c rs (Return q release (TakeFrom n) light) in
+    let names = naming v (e ∷ es) (s ∷ steps) in
+    let heard_so = says_heard says in
+    let t = taken_parts names es k c rs q release n light heard_so.0 heard_so.1 in
+    let came = in_time (is_late es e) says.message (message.Taken t.name t.by_name) (message.Late t.name) late
+    (taken_heard es e says.message t.name t.by_name (subst (λ m. heard es e says.message m ≡ read es e says.message) t.is heard_so.2)) in
+    let same = call_is (is_free (id k true q) es) (call_at (opening (id k true q) es)) call t.call own t.answered in
+    subst (λ b. TurnsNames names (FieldOf call path) b s) (field_is (call_of (id k false n) es) t.by path b t.taken there) (record {
+      from = cap.Field t.name path;
+      to = cap.Field t.by_name path;
+      from_named = ap (λ o. option_map (λ n. cap.Field n path) o) (ap names.call (sym same) ∙ t.named);
+      to_named = ap (λ o. option_map (λ n. cap.Field n path) o) t.by_named;
+      turned = inr (subst (Tells (cap.Field t.name path) (cap.Field t.by_name path)) (sym (says.step ∙ ap (λ m. step.Receive v k m says.bound) came)) (path, refl, refl));
+    })
 
 resolved_one : (names : Naming) (es : Past) (k c : ℕ) (rs : List ℕ) (n : ℕ) (resolution : Resolution) (x : Cap) (m : Message) (b : View) → ((view : View) (x : Cap) → names.cap view ≡ Some x → is_present x ≡ true) →
     option_map (say_resolve x) (caps_named names es (Wire false k c rs (Resolve n resolution))) ≡ Some m → view_of_descriptor es (Wire false k c rs (Resolve n resolution)) 0 ≡ Some b → (y : Cap) × (names.cap b ≡ Some y) × (m ≡ message.Resolve x y)
@@ -260,7 +302,7 @@ resolve_tells v i place es steps k c rs n resolution s b x says began there name
     let caps = names_are_caps v (e ∷ es) (s ∷ steps) in
     let stands : option_and_then names.cap (view_of_number (id k false n) es) ≡ Some x = ap (λ o. option_and_then names.cap o) (began_is (view_of_reference es) i place (birth (id k false n) es) began) ∙ named in
     let promise : promise_named names es k false n ≡ Some x = ap (λ o. Some (unwrap_or o cap.Nothing)) stands in
-    let reads = sym (ap (λ o. option_and_then (λ p. option_map (say_resolve p) (caps_named names es e)) o) promise) ∙ (says_read says) in
+    let reads = sym (ap (λ o. option_and_then (λ p. option_map (say_resolve p) (caps_named names es e)) o) promise) ∙ says_read says refl in
     let y = resolved_one names es k c rs n resolution x (read es e says.message) b caps reads there in
     let came = read_resolve es e says.message x y.0 (caps (Import i place) x named) y.2 in
     record {
@@ -284,16 +326,35 @@ not_late_on : (late : Bool) (o : Option View) (b : View) → (if late then stops
 not_late_on true o b h = absurd (no_stop b h)
 not_late_on false o b h = (refl, on_is o b h)
 
+-- what a Return with results, or a failed one, turns a field of its call to
+of_return : (v call : ℕ) (path : List ℕ) (es : Past) (steps : List Step) (k c : ℕ) (rs : List ℕ) (q : ℕ) (release : Bool) (outcome : Outcome) (light : Bool) (s : Step) (b : View) →
+    let e = Wire false k c rs (Return q release outcome light) in Says v es steps e s →
+    (if is call (call_at (opening (id k true q) es)) then Some (if is_late es e then stops else on_to (result_at path es e outcome)) else None) ≡ Some (turns b) → TurnsNames (naming v (e ∷ es) (s ∷ steps)) (FieldOf call path) b s
+of_return v call path es steps k c rs q release outcome light s b says h =
+    let e = Wire false k c rs (Return q release outcome light) in
+    let t = turned_is (is call (call_at (opening (id k true q) es))) (if is_late es e then stops else on_to (result_at path es e outcome)) b h in
+    let on = not_late_on (is_late es e) (result_at path es e outcome) b t.1 in
+    return_tells v call path es steps k c rs q release outcome light s b says t.0 on.0 on.1
+
+same_turn : (a b : View) → turns a ≡ turns b → a ≡ b
+same_turn a b h = cc
+
 pub of_call : (v call : ℕ) (path : List ℕ) (es : Past) (steps : List Step) (e : DecodedRecord) (s : Step) (b : View) → Says v es steps e s → answers call path es e ≡ Some (turns b) → TurnsNames (naming v (e ∷ es) (s ∷ steps)) (FieldOf call path) b s
 of_call v call path es steps (Answer c results) s b says h =
     let t = turned_is (c == call) (on_to (answer_view_at path es results)) b h in
     answer_tells v call path es steps c results s b says (eqb-true c call t.0) (on_is (answer_view_at path es results) b t.1)
 of_call v call path es steps (Fault c) s b says h = absurd (no_stop b (turned_is (c == call) stops b h).1)
-of_call v call path es steps (Wire false k c rs (Return q release outcome light)) s b says h =
-    let e = Wire false k c rs (Return q release outcome light) in
-    let t = turned_is (is call (call_at (opening (id k true q) es))) (if is_late es e then stops else on_to (result_at path es e outcome)) b h in
-    let on = not_late_on (is_late es e) (result_at path es e outcome) b t.1 in
-    return_tells v call path es steps k c rs q release outcome light s b says t.0 on.0 on.1
+of_call v call path es steps (AnswerBy c by) s b says h =
+    let t = turned_is (c == call) (turns (FieldOf by path)) b h in
+    subst (λ b. TurnsNames (naming v (AnswerBy c by ∷ es) (s ∷ steps)) (FieldOf call path) b s) (same_turn (FieldOf by path) b t.1) (by_tells v call path es steps c by s says (eqb-true c call t.0))
+of_call v call path es steps (Wire false k c rs (Return q release (Results payload) light)) s b says h = of_return v call path es steps k c rs q release (Results payload) light s b says h
+of_call v call path es steps (Wire false k c rs (Return q release Exception light)) s b says h = of_return v call path es steps k c rs q release Exception light s b says h
+of_call v call path es steps (Wire false k c rs (Return q release Canceled light)) s b says h = of_return v call path es steps k c rs q release Canceled light s b says h
+of_call v call path es steps (Wire false k c rs (Return q release (TakeFrom n) light)) s b says h =
+    let e = Wire false k c rs (Return q release (TakeFrom n) light) in
+    let t = turned_is (is call (call_at (opening (id k true q) es))) (if is_late es e then stops else on_to (field_view (id k false n) path es)) b h in
+    let on = not_late_on (is_late es e) (field_view (id k false n) path es) b t.1 in
+    taken_tells v call path es steps k c rs q release n light s b says t.0 on.0 on.1
 of_call v call path es steps e s b says h = absurd (let no : ⊥ = cc in no)
 
 pub of_import : (v i place : ℕ) (es : Past) (steps : List Step) (e : DecodedRecord) (s : Step) (b : View) (x : Cap) → Says v es steps e s → resolves i place es e ≡ Some (turns b) →

@@ -9,7 +9,7 @@ use Rattle.vat_view.specs.Views.{view_of_reference}
 use Rattle.call_trace.specs.declared.records.vat_ledger.VatLedger.{VatLedger}
 use Rattle.call_trace.specs.declared.steps.channels.Channels.{Channels}
 use Rattle.call_trace.specs.declared.steps.run_builder.RunBuilder.{RunBuilder}
-use Rattle.call_trace.specs.Types.{RpcMessage, DecodedRecord, Host, Vow, Fulfil, Break, Make, Field, Deliver, Answer, Fault, Wire, Cap, Message, Step}
+use Rattle.call_trace.specs.Types.{RpcMessage, DecodedRecord, Host, Vow, Fulfil, Break, Make, Field, Deliver, Answer, AnswerBy, Fault, Wire, Cap, Message, Step}
 use Rattle.call_trace.specs.Glue.Ledgers.{IsKept, HasStep, IsTaken, received_step}
 use Rattle.call_trace.specs.Glue.Channels.{AreLines}
 use Rattle.call_trace.specs.Naming.{naming, message_of_step}
@@ -57,6 +57,9 @@ silent v es own before (Deliver c object) s o is = map_so IsSilent (λ name. ste
 silent v es own before (Answer c results) s o is =
     let names = naming v (Answer c results ∷ es) (step.Host v 0 ∷ own) in
     then_so IsSilent _ s (λ name. map_so IsSilent (λ caps. step.Answer v name caps) s (λ caps. refl) (all_there (map (result_named names es) results))) (names.call c) is
+silent v es own before (AnswerBy c by) s o is =
+    let names = naming v (AnswerBy c by ∷ es) (step.Host v 0 ∷ own) in
+    then_so IsSilent _ s (λ name. map_so IsSilent (λ other. step.AnswerBy v name other) s (λ other. refl) (names.call by)) (names.call c) is
 silent v es own before (Fault c) s o is = map_so IsSilent (λ name. step.Fault v name) s (λ name. refl) _ is
 silent v es own before (Wire sent k c references m) s o is = absurd o
 
@@ -96,6 +99,7 @@ own_of (Make c r interface method) not = tt
 own_of (Field r c path) not = tt
 own_of (Deliver c object) not = tt
 own_of (Answer c results) not = tt
+own_of (AnswerBy c by) not = tt
 own_of (Fault c) not = tt
 
 abbrev Turned : ℕ → DecodedRecord → Row → List Step → RunBuilder → VatLedger → Type 0

@@ -8,10 +8,10 @@ use Rattle.std.proofs.lemmas.Bool.{and_parts, or_left, or_right, cases_Bool, fal
 use Rattle.std.proofs.lemmas.List.Folds.{list_all-append}
 use Rattle.agree.proofs.Points.{each_so}
 use Rattle.vat_view.specs.Past.{Past, Point, point, Each, id, names, last_answer, record_index}
-use Rattle.vat_view.specs.Questions.{opens, opening, noted_call, call_at, call_of, is_opened, is_returned, is_finished, is_unfinished, is_unreturned, is_late, question_finished}
+use Rattle.vat_view.specs.Questions.{opens, opening, noted_call, call_at, call_of, is_opened, is_returned, is_finished, is_unfinished, is_unreturned, is_late, question_finished, question_taken}
 use Rattle.vat_view.specs.Lives.{Birth, birth, begins, number_introduced, introduces, descriptors, held, is_in_life, GivesBackHeld}
 use Rattle.vat_view.specs.Views.{view_of_reference, view_of_number, view_of_target, view_of_descriptor, view_given, number_view, field_view, descriptor_view, placed_references}
-use Rattle.vat_view.specs.Uses.{question_targeted, question_described, number_targeted, number_described, number_released}
+use Rattle.vat_view.specs.Uses.{question_targeted, question_described, number_targeted, number_described, number_released, UsesQuestions}
 use Rattle.vat_view.specs.Bindings.{Refers, contains, is_bound, is_bound_call, new_calls}
 use Rattle.vat_view.specs.Sound.{IsSound}
 use Rattle.vat_view.specs.Glue.TurnTables.{reference_at}
@@ -22,7 +22,7 @@ use Rattle.vat_view.proofs.Landed.{noted_view}
 use Rattle.vat_view.proofs.Lasting.{number_keeps, view_bound, view_step}
 use Rattle.vat_view.proofs.Naming.{names_is}
 use Rattle.vat_view.proofs.Viewed.{all_viewed, begins_parts, begins_some, export_viewed, introduced_there}
-use Rattle.call_trace.specs.Types.{Descriptor, NoCap, SenderHosted, SenderPromise, ReceiverHosted, ReceiverAnswer, Target, Imported, Promised, RpcMessage, Bootstrap, Call, DecodedRecord, Wire, View, FieldOf, Import, Cap, Step}
+use Rattle.call_trace.specs.Types.{Descriptor, NoCap, SenderHosted, SenderPromise, ReceiverHosted, ReceiverAnswer, Target, Imported, Promised, TakeFrom, RpcMessage, Bootstrap, Call, Return, DecodedRecord, Wire, View, FieldOf, Import, Cap, Step}
 use Rattle.call_trace.specs.Naming.{cap_named}
 use Rattle.call_trace.specs.Within.{IsWithin}
 use Rattle.call_trace.proofs.Naming.{then_is, calls_named}
@@ -88,6 +88,11 @@ pub unreturned_bound : (past : Past) → Each Refers past → (q : TableKey) →
 unreturned_bound past refers q h =
     let parts = and_parts (is_opened q past) (not (is_returned q past)) h in
     opened_bound past refers q parts.0 (first_not (is_returned q past) (is_finished q past) (not-true (is_returned q past) parts.1))
+
+-- the question whose results a Return takes has had no Finish
+pub taken_unfinished : (past : Past) (sent : Bool) (k c : ℕ) (rs : List ℕ) (q : ℕ) (release : Bool) (n : ℕ) (light : Bool) → UsesQuestions past (Wire sent k c rs (Return q release (TakeFrom n) light)) →
+    is_unfinished (id k sent n) past ≡ true
+taken_unfinished past sent k c rs q release n light uses = (and_parts (is_unfinished (id k sent n) past) true uses.used).0
 
 -- ---- numbers in life stand for what bound references do
 
@@ -249,7 +254,8 @@ module _ (es : Past) (k c : ℕ) (rs : List ℕ) (m : RpcMessage) (sound : Each 
   descriptor_known late j (ReceiverAnswer q path) at =
       let e = Wire true k c rs m in
       let test : TableKey → Bool = λ i. is_unfinished i es in
-      let parts = all_split test (option_to_list (question_targeted e) ++ filter_map (question_described e) (descriptors e)) (option_to_list (question_finished e)) sound.0.uses_questions.used in
+      let used = all_split test (option_to_list (question_targeted e) ++ filter_map (question_described e) (descriptors e) ++ option_to_list (question_finished e)) (option_to_list (question_taken e)) sound.0.uses_questions.used in
+      let parts = all_split test (option_to_list (question_targeted e) ++ filter_map (question_described e) (descriptors e)) (option_to_list (question_finished e)) used.0 in
       let kept = all_split test (option_to_list (question_targeted e)) (filter_map (question_described e) (descriptors e)) parts.0 in
       inr (field_known es refers_all (id k true q) path (kept_at (question_described e) test (descriptors e) j (ReceiverAnswer q path) (id k true q) kept.1 at refl))
 

@@ -26,7 +26,7 @@ use Rattle.run_model.specs.Leads.{here as stay, turn as run_turn}
 use Rattle.run_model.specs.Steps.{OneOf, vat_of}
 use Rattle.run_model.specs.Steps.{EachStep}
 use Rattle.run_model.proofs.Growing.{leads_by_turns_grow, leads_through, by_turns_first}
-use Rattle.run_model.proofs.Sending.{received_leads, resolved_leads}
+use Rattle.run_model.proofs.Sending.{received_leads, received_taken, resolved_leads, fields_turn}
 use Rattle.run_model.specs.declared.cap.Cap.TheVariants as cap
 use Rattle.run_model.specs.declared.message.Message.TheVariants as message
 use Rattle.run_model.specs.declared.step.Step.TheVariants as step
@@ -136,6 +136,9 @@ one_led before c x y [] h all = absurd h
 
 told_leads : (earlier : List Step) (x y : Cap) (s : Step) → EachStep IsLegal earlier → IsLinked earlier s → Tells x y s → RunLeadsByTurns earlier x y
 told_leads earlier x y (step.Receive v k (message.Return c results caps) bound) legal linked tells = one_led earlier c x y results tells (received_leads earlier legal v k c results caps bound linked)
+told_leads earlier x y (step.Receive v k (message.Taken c by) bound) legal linked tells =
+    let one : RunLeadsByTurns earlier (cap.Field c tells.0) (cap.Field by tells.0) = (cap.Field by tells.0, fields_turn earlier c by tells.0 (received_taken earlier legal v k c by bound linked), stay) in
+    subst (λ x. RunLeadsByTurns earlier x y) (sym tells.1) (subst (λ y. RunLeadsByTurns earlier (cap.Field c tells.0) y) (sym tells.2) one)
 told_leads earlier x y (step.Receive v k (message.Resolve promise to) bound) legal linked tells =
     subst (λ x. RunLeadsByTurns earlier x y) (sym tells.0) (subst (λ y. RunLeadsByTurns earlier promise y) (sym tells.1) (resolved_leads earlier legal v k promise to bound linked))
 told_leads earlier x y s legal linked tells = absurd tells

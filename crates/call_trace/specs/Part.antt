@@ -1,5 +1,5 @@
 -- When a log is its vat's part of a run: its records and the vat's steps pair off, and each record says its step.
-use Rattle.std.specs.Prelude.{ℕ, List, [], Bool, false, not, Option, Some, None, ⊤, if◌then◌else◌, reverse, map, option_and_then, option_map, ◌≡◌, ◌∷◌}
+use Rattle.std.specs.Prelude.{ℕ, List, [], Bool, true, false, not, Option, Some, None, ⊤, if◌then◌else◌, reverse, map, option_and_then, option_map, ◌≡◌, ◌∷◌}
 use Rattle.call_trace.specs.Naming.{Naming, naming}
 use Rattle.call_trace.specs.Said.{all_there, message_of_record}
 use Rattle.call_trace.specs.Types.{Resolve, DecodedRecord, Host, Vow, Fulfil, Break, Make, Field, Deliver, Answer, AnswerBy, Fault, Wire, View, Promise, Cap, Message, Step}
@@ -46,10 +46,10 @@ abbrev pub resolves_released : Past → DecodedRecord → Bool
 resolves_released es (Wire sent k c references (Resolve n resolution)) = not (is_in_life (id k sent n) es)
 resolves_released es _ = false
 
--- of a Return that was late where it was sent, but takes results by its number, the call that it answers is asked alone
-abbrev pub heard_late : Message → Message
-heard_late (message.Taken c by) = message.Late c
-heard_late m = m
+-- of a Return that comes late, and takes results by its number, the call that it answers is asked alone
+abbrev pub heard_late : Bool → Message → Message
+heard_late true (message.Taken c by) = message.Late c
+heard_late late m = m
 
 -- an end reads a message as it was sent, by what its log says of the record that received it; two cases leave something
 -- unread there, and what a late Return takes was left unsaid
@@ -59,7 +59,7 @@ ReadsAsSent names es e (message.Call c target interface method caps) = message_o
 -- of a Return that is late there, its results and caps
 ReadsAsSent names es e (message.Return c results caps) =
     message_of_record names es e ≡ Some (if is_late es e then message.Late c else message.Return c results caps)
-ReadsAsSent names es e (message.Late c) = option_map heard_late (message_of_record names es e) ≡ Some (message.Late c)
+ReadsAsSent names es e (message.Late c) = option_map (heard_late (is_late es e)) (message_of_record names es e) ≡ Some (message.Late c)
 ReadsAsSent names es e (message.Failed c) = message_of_record names es e ≡ Some (message.Failed c)
 ReadsAsSent names es e (message.Taken c by) = message_of_record names es e ≡ Some (message.Taken c by)
 ReadsAsSent names es e (message.Elsewhere c) = message_of_record names es e ≡ Some (message.Elsewhere c)

@@ -1,6 +1,6 @@
 -- What a message says, as one end reads it by its own log and names it. Where the log doesn't say what a number stands
 -- for, no message is said; only the promise of a received Resolve is Nothing then.
-use Rattle.std.specs.Prelude.{ℕ, List, [], Bool, true, false, not, Option, Some, None, filter_map, map, option_and_then, option_map, unwrap_or, ◌∷◌, ◌&&◌, if◌then◌else◌}
+use Rattle.std.specs.Prelude.{ℕ, List, [], Bool, true, false, not, Option, Some, None, filter_map, map, option_and_then, option_map, unwrap_or, ◌∷◌, ◌&&◌}
 use Rattle.call_trace.specs.Naming.{Naming, cap_at}
 use Rattle.call_trace.specs.Types.{Descriptor, NoCap, Results, Exception, Canceled, Elsewhere, TakeFrom, RpcMessage, Bootstrap, Call, Return, Finish, Resolve, Release, Disembargo, Abort, DecodedRecord, Wire, Name, Cap, Message}
 use Rattle.vat_view.specs.Lives.{descriptors}

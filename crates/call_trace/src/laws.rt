@@ -23,7 +23,7 @@ ghost use Rattle.run_model.specs.Has.{Has};
 ghost use Rattle.run_model.specs.Reordered.{HaveSameSteps, KeepsReferences};
 ghost use Rattle.run_model.specs.declared.cap.Cap.TheVariants.{Field as FieldCap};
 ghost use Rattle.run_model.specs.Leads.{Leads as RunLeads, LeadsByTurns as RunLeadsByTurns};
-ghost use Rattle.call_trace.specs.Types.{Outcome, Return, Resolution, Resolve, DecodedRecord, Wire, View, Name, Cap, Step, Target, Call, Deliver, Answer, Fault, RpcMessage, Message};
+ghost use Rattle.call_trace.specs.Types.{Outcome, Return, Resolution, Resolve, DecodedRecord, Wire, View, Name, Cap, Step, Target, Call, Deliver, Answer, AnswerBy, Fault, RpcMessage, Message};
 ghost use Rattle.call_trace.specs.Naming.{call_named, cap_named, naming, message_at};
 ghost use Rattle.call_trace.specs.Part.{reference_named, ReadsAsSent, Says, PairsOff};
 ghost use Rattle.call_trace.specs.Running.{step_of, AreMet, steps_of_row};
@@ -164,7 +164,8 @@ pub fn what_is_used_is_had()
 
 /// Where a log is paired with its vat's steps of a run so far, and its records are good, the step of a further good record
 /// that sends a Return (`returned`) or a Resolve (`resolved`) may come. So a call was answered before its results are sent,
-/// and they lead to what is given, as a promise does to what it is resolved to.
+/// and they lead to what is given, as a promise does to what it is resolved to; and it was answered by the call whose
+/// results a Return takes.
 pub fn returns_follow_answers()
     ensures returned { (v : ℕ) (es : Past) (steps before : List Step) → IsWithin v es steps before
         → Each IsGood es → (k c : ℕ) (references : List ℕ) (q : ℕ) (release : Bool)
@@ -200,11 +201,15 @@ pub fn calls_go_where_they_lead()
 {}
 
 /// A call is answered or faulted once in the run, where the record is good: it is answered (`answered`) at the vat at which
-/// it was delivered or its Bootstrap received, and no path has two results; it is faulted (`faulted`) there or where it is.
+/// it was delivered or its Bootstrap received, and no path has two results; it is answered by another call (`handed_on`)
+/// there, and that call came to the vat; it is faulted (`faulted`) there or where it is.
 pub fn calls_are_settled_once()
     ensures answered { (v : ℕ) (es : Past) (steps before : List Step) (c : ℕ)
         (results : List (ℕ × List ℕ)) (s : Step) → IsWithin v es steps before → Each IsGood es
         → IsGood es (Answer c results) → Says v es steps (Answer c results) s → MayCome before s }
+    ensures handed_on { (v : ℕ) (es : Past) (steps before : List Step) (c by : ℕ) (s : Step)
+        → IsWithin v es steps before → Each IsGood es → IsGood es (AnswerBy c by)
+        → Says v es steps (AnswerBy c by) s → MayCome before s }
     ensures faulted { (v : ℕ) (es : Past) (steps before : List Step) (c : ℕ) (s : Step)
         → IsWithin v es steps before → Each IsGood es → IsGood es (Fault c)
         → Says v es steps (Fault c) s → MayCome before s }
@@ -250,7 +255,8 @@ pub fn receipts_bind_what_is_brought()
 {}
 
 /// A receiver reads a message as it was sent, by its own log. It may leave two things unread: the results and caps of a
-/// Return that is late there, and the promise of a Resolve whose number is out of life there.
+/// Return that is late there, and the promise of a Resolve whose number is out of life there. Whose results a Return takes
+/// that was late where it was sent, was left unsaid there.
 pub fn messages_are_read_as_sent()
     ensures { (k v w c : ℕ) (one : Past) (its_steps : List Step) (other : Past) (steps : List Step)
         (references : List ℕ) (m : RpcMessage) (from : Past) (sent : DecodedRecord)

@@ -12,7 +12,7 @@
 //! `specs/Placed.antt`, and which records are local (no message) in `specs/Kinds.antt`. `specs/Glue/Overtaking.antt`,
 //! `specs/Glue/Channels.antt`, `specs/Glue/Ledgers.antt`, `specs/Glue/RunBuilder.antt` and `specs/Glue/Turns.antt` describe the tables of what a run's deliveries overtake, of
 //! what its steps sent, and of what is kept of a vat while its records take their steps; they serve the code's contracts alone.
-//! `proofs/PipelinedCall.antt` and `proofs/UnderWay.antt` are examples. What holds of runs and their logs is promised by
+//! `proofs/PipelinedCall.antt`, `proofs/TailCall.antt` and `proofs/UnderWay.antt` are examples. What holds of runs and their logs is promised by
 //! the functions of `src/laws.rt`, which do nothing.
 #![tactic(auto)]
 

@@ -1,6 +1,6 @@
 -- A record that meets each rule.
 use Rattle.std.proofs.Common.{refl}
-use Rattle.vat_rules.specs.Types.{DecodedRecord, Host, Vow, Fulfil, Break, Make, Field, Deliver, Answer, Fault, Wire}
+use Rattle.vat_rules.specs.Types.{DecodedRecord, Host, Vow, Fulfil, Break, Make, Field, Deliver, Answer, AnswerBy, Fault, Wire}
 use Rattle.vat_view.specs.Past.{Past}
 use Rattle.vat_rules.specs.declared.rule.Rule.{Rule}
 use Rattle.vat_rules.specs.declared.rule.Rule.TheVariants as rule
@@ -40,6 +40,7 @@ notes_from before (Make call r interface method) d b = refl
 notes_from before (Field r call path) d b = refl
 notes_from before (Deliver call object) d b = refl
 notes_from before (Answer call results) d b = refl
+notes_from before (AnswerBy call by) d b = refl
 notes_from before (Fault call) d b = refl
 notes_from before (Wire true k call rs m) d b = d.noted_each refl
 notes_from before (Wire false k call rs m) d b = b refl

@@ -5,7 +5,7 @@ use Rattle.std.specs.List.{list_all}
 use Rattle.std.specs.Option.{option_or}
 use Rattle.std.proofs.lemmas.Bool.{cases_Bool, and_parts, or_left, or_right, not-true, false≢true, eqb-true}
 use Rattle.vat_rules.specs.declared.rule.Rule.TheVariants as rule
-use Rattle.vat_rules.specs.Types.{Bootstrap, Call, Return, Exception, Canceled, Elsewhere, TakeFrom, Resolve, DecodedRecord, Fulfil, Break, Make, Deliver, Answer, Fault, Wire, View, Object, Promise, FieldOf, Import}
+use Rattle.vat_rules.specs.Types.{Bootstrap, Call, Return, Outcome, Results, Exception, Canceled, Elsewhere, TakeFrom, Resolve, DecodedRecord, Fulfil, Break, Make, Deliver, Answer, AnswerBy, Fault, Wire, View, Object, Promise, FieldOf, Import}
 use Rattle.vat_rules.specs.Judged.{IsGood}
 use Rattle.vat_rules.specs.OfCalls.{distinct_paths}
 use Rattle.vat_rules.specs.OfPromises.{IsUnkept, is_unresolved}
@@ -139,6 +139,12 @@ module _ (c : ℕ) where
         answered (named (λ x. is_served x before) d (and_parts (is_served d before) (not (is_settled d before)) parts.0).0 same) refl refl refl refl
     | inr apart ↦ quiet refl refl refl apart (λ h. h)
   ]
+  effect before (AnswerBy d by) good = elim (cases_Bool (d == c)) [
+    | inl same ↦
+        let both = and_parts (is_served d before) (not (is_settled d before)) (good rule.Answer) in
+        answered (named (λ x. is_served x before) d both.0 same) refl refl refl refl
+    | inr apart ↦ quiet refl refl refl apart (λ h. h)
+  ]
   effect before (Fault d) good = elim (cases_Bool (d == c)) [
     | inl same ↦ faulted (named (λ x. is_at_vat x before || is_served x before) d (and_parts (is_at_vat d before || is_served d before) (not (is_settled d before)) (good rule.Answer)).0 same)
         refl refl refl (left_if (d == c) (last_answer (moves c) before) same)
@@ -164,10 +170,6 @@ module _ (c : ℕ) where
   effect before (Wire true k d rs (Return q release Exception light)) good =
       quiet refl refl refl refl (stayed_if (is c (call_at (opening (id k false q) before))) (last_answer (moves c) before))
   effect before (Wire true k d rs (Return q release Canceled light)) good =
-      quiet refl refl refl refl (stayed_if (is c (call_at (opening (id k false q) before))) (last_answer (moves c) before))
-  effect before (Wire true k d rs (Return q release Elsewhere light)) good =
-      quiet refl refl refl refl (stayed_if (is c (call_at (opening (id k false q) before))) (last_answer (moves c) before))
-  effect before (Wire true k d rs (Return q release (TakeFrom n) light)) good =
       quiet refl refl refl refl (stayed_if (is c (call_at (opening (id k false q) before))) (last_answer (moves c) before))
   effect before _ good = quiet refl refl refl refl (λ h. h)
 
@@ -407,8 +409,13 @@ module _ (c : ℕ) where
 
     no_turn : (before : Past) (e : DecodedRecord) → settles c before e ≡ false → comes_back before e ≡ false → answers c path before e ≡ None
     no_turn before (Answer d results) s b = quiet_if _ (d == c) s
+    no_turn before (AnswerBy d by) s b = quiet_if _ (d == c) s
     no_turn before (Fault d) s b = quiet_if _ (d == c) s
-    no_turn before (Wire false k d rs (Return q release outcome light)) s b = quiet_if _ (is c (call_at (opening (id k true q) before))) b
+    no_turn before (Wire false k d rs (Return q release (Results payload) light)) s b = quiet_if _ (is c (call_at (opening (id k true q) before))) b
+    no_turn before (Wire false k d rs (Return q release Exception light)) s b = quiet_if _ (is c (call_at (opening (id k true q) before))) b
+    no_turn before (Wire false k d rs (Return q release Canceled light)) s b = quiet_if _ (is c (call_at (opening (id k true q) before))) b
+    no_turn before (Wire false k d rs (Return q release Elsewhere light)) s b = refl
+    no_turn before (Wire false k d rs (Return q release (TakeFrom n) light)) s b = quiet_if _ (is c (call_at (opening (id k true q) before))) b
     no_turn before _ s b = refl
 
     passed_parts : (test : Past → DecodedRecord → Bool) (before : Past) (e : DecodedRecord) → has_passed test (e ∷ before) ≡ false → (test before e ≡ false) × (has_passed test before ≡ false)
@@ -437,21 +444,36 @@ module _ (c : ℕ) where
       | inr none ↦ none
     ]
 
+    -- results that were sent elsewhere turn nothing; any other Return turns a field of its own call alone
+    return_turns : (before : Past) (k d : ℕ) (rs : List ℕ) (q : ℕ) (release : Bool) (outcome : Outcome) (light : Bool) → IsSome (answers c path before (Wire false k d rs (Return q release outcome light))) →
+        of_call (id k true q) before ≡ true
+    return_turns before k d rs q release (Results payload) light turned = turned_if _ (is c (call_at (opening (id k true q) before))) turned
+    return_turns before k d rs q release Exception light turned = turned_if _ (is c (call_at (opening (id k true q) before))) turned
+    return_turns before k d rs q release Canceled light turned = turned_if _ (is c (call_at (opening (id k true q) before))) turned
+    return_turns before k d rs q release Elsewhere light turned = absurd (false≢true turned)
+    return_turns before k d rs q release (TakeFrom n) light turned = turned_if _ (is c (call_at (opening (id k true q) before))) turned
+
+    -- a call that was served and isn't settled wasn't asked of another vat, so its fields stay
+    served_stays : (before : Past) → Each IsGood before → is_served c before ≡ true → is_settled c before ≡ false → next before (FieldOf c path) ≡ stays
+    served_stays before past served unsettled = field_stays before unsettled (never_back before past (λ asked. clash served ((placed before past).asked_unserved asked)))
+
     field_turns_once : (before : Past) (e : DecodedRecord) → Each IsGood before → IsGood before e → IsSome (answers c path before e) → next before (FieldOf c path) ≡ stays
     field_turns_once before (Answer d results) past good turned =
         let same : (d == c) ≡ true = turned_if _ (d == c) turned in
         let parts = and_parts (is_served d before && not (is_settled d before)) (distinct_paths results) (good rule.Answer) in
         let both = and_parts (is_served d before) (not (is_settled d before)) parts.0 in
-        let served : is_served c before ≡ true = named (λ x. is_served x before) d both.0 same in
-        field_stays before (not-true (is_settled c before) (named (λ x. not (is_settled x before)) d both.1 same))
-        (never_back before past (λ asked. clash served ((placed before past).asked_unserved asked)))
+        served_stays before past (named (λ x. is_served x before) d both.0 same) (not-true (is_settled c before) (named (λ x. not (is_settled x before)) d both.1 same))
+    field_turns_once before (AnswerBy d by) past good turned =
+        let same : (d == c) ≡ true = turned_if _ (d == c) turned in
+        let both = and_parts (is_served d before) (not (is_settled d before)) (good rule.Answer) in
+        served_stays before past (named (λ x. is_served x before) d both.0 same) (not-true (is_settled c before) (named (λ x. not (is_settled x before)) d both.1 same))
     field_turns_once before (Fault d) past good turned =
         let same : (d == c) ≡ true = turned_if _ (d == c) turned in
         let both = and_parts (is_at_vat d before || is_served d before) (not (is_settled d before)) (good rule.Answer) in
         field_stays before (not-true (is_settled c before) (named (λ x. not (is_settled x before)) d both.1 same))
         (never_back before past (no_fault before past (placed before past) (named (λ x. is_at_vat x before || is_served x before) d both.0 same)))
     field_turns_once before (Wire false k d rs (Return q release outcome light)) past good turned =
-        let here : of_call (id k true q) before ≡ true = turned_if _ (is c (call_at (opening (id k true q) before))) turned in
+        let here : of_call (id k true q) before ≡ true = return_turns before k d rs q release outcome light turned in
         let unreturned = not-true (is_returned (id k true q) before) (and_parts (is_opened (id k true q) before) (not (is_returned (id k true q) before)) (good rule.QUse).returned_once).1 in
         field_stays before ((placed before past).asked_unsettled (opening_asked k q before here)) (elim (cases_Bool (has_passed comes_back before)) [
           | inl came ↦ absurd (clash (came_returned before past came k q here) unreturned)

@@ -133,6 +133,7 @@ pub(crate) fn may_answer(state: &VatState, event: &DecodedRecord) -> bool
         DecodedRecord::Answer { call, results } => {
             awaits_answer(state, *call) && distinct_paths(results.as_slice())
         }
+        DecodedRecord::AnswerBy { call, .. } => awaits_answer(state, *call),
         DecodedRecord::Fault { call } => was_here(state, *call) && !state.is_settled(*call),
         _ => true,
     }

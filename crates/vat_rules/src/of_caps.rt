@@ -5,6 +5,7 @@ ghost use Rattle.std.specs.List.{AllByRecursion, zip};
 ghost use Rattle.std.specs.Option.{option_copied};
 ghost use Rattle.vat_view.specs.Questions.{is_late};
 ghost use Rattle.vat_view.specs.Lives.{descriptors};
+ghost use Rattle.vat_view.specs.Borrowed.{as_view};
 ghost use Rattle.vat_view.specs.Views.{places, placed_references, view_of_reference, view_of_descriptor, views_of_descriptors};
 ghost use Rattle.vat_rules.specs.Ways.{EndsIn};
 ghost use Rattle.vat_rules.specs.OfCaps.{is_sent, is_received, is_cap_at, is_hosted, came_hosted, is_hosted_end, NotesView, Describes, BindsEach};
@@ -14,7 +15,7 @@ use crate::facts::meanings::Meanings;
 use crate::leads::leads_to;
 use rpc_view::Descriptor;
 use std::alloc::{AllocError, Global};
-use vat_view::{DecodedRecord, VatState, View, ends_are_one};
+use vat_view::{BorrowedView, DecodedRecord, VatState, View, ends_are_one};
 
 /// Whether a record sends a frame.
 fn is_sent(event: &DecodedRecord) -> bool
@@ -58,13 +59,13 @@ fn came_hosted(state: &VatState, number: usize, place: usize) -> bool
 }
 
 /// Whether a view is an own object, or an import that came as senderHosted.
-fn is_hosted_end(state: &VatState, view: &View) -> bool
-    ensures { result ≡ is_hosted_end state.now view.now }
+fn is_hosted_end(state: &VatState, end: BorrowedView<'_>) -> bool
+    ensures { result ≡ is_hosted_end state.now (as_view end.entry) }
 {
-    match view {
-        View::Object(_) => true,
-        View::Import(number, place) => came_hosted(state, *number, *place),
-        View::Promise(_) | View::Field(_, _) => false,
+    match end {
+        BorrowedView::Object(_) => true,
+        BorrowedView::Import(number, place) => came_hosted(state, number, place),
+        BorrowedView::Promise(_) | BorrowedView::Field(_, _) => false,
     }
 }
 

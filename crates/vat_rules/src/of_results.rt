@@ -1,9 +1,10 @@
 //! The rule on Returns: what is sent back is what came back.
 
-ghost use Rattle.std.specs.Prelude.{◌≡◌, Decides, IfOk};
+ghost use Rattle.std.specs.Prelude.{◌≡◌, Decides, IfOk, IsFalse, IsSomeAnd};
 ghost use Rattle.std.specs.List.{AllByRecursion};
+ghost use Rattle.vat_view.specs.Questions.{is_tail, opening, call_at, call_of};
 ghost use Rattle.vat_view.specs.Views.{views_of_descriptors};
-ghost use Rattle.vat_rules.specs.OfResults.{ReturnsField, ReturnsFields, ReturnsKnown};
+ghost use Rattle.vat_rules.specs.OfResults.{ReturnsField, ReturnsFields, ReturnsTaken, ReturnsKnown};
 ghost use Rattle.vat_rules.specs.Glue.Facts.{standing_of};
 
 use crate::facts::meanings::Meanings;
@@ -12,7 +13,7 @@ use crate::of_caps::{is_cap_at, view_at};
 use cap_frame::Path;
 use rpc_view::{Outcome, RpcMessage};
 use std::alloc::AllocError;
-use vat_view::{DecodedRecord, Number, VatState, View};
+use vat_view::{DecodedRecord, Number, TableKey, VatState, View};
 
 /// Whether a call's result at a path leads to what the descriptor at this place stands for, if that isn't none.
 fn returns_field(
@@ -71,8 +72,52 @@ fn returns_fields(
     returns_each(state, event, caps, call, fields)
 }
 
-/// Whether a sent Return that isn't late gives results that are known, and at each path what they lead to; and one that
-/// is canceled comes after a Finish.
+/// Whether a question wasn't asked with its results to be sent elsewhere, and those of its call are known, and lead to
+/// what is sent at each of these paths.
+fn returns_results(
+    state: &VatState,
+    event: &DecodedRecord,
+    caps: &[Option<View>],
+    fields: &[(Path, u32)],
+    question: TableKey,
+) -> Result<bool, AllocError>
+    requires { caps.now ≡ views_of_descriptors state.now event.now }
+    ensures { IfOk result (λ b.
+        Decides b (IsFalse (is_tail (opening question state.now)) × IsSomeAnd
+        (call_at (opening question state.now)) (ReturnsFields state.now event.now fields.now))) }
+{
+    if state.is_tail(question) {
+        return Ok(false);
+    }
+    match state.opening_call(question) {
+        Some(call) => returns_fields(state, event, caps, fields, call),
+        None => Ok(false),
+    }
+}
+
+/// Whether a call was answered by another, which is the one whose results are taken.
+fn returns_taken(state: &VatState, from: Option<u64>, call: u64) -> bool
+    ensures { Decides result (ReturnsTaken state.now from call) }
+{
+    match (from, state.answered_by(call)) {
+        (Some(from), Some(by)) => from == by,
+        _ => false,
+    }
+}
+
+/// Whether the call of a question was answered by the one for which the question stands whose results are taken.
+fn takes_answer(state: &VatState, question: TableKey, taken: TableKey) -> bool
+    ensures { Decides result (IsSomeAnd
+        (call_at (opening question state.now)) (ReturnsTaken state.now (call_of taken state.now))) }
+{
+    match state.opening_call(question) {
+        Some(call) => returns_taken(state, state.call_of(taken), call),
+        None => false,
+    }
+}
+
+/// Whether a sent Return that isn't late gives results that are known, and at each path what they lead to, or says truly
+/// where else they went or from where they are taken; and one that is canceled comes after a Finish.
 pub(crate) fn returns_known(
     state: &VatState,
     event: &DecodedRecord,
@@ -96,14 +141,17 @@ pub(crate) fn returns_known(
     };
     let question = Number::Answer(*answer).on(*connection);
     match outcome {
-        Outcome::Results(payload) if !standing.late => match state.opening_call(question) {
-            Some(call) => {
-                let caps = standing.caps.as_slice();
-                returns_fields(state, event, caps, payload.fields.as_slice(), call)
-            }
-            None => Ok(false),
-        },
         Outcome::Canceled => Ok(state.is_finished(question)),
-        _ => Ok(true),
+        _ if standing.late => Ok(true),
+        Outcome::Results(payload) => {
+            let caps = standing.caps.as_slice();
+            returns_results(state, event, caps, payload.fields.as_slice(), question)
+        }
+        Outcome::Elsewhere => Ok(state.is_tail(question)),
+        Outcome::TakeFrom(number) => {
+            let taken = Number::Question(*number).on(*connection);
+            Ok(takes_answer(state, question, taken))
+        }
+        Outcome::Exception => Ok(true),
     }
 }

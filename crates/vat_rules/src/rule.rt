@@ -15,7 +15,8 @@ pub enum Rule {
     Here,
     /// A question number that is opened is free.
     QNew,
-    /// A question that is used is opened and has no Finish yet; one that is returned is opened and has no Return yet.
+    /// A question that is used is opened and has no Finish yet; one that is returned is opened and has no Return yet; and
+    /// one whose results are taken was asked so that they go elsewhere, and no Return took them yet.
     QUse,
     /// An export or import number that is used is in life.
     XUse,
@@ -28,7 +29,8 @@ pub enum Rule {
     Desc,
     /// Nothing gives back more than is held.
     Count,
-    /// Results that are sent are the call's known results, and a call is canceled after its Finish alone.
+    /// Results that are sent are the call's known results, or those of the call by which it was answered are taken; they
+    /// go elsewhere where they were asked for so, and a call is canceled after its Finish alone.
     Result,
     /// A promise is resolved once, to what it leads to.
     Resolve,

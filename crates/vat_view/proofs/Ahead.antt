@@ -19,13 +19,13 @@ use Rattle.vat_view.specs.Past.{Past}
 use Rattle.vat_view.specs.Views.{view_of_reference}
 use Rattle.vat_view.specs.Bindings.{Refers}
 use Rattle.vat_view.specs.Glue.Tables.{bound_at, AreBound}
-use Rattle.vat_view.specs.Glue.TurnTables.{same_pending, is_this, awaited_by, field_path, Settler, landing_of, settler_at, handing, handover_at, SaysSameTurns, IsNoted, by_handover, call_behind_by, settler_numbered, settler_by, landed_by, turns_of, own_leap, ahead_at, IsOwnOrOld, HaveAhead}
+use Rattle.vat_view.specs.Glue.TurnTables.{same_pending, is_this, awaited_by, field_path, Settler, landing_of, settler_at, handing, handover_at, SaysSameTurns, IsNoted, by_handover, call_behind_by, settler_numbered, settler_by, landed_by, turns_of, own_leap, ahead_at, call_ahead_in, IsOwnOrOld, IsOwnOrOldCall, HaveAhead}
 use Rattle.vat_view.specs.Glue.Kept.{AreKept}
 use Rattle.vat_view.proofs.Walking.{cases_option, none_some}
 use Rattle.vat_view.proofs.Lasting.{view_step}
 use Rattle.vat_view.proofs.Settled.{get_front}
 use Rattle.vat_view.proofs.Binding.{none_ahead, then_ahead}
-use Rattle.vat_view.proofs.Hopping.{own_ahead, turns_more, ahead_carried}
+use Rattle.vat_view.proofs.Hopping.{own_ahead, own_call, turns_more, ahead_carried, calls_carried, calls_then}
 
 -- tables of references with the same views
 pub kept_views : (past : Past) (questions : Questions) (lives : ExportsImports) (old new : BoundReferences) (calls : Calls) → ((r : ℕ) → bound_at new r ≡ bound_at old r) →
@@ -56,17 +56,27 @@ module _ (items other : List DecodedRecord) (table room : Settlements) (same : o
   landed_same : (v : View) → landed_by items table v ≡ landed_by other room v
   landed_same v = ap (λ o. option_and_then (landing_of (field_path v)) o) (settler_same (awaited_by v))
 
-  pub ahead_refused : (bound : BoundReferences) → HaveAhead items table bound → HaveAhead other room bound
-  ahead_refused bound =
-      let named : (r : ℕ) (w : View) → bound_at bound r ≡ Some w → bound_at bound r ≡ Some w = λ r w e. e in
-      ahead_carried (turns_of items table bound) (turns_of other room bound) bound bound
-      (turns_more items other table room bound bound named (λ v l e. sym (landed_same v) ∙ e)) named (none_ahead bound)
+  -- so do views that turn
+  pub turns_same : (old new : BoundReferences) → ((r : ℕ) (w : View) → bound_at old r ≡ Some w → bound_at new r ≡ Some w) → (v w : View) → turns_of items table old v ≡ Some w → turns_of other room new v ≡ Some w
+  turns_same old new named = turns_more items other table room old new named (λ v l e. sym (landed_same v) ∙ e)
 
-  pub ahead_unlearned : (old new : BoundReferences) → AreBound (reverse items) old → AreBound (reverse other) new → IsOwnOrOld old new → HaveAhead items table old → HaveAhead other room new
-  ahead_unlearned old new was is less =
+  pub ahead_refused : (bound : BoundReferences) → IsOwnOrOldCall table.handovers room.handovers → HaveAhead items table bound → HaveAhead other room bound
+  ahead_refused bound less ahead =
+      let named : (r : ℕ) (w : View) → bound_at bound r ≡ Some w → bound_at bound r ≡ Some w = λ r w e. e in
+      let more : (v w : View) → turns_of items table bound v ≡ Some w → turns_of other room bound v ≡ Some w = turns_same bound bound named in (
+        ahead_carried (turns_of items table bound) (turns_of other room bound) bound bound more named (none_ahead bound) ahead.0,
+        calls_carried (turns_of items table bound) (turns_of other room bound) table.handovers room.handovers more less ahead.1,
+      )
+
+  pub ahead_unlearned : (old new : BoundReferences) → AreBound (reverse items) old → AreBound (reverse other) new → IsOwnOrOld old new → IsOwnOrOldCall table.handovers room.handovers →
+      HaveAhead items table old → HaveAhead other room new
+  ahead_unlearned old new was is less calls ahead =
       let named : (r : ℕ) (w : View) → bound_at old r ≡ Some w → bound_at new r ≡ Some w =
       λ r w e. is r ∙ ap (λ l. view_of_reference (reverse l) r) same ∙ sym (was r) ∙ e in
-      ahead_carried (turns_of items table old) (turns_of other room new) old new (turns_more items other table room old new named (λ v l e. sym (landed_same v) ∙ e)) named less
+      let more : (v w : View) → turns_of items table old v ≡ Some w → turns_of other room new v ≡ Some w = turns_same old new named in (
+        ahead_carried (turns_of items table old) (turns_of other room new) old new more named less ahead.0,
+        calls_carried (turns_of items table old) (turns_of other room new) table.handovers room.handovers more calls ahead.1,
+      )
 
 -- ---- after a record
 
@@ -129,15 +139,27 @@ module _ (items other pushed : List DecodedRecord) (e : DecodedRecord) (number :
           ∙ (ap (λ o. option_and_then (landing_of (field_path v)) o) (sym x.1) ∙ h)
     ]
 
+  -- where what it settles was settled before, all that is ahead is dropped
   pub ahead_applied : (old mid new : BoundReferences) (again : Bool) → again ≡ is_some (option_and_then (settler_at room) s.settled) → Refers (reverse items) e → AreBound (reverse items) old →
       AreBound (reverse pushed) mid → ((r : ℕ) → bound_at new r ≡ bound_at mid r) → IsOwnOrOld old mid → IsOwnOrOld mid new →
-      (IsTrue again → (r : ℕ) (q : Shortcut) → ahead_at new r ≡ Some q → q ≡ own_leap r) → HaveAhead items table old → HaveAhead pushed more new
-  ahead_applied old mid new again is_again refers was is views first second own ahead = elim (cases_Bool again) [
-    | inl so ↦ λ r q h. own_ahead (turns_of pushed more new) new r q h (own so r q h)
+      (IsTrue again → (r : ℕ) (q : Shortcut) → ahead_at new r ≡ Some q → q ≡ own_leap r) →
+      IsOwnOrOldCall table.handovers room.handovers → (IsTrue again → (c : ℕ) (q : Shortcut) → call_ahead_in room.handovers c ≡ Some q → q ≡ own_leap c) → HaveAhead items table old → HaveAhead pushed more new
+  ahead_applied old mid new again is_again refers was is views first second own calls own_calls ahead = elim (cases_Bool again) [
+    | inl so ↦ (
+      (λ r q h. own_ahead (turns_of pushed more new) new r q h (own so r q h)),
+      λ c q h. own_call (turns_of pushed more new) c q (elim (noted.ahead c q h) [ inl before ↦ own_calls so c q before | inr itself ↦ itself ]),
+    )
     | inr once ↦
         let past_is : reverse pushed ≡ e ∷ reverse items = ap (λ l. reverse l) (is_pushed ∙ ap (λ l. l ++ e ∷ []) same) ∙ reverse-append items (e ∷ []) in
         let named : (r : ℕ) (w : View) → bound_at old r ≡ Some w → bound_at new r ≡ Some w =
         λ r w h. views r ∙ is r ∙ ap (λ p. view_of_reference p r) past_is ∙ view_step (reverse items) e r w refers (sym (was r) ∙ h) in
-        ahead_carried (turns_of items table old) (turns_of pushed more new) old new
-        (turns_more items pushed table more old new named (still_lands (sym is_again ∙ once))) named (then_ahead old mid new first second) ahead
+        let on : (v w : View) → turns_of items table old v ≡ Some w → turns_of pushed more new v ≡ Some w = turns_more items pushed table more old new named (still_lands (sym is_again ∙ once)) in (
+          ahead_carried (turns_of items table old) (turns_of pushed more new) old new on named (then_ahead old mid new first second) ahead.0,
+          calls_carried (turns_of items table old) (turns_of pushed more new) table.handovers more.handovers on (calls_then table.handovers room.handovers more.handovers calls noted.ahead) ahead.1,
+        )
   ]
+
+-- whether a record settles again what was settled, by tables that say the same
+pub again_same : (room dropped : Settlements) (s : Option Unsettled) (again : Bool) → SaysSameTurns room dropped → again ≡ is_some (option_and_then (settler_at room) s) → again ≡ is_some (option_and_then (settler_at dropped) s)
+again_same room dropped (Some p) again same h = h ∙ ap (λ o. is_some o) (sym (same.settlers p))
+again_same room dropped None again same h = h

@@ -13,6 +13,7 @@ use Rattle.vat_view.specs.declared.tables.settlements.Settlements.{Settlements}
 use Rattle.vat_view.specs.declared.tables.references.BoundReferences.{BoundReferences}
 use Rattle.vat_view.specs.declared.tables.references.Binding.{Binding}
 use Rattle.vat_view.specs.declared.tables.handovers.Handover.{Handover}
+use Rattle.vat_view.specs.declared.tables.handovers.HandedCall.{HandedCall}
 use Rattle.vat_view.specs.declared.record.unsettled.Unsettled.{Unsettled}
 use Rattle.vat_view.specs.declared.record.unsettled.Unsettled.TheVariants.{Promise as PromiseToKeep, Results as ResultsOf, Import as ImportToResolve}
 use Rattle.vat_view.specs.declared.walks.turn_target.Landing.{Landing}
@@ -81,7 +82,7 @@ bound_path r (e ∷ es) b h = inner (bound_path r es b) (is_eq (nat_cmp r e.0)) 
 -- ---- where a view lands
 
 -- a field that lands on a call was handed over
-landing_call : (path : List ℕ) (s : Option Settler) (d : ℕ) → option_and_then (landing_of path) s ≡ Some (ToCall d) → (e : DecodedRecord) × (s ≡ Some (e, Some d))
+pub landing_call : (path : List ℕ) (s : Option Settler) (d : ℕ) → option_and_then (landing_of path) s ≡ Some (ToCall d) → (e : DecodedRecord) × (s ≡ Some (e, Some d))
 landing_call path None d h = absurd (none_some (ToCall d) h)
 landing_call path (Some (e, Some by)) d h = let same : by ≡ d = cc in (e, ap (λ x. Some (e, Some x)) same)
 landing_call path (Some (e, None)) d h = absurd (plain (turn_target path e) h)
@@ -124,11 +125,13 @@ module _ (events : List DecodedRecord) (table : Settlements) where
       let o = handed_so (handover_at table c) k.0 d k.1 in (c, path, o.0, refl, o.1, o.2)
 
 -- the entry of a handed call
-handed_entry : (es : List (ℕ × Option Handover)) (c : ℕ) (h : Handover) → option_and_then (λ handover. handover) (entry_at es c) ≡ Some h → entry_at es c ≡ Some (Some h)
+handed_entry : (es : List (ℕ × Option HandedCall)) (c : ℕ) (h : Handover) → option_map (λ handed. handed.handover) (option_and_then (λ handed. handed) (entry_at es c)) ≡ Some h →
+    (x : HandedCall) × (entry_at es c ≡ Some (Some x)) × (x.handover ≡ h)
 handed_entry es c h there = inner (entry_at es c) there
   where
-    inner : (o : Option (Option Handover)) → option_and_then (λ handover. handover) o ≡ Some h → o ≡ Some (Some h)
-    inner (Some x) g = ap (λ y. Some y) g
+    inner : (o : Option (Option HandedCall)) → option_map (λ handed. handed.handover) (option_and_then (λ handed. handed) o) ≡ Some h → (x : HandedCall) × (o ≡ Some (Some x)) × (x.handover ≡ h)
+    inner (Some (Some x)) g = (x, refl, some_same x.handover h g)
+    inner (Some None) g = absurd (none_some h g)
     inner None g = absurd (none_some h g)
 
 bound_entry : (o : Option Binding) (w : View) → option_map (λ binding. binding.view) o ≡ Some w → (b : Binding) × (o ≡ Some b) × (b.view ≡ w)
@@ -201,12 +204,13 @@ module _ (events : List DecodedRecord) (table : Settlements) (bound : BoundRefer
       let place = found r bound.entries b.0 b.1 in (place.0, ap (λ o. option_map (λ binding. binding.view) o) place.1 ∙ ap (λ x. Some x) b.2)
 
   -- what stands at a call's place
-  to_call : (v : View) (d : ℕ) → landed_by events table v ≡ Some (ToCall d) → (call_spot v < calls) × (option_and_then (λ o. option_map (λ handover. handover.by) o) (value_there table.handovers.entries (call_spot v)) ≡ Some d)
+  to_call : (v : View) (d : ℕ) → landed_by events table v ≡ Some (ToCall d) → (call_spot v < calls) × (option_and_then (λ o. option_map (λ handed. handed.handover.by) o) (value_there table.handovers.entries (call_spot v)) ≡ Some d)
   to_call v d lands =
       let it = handed_over events table v d lands in
-      let place = found it.0 table.handovers.entries (Some it.2) (handed_entry table.handovers.entries it.0 it.2 it.4) in
-      subst (λ x. (call_spot x < calls) × (option_and_then (λ o. option_map (λ handover. handover.by) o) (value_there table.handovers.entries (call_spot x)) ≡ Some d)) (sym it.3)
-      (place.0, ap (λ o. option_and_then (λ x. option_map (λ handover. handover.by) x) o) place.1 ∙ ap (λ n. Some n) it.5)
+      let entry = handed_entry table.handovers.entries it.0 it.2 it.4 in
+      let place = found it.0 table.handovers.entries (Some entry.0) entry.1 in
+      subst (λ x. (call_spot x < calls) × (option_and_then (λ o. option_map (λ handed. handed.handover.by) o) (value_there table.handovers.entries (call_spot x)) ≡ Some d)) (sym it.3)
+      (place.0, ap (λ o. option_and_then (λ x. option_map (λ handed. handed.handover.by) x) o) place.1 ∙ ap (λ n. Some n) (ap (λ x. x.by) entry.2 ∙ it.5))
 
   number_below : (v w : View) (l : Landing) → landed_by events table v ≡ Some l → turnings v ≡ Some w → has_path (field_path v) paths ≡ true → numbered v (Some l) < most_turns table bound
   number_below v w (ToReference r) lands e had = let place = to_reference r w (lands_so v w (ToReference r) lands e) in let near = place.0 in omega (arith, near)
@@ -229,7 +233,7 @@ module _ (events : List DecodedRecord) (table : Settlements) (bound : BoundRefer
       let path : field_path v ≡ field_path x =
       some_same (field_path v) (field_path x) (sym (path_found (field_path v) paths had).1 ∙ ap (λ n. slice_get paths n) rows ∙ (path_found (field_path x) paths has).1) in
       let by : d ≡ g =
-      some_same d g (sym place.1 ∙ ap (λ n. option_and_then (λ o. option_map (λ handover. handover.by) o) (value_there table.handovers.entries n)) spots ∙ other.1) in
+      some_same d g (sym place.1 ∙ ap (λ n. option_and_then (λ o. option_map (λ handed. handed.handover.by) o) (value_there table.handovers.entries n)) spots ∙ other.1) in
       some_same w y (sym (lands_so v w (ToCall d) lands e) ∙ ap₂ (λ c p. Some (FieldOf c p)) by path ∙ lands_so x y (ToCall g) others f)
 
   -- turns of one number go to one view

@@ -1,18 +1,21 @@
 -- Hops to references ahead.
-use Rattle.std.proofs.Common.{◌≡◌, ◌⊎◌, ◌<◌, ◌≤◌, refl, sym, ◌∙◌, ap, subst, ℕ, zero, suc, ◌+◌, ◌-◌, inl, inr, List, Option, Some, None, option_map, option_and_then, arith}
+use Rattle.std.proofs.Common.{◌≡◌, ◌⊎◌, ◌<◌, ◌≤◌, refl, sym, ◌∙◌, ap, subst, ℕ, zero, suc, ◌+◌, ◌-◌, inl, inr, List, [], Option, Some, None, option_map, option_and_then, arith}
+use Rattle.std.specs.Prelude.{unwrap_or}
 use Rattle.std.proofs.lemmas.Bool.{cases_lt}
 use Rattle.rising_table.specs.Entries.{entry_at}
 use Rattle.vat_view.specs.declared.tables.settlements.Settlements.{Settlements}
 use Rattle.vat_view.specs.declared.tables.references.BoundReferences.{BoundReferences}
+use Rattle.vat_view.specs.declared.tables.handovers.Handovers.{Handovers}
 use Rattle.vat_view.specs.declared.tables.references.Binding.{Binding}
 use Rattle.vat_view.specs.declared.tables.references.Shortcut.{Shortcut}
 use Rattle.vat_view.specs.declared.walks.turn_target.Landing.{Landing}
 use Rattle.vat_view.specs.declared.walks.turn_target.Landing.TheVariants.{Reference as ToReference, Call as ToCall}
-use Rattle.vat_view.specs.Types.{DecodedRecord, View}
+use Rattle.vat_view.specs.Types.{DecodedRecord, View, FieldOf}
 use Rattle.vat_view.specs.Glue.Tables.{bound_at}
-use Rattle.vat_view.specs.Glue.TurnTables.{field_path, landing_view, landed_reference, landed_by, reference_by, settler_by, turns_of, after_turns, Reaches, TurnsAndThen, TurnsOn, ReachesByTurns, own_leap, ahead_in, ahead_at, onward_by, IsOwnOrOld, IsAhead, AreAhead, HaveAhead}
+use Rattle.vat_view.specs.Glue.TurnTables.{field_path, landing_of, landing_view, landed_reference, landed_call, landed_by, reference_by, call_onward_by, call_ahead_in, IsOwnOrOldCall, IsCallAhead, AreCallsAhead, settler_by, turns_of, after_turns, Reaches, TurnsAndThen, TurnsOn, ReachesByTurns, own_leap, ahead_in, ahead_at, onward_by, IsOwnOrOld, IsAhead, AreAhead, HaveAhead}
 use Rattle.vat_view.proofs.Walking.{cases_option, none_some, some_same, dead, reached_more, reached_at, reached_none}
 use Rattle.vat_view.proofs.Settled.{turn_landing}
+use Rattle.vat_view.proofs.Bounded.{landing_call}
 
 -- ---- what is bound has a reference ahead, and no other
 
@@ -104,8 +107,8 @@ pub further_ahead : (events : List DecodedRecord) (table : Settlements) (bound :
     IsAhead (turns_of events table bound) bound r (record { to = far.to; turns = count })
 further_ahead events table bound ahead r next count near far lands is_near is_far sum =
     let f : View → Option View = λ v. turns_of events table bound v in
-    let first = ahead r near is_near in
-    let second = ahead next far is_far in
+    let first = ahead.0 r near is_near in
+    let second = ahead.0 next far is_far in
     let v : View = first.1 in
     let landed : reference_by events table v ≡ Some next =
     ap (λ o. option_and_then (reference_by events table) o) (sym first.3) ∙ ap (λ o. option_and_then (reference_by events table) (option_and_then (λ leap. bound_at bound leap.to) o)) (sym is_near) ∙ lands in
@@ -207,3 +210,74 @@ module _ (f g : View → Option View) (old new : BoundReferences) (more : (v w :
     | inl was ↦ carried r q (ahead r q was)
     | inr same ↦ rw same.0 (rw same.1 (carried reference far it))
   ]
+
+-- ---- calls ahead, where what they lead to is kept
+
+-- a call is ahead of itself
+pub own_call : (turn : View → Option View) (c : ℕ) (q : Shortcut) → q ≡ own_leap c → IsCallAhead turn c q
+own_call turn c q own path = subst (λ l. after_turns turn l.turns (Some (FieldOf c path)) ≡ Some (FieldOf l.to path)) (sym own) refl
+
+-- what is ahead of a call, or itself where it wasn't answered by another
+pub call_near : (turn : View → Option View) (table : Handovers) → AreCallsAhead turn table → (c : ℕ) → IsCallAhead turn c (unwrap_or (call_ahead_in table c) (own_leap c))
+call_near turn table ahead c = inner (call_ahead_in table c) (ahead c)
+  where
+    inner : (o : Option Shortcut) → ((q : Shortcut) → o ≡ Some q → IsCallAhead turn c q) → IsCallAhead turn c (unwrap_or o (own_leap c))
+    inner (Some q) there = there q refl
+    inner None there = own_call turn c (own_leap c) refl
+
+pub calls_then : (a b c : Handovers) → IsOwnOrOldCall a b → IsOwnOrOldCall b c → IsOwnOrOldCall a c
+calls_then a b c first second n q e = elim (second n q e) [
+  | inl was ↦ first n q was
+  | inr own ↦ inr own
+]
+
+module _ (f g : View → Option View) (old new : Handovers) (more : (v w : View) → f v ≡ Some w → g v ≡ Some w) where
+  pub calls_carried : IsOwnOrOldCall old new → AreCallsAhead f old → AreCallsAhead g new
+  calls_carried less ahead c q e path = elim (less c q e) [
+    | inl was ↦ more_reached f g more q.turns (FieldOf c path) (FieldOf q.to path) (ahead c q was path)
+    | inr own ↦ own_call g c q own path
+  ]
+
+  pub calls_remembered : (call : ℕ) (far : Shortcut) → ((c : ℕ) (q : Shortcut) → call_ahead_in new c ≡ Some q → (call_ahead_in old c ≡ Some q) ⊎ ((c ≡ call) × (q ≡ far))) → IsCallAhead f call far →
+      AreCallsAhead f old → AreCallsAhead g new
+  calls_remembered call far less it ahead c q e path = elim (less c q e) [
+    | inl was ↦ more_reached f g more q.turns (FieldOf c path) (FieldOf q.to path) (ahead c q was path)
+    | inr same ↦ more_reached f g more q.turns (FieldOf c path) (FieldOf q.to path) (rw same.0 (rw same.1 (it path)))
+  ]
+
+-- a field lands on a call whatever its path
+lands_anyhow : (events : List DecodedRecord) (table : Settlements) (x d : ℕ) → landed_by events table (FieldOf x []) ≡ Some (ToCall d) → (path : List ℕ) → landed_by events table (FieldOf x path) ≡ Some (ToCall d)
+lands_anyhow events table x d h path = let s = landing_call [] (settler_by table events (FieldOf x [])) d h in ap (λ o. option_and_then (landing_of path) o) s.1
+
+call_there : (o : Option Landing) (d : ℕ) → option_and_then landed_call o ≡ Some d → o ≡ Some (ToCall d)
+call_there (Some (ToCall c)) d h = ap (λ x. Some (ToCall x)) (some_same c d h)
+call_there (Some (ToReference r)) d h = absurd (none_some d h)
+call_there None d h = absurd (none_some d h)
+
+-- a field that lands on a call turns to that one's field
+pub call_turn : (events : List DecodedRecord) (table : Settlements) (bound : BoundReferences) (v : View) (d : ℕ) → landed_by events table v ≡ Some (ToCall d) →
+    turns_of events table bound v ≡ Some (FieldOf d (field_path v))
+call_turn events table bound v d h = lands_turn events table bound v ∙ ap (λ o. option_and_then (landing_view (bound_at bound) (field_path v)) o) h
+
+-- a walk by a turn to a call's field, and by the turns to the one ahead
+pub call_hop : (events : List DecodedRecord) (table : Settlements) (bound : BoundReferences) → HaveAhead events table bound → (v : View) (d : ℕ) (leap : Shortcut) → landed_by events table v ≡ Some (ToCall d) →
+    leap ≡ unwrap_or (call_ahead_in table.handovers d) (own_leap d) → TurnsAndThen (turns_of events table bound) v leap.turns (FieldOf leap.to (field_path v))
+call_hop events table bound ahead v d leap lands is =
+    let f : View → Option View = λ v. turns_of events table bound v in
+    ap (λ o. after_turns f leap.turns o) (call_turn events table bound v d lands)
+    ∙ subst (λ l. after_turns f l.turns (Some (FieldOf d (field_path v))) ≡ Some (FieldOf l.to (field_path v))) (sym is) (call_near f table.handovers ahead.1 d (field_path v))
+
+-- what is ahead of the call where the fields of the one ahead land is further ahead
+pub further_call_ahead : (events : List DecodedRecord) (table : Settlements) (bound : BoundReferences) → HaveAhead events table bound → (c next count : ℕ) (near far : Shortcut) →
+    call_onward_by events table c ≡ Some next → near ≡ unwrap_or (call_ahead_in table.handovers c) (own_leap c) → far ≡ unwrap_or (call_ahead_in table.handovers next) (own_leap next) →
+    count ≡ near.turns + far.turns + 1 → IsCallAhead (turns_of events table bound) c (record { to = far.to; turns = count })
+further_call_ahead events table bound ahead c next count near far lands is_near is_far sum path =
+    let f : View → Option View = λ v. turns_of events table bound v in
+    let first : after_turns f near.turns (Some (FieldOf c path)) ≡ Some (FieldOf near.to path) =
+    subst (λ l. after_turns f l.turns (Some (FieldOf c path)) ≡ Some (FieldOf l.to path)) (sym is_near) (call_near f table.handovers ahead.1 c path) in
+    let second : after_turns f far.turns (Some (FieldOf next path)) ≡ Some (FieldOf far.to path) =
+    subst (λ l. after_turns f l.turns (Some (FieldOf next path)) ≡ Some (FieldOf l.to path)) (sym is_far) (call_near f table.handovers ahead.1 next path) in
+    let landed : landed_by events table (FieldOf near.to []) ≡ Some (ToCall next) =
+    call_there (landed_by events table (FieldOf near.to [])) next (ap (λ l. option_and_then landed_call (landed_by events table (FieldOf l.to []))) is_near ∙ lands) in
+    let turn : f (FieldOf near.to path) ≡ Some (FieldOf next path) = call_turn events table bound (FieldOf near.to path) next (lands_anyhow events table near.to next landed path) in
+    reached_at f near.turns (suc far.turns) count (Some (FieldOf c path)) (omega (arith, sum)) ∙ ap (λ o. after_turns f (suc far.turns) o) first ∙ ap (λ o. after_turns f far.turns o) turn ∙ second

@@ -82,6 +82,9 @@ settled_same past table other same kept = record {
   landed = kept.landed;
 }
 
+pub says_then : (a b c : Settlements) → SaysSameTurns a b → SaysSameTurns b c → SaysSameTurns a c
+says_then a b c first second = record { settlers = λ p. second.settlers p ∙ first.settlers p; handed = λ n. second.handed n ∙ first.handed n }
+
 -- what is answered by another call
 handed_more : (c : ℕ) (before : Past) (e : DecodedRecord) (number : ℕ) (s : Settling) (old : Option Handover) → number ≡ length before → s.settled ≡ settlement_of before e → s.by ≡ call_taken_from before e →
     old ≡ handover_of c before → handover_after s number c old ≡ handover_of c (e ∷ before)

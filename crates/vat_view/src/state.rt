@@ -39,8 +39,7 @@ use crate::view::View;
 use crate::walks::hops;
 use crate::walks::reachable::{Sought, leads_to};
 use crate::walks::shortcuts::{
-    first_turn_of_field, first_turn_of_number, second_turn_of_field, second_turn_of_number,
-    shorten, turn_of_reference,
+    WayOn, shorten, shorten_calls, view_of_number, way_after, way_from, way_from_reference,
 };
 use cap_frame::Path;
 use rpc_view::{Loopback, Outcome, RpcMessage, Target};
@@ -267,7 +266,9 @@ impl VatState {
             &mut self.calls,
             &event,
         )?;
-        self.bound.drop_ahead(self.turns.has(settling));
+        let again = self.turns.has(settling);
+        self.bound.drop_ahead(again);
+        self.turns.drop_calls_ahead(again);
         self.turns.note(settling, number);
         self.resolves.note_resolve(promise, number);
         self.connections.note_event(&event);
@@ -284,33 +285,39 @@ impl VatState {
         shorten(events, &self.turns, &mut self.bound, reference);
     }
 
-    /// Makes the walk from what this number stands for shorter.
-    fn shorten_number(&mut self, number: TableKey)
+    /// Makes the walks from the fields of this call shorter.
+    fn shorten_from_call(&mut self, call: u64)
         ensures { self.new ≡ self.old }
     {
         let events = self.events.as_slice();
-        if let Some(first) = second_turn_of_number(
-            events,
-            &self.turns,
-            &self.bound,
-            &self.lives,
-            number,
-        ) {
-            self.shorten_from(first);
+        shorten_calls(events, &mut self.turns, &self.bound, call);
+    }
+
+    /// Makes a walk shorter that goes on so.
+    fn shorten_way(&mut self, way: Option<WayOn>)
+        ensures { self.new ≡ self.old }
+    {
+        let Some(way) = way else {
+            return;
+        };
+        if let Some(call) = way.call {
+            self.shorten_from_call(call);
+        }
+        if let Some(reference) = way.reference {
+            self.shorten_from(reference);
         }
     }
 
-    /// Makes the walk from the goal of a call shorter.
-    fn shorten_goal(&mut self, call: u64)
-        ensures { self.new ≡ self.old }
-    {
-        let Some(goal) = self.calls.goal(call) else {
-            return;
-        };
-        let view = BorrowedView::of(goal);
-        if let Some(first) = hops::reference_by(self.events.as_slice(), &self.turns, view) {
-            self.shorten_from(first);
-        }
+    /// Where a walk by 1 or more turns goes on from what this number stands for.
+    fn way_of_number(&self, number: TableKey) -> Option<WayOn> {
+        let view = view_of_number(&self.bound, &self.lives, number)?;
+        way_after(self.events.as_slice(), &self.turns, &self.bound, view)
+    }
+
+    /// Where a walk goes on from the goal of a call.
+    fn way_of_goal(&self, call: u64) -> Option<WayOn> {
+        let goal = BorrowedView::of(self.calls.goal(call)?);
+        Some(way_from(self.events.as_slice(), &self.turns, goal))
     }
 
     /// Makes the walks from these references shorter.
@@ -319,9 +326,8 @@ impl VatState {
     {
         for reference in references {
             let events = self.events.as_slice();
-            if let Some(first) = turn_of_reference(events, &self.turns, &self.bound, *reference) {
-                self.shorten_from(first);
-            }
+            let way = way_from_reference(events, &self.turns, &self.bound, *reference);
+            self.shorten_way(way);
         }
     }
 
@@ -331,53 +337,31 @@ impl VatState {
     {
         for (path, _) in fields {
             let events = self.events.as_slice();
-            if let Some(first) = second_turn_of_field(
-                events,
-                &self.turns,
-                &self.bound,
-                call,
-                path.as_slice(),
-            ) {
-                self.shorten_from(first);
-            }
+            let field = BorrowedView::Field(call, path.as_slice());
+            let way = way_after(events, &self.turns, &self.bound, field);
+            self.shorten_way(way);
         }
     }
 
-    /// Where what the target of a Disembargo stands for lands, which was sent, or else received.
-    fn target_lands(&self, sent: bool, connection: u32, target: &Target) -> Option<u64> {
-        let events = self.events.as_slice();
-        match target {
+    /// Where a walk goes on from what the target of a Disembargo stands for, which was sent, or else received.
+    fn way_of_target(&self, sent: bool, connection: u32, target: &Target) -> Option<WayOn> {
+        let view = match target {
             Target::Imported(n) => {
                 let number = TableKey::of_receiver(sent, connection, *n);
-                first_turn_of_number(events, &self.turns, &self.bound, &self.lives, number)
+                view_of_number(&self.bound, &self.lives, number)?
             }
             Target::Promised(q, path) => {
                 let call = self.opening_call(TableKey::of_sender(sent, connection, *q))?;
-                first_turn_of_field(events, &self.turns, call, path.as_slice())
+                BorrowedView::Field(call, path.as_slice())
             }
-        }
-    }
-
-    /// Makes the walk shorter from what the target of a Disembargo stands for that was sent, or else received.
-    fn shorten_target(&mut self, sent: bool, connection: u32, target: &Target)
-        ensures { self.new ≡ self.old }
-    {
-        if let Some(first) = self.target_lands(sent, connection, target) {
-            self.shorten_from(first);
-        }
-    }
-
-    /// Makes the walk shorter from what the target of the senderLoopback stood for that waits under this number.
-    fn shorten_waiting(&mut self, number: TableKey)
-        ensures { self.new ≡ self.old }
-    {
-        let Some(view) = self.waits.loopbacks.embargoed_view(number) else {
-            return;
         };
-        let view = BorrowedView::of(view);
-        if let Some(first) = hops::reference_by(self.events.as_slice(), &self.turns, view) {
-            self.shorten_from(first);
-        }
+        Some(way_from(self.events.as_slice(), &self.turns, view))
+    }
+
+    /// Where a walk goes on from what the target of the senderLoopback stood for that waits under this number.
+    fn way_of_waiting(&self, number: TableKey) -> Option<WayOn> {
+        let view = BorrowedView::of(self.waits.loopbacks.embargoed_view(number)?);
+        Some(way_from(self.events.as_slice(), &self.turns, view))
     }
 
     /// Makes the walk shorter that the rules ask for on a Disembargo: of one that asks for an echo from its target, and
@@ -385,18 +369,37 @@ impl VatState {
     fn shorten_embargo(&mut self, sent: bool, connection: u32, message: &RpcMessage)
         ensures { self.new ≡ self.old }
     {
-        match message {
+        let way = match message {
             RpcMessage::Disembargo {
                 loopback: Loopback::Sender,
                 target,
                 ..
-            } => self.shorten_target(sent, connection, target),
+            } => self.way_of_target(sent, connection, target),
             RpcMessage::Disembargo {
                 number,
                 loopback: Loopback::Receiver,
                 ..
-            } if sent => self.shorten_waiting(TableKey::of_receiver(sent, connection, *number)),
-            _ => {}
+            } if sent => self.way_of_waiting(TableKey::of_receiver(sent, connection, *number)),
+            _ => None,
+        };
+        self.shorten_way(way);
+    }
+
+    /// Makes the walks shorter that the rules ask for on sent results.
+    fn shorten_results(&mut self, connection: u32, message: &RpcMessage)
+        ensures { self.new ≡ self.old }
+    {
+        let RpcMessage::Return {
+            answer,
+            outcome: Outcome::Results(payload),
+            ..
+        } = message
+        else {
+            return;
+        };
+        let question = Number::Answer(*answer).on(connection);
+        if let Some(call) = self.opening_call(question) {
+            self.shorten_fields(call, payload.fields.as_slice());
         }
     }
 
@@ -404,23 +407,15 @@ impl VatState {
     fn shorten_message(&mut self, connection: u32, call: u64, message: &RpcMessage)
         ensures { self.new ≡ self.old }
     {
-        match message {
-            RpcMessage::Call { .. } => self.shorten_goal(call),
+        let way = match message {
+            RpcMessage::Call { .. } => self.way_of_goal(call),
             RpcMessage::Resolve { promise, .. } => {
-                self.shorten_number(Number::Export(*promise).on(connection));
+                self.way_of_number(Number::Export(*promise).on(connection))
             }
-            RpcMessage::Return {
-                answer,
-                outcome: Outcome::Results(payload),
-                ..
-            } => {
-                let question = Number::Answer(*answer).on(connection);
-                if let Some(call) = self.opening_call(question) {
-                    self.shorten_fields(call, payload.fields.as_slice());
-                }
-            }
-            _ => {}
-        }
+            _ => None,
+        };
+        self.shorten_way(way);
+        self.shorten_results(connection, message);
     }
 
     /// Makes the walks shorter that the rules ask for on a record: from the goal of its call, from the references noted
@@ -430,7 +425,10 @@ impl VatState {
         ensures { self.new ≡ self.old }
     {
         match event {
-            DecodedRecord::Deliver { call, .. } => self.shorten_goal(*call),
+            DecodedRecord::Deliver { call, .. } => {
+                let way = self.way_of_goal(*call);
+                self.shorten_way(way);
+            }
             DecodedRecord::Wire {
                 sent: true,
                 connection,

@@ -8,14 +8,14 @@ use Rattle.call_trace.specs.declared.records.vat_ledger.VatLedger.{VatLedger}
 use Rattle.call_trace.specs.Naming.{Naming, message_of_step, call_named, cap_at}
 use Rattle.call_trace.specs.Part.{promise_in}
 use Rattle.call_trace.specs.Running.{step_received}
-use Rattle.call_trace.specs.Said.{all_there, say_call, say_return, say_resolve}
-use Rattle.call_trace.specs.Types.{Descriptor, NoCap, Results, Exception, Canceled, Elsewhere, TakeFrom, RpcMessage, Bootstrap, Call, Return, Finish, Resolve, Release, Disembargo, Abort, DecodedRecord, Host, Vow, Fulfil, Break, Make, Field, Deliver, Answer, Fault, Wire, View, Object, Promise, FieldOf, Import, Name, Cap, Message, Step}
+use Rattle.call_trace.specs.Said.{all_there, say_call, say_return, say_taken, say_resolve}
+use Rattle.call_trace.specs.Types.{Descriptor, NoCap, Outcome, Results, Exception, Canceled, Elsewhere, TakeFrom, RpcMessage, Bootstrap, Call, Return, Finish, Resolve, Release, Disembargo, Abort, DecodedRecord, Host, Vow, Fulfil, Break, Make, Field, Deliver, Answer, AnswerBy, Fault, Wire, View, Object, Promise, FieldOf, Import, Name, Cap, Message, Step}
 use Rattle.run_model.specs.Has.{call_in_message}
 use Rattle.run_model.specs.Legal.{caps_brought}
 use Rattle.run_model.specs.Steps.{call}
 use Rattle.vat_rules.specs.LogFacts.{Sight, Told}
 use Rattle.vat_rules.specs.Telling.{seen_of}
-use Rattle.vat_rules.specs.declared.outcome.Outcome.{Outcome}
+use Rattle.vat_rules.specs.declared.outcome.Outcome.{Outcome as FoundOutcome}
 use Rattle.vat_rules.specs.declared.outcome.Outcome.TheVariants as outcome
 use Rattle.vat_view.specs.Lives.{descriptors_of}
 use Rattle.vat_view.specs.Past.{Past}
@@ -90,17 +90,20 @@ answered_in call view = option_and_then call (call_of_question view)
 abbrev pub resolve_said : Option Cap → Option (List Cap) → Option Message
 resolve_said promise caps = option_and_then (λ promise. option_map (say_resolve promise) caps) promise
 
+-- a Return that is sent, by what its numbers stand for, its descriptors for these caps
+abbrev pub return_said : (ℕ → Option Name) → Sight → Option (List Cap) → Outcome → Option Message
+return_said call seen caps (Results payload) = option_and_then (λ name. say_return seen.late payload.fields name caps) (answered_in call seen.question)
+return_said call seen caps Exception = option_map message.Failed (answered_in call seen.question)
+return_said call seen caps Canceled = option_map message.Failed (answered_in call seen.question)
+return_said call seen caps Elsewhere = option_map message.Elsewhere (answered_in call seen.question)
+return_said call seen caps (TakeFrom n) = option_and_then (λ name. say_taken seen.late name (answered_in call seen.taken)) (answered_in call seen.question)
+
 -- the message that a record sends, by what its numbers stand for, its descriptors for these caps
 abbrev pub message_said : Naming → Sight → ℕ → Option (List Cap) → RpcMessage → Option Message
 message_said names seen c caps (Bootstrap q) = option_map message.Boot (names.call c)
 message_said names seen c caps (Call q target interface method params yourself) =
     say_call interface method caps (names.call c) (option_and_then names.cap seen.target)
-message_said names seen c caps (Return q release (Results payload) light) =
-    option_and_then (λ name. say_return seen.late payload.fields name caps) (answered_in names.call seen.question)
-message_said names seen c caps (Return q release Exception light) = option_map message.Failed (answered_in names.call seen.question)
-message_said names seen c caps (Return q release Canceled light) = option_map message.Failed (answered_in names.call seen.question)
-message_said names seen c caps (Return q release Elsewhere light) = option_map message.Failed (answered_in names.call seen.question)
-message_said names seen c caps (Return q release (TakeFrom n) light) = option_map message.Failed (answered_in names.call seen.question)
+message_said names seen c caps (Return q release came light) = return_said names.call seen caps came
 message_said names seen c caps (Resolve n resolution) = resolve_said (option_and_then names.cap seen.promise) caps
 message_said names seen c caps (Finish q release) = Some (message.Plain plain.Finish)
 message_said names seen c caps (Release n count) = Some (message.Plain plain.Release)
@@ -137,6 +140,10 @@ of_call_said v call (Deliver c object) = option_map (λ name. step.Deliver v nam
 of_call_said v call (Fault c) = option_map (λ name. step.Fault v name) (call c)
 of_call_said v call _ = None
 
+-- the step that answers a call by another
+abbrev pub answer_by_said : ℕ → (ℕ → Option Name) → ℕ → ℕ → Option Step
+answer_by_said v call c by = option_and_then (λ name. option_map (λ by. step.AnswerBy v name by) (call by)) (call c)
+
 -- the step of another record of what the vat makes by itself
 abbrev pub own_said : Naming → Sight → DecodedRecord → Option Step
 own_said names seen (Host r object) = Some (step.Host names.vat object)
@@ -153,6 +160,7 @@ own_said names seen _ = None
 abbrev pub step_by : Naming → Sight → DecodedRecord → Option Step
 step_by names seen (Field r c path) = of_call_said names.vat names.call (Field r c path)
 step_by names seen (Deliver c object) = of_call_said names.vat names.call (Deliver c object)
+step_by names seen (AnswerBy c by) = answer_by_said names.vat names.call c by
 step_by names seen (Fault c) = of_call_said names.vat names.call (Fault c)
 step_by names seen (Wire sent k c references m) = option_map (λ sent_message. step.Send names.vat k sent_message) (sent_said names seen c m)
 step_by names seen e = own_said names seen e
@@ -215,6 +223,6 @@ with_bound bound (step.Receive v k m old) = step.Receive v k m bound
 with_bound bound s = s
 
 -- what a good log tells
-abbrev pub story_in : Outcome → Option Told
+abbrev pub story_in : FoundOutcome → Option Told
 story_in (outcome.Good story) = Some story
 story_in _ = None

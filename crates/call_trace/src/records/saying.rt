@@ -5,8 +5,8 @@ ghost use Rattle.std.specs.Prelude.{◌≡◌, List, Option, IfOk, slice_get, op
 ghost use Rattle.std.specs.Option.{option_copied};
 ghost use Rattle.call_trace.specs.Naming.{cap_at};
 ghost use Rattle.call_trace.specs.Part.{promise_in};
-ghost use Rattle.call_trace.specs.Said.{all_there, caps_at_paths, say_call, say_return, say_resolve};
-ghost use Rattle.call_trace.specs.Glue.Ledgers.{names_in, view_in, call_name_in, cap_said, caps_said, call_of_question, seen_at, answered_in, resolve_said, message_said, sent_said, results_said, named_said, fulfil_said, of_call_said, own_said, step_by};
+ghost use Rattle.call_trace.specs.Said.{all_there, caps_at_paths, say_call, say_return, say_taken, say_resolve};
+ghost use Rattle.call_trace.specs.Glue.Ledgers.{names_in, view_in, call_name_in, cap_said, caps_said, call_of_question, seen_at, answered_in, resolve_said, return_said, message_said, sent_said, results_said, named_said, fulfil_said, answer_by_said, of_call_said, own_said, step_by};
 ghost use Rattle.vat_view.specs.Lives.{descriptors_of};
 
 use crate::records::vat_ledger::VatLedger;
@@ -121,6 +121,17 @@ fn say_results(
     }))
 }
 
+/// A Return that takes the results of a call and is sent, late or not.
+fn say_taken(late: bool, call: Name, by: Option<Name>) -> Option<Message>
+    ensures { result ≡ say_taken late call by }
+{
+    match (late, by) {
+        (true, _) => Some(Message::Late(call)),
+        (false, Some(by)) => Some(Message::Taken(call, by)),
+        (false, None) => None,
+    }
+}
+
 /// A Resolve of a promise that is sent.
 fn say_resolve(promise: Cap, caps: &Caps) -> Result<Message, AllocError>
     ensures { IfOk result (λ message. message ≡ say_resolve promise caps.now) }
@@ -202,6 +213,31 @@ fn resolve_said(
     }
 }
 
+/// A Return that is sent, where all that it names has a name. `caps` is what its descriptors stand for.
+fn return_said(
+    alloc: Global,
+    ledger: &VatLedger,
+    seen: &RecordFacts,
+    caps: Option<Caps>,
+    outcome: &Outcome,
+) -> Result<Option<Message>, AllocError>
+    ensures { IfOk result
+        (λ sent. sent ≡ return_said (call_name_in ledger.now) seen.now caps outcome.now) }
+{
+    let Some(call) = call_answered(ledger, seen.question()) else {
+        return Ok(None);
+    };
+    match outcome {
+        Outcome::Results(payload) => say_results(alloc, seen.is_late(), payload, call, caps),
+        Outcome::Exception | Outcome::Canceled => Ok(Some(Message::Failed(call))),
+        Outcome::Elsewhere => Ok(Some(Message::Elsewhere(call))),
+        Outcome::TakeFrom(_) => {
+            let by = call_answered(ledger, seen.taken());
+            Ok(say_taken(seen.is_late(), call, by))
+        }
+    }
+}
+
 /// The message that a record sends, beside which this call is noted, where all that it names has a name. `caps` is what its
 /// descriptors stand for.
 fn message_said(
@@ -224,20 +260,7 @@ fn message_said(
             method,
             ..
         } => call_said(ledger, steps, seen, call, (*interface, *method), caps),
-        RpcMessage::Return { outcome, .. } => match (
-            call_answered(ledger, seen.question()),
-            outcome,
-        ) {
-            (None, _) => Ok(None),
-            (Some(name), Outcome::Results(payload)) => say_results(
-                alloc,
-                seen.is_late(),
-                payload,
-                name,
-                caps,
-            ),
-            (Some(name), _) => Ok(Some(Message::Failed(name))),
-        },
+        RpcMessage::Return { outcome, .. } => return_said(alloc, ledger, seen, caps, outcome),
         RpcMessage::Resolve { .. } => resolve_said(ledger, steps, seen, caps),
         RpcMessage::Finish { .. } => Ok(Some(Message::Plain(Plain::Finish))),
         RpcMessage::Release { .. } => Ok(Some(Message::Plain(Plain::Release))),
@@ -360,6 +383,17 @@ fn of_call_said(ledger: &VatLedger, event: &DecodedRecord) -> Result<Option<Step
     }))
 }
 
+/// The step that answers a call by another, where both have names.
+fn answer_by_said(ledger: &VatLedger, call: u64, by: u64) -> Option<Step>
+    ensures { result ≡ answer_by_said ledger.now.vat (call_name_in ledger.now) call by }
+{
+    Some(Step::AnswerBy {
+        vat: ledger.vat,
+        call: ledger.call(call)?,
+        by: ledger.call(by)?,
+    })
+}
+
 /// The step that a record of what the vat makes by itself says, where all that it names has a name.
 fn own_said(
     alloc: Global,
@@ -445,6 +479,7 @@ pub(crate) fn step_said(
         }
         DecodedRecord::Field { .. } | DecodedRecord::Deliver { .. } | DecodedRecord::Fault { .. } =>
             { of_call_said(ledger, event) }
+        DecodedRecord::AnswerBy { call, by } => Ok(answer_by_said(ledger, *call, *by)),
         _ => own_said(alloc, ledger, steps, seen, event),
     }
 }

@@ -28,10 +28,11 @@ in_role role.Promise seen = seen.promise
 in_role role.Target seen = seen.target
 in_role role.Released seen = seen.released
 
--- descriptors, with one number in a role or none
+-- descriptors, with one number in a role or none, of a record that takes no results
 abbrev pub standing_with : Option (Role × View) → List (Option View) → Meanings
 standing_with number caps = record {
   question = view_in_role number role.Question;
+  taken = None;
   promise = view_in_role number role.Promise;
   target = view_in_role number role.Target;
   released = view_in_role number role.Released;

@@ -8,7 +8,7 @@ use Rattle.vat_rules.specs.Types.{DecodedRecord, View}
 use Rattle.vat_view.specs.Past.{Past}
 use Rattle.vat_view.specs.Views.{view_of_target, views_of_descriptors}
 use Rattle.vat_view.specs.Questions.{is_late}
-use Rattle.vat_rules.specs.Telling.{seen_question, seen_promise, seen_released, seen_of}
+use Rattle.vat_rules.specs.Telling.{seen_question, seen_taken, seen_promise, seen_released, seen_of}
 use Rattle.vat_rules.specs.declared.facts.meanings.Meanings.{Meanings}
 use Rattle.vat_rules.specs.LogFacts.{Sight, Entry}
 
@@ -16,6 +16,7 @@ use Rattle.vat_rules.specs.LogFacts.{Sight, Entry}
 abbrev pub standing_of : Past → DecodedRecord → Meanings
 standing_of before e = record {
   question = seen_question before e;
+  taken = seen_taken before e;
   promise = seen_promise before e;
   target = view_of_target before e;
   released = seen_released before e;
@@ -41,6 +42,7 @@ abbrev pub sight_with : List (Option View) → Meanings → Sight
 sight_with references standing = record {
   references = references;
   question = standing.question;
+  taken = standing.taken;
   promise = standing.promise;
   target = standing.target;
   released = standing.released;

@@ -72,7 +72,7 @@ enum Compact {
     WithBoth(Role, View, Box<Option<View>>),
     /// One number in a role, with references and descriptors.
     WithLists(Role, View, Box<Lists>),
-    /// Numbers in several roles, or a late Return.
+    /// Numbers in several roles, or a Return that is late or takes results.
     Several(Box<Parts>),
 }
 
@@ -98,6 +98,7 @@ impl Debug for RecordFacts {
         f.debug_struct("RecordFacts")
             .field("references", &self.references())
             .field("question", &self.question())
+            .field("taken", &self.taken())
             .field("promise", &self.promise())
             .field("target", &self.target())
             .field("released", &self.released())
@@ -108,27 +109,29 @@ impl Debug for RecordFacts {
 }
 
 /// The number in a role, if there is one, and the descriptors; or else all of it, where there are several, or the record is
-/// a late Return.
+/// a Return that is late or takes results.
 fn role_and_caps(standing: Meanings) -> Result<(Option<(Role, View)>, ViewList), Meanings>
     ensures parts { IfOk result (λ parts. standing ≡ standing_with parts.0 parts.1) }
     ensures all { IfErr result (λ all. all ≡ standing) }
 {
     let Meanings {
         question,
+        taken,
         promise,
         target,
         released,
         caps,
         late,
     } = standing;
-    match (question, promise, target, released, late) {
-        (None, None, None, None, false) => Ok((None, caps)),
-        (Some(view), None, None, None, false) => Ok((Some((Role::Question, view)), caps)),
-        (None, Some(view), None, None, false) => Ok((Some((Role::Promise, view)), caps)),
-        (None, None, Some(view), None, false) => Ok((Some((Role::Target, view)), caps)),
-        (None, None, None, Some(view), false) => Ok((Some((Role::Released, view)), caps)),
-        (question, promise, target, released, late) => Err(Meanings {
+    match (question, taken, promise, target, released, late) {
+        (None, None, None, None, None, false) => Ok((None, caps)),
+        (Some(view), None, None, None, None, false) => Ok((Some((Role::Question, view)), caps)),
+        (None, None, Some(view), None, None, false) => Ok((Some((Role::Promise, view)), caps)),
+        (None, None, None, Some(view), None, false) => Ok((Some((Role::Target, view)), caps)),
+        (None, None, None, None, Some(view), false) => Ok((Some((Role::Released, view)), caps)),
+        (question, taken, promise, target, released, late) => Err(Meanings {
             question,
+            taken,
             promise,
             target,
             released,
@@ -291,6 +294,16 @@ impl RecordFacts {
         ensures { option_copied result ≡ self.now.question }
     {
         self.in_role(Role::Question)
+    }
+
+    /// What the question stands for whose results the record takes, the same (rpc.capnp, Return.takeFromOtherQuestion).
+    pub fn taken(&self) -> Option<&View>
+        ensures { option_copied result ≡ self.now.taken }
+    {
+        match &self.kept {
+            Compact::Several(parts) => parts.standing.taken.as_ref(),
+            _ => None,
+        }
     }
 
     /// What the promise stands for that the record resolves.

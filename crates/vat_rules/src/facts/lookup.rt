@@ -3,13 +3,13 @@
 ghost use Rattle.std.specs.Prelude.{◌≡◌, ◌++◌, map, IfOk};
 ghost use Rattle.vat_view.specs.Bindings.{new_references, named_references};
 ghost use Rattle.vat_view.specs.Views.{view_of_reference, views_of_descriptors};
-ghost use Rattle.vat_rules.specs.Telling.{seen_question, seen_promise, seen_released};
+ghost use Rattle.vat_rules.specs.Telling.{seen_question, seen_taken, seen_promise, seen_released};
 ghost use Rattle.vat_rules.specs.Glue.Facts.{standing_of};
 
 use crate::facts::meanings::Meanings;
 use crate::facts::view_list::ViewList;
 use cap_frame::Path;
-use rpc_view::RpcMessage;
+use rpc_view::{Outcome, RpcMessage};
 use std::alloc::{AllocError, Global};
 use vat_view::{DecodedRecord, Number, VatState, View};
 
@@ -36,6 +36,34 @@ fn seen_question(
         RpcMessage::Finish { question, .. } if *sent => Number::Question(*question),
         RpcMessage::Finish { question, .. } => Number::Answer(*question),
         _ => return Ok(None),
+    };
+    state.stands_for(*connection, number, &Path::new(Vec::new(alloc))?)
+}
+
+/// What the question stands for whose results a record takes.
+fn seen_taken(
+    alloc: Global,
+    state: &VatState,
+    event: &DecodedRecord,
+) -> Result<Option<View>, AllocError>
+    ensures { IfOk result (λ v. v ≡ seen_taken state.now event.now) }
+{
+    let DecodedRecord::Wire {
+        sent,
+        connection,
+        message: RpcMessage::Return {
+            outcome: Outcome::TakeFrom(taken),
+            ..
+        },
+        ..
+    } = event
+    else {
+        return Ok(None);
+    };
+    let number = if *sent {
+        Number::Question(*taken)
+    } else {
+        Number::Answer(*taken)
     };
     state.stands_for(*connection, number, &Path::new(Vec::new(alloc))?)
 }
@@ -114,6 +142,7 @@ pub(crate) fn standing_of(
 {
     Ok(Meanings {
         question: seen_question(alloc, state, event)?,
+        taken: seen_taken(alloc, state, event)?,
         promise: seen_promise(alloc, state, event)?,
         target: state.view_of_target(event)?,
         released: seen_released(alloc, state, event)?,

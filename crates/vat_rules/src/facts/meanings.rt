@@ -8,6 +8,8 @@ use vat_view::View;
 pub(crate) struct Meanings {
     /// What the question stands for that it returns or finishes.
     pub(crate) question: Option<View>,
+    /// What the question stands for whose results it takes.
+    pub(crate) taken: Option<View>,
     /// What the promise stands for that it resolves.
     pub(crate) promise: Option<View>,
     /// What its target stands for.

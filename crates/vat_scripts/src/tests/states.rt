@@ -18,7 +18,7 @@ const ROWS: [(&str, &str); 3] = [
         "",
         "r1 None; export None 0; answer None; call None None false false false false; \
         opening None finished false promised None resolved false; record None; \
-        stays true leads false by turns false end Some(Field(1, Path { fields: [] }))",
+        stays true leads false by turns false end Some(Field(1, []))",
     ),
     (
         "HOST r1 7; R0 c1 boot q0; R0 c2 call q1 answer 0 []; ANSWER c1 r1@[]; DELIVER c2 7; \

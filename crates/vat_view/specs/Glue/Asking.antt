@@ -1,6 +1,7 @@
 -- For the code's contracts, and no part of the meaning: what the tables answer.
 use Rattle.std.specs.Prelude.{ℕ, ◌+◌, ◌&&◌, Bool, true, false, not, Option, Some, None, if◌then◌else◌, option_map, option_and_then, unwrap_or, count_by}
 use Rattle.std.specs.BTreeMap.{get}
+use Rattle.std.specs.Option.{option_or}
 use Rattle.vat_view.specs.declared.tables.question.Question.{Question}
 use Rattle.vat_view.specs.declared.tables.exports_imports.ExportsImports.{ExportsImports}
 use Rattle.vat_view.specs.declared.preconditions.key_counts.KeyCounts.{KeyCounts}
@@ -47,12 +48,23 @@ abbrev pub targeted_by : (ℕ → Option View) → ExportsImports → (TableKey 
 targeted_by named lives known (Wire sent k call rs m) = option_and_then (target_by named lives known k sent) (target_of m)
 targeted_by named lives known _ = None
 
--- the call by whose results a record answers another, by the table of questions before the record
+-- the question whose results a received record takes
+abbrev pub question_taken_here : DecodedRecord → Option TableKey
+question_taken_here (Wire false k c rs (Return q release (TakeFrom n) light)) = Some (id k false n)
+question_taken_here _ = None
+
+-- the call that ANSWERBY names second
+abbrev pub named_answerer : DecodedRecord → Option ℕ
+named_answerer (AnswerBy c by) = Some by
+named_answerer _ = None
+
+-- the call whose results a received Return takes that isn't late, by the table of questions before the record
+abbrev pub call_taken_here : (TableKey → Option Question) → DecodedRecord → Option ℕ
+call_taken_here known e = option_and_then (λ q. if late_by known e then None else call_by (known q)) (question_taken_here e)
+
+-- the call by whose results a record answers another
 abbrev pub taken_from_by : (TableKey → Option Question) → DecodedRecord → Option ℕ
-taken_from_by known (AnswerBy c by) = Some by
-taken_from_by known (Wire false k c rs (Return q release (TakeFrom n) light)) =
-    if late_by known (Wire false k c rs (Return q release (TakeFrom n) light)) then None else call_by (known (id k false n))
-taken_from_by known _ = None
+taken_from_by known e = option_or (named_answerer e) (call_taken_here known e)
 
 -- the number that a Release gives back, and how much of it
 abbrev pub let_go_of : DecodedRecord → Option (TableKey × ℕ)

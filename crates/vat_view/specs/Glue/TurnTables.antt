@@ -1,6 +1,6 @@
 -- For the code's contracts, and no part of the meaning: the table of turns, what looking back finds for its keys, and
 -- walks by so many turns.
-use Rattle.std.specs.Prelude.{◌≡◌, ◌⊎◌, ◌≤◌, ℕ, zero, suc, ◌+◌, ◌*◌, ◌==◌, ◌&&◌, List, ◌∷◌, [], Bool, true, false, Option, Some, None, if◌then◌else◌, option_map, option_and_then, find, slice_get, is_some, length}
+use Rattle.std.specs.Prelude.{◌≡◌, ◌⊎◌, ◌≤◌, ℕ, zero, suc, ◌+◌, ◌*◌, ◌==◌, ◌&&◌, List, ◌∷◌, [], Bool, true, false, Option, Some, None, if◌then◌else◌, option_map, option_and_then, find, slice_get, is_some, unwrap_or, length}
 use Rattle.std.specs.declared.cmp.Ordering.{Ordering}
 use Rattle.std.specs.BTreeMap.{get}
 use Rattle.std.specs.Option.{option_or}
@@ -18,6 +18,7 @@ use Rattle.vat_view.specs.declared.tables.settlements.Settlements.{Settlements}
 use Rattle.vat_view.specs.declared.tables.settlements.Settling.{Settling}
 use Rattle.vat_view.specs.declared.tables.handovers.Handovers.{Handovers}
 use Rattle.vat_view.specs.declared.tables.handovers.Handover.{Handover}
+use Rattle.vat_view.specs.declared.tables.handovers.HandedCall.{HandedCall}
 use Rattle.vat_view.specs.declared.walks.turn_target.Landing.{Landing}
 use Rattle.vat_view.specs.declared.walks.turn_target.Landing.TheVariants.{Reference as ToReference, Call as ToCall}
 use Rattle.vat_view.specs.contracts.record.unsettled.UnsettledOrd.TheImpl as pending_order
@@ -193,9 +194,34 @@ has_room_to_settle table (Some (ResultsOf c)) = is_some (entry_at table.results 
 has_room_to_settle table (Some (ImportToResolve i place)) = is_some (get pending_cmp table.imports (ImportToResolve i place))
 has_room_to_settle table None = true
 
--- the last record that answered a call by another, by the table of these
+-- what the table of calls that were answered by others has of a call
+abbrev pub handed_call_in : Handovers → ℕ → Option HandedCall
+handed_call_in table c = option_and_then (λ handed. handed) (entry_at table.entries c)
+
+-- the last record that answered it by another
 abbrev pub handover_in : Handovers → ℕ → Option Handover
-handover_in table c = option_and_then (λ handover. handover) (entry_at table.entries c)
+handover_in table c = option_map (λ handed. handed.handover) (handed_call_in table c)
+
+-- from a reference or call to itself
+abbrev pub own_leap : ℕ → Shortcut
+own_leap r = record { to = r; turns = 0 }
+
+-- two, with a turn between them
+abbrev pub joined : Shortcut → Shortcut → Shortcut
+joined near far = record { to = far.to; turns = near.turns + far.turns + 1 }
+
+-- what is ahead of a call, by what is kept of it: itself, where the calls ahead are dropped
+abbrev pub call_ahead_of : Bool → ℕ → HandedCall → Shortcut
+call_ahead_of true c handed = own_leap c
+call_ahead_of false c handed = handed.ahead
+
+-- what is ahead of a call that was answered by another, and by how many turns
+abbrev pub call_ahead_in : Handovers → ℕ → Option Shortcut
+call_ahead_in table c = option_map (λ handed. call_ahead_of table.dropped c handed) (handed_call_in table c)
+
+-- what is ahead of a call was so before, or is itself
+abbrev pub IsOwnOrOldCall : Handovers → Handovers → Type 0
+IsOwnOrOldCall before after = (c : ℕ) (q : Shortcut) → call_ahead_in after c ≡ Some q → (call_ahead_in before c ≡ Some q) ⊎ (q ≡ own_leap c)
 
 -- that table has room for this call, if there is one
 abbrev pub has_room_for_handover : Handovers → Option ℕ → Bool
@@ -229,6 +255,7 @@ pub record SaysSameTurns (old new : Settlements) : Type 0 where
 pub record IsNoted (settling : Settling) (number : ℕ) (old new : Settlements) : Type 0 where
   pub settlers : (p : Unsettled) → settler_at new p ≡ (if is_this p settling.settled then Some number else settler_at old p)
   pub handed : (c : ℕ) → handover_at new c ≡ handover_after settling number c (handover_at old c)
+  pub ahead : IsOwnOrOldCall old.handovers new.handovers
 
 -- the call by whose results the record of this number settled, where the last record that did so has this number
 abbrev pub by_handover : ℕ → Option Handover → Option ℕ
@@ -281,10 +308,6 @@ bound_len table = length table.entries
 -- first view and from each of these by calls, to each once
 abbrev pub most_turns : Settlements → BoundReferences → ℕ
 most_turns table bound = handovers_len table.handovers * (bound_len bound + 1) + bound_len bound
-
--- from a reference to itself
-abbrev pub own_leap : ℕ → Shortcut
-own_leap r = record { to = r; turns = 0 }
 
 -- what is ahead of a reference, by what is kept of it: itself, where the references ahead are dropped
 abbrev pub ahead_in : Bool → ℕ → Binding → Shortcut
@@ -351,6 +374,22 @@ AreAhead turn table = (r : ℕ) (q : Shortcut) → ahead_at table r ≡ Some q �
 abbrev pub turns_of : List DecodedRecord → Settlements → BoundReferences → View → Option View
 turns_of events table bound v = turn_by events table (bound_at bound) v
 
--- the references ahead are ahead by the turns of these tables
+-- a call is ahead of another: each of the other's fields leads, by exactly so many of these turns, to its own
+abbrev pub IsCallAhead : (View → Option View) → ℕ → Shortcut → Type 0
+IsCallAhead turn c q = (path : List ℕ) → after_turns turn q.turns (Some (FieldOf c path)) ≡ Some (FieldOf q.to path)
+
+-- what the table has beside each call is ahead of it
+abbrev pub AreCallsAhead : (View → Option View) → Handovers → Type 0
+AreCallsAhead turn table = (c : ℕ) (q : Shortcut) → call_ahead_in table c ≡ Some q → IsCallAhead turn c q
+
+-- the call where the fields of the call ahead of this one land
+abbrev pub landed_call : Landing → Option ℕ
+landed_call (ToReference r) = None
+landed_call (ToCall c) = Some c
+
+abbrev pub call_onward_by : List DecodedRecord → Settlements → ℕ → Option ℕ
+call_onward_by events table c = option_and_then landed_call (landed_by events table (FieldOf (unwrap_or (call_ahead_in table.handovers c) (own_leap c)).to []))
+
+-- the references and calls ahead are ahead by the turns of these tables
 abbrev pub HaveAhead : List DecodedRecord → Settlements → BoundReferences → Type 0
-HaveAhead events table bound = AreAhead (turns_of events table bound) bound
+HaveAhead events table bound = AreAhead (turns_of events table bound) bound × AreCallsAhead (turns_of events table bound) table.handovers

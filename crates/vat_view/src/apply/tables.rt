@@ -155,16 +155,7 @@ pub(crate) fn apply_opening(
         → origin_at lives.new i ≡ origin_at lives.old i) }
 {
     lives.raise_each(origins)?;
-    let known = Question {
-        call: noted_call(event),
-        tail: asks_elsewhere(event),
-        returned: false,
-        finished: false,
-        released: false,
-        taken: false,
-        asked: numbers,
-        brought: TableKeys::none(),
-    };
+    let known = Question::opened(noted_call(event), asks_elsewhere(event), numbers);
     if questions.open(question, known).is_err() {
         lives.lower_raised(origins);
         return Err(AllocError);

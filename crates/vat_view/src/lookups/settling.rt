@@ -1,8 +1,8 @@
 //! What a record settles, so that views turn.
 
-ghost use Rattle.std.specs.Prelude.{◌≡◌};
+ghost use Rattle.std.specs.Prelude.{◌≡◌, None, if◌then◌else◌};
 ghost use Rattle.vat_view.specs.Glue.Tables.{bound_at, question_at, held_origin};
-ghost use Rattle.vat_view.specs.Glue.Asking.{taken_from_by};
+ghost use Rattle.vat_view.specs.Glue.Asking.{question_taken_here, named_answerer, call_taken_here, taken_from_by};
 ghost use Rattle.vat_view.specs.Glue.TurnTables.{promise_of, results_by, import_by, settled_by};
 
 use crate::apply::tables::is_late;
@@ -105,12 +105,18 @@ fn settled_by(
     }
 }
 
-/// The call by whose results a record answers another, by the table of questions before it.
-pub(crate) fn taken_from_by(questions: &Questions, event: &DecodedRecord) -> Option<u64>
-    ensures { result ≡ taken_from_by (question_at questions.now) event.now }
+/// A call, unless the Return that takes its results is late.
+fn unless_late(late: bool, call: Option<u64>) -> Option<u64>
+    ensures { result ≡ (if late then None else call) }
+{
+    if late { None } else { call }
+}
+
+/// The question whose results a received record takes: one of its sender's.
+fn question_taken_here(event: &DecodedRecord) -> Option<TableKey>
+    ensures { result ≡ question_taken_here event.now }
 {
     match event {
-        DecodedRecord::AnswerBy { by, .. } => Some(*by),
         DecodedRecord::Wire {
             sent: false,
             connection,
@@ -119,19 +125,40 @@ pub(crate) fn taken_from_by(questions: &Questions, event: &DecodedRecord) -> Opt
                 ..
             },
             ..
-        } => {
-            if is_late(questions, event) {
-                return None;
-            }
-            let question = TableKey {
-                connection: *connection,
-                ours: false,
-                number: *number,
-            };
-            call_of(questions, question)
-        }
+        } => Some(TableKey {
+            connection: *connection,
+            ours: false,
+            number: *number,
+        }),
         _ => None,
     }
+}
+
+/// The call that ANSWERBY names as the one whose results are the first's.
+fn named_answerer(event: &DecodedRecord) -> Option<u64>
+    ensures { result ≡ named_answerer event.now }
+{
+    match event {
+        DecodedRecord::AnswerBy { by, .. } => Some(*by),
+        _ => None,
+    }
+}
+
+/// The call whose results a received Return takes that isn't late, by the table of questions before it.
+fn call_taken_here(questions: &Questions, event: &DecodedRecord) -> Option<u64>
+    ensures { result ≡ call_taken_here (question_at questions.now) event.now }
+{
+    match question_taken_here(event) {
+        Some(question) => unless_late(is_late(questions, event), call_of(questions, question)),
+        None => None,
+    }
+}
+
+/// The call by whose results a record answers another, by the table of questions before it.
+pub(crate) fn taken_from_by(questions: &Questions, event: &DecodedRecord) -> Option<u64>
+    ensures { result ≡ taken_from_by (question_at questions.now) event.now }
+{
+    named_answerer(event).or(call_taken_here(questions, event))
 }
 
 /// What a record settles, and the call by whose results it does, by the tables before it.

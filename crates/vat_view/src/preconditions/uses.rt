@@ -21,7 +21,7 @@ pub(crate) fn all_three(first: bool, second: bool, third: bool) -> bool
     first && second && third
 }
 
-/// Whether two tests both hold; a function of its own as above.
+/// Whether two tests both hold; a function of its own for the same reason.
 fn both(first: bool, second: bool) -> bool
     ensures { result ≡ (first && second) }
 {

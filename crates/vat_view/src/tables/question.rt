@@ -1,5 +1,8 @@
 //! What is known of one question.
 
+ghost use Rattle.std.specs.Prelude.{◌≡◌};
+ghost use Rattle.vat_view.specs.Glue.Tables.{just_opened};
+
 use crate::record::table_keys::TableKeys;
 
 /// What is known of a question by its last opening and what came since.
@@ -24,6 +27,22 @@ pub(crate) struct Question {
 }
 
 impl Question {
+    /// What is known of a question right after its opening, which introduced these numbers.
+    pub(crate) fn opened(call: u64, tail: bool, asked: TableKeys) -> Question
+        ensures { result ≡ just_opened call tail asked }
+    {
+        Question {
+            call,
+            tail,
+            returned: false,
+            finished: false,
+            released: false,
+            taken: false,
+            asked,
+            brought: TableKeys::none(),
+        }
+    }
+
     /// What holds the place of what is known while that is changed. It takes no memory.
     pub(crate) fn blank() -> Question {
         Question {

@@ -11,7 +11,8 @@ use crate::view::View;
 use rising_table::RisingTable;
 use std::alloc::{AllocError, Global};
 
-/// A reference that is ahead of another: to whose view the other's view leads.
+/// A reference that is ahead of another: to whose view the other's view leads. Or a call that is ahead of another: to
+/// each of whose fields the other's leads.
 #[derive(Clone, Copy)]
 pub(crate) struct Shortcut {
     /// The one that is ahead.
@@ -29,8 +30,8 @@ pub(crate) struct Binding {
     pub(crate) ahead: Shortcut,
 }
 
-/// From a reference to itself, by no turn.
-fn own_leap(reference: u64) -> Shortcut
+/// From a reference or call to itself, by no turn.
+pub(crate) fn own_leap(reference: u64) -> Shortcut
     ensures { result ≡ own_leap reference }
 {
     Shortcut {

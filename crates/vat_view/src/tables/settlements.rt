@@ -1,13 +1,15 @@
 //! The table of turns.
 
-ghost use Rattle.std.specs.Prelude.{◌≡◌, ◌==◌, ◌<◌, ◌^◌, ℕ, Option, None, Some, OnOk, IsTrue, is_some, option_and_then, if◌then◌else◌};
+ghost use Rattle.std.specs.Prelude.{◌≡◌, ◌==◌, ◌<◌, ◌^◌, ◌⊎◌, ℕ, unwrap_or, Option, None, Some, OnOk, IsTrue, is_some, option_and_then, if◌then◌else◌};
 ghost use Rattle.rising_table.specs.Entries.{entry_at};
 ghost use Rattle.vat_view.specs.declared.record.unsettled.Unsettled.{Unsettled};
+ghost use Rattle.vat_view.specs.declared.tables.references.Shortcut.{Shortcut};
 ghost use Rattle.vat_view.specs.declared.record.unsettled.Unsettled.TheVariants.{Import as ImportToResolve};
-ghost use Rattle.vat_view.specs.Glue.TurnTables.{settler_at, number_in, has_room_to_settle, is_this, handed_call, handover_at, handover_after, handovers_len, has_room_for_handover, call_behind_by, SaysSameTurns, IsNoted};
+ghost use Rattle.vat_view.specs.Glue.TurnTables.{settler_at, number_in, has_room_to_settle, is_this, handed_call, handover_at, handover_after, handovers_len, has_room_for_handover, call_behind_by, call_ahead_in, own_leap, IsOwnOrOldCall, SaysSameTurns, IsNoted};
 
 use crate::record::unsettled::Unsettled;
 use crate::tables::handovers::{Handover, Handovers};
+use crate::tables::references::Shortcut;
 use rising_table::RisingTable;
 use std::alloc::{AllocError, Global};
 use std::collections::BTreeMap;
@@ -77,6 +79,7 @@ impl Settlements {
     pub(crate) fn new(alloc: Global) -> Settlements
         ensures settlers { (p : Unsettled) → settler_at result p ≡ None }
         ensures handed { (c : ℕ) → handover_at result c ≡ None }
+        ensures ahead { (c : ℕ) → call_ahead_in result.handovers c ≡ None }
     {
         Settlements {
             promises: RisingTable::new(alloc),
@@ -105,6 +108,37 @@ impl Settlements {
         ensures { result ≡ handover_at self.now call }
     {
         self.handovers.of(call)
+    }
+
+    /// The call that is ahead of this one: itself, where it wasn't answered by another.
+    pub(crate) fn call_ahead(&self, call: u64) -> Shortcut
+        ensures { result ≡ unwrap_or (call_ahead_in self.now.handovers call) (own_leap call) }
+    {
+        self.handovers.ahead(call)
+    }
+
+    /// From now on this is ahead of a call, if that one was answered by another.
+    pub(crate) fn remember_call(&mut self, call: u64, ahead: Shortcut)
+        ensures same { SaysSameTurns self.old self.new }
+        ensures len { handovers_len self.new.handovers ≡ handovers_len self.old.handovers }
+        ensures ahead { (c : ℕ) (q : Shortcut) → call_ahead_in self.new.handovers c ≡ Some q
+            → (call_ahead_in self.old.handovers c ≡ Some q) ⊎ ((c ≡ call) × (q ≡ ahead)) }
+    {
+        self.handovers.remember(call, ahead);
+    }
+
+    /// Where it is said so, each call is ahead of itself alone from now on.
+    pub(crate) fn drop_calls_ahead(&mut self, drops: bool)
+        ensures same { SaysSameTurns self.old self.new }
+        ensures ahead { IsOwnOrOldCall self.old.handovers self.new.handovers }
+        ensures same_room { (s : Option Unsettled) → has_room_to_settle self.new s
+            ≡ has_room_to_settle self.old s }
+        ensures same_room_handed { (call : Option ℕ) → has_room_for_handover self.new.handovers call
+            ≡ has_room_for_handover self.old.handovers call }
+        ensures own { IsTrue drops → (c : ℕ) (q : Shortcut)
+            → call_ahead_in self.new.handovers c ≡ Some q → q ≡ own_leap c }
+    {
+        self.handovers.drop_ahead(drops);
     }
 
     /// How many calls have an entry that says so, or room for one.
@@ -172,6 +206,7 @@ impl Settlements {
     fn make_room_for_handover(&mut self, call: Option<u64>) -> Result<(), AllocError>
         ensures same { (p : Unsettled) → settler_at self.new p ≡ settler_at self.old p }
         ensures same_handed { (c : ℕ) → handover_at self.new c ≡ handover_at self.old c }
+        ensures same_ahead { IsOwnOrOldCall self.old.handovers self.new.handovers }
         ensures same_room { (s : Option Unsettled) → has_room_to_settle self.new s
             ≡ has_room_to_settle self.old s }
         ensures room { OnOk result (IsTrue (has_room_for_handover self.new.handovers call)) }
@@ -181,12 +216,9 @@ impl Settlements {
 
     /// Makes room for what the record of this number settles. What the table says stays as it is, where memory is
     /// refused too; a number that is too great, which no log in memory reaches, is answered so.
-    pub(crate) fn make_room(
-        &mut self,
-        settling: Settling,
-        number: usize,
-    ) -> Result<(), AllocError>
+    pub(crate) fn make_room(&mut self, settling: Settling, number: usize) -> Result<(), AllocError>
         ensures same { SaysSameTurns self.old self.new }
+        ensures ahead { IsOwnOrOldCall self.old.handovers self.new.handovers }
         ensures room { OnOk result (IsTrue (has_room_to_settle self.new settling.settled)) }
         ensures room_handed { OnOk result (IsTrue (has_room_for_handover self.new.handovers
             (handed_call settling.settled settling.by))) }
@@ -236,6 +268,7 @@ impl Settlements {
         ensures handed { (c : ℕ) → handover_at self.new c
             ≡ handover_after settling number c (handover_at self.old c) }
         ensures same { (p : Unsettled) → settler_at self.new p ≡ settler_at self.old p }
+        ensures ahead { IsOwnOrOldCall self.old.handovers self.new.handovers }
     {
         if let (Some(Unsettled::Results(call)), Some(by)) = (settling.settled, settling.by) {
             self.handovers.note(call, Handover { number, by });

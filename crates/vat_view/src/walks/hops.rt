@@ -49,18 +49,14 @@ fn settler<'a>(
 }
 
 /// Whether no record settled a view.
-pub(crate) fn stays(
-    events: &[DecodedRecord],
-    turns: &Settlements,
-    view: BorrowedView<'_>,
-) -> bool
+pub(crate) fn stays(events: &[DecodedRecord], turns: &Settlements, view: BorrowedView<'_>) -> bool
     ensures { result ≡ is_none (settler_by turns.now events.now (as_view view.entry)) }
 {
     settler(events, turns, view).is_none()
 }
 
 /// Where a view lands: the reference or call to which the record that settled it, if one did, turns it.
-fn landed_by(
+pub(crate) fn landed_by(
     events: &[DecodedRecord],
     turns: &Settlements,
     view: BorrowedView<'_>,
@@ -86,7 +82,7 @@ pub(crate) fn reference_by(
 }
 
 /// The view of a reference, lent.
-fn view_of(bound: &BoundReferences, reference: u64) -> Option<BorrowedView<'_>>
+pub(crate) fn view_of(bound: &BoundReferences, reference: u64) -> Option<BorrowedView<'_>>
     ensures { option_map as_view result ≡ bound_at bound.now reference }
 {
     match bound.of(reference) {
@@ -120,8 +116,8 @@ pub(crate) fn most_turns(turns: &Settlements, bound: &BoundReferences) -> u128
     calls * (references + 1) + references
 }
 
-/// Follows one turn, and where that goes to a reference, that reference's shortcut. Answers the view reached and how many
-/// turns the shortcut skipped.
+/// Follows one turn to a reference or a call, then that one's shortcut. Answers the view reached and how many turns the
+/// shortcut skipped.
 fn hop<'a>(
     events: &[DecodedRecord],
     turns: &Settlements,
@@ -139,7 +135,10 @@ fn hop<'a>(
             let next = view_of(bound, leap.to)?;
             Some((next, leap.turns))
         }
-        Landing::Call(call) => Some((BorrowedView::Field(call, view.path()), 0)),
+        Landing::Call(call) => {
+            let leap = turns.call_ahead(call);
+            Some((BorrowedView::Field(leap.to, view.path()), leap.turns))
+        }
     }
 }
 
@@ -354,7 +353,11 @@ pub(crate) fn leads_by_turns(
 }
 
 /// A view, where no record settled it.
-fn end_here<'a>(events: &[DecodedRecord], turns: &Settlements, view: BorrowedView<'a>) -> Option<BorrowedView<'a>>
+fn end_here<'a>(
+    events: &[DecodedRecord],
+    turns: &Settlements,
+    view: BorrowedView<'a>,
+) -> Option<BorrowedView<'a>>
     ensures { option_map as_view result
         ≡ (if is_none (settler_by turns.now events.now (as_view view.entry)) then Some (as_view view.entry) else None) }
 {

@@ -1,8 +1,8 @@
-//! References ahead, which are remembered so that later walks are shorter.
+//! References and calls ahead, which are remembered so that later walks are shorter.
 
 ghost use Rattle.std.specs.Prelude.{◌≡◌, ℕ, Some, IfSome};
 ghost use Rattle.vat_view.specs.Glue.Tables.{bound_at};
-ghost use Rattle.vat_view.specs.Glue.TurnTables.{turns_of, onward_by, HaveAhead, IsAhead};
+ghost use Rattle.vat_view.specs.Glue.TurnTables.{turns_of, onward_by, call_onward_by, joined, SaysSameTurns, HaveAhead, IsAhead, IsCallAhead};
 
 use crate::borrowed_view::BorrowedView;
 use crate::record::decoded::DecodedRecord;
@@ -10,13 +10,21 @@ use crate::record::table_key::TableKey;
 use crate::tables::exports_imports::ExportsImports;
 use crate::tables::references::{BoundReferences, Shortcut};
 use crate::tables::settlements::Settlements;
-use crate::walks::hops::reference_by;
+use crate::walks::hops::{landed_by, reference_by, turned_to, view_of};
+use crate::walks::turn_target::Landing;
 
-/// How high a reference stands among others: half of all stand at 0, a quarter at 1, and so on, in no order.
-fn level(reference: u64) -> u32 {
-    reference
-        .wrapping_mul(0x9E37_79B9_7F4A_7C15)
-        .leading_zeros()
+/// How high a reference or a call stands among others: half of all stand at 0, a quarter at 1, and so on, in no order.
+fn level(number: u64) -> u32 {
+    number.wrapping_mul(0x9E37_79B9_7F4A_7C15).leading_zeros()
+}
+
+/// From where the first of two leads from to where the second leads to, with a turn between them, if the turns can be
+/// counted.
+fn joined(near: Shortcut, far: Shortcut) -> Option<Shortcut>
+    ensures { IfSome result (λ leap. leap ≡ joined near far) }
+{
+    let turns = near.turns.checked_add(far.turns)?.checked_add(1)?;
+    Some(Shortcut { to: far.to, turns })
 }
 
 /// Where the reference ahead of this one lands.
@@ -56,11 +64,8 @@ fn longer(
     }
     let near = bound.ahead(reference)?;
     let far = bound.ahead(next)?;
-    let count = near.turns.checked_add(far.turns)?.checked_add(1)?;
-    Some(Shortcut {
-        to: far.to,
-        turns: count,
-    })
+    let leap = joined(near, far)?;
+    Some(leap)
 }
 
 /// Remembers of a reference what is further ahead of it than the one now ahead of it, which lands on `next`, if there is
@@ -114,64 +119,172 @@ pub(crate) fn shorten(
     }
 }
 
-/// Where the field at a path of a call lands.
-pub(crate) fn first_turn_of_field(
-    events: &[DecodedRecord],
-    turns: &Settlements,
-    call: u64,
-    path: &[u16],
-) -> Option<u64> {
-    reference_by(events, turns, BorrowedView::Field(call, path))
+/// The call where the fields of the call ahead of this one land.
+fn call_onward(events: &[DecodedRecord], turns: &Settlements, call: u64) -> Option<u64>
+    ensures { result ≡ call_onward_by events.now turns.now call }
+{
+    let near = turns.call_ahead(call);
+    match landed_by(events, turns, BorrowedView::Field(near.to, &[])) {
+        Some(Landing::Call(next)) => Some(next),
+        _ => None,
+    }
 }
 
-/// Where the walk goes on from the field at a path of a call, after its first turn: where the view lands to which the
-/// field turns. A walk by 1 or more turns hops from there on.
-pub(crate) fn second_turn_of_field(
+/// What is further ahead of a call than the one now ahead of it, which lands on `next`: what is ahead of `next`, as
+/// [`longer`] has it for references.
+fn longer_for_call(
     events: &[DecodedRecord],
     turns: &Settlements,
     bound: &BoundReferences,
     call: u64,
-    path: &[u16],
-) -> Option<u64> {
-    let first = first_turn_of_field(events, turns, call, path)?;
-    turn_of_reference(events, turns, bound, first)
+    next: u64,
+) -> Option<Shortcut>
+    requires ahead { HaveAhead events.now turns.now bound.now }
+    requires lands { call_onward_by events.now turns.now call ≡ Some next }
+    ensures { IfSome result
+        (λ leap. IsCallAhead (turns_of events.now turns.now bound.now) call leap) }
+{
+    if level(next) > level(call) {
+        return None;
+    }
+    let after = call_onward(events, turns, next)?;
+    if level(after) <= level(next) {
+        return None;
+    }
+    let near = turns.call_ahead(call);
+    let far = turns.call_ahead(next);
+    let leap = joined(near, far)?;
+    Some(leap)
 }
 
-/// Where the view of a reference lands.
-pub(crate) fn turn_of_reference(
+/// Remembers of a call what is further ahead of it than the one now ahead of it, which lands on `next`, if there is one
+/// that suits it.
+fn lengthen_for_call(
+    events: &[DecodedRecord],
+    turns: &mut Settlements,
+    bound: &BoundReferences,
+    call: u64,
+    next: u64,
+)
+    requires ahead { HaveAhead events.now turns.old bound.now }
+    requires lands { call_onward_by events.now turns.old call ≡ Some next }
+    ensures same { SaysSameTurns turns.old turns.new }
+    ensures ahead { HaveAhead events.now turns.new bound.now }
+{
+    let Some(leap) = longer_for_call(events, turns, bound, call, next) else {
+        return;
+    };
+    turns.remember_call(call, leap);
+}
+
+/// Makes the walks from the fields of this call shorter, as far as they go by calls: as [`shorten`] does by references. It
+/// takes no memory.
+pub(crate) fn shorten_calls(
+    events: &[DecodedRecord],
+    turns: &mut Settlements,
+    bound: &BoundReferences,
+    from: u64,
+)
+    requires { HaveAhead events.now turns.old bound.now }
+    ensures same { SaysSameTurns turns.old turns.new }
+    ensures ahead { HaveAhead events.now turns.new bound.now }
+{
+    let mut call = from;
+    let mut mark = from;
+    for step in 0..turns.handovers_len() {
+        let Some(next) = call_onward(events, turns, call) else {
+            return;
+        };
+        lengthen_for_call(events, turns, bound, call, next);
+        if next == mark {
+            return;
+        }
+        if step.is_power_of_two() {
+            mark = next;
+        }
+        call = next;
+    }
+}
+
+/// Where a walk goes on from a view.
+#[derive(Clone, Copy)]
+pub(crate) struct WayOn {
+    /// The call to whose field the view turns, if it does.
+    pub(crate) call: Option<u64>,
+    /// The reference where it lands after all such calls, if it does.
+    pub(crate) reference: Option<u64>,
+}
+
+/// The call to whose field a view turns, if it does.
+fn call_by(events: &[DecodedRecord], turns: &Settlements, view: BorrowedView<'_>) -> Option<u64> {
+    match landed_by(events, turns, view) {
+        Some(Landing::Call(call)) => Some(call),
+        _ => None,
+    }
+}
+
+/// The reference where a view lands, or a field to which it turns by calls.
+fn reference_beyond(
+    events: &[DecodedRecord],
+    turns: &Settlements,
+    view: BorrowedView<'_>,
+) -> Option<u64> {
+    let mut at = view;
+    for _passed in 0..=turns.handovers_len() {
+        match landed_by(events, turns, at)? {
+            Landing::Reference(reference) => return Some(reference),
+            Landing::Call(call) => {
+                at = BorrowedView::Field(turns.call_ahead(call).to, at.path());
+            }
+        }
+    }
+    None
+}
+
+/// Where a walk goes on from a view.
+pub(crate) fn way_from(
+    events: &[DecodedRecord],
+    turns: &Settlements,
+    view: BorrowedView<'_>,
+) -> WayOn {
+    WayOn {
+        call: call_by(events, turns, view),
+        reference: reference_beyond(events, turns, view),
+    }
+}
+
+/// Where a walk by 1 or more turns goes on from a view after its first turn, if it turns.
+pub(crate) fn way_after<'a>(
+    events: &[DecodedRecord],
+    turns: &Settlements,
+    bound: &'a BoundReferences,
+    view: BorrowedView<'a>,
+) -> Option<WayOn> {
+    let next = turned_to(events, turns, bound, view)?;
+    Some(way_from(events, turns, next))
+}
+
+/// Where a walk goes on from the view of a reference.
+pub(crate) fn way_from_reference(
     events: &[DecodedRecord],
     turns: &Settlements,
     bound: &BoundReferences,
     reference: u64,
-) -> Option<u64> {
-    reference_by(events, turns, BorrowedView::of(bound.of(reference)?))
+) -> Option<WayOn> {
+    let view = view_of(bound, reference)?;
+    Some(way_from(events, turns, view))
 }
 
-/// Where what an export or import number stands for lands.
-pub(crate) fn first_turn_of_number(
-    events: &[DecodedRecord],
-    turns: &Settlements,
-    bound: &BoundReferences,
+/// What an export or import number stands for, lent.
+pub(crate) fn view_of_number<'a>(
+    bound: &'a BoundReferences,
     lives: &ExportsImports,
     number: TableKey,
-) -> Option<u64> {
+) -> Option<BorrowedView<'a>> {
     let origin = lives.origin_of(number)?;
     if number.ours {
-        turn_of_reference(events, turns, bound, origin.reference?)
+        view_of(bound, origin.reference?)
     } else {
-        reference_by(events, turns, BorrowedView::Import(origin.number, origin.place))
+        Some(BorrowedView::Import(origin.number, origin.place))
     }
-}
-
-/// Where the walk goes on from what an export or import number stands for, after its first turn: where the view lands to
-/// which that turns. A walk by 1 or more turns hops from there on.
-pub(crate) fn second_turn_of_number(
-    events: &[DecodedRecord],
-    turns: &Settlements,
-    bound: &BoundReferences,
-    lives: &ExportsImports,
-    number: TableKey,
-) -> Option<u64> {
-    let first = first_turn_of_number(events, turns, bound, lives, number)?;
-    turn_of_reference(events, turns, bound, first)
 }

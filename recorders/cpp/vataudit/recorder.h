@@ -31,8 +31,8 @@
 // - A bootstrap object that is made anew for each client (BootstrapFactory) has to be given by `asBootstrap`.
 // - Where a method names its results beforehand by `setPipeline`, no record says so before they are there. A call that
 //   goes on to such a result before is told `no .. rule GOAL`. A method that ends by `tailCall` is recorded, by
-//   ANSWERBY. The runtime's own tail calls, back over the connection by which a call came, are
-//   told `no .. rule RESULT`.
+//   ANSWERBY. The runtime's own tail calls, back over the connection by which a call came, are told
+//   `no .. rule RESULT`.
 // - Where a call waits in a queue of the runtime for a promise and then goes out, or is delivered, as a copy, its
 //   MAKE is found by interface, method and parameters, the oldest first. If the runtime exchanged two such calls
 //   that are alike in all of this, the log couldn't tell. All other calls are found by where their parameters lie.

@@ -22,7 +22,7 @@ pub fn rule_sentence(rule: Rule) -> &'static str
             "a Bootstrap or a Call opens a question whose number is free: never used, or both its Return and its Finish have passed"
         }
         Rule::QUse => {
-            "a Return answers an opened question that had no Return, a Finish ends one that had no Finish, and a target or a capability names one that had no Finish"
+            "a Return answers an opened question that had no Return, a Finish ends one that had no Finish, a target, a capability or takeFromOtherQuestion names one that had no Finish, and results are taken once, where they were to go elsewhere"
         }
         Rule::XUse => {
             "an export or import that a target, a receiverHosted or a Release names is held: introduced more often than given back"
@@ -38,7 +38,7 @@ pub fn rule_sentence(rule: Rule) -> &'static str
         }
         Rule::Count => "nothing gives back more of a number than is held",
         Rule::Result => {
-            "a Return has the results that are known of its call, each capability leading to what its entry stands for; one with canceled comes after a Finish"
+            "a Return has the results that are known of its call, each capability leading to what its entry stands for, or takes those of the call by which it was answered; results go elsewhere where that was asked, and canceled comes after a Finish"
         }
         Rule::Resolve => {
             "a Resolve names a promise that had none, and when it is sent the promise has turned to what it says"

@@ -13,6 +13,8 @@ pub(crate) enum LogVersion {
     One,
     /// `VATLOG02`, with counts of 32 bits.
     Two,
+    /// `VATLOG03`, of a runtime that speaks the later edition of rpc.capnp. Its bytes are those of version 2.
+    Three,
 }
 
 impl LogVersion {
@@ -23,6 +25,7 @@ impl LogVersion {
         match self {
             LogVersion::One => 1,
             LogVersion::Two => 2,
+            LogVersion::Three => 3,
         }
     }
 }
@@ -39,6 +42,9 @@ pub(crate) fn read_version(bytes: &[u8]) -> Result<LogVersion, LogError>
     }
     if bytes.starts_with(b"VATLOG02") {
         return Ok(LogVersion::Two);
+    }
+    if bytes.starts_with(b"VATLOG03") {
+        return Ok(LogVersion::Three);
     }
     Err(LogError::BadMagic)
 }

@@ -29,7 +29,7 @@ use Rattle.rpc_view.specs.declared.view_error.Outside.TheVariants.{Level, Unimpl
 use Rattle.rpc_view.specs.declared.view_error.ViewError.{ViewError}
 use Rattle.rpc_view.specs.declared.view_error.ViewError.TheVariants as errors
 use Rattle.rpc_view.specs.Reading.{part, struct_in, list_in, run}
-use Rattle.rpc_view.specs.Layouts.{message_tag, message_body, bootstrap_question, call_question, call_method, call_send_results_to, call_interface, call_later, call_target, call_params, return_answer, return_release_param_caps, return_later, return_tag, return_take_from_other_question, return_results, finish_question, finish_release_result_caps, resolve_promise, resolve_tag, resolve_cap, release_id, release_count, disembargo_number, disembargo_tag, disembargo_target, target_tag, target_imported, target_promised, promised_question, promised_transform, operation_tag, operation_field, payload_content, payload_cap_table, descriptor_tag, descriptor_number, descriptor_answer}
+use Rattle.rpc_view.specs.Layouts.{message_tag, message_body, bootstrap_question, call_question, call_method, call_send_results_to, call_interface, call_only_promise_pipeline, call_target, call_params, return_answer, return_release_param_caps, return_no_finish_needed, return_tag, return_take_from_other_question, return_results, finish_question, finish_release_result_caps, resolve_promise, resolve_tag, resolve_cap, release_id, release_count, disembargo_number, disembargo_tag, disembargo_target, target_tag, target_imported, target_promised, promised_question, promised_transform, operation_tag, operation_field, payload_content, payload_cap_table, descriptor_tag, descriptor_number, descriptor_answer}
 
 -- ---- results of questions
 

@@ -1,5 +1,6 @@
 //! The bodies of messages. The data of each is judged whole before its pointers are followed.
 
+ghost use Rattle.std.specs.Prelude.{◌≡◌};
 ghost use Rattle.rpc_view.specs.Reading.{run};
 ghost use Rattle.rpc_view.specs.Glue.{RunsInMemory, sections_of};
 ghost use Rattle.rpc_view.specs.Message.{bootstrap_in, called_in, is_beyond, call_in, outcome_in, returned_in, return_in, finish_in, resolve_in, release_in, disembargoed_in, disembargo_in};
@@ -65,7 +66,10 @@ fn read_call_parts(
 fn is_beyond(edition: Edition, field: bool) -> bool
     ensures { result ≡ is_beyond edition field }
 {
-    edition == Edition::First && field
+    match edition {
+        Edition::First => field,
+        Edition::Later => false,
+    }
 }
 
 /// The Call behind a Message's pointer.

@@ -67,15 +67,15 @@ fn message(
     body(alloc, frame, &message, limits, edition)
 }
 
-/// The message of a frame, within limits: as this edition of rpc.capnp lays its structs out. A null root pointer reads as a Message of
-/// defaults.
+/// The message of a frame, within limits: as rpc.capnp lays its structs out in this edition. A null root pointer reads
+/// as a Message of defaults.
 ///
 /// Errors: `Read` where a pointer can't be followed within the limits, `BadTag` for a tag that this profile doesn't
-/// list, `Outside` for what is listed and outside of this profile or of the edition, `OutOfMemory`. The first one in the order of reading
-/// is answered: the Message and its tag; then the data of the body, judged whole, where of several faults the one is
-/// answered that comes first in the order `BadTag`, `Level`, `LaterField`; then what its pointers hold, a
-/// capability table before the content, and each entry of a table, and each operation of a transform, with what it
-/// holds before the next one.
+/// list, `Outside` for what is listed and outside of this profile or of the edition, `OutOfMemory`. The first one in the
+/// order of reading is answered: the Message and its tag; then the data of the body, judged whole, where of several
+/// faults the one is answered that comes first in the order `BadTag`, `Level`, `LaterField`; then what its pointers
+/// hold, a capability table before the content, and each entry of a table, and each operation of a transform, with what
+/// it holds before the next one.
 pub fn read_message(
     alloc: Global,
     frame: &Frame,

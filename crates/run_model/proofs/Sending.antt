@@ -101,7 +101,7 @@ received_leads before legal v k c results caps bound linked =
     (all_grow s.1 (Send s.0 k (Return c results caps) ∷ s.2) c results (all_grow (Send s.0 k (Return c results caps) ∷ []) s.2 c results there.1.1))
 
 -- one of two tests that steps pass stays passed
-either_later : (one other : Step → Bool) (later earlier : PastSteps) → (list_any one earlier || list_any other earlier) ≡ true → (list_any one (later ++ earlier) || list_any other (later ++ earlier)) ≡ true
+pub either_later : (one other : Step → Bool) (later earlier : PastSteps) → (list_any one earlier || list_any other earlier) ≡ true → (list_any one (later ++ earlier) || list_any other (later ++ earlier)) ≡ true
 either_later one other later earlier e = elim (or_either (list_any one earlier) (list_any other earlier) e) [
   | inl so ↦ or_left (list_any one (later ++ earlier)) (list_any other (later ++ earlier)) (passes_later one later earlier so)
   | inr so ↦ or_right (list_any one (later ++ earlier)) (list_any other (later ++ earlier)) (passes_later other later earlier so)

@@ -213,8 +213,8 @@ told_taken before name other s legal linked at (inl own) =
 told_taken before name other s legal linked at (inr r) =
     let legal_then = each_earlier IsLegal at.0 (s ∷ at.1) (subst (EachStep IsLegal) at.2 legal) in
     let linked_then = each_earlier IsLinked at.0 (s ∷ at.1) (subst (EachStep IsLinked) at.2 linked) in
-    let then = received_taken at.1 legal_then.1 r.0 r.1 name other r.2 (subst (IsLinked at.1) r.3 linked_then.0) in
-    subst (λ l. IsHanded l name other) (sym at.2) (handed_later at.0 (s ∷ at.1) name other (handed_later (s ∷ []) at.1 name other then))
+    let told = received_taken at.1 legal_then.1 r.0 r.1 name other r.2 (subst (IsLinked at.1) r.3 linked_then.0) in
+    subst (λ l. IsHanded l name other) (sym at.2) (handed_later at.0 (s ∷ at.1) name other (handed_later (s ∷ []) at.1 name other told))
 
 -- and answers it so
 hands_answers : (name other : Name) (s : Step) → hands name other s ≡ true → answers_call name s ≡ true
@@ -233,9 +233,9 @@ told_returned before name s legal linked at (inl own) = or_left (list_any (answe
 told_returned before name s legal linked at (inr (inr r)) =
     let legal_then = each_earlier IsLegal at.0 (s ∷ at.1) (subst (EachStep IsLegal) at.2 legal) in
     let linked_then = each_earlier IsLinked at.0 (s ∷ at.1) (subst (EachStep IsLinked) at.2 linked) in
-    let then = received_answered at.1 legal_then.1 r.0 r.1 name r.2 r.3 r.4 (subst (IsLinked at.1) r.5 linked_then.0) in
+    let told = received_answered at.1 legal_then.1 r.0 r.1 name r.2 r.3 r.4 (subst (IsLinked at.1) r.5 linked_then.0) in
     subst (λ l. IsReturned l name) (sym at.2)
-    (either_later (answers_call name) (passes_back name) at.0 (s ∷ at.1) (either_later (answers_call name) (passes_back name) (s ∷ []) at.1 then))
+    (either_later (answers_call name) (passes_back name) at.0 (s ∷ at.1) (either_later (answers_call name) (passes_back name) (s ∷ []) at.1 told))
 
 known_returned : (v : ℕ) (es : Past) (steps before : List Step) → IsWithin v es steps before → (call : ℕ) (name : Name) → is_known call es ≡ true → call_named v es steps call ≡ Some name → IsReturned before name
 known_returned v es steps before w call name known named =
@@ -387,25 +387,25 @@ module _ (v : ℕ) (es : Past) (steps before : List Step) (w : IsWithin v es ste
 
     -- a call that is passed back was sent on
     passed_may : (name other : Name) (by : ℕ) → is_same_call name other ≡ true → IsHeard es by → call_of (id k true n) es ≡ Some by → call_named v es steps by ≡ Some other → MaySend before v (message.Taken name other)
-    passed_may name other by same heard from by_named =
-        let sent = subst (λ d. list_any (sends_on d v) before ≡ true) (sym (names_same name other same)) (sent_on v es steps before w by k n from heard other by_named) in
+    passed_may name other by same heard stands by_named =
+        let sent = subst (λ d. list_any (sends_on d v) before ≡ true) (sym (names_same name other same)) (sent_on v es steps before w by k n stands heard other by_named) in
         or_right (list_any (hands name other) before) (is_same_call name other && list_any (sends_on name v) before) (and_from (is_same_call name other) (list_any (sends_on name v) before) same sent)
 
     handed_may : (name other : Name) (by : ℕ) → call_of (id k true n) es ≡ Some by → call_named v es steps by ≡ Some other → IsHandedOn before es by name other → MaySend before v (message.Taken name other)
-    handed_may name other by from by_named (inl handed) = or_left (list_any (hands name other) before) (is_same_call name other && list_any (sends_on name v) before) handed
-    handed_may name other by from by_named (inr back) =
-        passed_may name other by (and_parts (is_same_call name other) (is_passed_back name before) back.0).0 back.1 from by_named
+    handed_may name other by stands by_named (inl handed) = or_left (list_any (hands name other) before) (is_same_call name other && list_any (sends_on name v) before) handed
+    handed_may name other by stands by_named (inr back) =
+        passed_may name other by (and_parts (is_same_call name other) (is_passed_back name before) back.0).0 back.1 stands by_named
 
     taken_may : (name other : Name) (call by : ℕ) → call_at (opening (id k false q) es) ≡ Some call → call_named v es steps call ≡ Some name → call_of (id k true n) es ≡ Some by → call_named v es steps by ≡ Some other →
         ReturnsTaken Later es (call_of (id k true n) es) call → MaySend before v (message.Taken name other)
-    taken_may name other call by asked named from by_named (inl answered_so) =
+    taken_may name other call by asked named stands by_named (inl answered_so) =
         let answered = and_then_there (answered_by call es) (λ d. call_of (id k true n) es ≡ Some d) answered_so in
-        let same : answered.0 ≡ by = some_same (sym answered.2 ∙ from) in
-        handed_may name other by from by_named (answered_on v es steps before w call by name other (answered.1 ∙ ap (λ d. Some d) same) named by_named)
-    taken_may name other call by asked named from by_named (inr own) =
-        let same : call ≡ by = some_same (sym own ∙ from) in
+        let same : answered.0 ≡ by = some_same (sym answered.2 ∙ stands) in
+        handed_may name other by stands by_named (answered_on v es steps before w call by name other (answered.1 ∙ ap (λ d. Some d) same) named by_named)
+    taken_may name other call by asked named stands by_named (inr own) =
+        let same : call ≡ by = some_same (sym own ∙ stands) in
         let names : name ≡ other = some_same (sym named ∙ ap (call_named v es steps) same ∙ by_named) in
-        passed_may name other by (subst (λ d. is_same_call name d ≡ true) names (own_same name)) (k, q, es, ([], refl), asked ∙ ap (λ c. Some c) same) from by_named
+        passed_may name other by (subst (λ d. is_same_call name d ≡ true) names (own_same name)) (k, q, es, ([], refl), asked ∙ ap (λ c. Some c) same) stands by_named
 
     taken_sent : (late : Bool) → is_late es taking ≡ late → (M : Message) (name : Name) (call : ℕ) → call_at (opening (id k false q) es) ≡ Some call → call_named v es steps call ≡ Some name →
         say_taken (is_late es taking) name from ≡ Some M → MaySend before v M

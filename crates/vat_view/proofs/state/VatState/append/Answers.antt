@@ -1,4 +1,4 @@
-use Rattle.std.proofs.Common.{◌≡◌, ◌∙◌, refl, sym, subst, length, arith}
+use Rattle.std.proofs.Common.{◌≡◌, ◌∙◌, sym, subst, length, arith}
 use Rattle.std.specs.Prelude.{reverse}
 use Rattle.std.proofs.lemmas.Grind.{common_steps}
 use Rattle.vat_view.specs.Sound.{IsSound}
@@ -42,7 +42,7 @@ invariant_of-self-in_err-grow_for c = (
   (λ i. c.room_for.ensures.same i ∙ (subst (λ l. AreResolved (reverse l) c.self.inside.resolves) (sym c.in_ok-reserve.ensures.items) c.self.invariant.1) i),
   turns_refused c.self.inside.events.items c.reserve.new.self.items c.self.inside.turns c.make_room.new.self c.in_ok-reserve.ensures.items c.make_room.ensures.same c.self.invariant.2,
   connected_refused c.self.inside.events.items c.reserve.new.self.items c.self.inside.connections c.grow_for.new.self c.in_ok-reserve.ensures.items
-  (record { asked = c.grow_for.ensures.asked; aborted = c.grow_for.ensures.aborted; aborted_here = c.grow_for.ensures.aborted_here }) c.self.invariant.3,
+      (record { asked = c.grow_for.ensures.asked; aborted = c.grow_for.ensures.aborted; aborted_here = c.grow_for.ensures.aborted_here }) c.self.invariant.3,
   subst (λ l. AreWaiting (reverse l) c.self.inside.waits) (sym c.in_ok-reserve.ensures.items) c.self.invariant.4,
   ahead_refused c.self.inside.events.items c.reserve.new.self.items c.self.inside.turns c.make_room.new.self c.in_ok-reserve.ensures.items c.make_room.ensures.same c.self.inside.bound c.make_room.ensures.ahead c.self.invariant.5,
 )
@@ -53,7 +53,7 @@ invariant_of-self-in_err-change c = (
   (λ i. c.room_for.ensures.same i ∙ (subst (λ l. AreResolved (reverse l) c.self.inside.resolves) (sym c.in_ok-reserve.ensures.items) c.self.invariant.1) i),
   turns_refused c.self.inside.events.items c.reserve.new.self.items c.self.inside.turns c.make_room.new.self c.in_ok-reserve.ensures.items c.make_room.ensures.same c.self.invariant.2,
   connected_refused c.self.inside.events.items c.reserve.new.self.items c.self.inside.connections c.grow_for.new.self c.in_ok-reserve.ensures.items
-  (record { asked = c.grow_for.ensures.asked; aborted = c.grow_for.ensures.aborted; aborted_here = c.grow_for.ensures.aborted_here }) c.self.invariant.3,
+      (record { asked = c.grow_for.ensures.asked; aborted = c.grow_for.ensures.aborted; aborted_here = c.grow_for.ensures.aborted_here }) c.self.invariant.3,
   waits_same (reverse c.reserve.new.self.items) c.self.inside.waits c.prepare.new.self c.prepare.ensures.same
       (subst (λ l. AreWaiting (reverse l) c.self.inside.waits) (sym c.in_ok-reserve.ensures.items) c.self.invariant.4),
   ahead_refused c.self.inside.events.items c.reserve.new.self.items c.self.inside.turns c.make_room.new.self c.in_ok-reserve.ensures.items c.make_room.ensures.same c.self.inside.bound c.make_room.ensures.ahead c.self.invariant.5,
@@ -77,7 +77,7 @@ invariant_of-self-in_err-apply_record c =
       (λ i. c.room_for.ensures.same i ∙ (subst (λ l. AreResolved (reverse l) c.self.inside.resolves) (sym c.in_ok-reserve.ensures.items) c.self.invariant.1) i),
       turns_refused c.self.inside.events.items c.reserve.new.self.items c.self.inside.turns c.make_room.new.self c.in_ok-reserve.ensures.items c.make_room.ensures.same c.self.invariant.2,
       connected_refused c.self.inside.events.items c.reserve.new.self.items c.self.inside.connections c.grow_for.new.self c.in_ok-reserve.ensures.items
-  (record { asked = c.grow_for.ensures.asked; aborted = c.grow_for.ensures.aborted; aborted_here = c.grow_for.ensures.aborted_here }) c.self.invariant.3,
+          (record { asked = c.grow_for.ensures.asked; aborted = c.grow_for.ensures.aborted; aborted_here = c.grow_for.ensures.aborted_here }) c.self.invariant.3,
       waits_same (reverse c.reserve.new.self.items) c.self.inside.waits c.prepare.new.self c.prepare.ensures.same
           (subst (λ l. AreWaiting (reverse l) c.self.inside.waits) (sym c.in_ok-reserve.ensures.items) c.self.invariant.4),
       ahead_unlearned c.self.inside.events.items c.reserve.new.self.items c.self.inside.turns c.make_room.new.self c.in_ok-reserve.ensures.items c.make_room.ensures.same c.self.inside.bound
@@ -112,7 +112,7 @@ invariant_of-self-2 c =
           ∙ taken_from_known (reverse c.self.inside.events.items) c.self.inside.questions c.self.inside.lives c.self.inside.bound c.self.inside.calls c.self.invariant.0 c.args.event)
           (says_then c.self.inside.turns c.make_room.new.self c.drop_calls_ahead.new.self c.make_room.ensures.same c.drop_calls_ahead.ensures.same) c.note.ensures,
       connected_applied c.self.inside.events.items c.reserve.new.self.items c.push_reserved.new.self.items c.args.event c.self.inside.connections c.grow_for.new.self c.note_event.new.self
-          c.in_ok-reserve.ensures.items c.push_reserved.ensures.items 
+          c.in_ok-reserve.ensures.items c.push_reserved.ensures.items
           (record { asked = c.grow_for.ensures.asked; aborted = c.grow_for.ensures.aborted; aborted_here = c.grow_for.ensures.aborted_here })
           (record { asked = c.note_event.ensures.asked; aborted = c.note_event.ensures.aborted; aborted_here = c.note_event.ensures.aborted_here }) c.self.invariant.3,
       state_applied c.self.inside.events.items c.reserve.new.self.items c.args.self.now c.args.event c.len-number.result

@@ -2,7 +2,7 @@ use Rattle.std.proofs.Common.{◌≡◌, ◌<◌, ◌++◌, ◌∷◌, [], List,
 use Rattle.std.proofs.lemmas.List.{length-map, get_or-map}
 use Rattle.vat_log.specs.declared.body.Body.{Body}
 use Rattle.vat_log.proofs.Loop.{taken}
-use Rattle.vat_log.proofs.log.copied_records.Goals as goal
+use Rattle.vat_log.proofs.storing.copied_records.Goals as goal
 
 pub loop-entry-preserved : goal.loop-entry-preserved
 loop-entry-preserved c =

@@ -10,19 +10,24 @@ ghost use Rattle.vat_rules.specs.Ways.{LeadsTo};
 ghost use Rattle.vat_rules.specs.OfConnections.{IsOpen, KeepsEmbargo};
 
 use crate::leads::leads_to;
-use rpc_view::{Loopback, RpcMessage};
+use rpc_view::{Edition, Loopback, RpcMessage};
 use vat_view::{DecodedRecord, TableKey, VatState, View};
 
-/// Whether a record sends nothing on a connection that was aborted.
-pub(crate) fn is_open(state: &VatState, event: &DecodedRecord) -> bool
-    ensures { Decides result (IsOpen state.now event.now) }
+/// Whether a record sends nothing on a connection that was aborted; by the later edition, nothing but the one abort that
+/// answers another.
+pub(crate) fn is_open(edition: Edition, state: &VatState, event: &DecodedRecord) -> bool
+    ensures { Decides result (IsOpen edition state.now event.now) }
 {
     match event {
         DecodedRecord::Wire {
             sent: true,
             connection,
+            message,
             ..
-        } => !state.is_aborted(*connection),
+        } => match (edition, message) {
+            (Edition::Later, RpcMessage::Abort) => !state.is_aborted_here(*connection),
+            _ => !state.is_aborted(*connection),
+        },
         _ => true,
     }
 }
@@ -50,17 +55,24 @@ fn theirs(connection: u32, number: u32) -> TableKey
 }
 
 /// Whether a sent senderLoopback has a number that isn't outstanding, and a target that leads elsewhere than over its
-/// connection.
-fn asks_echo(state: &VatState, connection: u32, number: u32, target: Option<&View>) -> bool
+/// connection, as the edition has it.
+fn asks_echo(
+    edition: Edition,
+    state: &VatState,
+    connection: u32,
+    number: u32,
+    target: Option<&View>,
+) -> bool
     ensures { Decides result
         (IsTrue (not (is_some (loopback_of (id connection true number) state.now)))
-        × IsSomeAnd (option_copied target.entry) (λ v. LeadsElsewhere state.now v connection)) }
+        × IsSomeAnd (option_copied target.entry)
+        (λ v. LeadsElsewhere edition state.now v connection)) }
 {
     if state.awaits_echo(ours(connection, number)) {
         return false;
     }
     match target {
-        Some(target) => state.leads_elsewhere(target, connection),
+        Some(target) => state.leads_elsewhere(target, connection, edition),
         None => false,
     }
 }
@@ -91,10 +103,15 @@ fn may_echo(state: &VatState, connection: u32, number: u32, target: Option<&View
     leads_to(state, state.embargoed_view(loopback), target) && !state.is_held_up(loopback)
 }
 
-/// Whether a Disembargo asks for an echo, or echoes, as it may.
-pub(crate) fn keeps_embargo(state: &VatState, event: &DecodedRecord, target: Option<&View>) -> bool
+/// Whether a Disembargo asks for an echo, or echoes, as it may by an edition.
+pub(crate) fn keeps_embargo(
+    edition: Edition,
+    state: &VatState,
+    event: &DecodedRecord,
+    target: Option<&View>,
+) -> bool
     requires { option_copied target ≡ view_of_target state.now event.now }
-    ensures { Decides result (KeepsEmbargo state.now event.now) }
+    ensures { Decides result (KeepsEmbargo edition state.now event.now) }
 {
     let DecodedRecord::Wire {
         sent,
@@ -110,7 +127,7 @@ pub(crate) fn keeps_embargo(state: &VatState, event: &DecodedRecord, target: Opt
         return true;
     };
     match (loopback, *sent) {
-        (Loopback::Sender, true) => asks_echo(state, *connection, *number, target),
+        (Loopback::Sender, true) => asks_echo(edition, state, *connection, *number, target),
         (Loopback::Sender, false) => is_asked_echo(state, *connection, *number, target),
         (Loopback::Receiver, true) => may_echo(state, *connection, *number, target),
         (Loopback::Receiver, false) => state.awaits_echo(ours(*connection, *number)),

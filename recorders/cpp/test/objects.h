@@ -104,6 +104,16 @@ protected:
   }
 
   kj::Promise<void> none(NoneContext) override { return kj::READY_NOW; }
+  kj::Promise<void> named(NamedContext context) override {
+    auto paf = kj::newPromiseAndFulfiller<Counter::Client>();
+    fulfiller = kj::mv(paf.fulfiller);
+    Counter::Client promise = recorder.promise(kj::mv(paf.promise));
+    capnp::PipelineBuilder<Counter::NamedResults> pipeline;
+    pipeline.setCounter(promise);
+    context.setPipeline(pipeline.build());
+    context.getResults().setCounter(promise);
+    return kj::READY_NOW;
+  }
   kj::Promise<void> wait(WaitContext context) override {
     auto paf = kj::newPromiseAndFulfiller<Counter::Client>();
     fulfiller = kj::mv(paf.fulfiller);

@@ -649,6 +649,22 @@ void lightNamed(World& world) {
   KJ_ASSERT(two.next(two.counter, 1) == 1);
 }
 
+// A method names its result beforehand, a promise. It is settled while the Return is under way, and then a call of the
+// result comes in.
+void named(World& world) {
+  Two two(world);
+  two.settle();
+  two.line.close();
+  auto named = two.counter.namedRequest().send();
+  auto settled = settleAs(two.counter, 0).send();
+  two.settle();
+  auto onResult = nextBy(named.getCounter(), 1).send();
+  two.settle();
+  two.line.open();
+  KJ_ASSERT(two.wait(onResult).getValue() == 1001);
+  two.settle();
+}
+
 #if CAPNP_VERSION >= 1000000
 // A call of which only the result is wanted, and a call of that.
 void forPipeline(World& world) {
@@ -763,7 +779,7 @@ const Conversations ofTwo = {
   { "number_taken_over", numberTakenOver }, { "handed_back", handedBack }, { "queued", queued },
   { "canceled_waiting", canceledWaiting }, { "streaming", streaming }, { "null_promise", nullPromise },
   { "this_cap", thisCap }, { "light_reopened", lightReopened }, { "light_crossed", lightCrossed },
-  { "light_named", lightNamed }, { "pending_loopback", pendingLoopback },
+  { "light_named", lightNamed }, { "pending_loopback", pendingLoopback }, { "named", named },
 #if CAPNP_VERSION >= 1000000
   { "for_pipeline", forPipeline }, { "for_pipeline_given", forPipelineGiven },
 #endif

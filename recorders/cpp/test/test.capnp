@@ -21,4 +21,5 @@ interface Counter {
   mine @14 (steps :UInt32) -> (counter :Counter);
   none @15 () -> (counter :Counter);
   wait @16 () -> (counter :Counter);
+  named @17 () -> (counter :Counter);
 }

@@ -1757,7 +1757,9 @@ private:
   kj::ForkedPromise<void> disconnected = nullptr;
   size_t queueSize = 0, queueCount = 0;
   kj::TimePoint writtenSince;
-  kj::Vector<kj::Own<inside::Outgoing>> queue;  // from 1.0 on: what was sent in this turn of the loop
+#if CAPNP_VERSION >= 1000000
+  kj::Vector<kj::Own<inside::Outgoing>> queue;  // what was sent in this turn of the loop
+#endif
   Disposer disposer;
   friend class inside::Outgoing;
 

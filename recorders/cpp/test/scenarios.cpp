@@ -336,7 +336,8 @@ void twoConnections(World& world) {
   vataudit::Recorder third(world.log(3).c_str(), 3);
   kj::TwoWayPipe pipe = two.io.provider->newTwoWayPipe();
   vataudit::TwoPartyClient server(third, *pipe.ends[1], 1, third.host<CounterObject>(third, 30), Side::SERVER);
-  vataudit::TwoPartyClient client(two.first, *pipe.ends[0], 1);
+  GatedStream line(*pipe.ends[0]);
+  vataudit::TwoPartyClient client(two.first, line, 1);
   Counter::Client other = client.bootstrap().castAs<Counter>();
   auto request = two.counter.callRequest();
   request.setBack(other);

@@ -111,7 +111,7 @@ for client in "${versions[@]}"; do
         { cat logs/said; differ "scenarios with $says ended with $?"; }
     fi
     run_demo "$client" "$server" "$name"
-    ran+=("$(ls logs | grep -c -- "-$name\.vat1\.log") with $says")
+    ran+=("$(ls logs | grep -c "^[a-z_]*-$name\.vat1\.log") with $says")
   done
 done
 # A log of a recorder that stopped has another name. What is in it is audited like the others.

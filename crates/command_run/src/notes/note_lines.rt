@@ -8,6 +8,7 @@ use report_lines::NumberedRecord;
 use std::alloc::{AllocError, Global};
 use std::fmt::Write;
 use vat_log::{Body, LogError, VatLog, parse_log};
+use vat_rules::edition_of;
 
 /// The log of a vat among files, with the name of its file.
 fn log_of_vat<'a>(
@@ -81,7 +82,7 @@ fn put_record_of(
     let Some(event) = log.get(at) else {
         return Ok(());
     };
-    let record = numbered(alloc, at, event)?;
+    let record = numbered(alloc, at, event, edition_of(log))?;
     put_numbered(text, name, &record)
 }
 

@@ -11,7 +11,8 @@ the lines, an example and the exit status.
 
 Notes for people go to standard error: the record of a no and what its rule asks,
 or the file that is bad or can't be read. They change no line and no status.
-vataudit --quiet COMMAND .. leaves them out; --quiet stands before the command.
+vataudit --quiet COMMAND .. leaves them out, as --quiet does as the last word.
+vataudit --version prints the version, and the kit by which it was proved.
 
 Examples:
   $ vataudit vat samples/pipelined_call.vat2.log

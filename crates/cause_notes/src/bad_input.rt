@@ -64,7 +64,7 @@ fn put_log_fault(text: &mut String, fault: LogError, bytes: usize) -> Result<(),
         LogError::BadMagic => write!(text, "note: its first 8 bytes aren't those of a log\n"),
         LogError::Short(at) => write!(
             text,
-            "note: it ends with byte {bytes}, within what begins at byte {at}\n"
+            "note: it has {bytes} bytes, and ends within the field that begins at byte {at}\n"
         ),
         LogError::BadKind(at) => write!(
             text,
@@ -85,7 +85,7 @@ fn put_order_fault(text: &mut String, fault: OrderError, bytes: usize) -> Result
         OrderError::BadMagic => write!(text, "note: its first 8 bytes aren't those of an order\n"),
         OrderError::Short(at) => write!(
             text,
-            "note: it ends with byte {bytes}, within the step that begins at byte {at}\n"
+            "note: it has {bytes} bytes, and ends within the step that begins at byte {at}\n"
         ),
         OrderError::OutOfMemory => Ok(()),
     }

@@ -164,7 +164,13 @@ fn put_pair(
     )?;
     put_place(alloc, text, logs, maker, first)?;
     put_place(alloc, text, logs, maker, second)?;
-    put_place(alloc, text, logs, delivery.vat, delivery.at)?;
+    let vat = delivery.vat;
+    let at = delivery.at;
+    write!(
+        text,
+        "note: call {other} of vat {maker} is delivered only by record {at} of vat {vat}\n"
+    )?;
+    put_place(alloc, text, logs, vat, at)?;
     put_way(text, steps, overtaken)?;
     put_way(text, steps, early)
 }

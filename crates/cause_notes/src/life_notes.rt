@@ -18,20 +18,20 @@ fn word_of(event: Option<&DecodedRecord>) -> &'static str {
                 message: RpcMessage::Release { .. },
                 ..
             },
-        ) => "released",
+        ) => "released by",
         Some(
             DecodedRecord::Wire {
                 message: RpcMessage::Finish { .. },
                 ..
             },
-        ) => "given back with its Finish",
+        ) => "given back by the Finish of",
         Some(
             DecodedRecord::Wire {
                 message: RpcMessage::Return { .. },
                 ..
             },
-        ) => "given back with its Return",
-        _ => "given back",
+        ) => "given back by the Return of",
+        _ => "given back by",
     }
 }
 
@@ -47,7 +47,7 @@ pub(crate) fn put_life(past: &Past<'_>, text: &mut String, life: Life) -> Result
     write!(text, "note: {shown} was introduced by record {began}\n")?;
     if let Some(ended) = life.ended {
         let word = word_of(past.get(ended));
-        write!(text, "note: it was {word} by record {ended}\n")?;
+        write!(text, "note: it was {word} record {ended}\n")?;
     }
     Ok(())
 }
@@ -120,13 +120,13 @@ fn put_counted(
     let held = life.held;
     write!(
         text,
-        "note: it gives back {given} of {shown}, which is held {held} times\n"
+        "note: it gives back {given} of {shown}, and {held} of it is held\n"
     )?;
     put_life(past, text, life)?;
     match life.lowered {
         Some(at) if life.ended != Some(at) => {
             let word = word_of(past.get(at));
-            write!(text, "note: a part of it was {word} by record {at}\n")
+            write!(text, "note: a part of it was {word} record {at}\n")
         }
         _ => Ok(()),
     }

@@ -31,7 +31,7 @@ fn put_link(
     });
     write!(
         text,
-        "note: a message was received that wasn't sent so, and what the logs show behind it may come of that: {shown}\n"
+        "note: a message was received that wasn't sent so, and what follows may come of that: {shown}\n"
     )?;
     put_received(alloc, text, logs, connection, end, message)?;
     put_counterpart(alloc, text, logs, connection, end, message)
@@ -78,7 +78,7 @@ fn put_vat(
         return Ok(());
     };
     let shown = Answer::Report(report);
-    write!(text, "note: another log: {shown}\n")?;
+    write!(text, "note: in another log: {shown}\n")?;
     match (place_of(finding), logs.name_of(finding.log().vat())) {
         (Some(at), Some(name)) => put_record(alloc, text, name, finding.log(), at),
         _ => Ok(()),

@@ -28,11 +28,7 @@ fn to_reference(past: &Past<'_>, at: usize, reference: u64) -> Result<Option<Tur
 }
 
 /// The reference that stands for the capability at a place of a table.
-pub(crate) fn reference_at(
-    references: &[u64],
-    descriptors: &[Descriptor],
-    place: usize,
-) -> Option<u64> {
+fn reference_at(references: &[u64], descriptors: &[Descriptor], place: usize) -> Option<u64> {
     let mut before = 0_usize;
     for (index, descriptor) in descriptors.iter().enumerate() {
         if index == place {

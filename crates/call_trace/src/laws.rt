@@ -163,9 +163,9 @@ pub fn what_is_used_is_had()
 {}
 
 /// Where a log is paired with its vat's steps of a run so far, and its records are good, the step of a further good record
-/// that sends a Return (`returned`) or a Resolve (`resolved`) may come. So a call was answered before its results are sent,
-/// and they lead to what is given, as a promise does to what it is resolved to; and it was answered by the call whose
-/// results a Return takes.
+/// that sends a Return (`returned`) or a Resolve (`resolved`) may come. So a call was answered or passed back before its
+/// results are sent, and they lead on to what is given, as a promise does to what it is resolved to; and the call whose results
+/// a Return takes is the one by which the call that it returns was answered, or is that call, and this vat sent it on.
 pub fn returns_follow_answers()
     ensures returned { (v : ℕ) (es : Past) (steps before : List Step) → IsWithin v es steps before
         → Each IsGood es → (k c : ℕ) (references : List ℕ) (q : ℕ) (release : Bool)

@@ -1,7 +1,7 @@
 use Rattle.std.proofs.Common.{◌≡◌, ◌+◌, ◌*◌, [], length, map, All}
 use Rattle.std.specs.Arc.{arc_value}
 use Rattle.vat_tap.specs.Glue.Taps.{ring_of, AreNew}
-use Rattle.vat_tap.proofs.tap.Tap.open.Given as goal
+use Rattle.vat_tap.proofs.tap.Tap.opened.Given as goal
 
 abbrev pub invariant-loop-number : goal.invariant-loop-number
 invariant-loop-number l = record {

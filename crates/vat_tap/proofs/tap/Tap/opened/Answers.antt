@@ -6,7 +6,7 @@ use Rattle.vat_tap.specs.Glue.Taps.{ring_of, lane_view, AreNew}
 use Rattle.vat_tap.proofs.Moves.{splits}
 use Rattle.vat_tap.proofs.Gathering.{more_times}
 use Rattle.vat_tap.proofs.NewLanes.{enough, same_ring, new_more}
-use Rattle.vat_tap.proofs.tap.Tap.open.Goals as goal
+use Rattle.vat_tap.proofs.tap.Tap.opened.Goals as goal
 
 pub split_seat-theirs-requires : goal.split_seat-theirs-requires
 split_seat-theirs-requires c =

@@ -14,22 +14,22 @@ mod auditing;
 mod counts;
 mod error;
 mod first_bad;
+mod found_run;
 mod gate;
 mod judging;
 mod laws;
-mod naming;
 mod report;
 mod with_findings;
 mod working;
 
 pub use auditing::audit;
 pub use error::AuditError;
+pub use found_run::run_of_findings;
 pub use gate::Gate;
 pub use judging::{judge, judge_unordered};
 pub use laws::{
     a_case_has_one_graph, a_case_has_one_line, good_findings_name_a_run, raising_keeps_a_yes,
     versions_change_nothing,
 };
-pub use naming::run_of_findings;
 pub use report::{Breach, Report};
 pub use with_findings::audit_with_findings;

@@ -148,14 +148,15 @@ fn write_notes<S: RememberingSource, N: Write>(
     alloc: Global,
     command: &Command<'_>,
     heard: &Heard,
-    noted: &mut NotedSource<S, N>,
+    source: &S,
+    notes: &mut N,
 ) {
     let hex = match command {
-        Command::Frame { hex } => Some(*hex),
+        Command::Frame { hex, .. } => Some(*hex),
         _ => None,
     };
-    if let Ok(text) = notes_of(alloc, heard, &noted.source, hex) {
-        let _ = noted.notes.write_all(text.as_bytes());
+    if let Ok(text) = notes_of(alloc, heard, source, hex) {
+        let _ = notes.write_all(text.as_bytes());
     }
 }
 
@@ -196,7 +197,7 @@ pub fn run_with_notes<R: Threads + Wait + Sync, S: RememberingSource, W: Write, 
     let mut heard = Heard::new();
     let host = Host { rt, alloc };
     let answered = answer_heard(&host, command, &mut noted.source, &mut heard, out, file);
-    write_notes(alloc, command, &heard, noted);
+    write_notes(alloc, command, &heard, &noted.source, &mut noted.notes);
     write_failure(alloc, command, &answered, &mut noted.notes);
     answered.unwrap_or(FAILED)
 }

@@ -8,10 +8,10 @@ ghost use Rattle.command_run.specs.Glue.{IsMade, Migrates};
 ghost use Rattle.command_run.specs.Runs.{Writes, Wrote};
 
 use crate::answering::{save, say};
-use cause_notes::Heard;
 use crate::output::{Failed, Output};
 use bytes::Bytes;
 use case_files::Source;
+use cause_notes::Heard;
 use report_lines::{Answer, Fault};
 use std::alloc::Global;
 use vat_log::{migrate, parse_log};

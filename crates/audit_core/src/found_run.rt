@@ -25,7 +25,7 @@ fn run_by(alloc: Global, findings: &Findings, order: &Order) -> Result<Run, Allo
 ///
 /// Out of memory.
 pub fn run_of_findings(alloc: Global, findings: &Findings) -> Result<Option<Run>, AllocError> {
-    if line_of(findings).is_some() {
+    if let Some(_) = line_of(findings) {
         return Ok(None);
     }
     match make_order(alloc, findings.case().logs())? {

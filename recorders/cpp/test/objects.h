@@ -112,7 +112,7 @@ protected:
     pipeline.setCounter(promise);
     context.setPipeline(pipeline.build());
     context.getResults().setCounter(promise);
-    return kj::READY_NOW;
+    return kj::evalLast([]() {});
   }
   kj::Promise<void> wait(WaitContext context) override {
     auto paf = kj::newPromiseAndFulfiller<Counter::Client>();

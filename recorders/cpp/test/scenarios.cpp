@@ -336,7 +336,8 @@ void twoConnections(World& world) {
   vataudit::Recorder third(world.log(3).c_str(), 3);
   kj::TwoWayPipe pipe = two.io.provider->newTwoWayPipe();
   vataudit::TwoPartyClient server(third, *pipe.ends[1], 1, third.host<CounterObject>(third, 30), Side::SERVER);
-  vataudit::TwoPartyClient client(two.first, *pipe.ends[0], 1);
+  GatedStream line(*pipe.ends[0]);
+  vataudit::TwoPartyClient client(two.first, line, 1);
   Counter::Client other = client.bootstrap().castAs<Counter>();
   auto request = two.counter.callRequest();
   request.setBack(other);
@@ -649,6 +650,27 @@ void lightNamed(World& world) {
   KJ_ASSERT(two.next(two.counter, 1) == 1);
 }
 
+// Vat 2 gives vat 1's promise back. Meanwhile it became the result of a call that vat 2 still works on, and vat 1 gives
+// what came back away again.
+void openProxy(World& world) {
+  Two two(world);
+  auto paf = kj::newPromiseAndFulfiller<Counter::Client>();
+  Counter::Client promise = two.first.promise(kj::mv(paf.promise));
+  two.hold(two.counter, promise);
+  two.settle();
+  two.line.close();
+  auto pending = two.counter.waitRequest().send();
+  auto held = two.counter.heldRequest().send();
+  two.settle();
+  paf.fulfiller->fulfill(pending.getCounter());
+  two.settle();
+  two.line.open();
+  two.pass(two.counter, two.wait(held).getCounter());
+  two.settlePromise(two.counter, 0);
+  two.wait(pending);
+  two.settle();
+}
+
 // A method names its result beforehand, a promise. It is settled while the Return is under way, and then a call of the
 // result comes in.
 void named(World& world) {
@@ -656,6 +678,7 @@ void named(World& world) {
   two.settle();
   two.line.close();
   auto named = two.counter.namedRequest().send();
+  two.settle();
   auto settled = settleAs(two.counter, 0).send();
   two.settle();
   auto onResult = nextBy(named.getCounter(), 1).send();
@@ -779,7 +802,7 @@ const Conversations ofTwo = {
   { "number_taken_over", numberTakenOver }, { "handed_back", handedBack }, { "queued", queued },
   { "canceled_waiting", canceledWaiting }, { "streaming", streaming }, { "null_promise", nullPromise },
   { "this_cap", thisCap }, { "light_reopened", lightReopened }, { "light_crossed", lightCrossed },
-  { "light_named", lightNamed }, { "pending_loopback", pendingLoopback }, { "named", named },
+  { "light_named", lightNamed }, { "pending_loopback", pendingLoopback }, { "named", named }, { "open_proxy", openProxy },
 #if CAPNP_VERSION >= 1000000
   { "for_pipeline", forPipeline }, { "for_pipeline_given", forPipelineGiven },
 #endif

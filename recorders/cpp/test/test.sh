@@ -76,18 +76,18 @@ for at in "${!folders[@]}"; do
     differ "the recorders said something else than refused.txt has"
   cat logs/said.here >> logs/said
   # The demo, built in a copy.
-  rm -rf "$build/demo" "$build/vataudit"
-  cp -r ../demo "$build/demo"
-  ln -s "$here/../vataudit" "$build/vataudit"
+  rm -rf "$build/cpp"
+  mkdir "$build/cpp"
+  cp -r ../demo ../vataudit "$build/cpp"
   PATH="${folder:+$folder/bin:}$PATH" PKG_CONFIG_PATH="${folder:+$folder/lib/pkgconfig:}${PKG_CONFIG_PATH:-}" \
-    make --quiet -C "$build/demo" clean recorded >> logs/said 2>&1 ||
+    make --quiet -C "$build/cpp/demo" clean recorded >> logs/said 2>&1 ||
     { cat logs/said; differ "the demo wasn't built with $version"; }
 done
 
 # Each client with each server of the demo, and of the conversations of two vats.
 ran=()
 run_demo() {
-  local client="$here/build/$1/demo/recorded/client" server="$here/build/$2/demo/recorded/server" folder
+  local client="$here/build/$1/cpp/demo/recorded/client" server="$here/build/$2/cpp/demo/recorded/server" folder
   folder="$(mktemp -d)"
   ( cd "$folder"
     "$server" unix:socket &

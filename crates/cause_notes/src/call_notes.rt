@@ -160,7 +160,9 @@ pub(crate) fn put_absent(past: &Past<'_>, text: &mut String) -> Result<(), Alloc
         DecodedRecord::Deliver { call, .. } | DecodedRecord::Wire { call, .. } => *call,
         _ => return Ok(()),
     };
-    let _ = put_origin(past, text, call)?;
+    if put_origin(past, text, call)? {
+        return write!(text, "note: the call of a Bootstrap is never at a vat\n");
+    }
     put_left(past, text, call)
 }
 

@@ -189,7 +189,7 @@ fn put_amiss(past: &Past<'_>, text: &mut String) -> Result<bool, AllocError> {
     Ok(false)
 }
 
-/// The record that resolved an import or export in its present life.
+/// The record that resolved an import or export behind the one since which it is in life.
 pub(crate) fn resolved_by(
     past: &Past<'_>,
     sent: bool,
@@ -205,7 +205,7 @@ pub(crate) fn resolved_by(
             ..
         } = past.get(at)?
         {
-            if *out == sent && *over == connection && *promise == number {
+            if at > since && *out == sent && *over == connection && *promise == number {
                 return Some(at);
             }
         }
@@ -220,6 +220,31 @@ fn introduced_as(descriptor: &Descriptor) -> Option<(u32, bool)> {
         Descriptor::SenderPromise(number) => Some((*number, true)),
         _ => None,
     }
+}
+
+/// Notes of a number that was resolved in its present life; and says whether the record is found that did.
+fn put_resolved(
+    past: &Past<'_>,
+    text: &mut String,
+    sent: bool,
+    life: Life,
+    number: u32,
+) -> Result<bool, AllocError> {
+    let Some(began) = life.began else {
+        return Ok(false);
+    };
+    let Some(at) = resolved_by(past, sent, life.connection, number, began) else {
+        return Ok(false);
+    };
+    let shown = NumberText {
+        connection: life.connection,
+        number: life.number,
+    };
+    write!(
+        text,
+        "note: {shown}, introduced by record {began}, was resolved by record {at}\n"
+    )?;
+    Ok(true)
 }
 
 /// Notes of an entry that introduces a number in use again as something else, or after its Resolve; and says whether it does.
@@ -242,14 +267,11 @@ fn put_if_changed(
         connection: life.connection,
         number: life.number,
     };
-    if let Some(at) = resolved_by(past, sent, life.connection, number, began) {
-        write!(
-            text,
-            "note: {shown}, introduced by record {began}, was resolved by record {at}\n"
-        )?;
-        return Ok(true);
+    let key = life.number.on(life.connection);
+    if past.state.is_resolved(key) {
+        return put_resolved(past, text, sent, life, number);
     }
-    let word = match past.state.began_promised(life.number.on(life.connection)) {
+    let word = match past.state.began_promised(key) {
         Some(true) if !promised => "senderPromise",
         Some(false) if promised => "senderHosted",
         _ => return Ok(false),

@@ -9,9 +9,10 @@ pub const PROGRAM_END: &str = "\
 Each command prints its answer in lines on standard output; its own --help has
 the lines, an example and the exit status.
 
-Notes for people go to standard error: the record of a no and what its rule asks,
-or the file that is bad or can't be read. They change no line and no status.
-vataudit --quiet COMMAND .. leaves them out; --quiet stands before the command.
+Notes for people go to standard error: the record of a no, what its rule asks and
+what led to it, or why an input is bad. They change no line and no status.
+vataudit --quiet COMMAND .. leaves them out, as --quiet does as the last word.
+vataudit --version prints the version, and the kit by which it was proved.
 
 Examples:
   $ vataudit vat samples/pipelined_call.vat2.log

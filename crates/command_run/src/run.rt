@@ -73,13 +73,17 @@ fn answer_heard<R: Threads + Wait + Sync, S: Source, O: Output, F: Output>(
             };
             of_lines(say_records(host.alloc, name, range, source, heard, out))
         }
-        Command::Frame { hex } => of_lines(say_frame(host.alloc, hex, heard, out)),
+        Command::Frame { hex, later } => {
+            of_lines(say_frame(host.alloc, hex, *later, heard, out))
+        }
         Command::Frames { file: name } => of_lines(say_frames(
             host.alloc, name, source, heard, out,
         )),
-        Command::Migrate { file: name, .. } => {
-            say_migrated(host.alloc, name, source, heard, out, file)
-        }
+        Command::Migrate {
+            file: name,
+            later,
+            ..
+        } => say_migrated(host.alloc, name, *later, source, heard, out, file),
     }
 }
 

@@ -9,7 +9,9 @@ use Rattle.cap_reader.specs.declared.limits.Limits.{Limits}
 use Rattle.rpc_view.specs.declared.view_error.ViewError.{ViewError}
 use Rattle.rpc_view.specs.Message.{message_of_bytes, is_light}
 use Rattle.rpc_view.proofs.Editions.{more_in_frame}
-use Rattle.vat_log.specs.Log.{Log}
+use Rattle.vat_log.specs.Log.{Log, version_number}
+use Rattle.vat_log.specs.declared.version.LogVersion.{LogVersion}
+use Rattle.vat_log.specs.declared.version.LogVersion.TheVariants.{One, Two, Three}
 use Rattle.vat_log.specs.declared.body.Body.{Body}
 use Rattle.vat_log.specs.declared.body.Body.TheVariants as body
 use Rattle.vat_view.specs.declared.record.table_key.TableKey.{TableKey}
@@ -30,10 +32,22 @@ use Rattle.vat_rules.specs.LogFacts.{Told}
 use Rattle.vat_rules.specs.Events.{Reader, with_message, event_of, event_or_none, events_before, past_at}
 use Rattle.vat_rules.specs.Telling.{entries_back, is_delivery, told_of}
 use Rattle.vat_rules.specs.First.{IsReadAs, IsGoodAt, AllGood, IsFirst}
-use Rattle.vat_rules.specs.Audit.{read_as, why_of, reads_by, reads_within, edition_of, IsTrueOf}
+use Rattle.vat_rules.specs.Audit.{read_as, why_of, reads_by, reads_within, edition_of_version, edition_of, IsTrueOf}
 use Rattle.vat_rules.proofs.Firsts.{told, past_at-more}
 use Rattle.vat_rules.proofs.Once.{passed_or, passed_later, passed_now, clash}
 use Rattle.vat_rules.proofs.Unique.{as_read, event_is, read_outside}
+
+-- ---- the edition of a version
+
+pub later_if : (v : LogVersion) → version_number v ≡ 3 → Later ≡ edition_of_version v
+later_if One h = absurd (let no : ⊥ = omega (arith, h) in no)
+later_if Two h = absurd (let no : ⊥ = omega (arith, h) in no)
+later_if Three h = refl
+
+pub first_if : (v : LogVersion) → (version_number v ≡ 3 → ⊥) → First ≡ edition_of_version v
+first_if One h = refl
+first_if Two h = refl
+first_if Three h = absurd (h refl)
 
 -- ---- the rules that let more pass
 
@@ -82,6 +96,12 @@ embargo_more before (Wire true k c rs (Disembargo n Sender target)) h = (
       (view_of_target before (Wire true k c rs (Disembargo n Sender target))) h.1,
 )
 embargo_more before _ h = h
+
+-- what is sent that is no abort is judged alike by both
+pub open_otherwise : (edition : Edition) (before : Past) (k c : ℕ) (rs : List ℕ) (m : RpcMessage) → (m ≡ Abort → ⊥) → IsOpen edition before (Wire true k c rs m) ≡ (not (is_aborted k before) ≡ true)
+open_otherwise First before k c rs m other = refl
+open_otherwise Later before k c rs Abort other = absurd (other refl)
+open_otherwise Later before k c rs _ other = refl
 
 -- a record that is good by the first edition is good by the later one
 pub keeps_more : (before : Past) (e : DecodedRecord) → IsGoodBy First before e → IsGoodBy Later before e

@@ -109,6 +109,7 @@ fn story_of(state: VatState, seen: Vec<RecordFacts>) -> Story
 }
 
 /// The edition of rpc.capnp by which a log is judged: its version says it.
+#[tactic(auto, using(crate::proofs::Editions::later_if, crate::proofs::Editions::first_if))]
 pub fn edition_of(log: &VatLog) -> Edition
     ensures { result ≡ edition_of log.now }
 {

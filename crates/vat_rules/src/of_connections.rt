@@ -1,11 +1,12 @@
 //! The rules on a connection as a whole: when it has ended, and when an embargo may be asked for and lifted.
 
-ghost use Rattle.std.specs.Prelude.{◌≡◌, true, false, not, is_some, Decides, IsTrue, IsSomeAnd};
+ghost use Rattle.std.specs.Prelude.{◌≡◌, ℕ, List, true, false, not, is_some, Decides, IsTrue, IsSomeAnd};
 ghost use Rattle.std.specs.Option.{option_copied};
 ghost use Rattle.vat_view.specs.Past.{id};
 ghost use Rattle.vat_view.specs.Views.{view_of_target};
 ghost use Rattle.vat_view.specs.Loopbacks.{loopback_of, embargoed_view, IsHeldUp};
 ghost use Rattle.vat_view.specs.Connections.{LeadsOver, LeadsElsewhere};
+ghost use Rattle.vat_rules.specs.Types.{Wire, Abort};
 ghost use Rattle.vat_rules.specs.Ways.{LeadsTo};
 ghost use Rattle.vat_rules.specs.OfConnections.{IsOpen, KeepsEmbargo};
 
@@ -13,8 +14,20 @@ use crate::leads::leads_to;
 use rpc_view::{Edition, Loopback, RpcMessage};
 use vat_view::{DecodedRecord, TableKey, VatState, View};
 
+/// Whether an abort may be sent on a connection: none was sent or received there, or, by the later edition, none was sent.
+fn may_abort(edition: Edition, state: &VatState, connection: u32) -> bool
+    ensures { (call : ℕ) (references : List ℕ) → Decides result
+        (IsOpen edition state.now (Wire true connection call references Abort)) }
+{
+    match edition {
+        Edition::First => !state.is_aborted(connection),
+        Edition::Later => !state.is_aborted_here(connection),
+    }
+}
+
 /// Whether a record sends nothing on a connection that was aborted; by the later edition, nothing but the one abort that
 /// answers another.
+#[tactic(auto, using(crate::proofs::Editions::open_otherwise))]
 pub(crate) fn is_open(edition: Edition, state: &VatState, event: &DecodedRecord) -> bool
     ensures { Decides result (IsOpen edition state.now event.now) }
 {
@@ -24,8 +37,8 @@ pub(crate) fn is_open(edition: Edition, state: &VatState, event: &DecodedRecord)
             connection,
             message,
             ..
-        } => match (edition, message) {
-            (Edition::Later, RpcMessage::Abort) => !state.is_aborted_here(*connection),
+        } => match message {
+            RpcMessage::Abort => may_abort(edition, state, *connection),
             _ => !state.is_aborted(*connection),
         },
         _ => true,

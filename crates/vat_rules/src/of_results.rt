@@ -111,10 +111,10 @@ fn is_answered_by(state: &VatState, from: Option<u64>, call: u64) -> bool
 fn returns_taken(edition: Edition, state: &VatState, from: Option<u64>, call: u64) -> bool
     ensures { Decides result (ReturnsTaken edition state.now from call) }
 {
-    if is_answered_by(state, from, call) {
-        return true;
+    match edition {
+        Edition::First => is_answered_by(state, from, call),
+        Edition::Later => is_answered_by(state, from, call) || from == Some(call),
     }
-    edition == Edition::Later && from == Some(call)
 }
 
 /// Whether the call of a question was answered by the one for which the question stands whose results are taken, or, by

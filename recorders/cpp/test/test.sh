@@ -75,12 +75,12 @@ for at in "${!folders[@]}"; do
   diff refused.txt <(sed '/fills/s/record [0-9]*/record */' logs/refused) ||
     differ "the recorders said something else than refused.txt has"
   cat logs/said.here >> logs/said
-  # The demo, built in a copy.
-  rm -rf "$build/cpp"
-  mkdir "$build/cpp"
-  cp -r ../demo ../vataudit "$build/cpp"
+  # The demo, built in a copy of its sources.
+  mkdir -p "$build/cpp/demo"
+  cp -u ../demo/{Makefile,*.cpp,*.capnp,record.diff} "$build/cpp/demo"
+  cp -ru ../vataudit "$build/cpp"
   PATH="${folder:+$folder/bin:}$PATH" PKG_CONFIG_PATH="${folder:+$folder/lib/pkgconfig:}${PKG_CONFIG_PATH:-}" \
-    make --quiet -C "$build/cpp/demo" clean recorded >> logs/said 2>&1 ||
+    make --quiet -C "$build/cpp/demo" recorded >> logs/said 2>&1 ||
     { cat logs/said; differ "the demo wasn't built with $version"; }
 done
 
@@ -111,7 +111,7 @@ for client in "${versions[@]}"; do
         { cat logs/said; differ "scenarios with $says ended with $?"; }
     fi
     run_demo "$client" "$server" "$name"
-    ran+=("$(ls logs | grep -c -- "-$name\.vat1\.log") with $says")
+    ran+=("$(ls logs | grep -c "^[a-z_]*-$name\.vat1\.log") with $says")
   done
 done
 # A log of a recorder that stopped has another name. What is in it is audited like the others.

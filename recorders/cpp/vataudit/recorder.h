@@ -28,6 +28,7 @@
 //
 // What it can't do:
 // - EzRpcClient and EzRpcServer let no recorder in.
+// - An object that overrides `shortenPath` goes out as a promise, which the audit refuses (DESC).
 // - A bootstrap object that is made anew for each client (BootstrapFactory) has to be given by `asBootstrap`.
 // - Where a method names its results beforehand by `setPipeline`, no record says so before they are there. A call that
 //   goes on to such a result before is told `no .. rule GOAL`. A method that ends by `tailCall` is recorded, by

@@ -117,7 +117,7 @@ const LATER: [(&str, &str); 4] = [
     ),
     // A Call for its pipeline alone.
     (
-        "900000000 1000100000000 2 3000300000000 2000000000000 0 4 0 0 0 0",
+        "900000000 1000100000000 2 3000300000000 0 0 4 0 0 0",
         "call question 0 target import 0 interface 0000000000000000 method 0 caps [] fields []",
     ),
 ];

@@ -37,3 +37,16 @@ pub fn make_order(alloc: Global, logs: &[Arc<VatLog>]) -> Result<Option<Order>, 
         Ok(None)
     }
 }
+
+/// The order that takes at each step the smallest vat number whose next record may come, as far as one may.
+pub fn begin_order(alloc: Global, logs: &[Arc<VatLog>]) -> Result<Order, AllocError>
+    requires { IsRising (map arc_value logs.now) }
+{
+    let mut schedule = Schedule::new(alloc, logs)?;
+    let mut vats = Vec::new(alloc);
+    while let Some(vat) = schedule.least() {
+        vats.push(vat)?;
+        schedule = schedule.take(vat)?;
+    }
+    Ok(Order::new(vats))
+}

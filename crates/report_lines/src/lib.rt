@@ -26,5 +26,7 @@ pub use answer::Answer;
 pub use edge_text::ShownEdge;
 pub use fault::Fault;
 pub use record_text::NumberedRecord;
+pub use report_text::ShownReport;
 pub use sentences::{report_sentence, rule_sentence, why_sentence};
+pub use shown::Shown;
 pub use step_text::NumberedStep;

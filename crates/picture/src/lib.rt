@@ -8,6 +8,7 @@
 
 mod arrange;
 mod arrow;
+mod calls;
 mod focus;
 mod label;
 mod late;

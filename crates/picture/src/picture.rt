@@ -1,12 +1,14 @@
 //! Pictures: what is drawn of a case.
 
 use crate::arrow::{Arrow, arrows_of};
+use crate::calls::maker_at;
 use crate::focus::{Focus, focus_of, step_at};
 use crate::mate::Place;
 use crate::row::{Row, rows_in};
 use crate::window::Window;
 use audit_core::Report;
 use case_book::Case;
+use run_model::Run;
 use std::alloc::{AllocError, Global};
 
 /// A picture of a case. It is shown as an SVG.
@@ -50,6 +52,16 @@ fn mark(rows: &mut Vec<Row<'_>>, focus: Focus) -> Option<usize> {
     fault
 }
 
+/// Colours the rows of calls that were made through the reference through which the call at this place was made.
+fn colour(rows: &mut Vec<Row<'_>>, run: &Run, at: Place) {
+    let Some(maker) = maker_at(run, at) else {
+        return;
+    };
+    for row in 0..rows.len() {
+        rows[row].coloured = maker_at(run, rows[row].place) == Some(maker);
+    }
+}
+
 /// The window that is drawn: the one that is asked for, or the one around what the verdict names.
 fn window_of(order: &[u32], at: Option<Place>, asked: Option<Window>) -> Window {
     match asked {
@@ -59,7 +71,8 @@ fn window_of(order: &[u32], at: Option<Place>, asked: Option<Window>) -> Window 
 }
 
 /// The picture of a case whose records are drawn in this order, and of its report: the rows of the window that is asked
-/// for, or of the one around what the report names.
+/// for, or of the one around what the report names. Where a run of the case is lent, the rows of calls are coloured that
+/// were made through the reference of the call that the report names.
 ///
 /// # Errors
 ///
@@ -69,12 +82,16 @@ pub fn draw<'a>(
     case: &'a Case,
     order: &[u32],
     report: &'a Report,
+    run: Option<&Run>,
     asked: Option<Window>,
 ) -> Result<Picture<'a>, AllocError> {
     let focus = focus_of(case, order, report);
     let window = window_of(order, focus.at, asked);
     let mut rows = rows_in(alloc, case, order, window)?;
     let fault = mark(&mut rows, focus);
+    if let (Some(run), Some(at)) = (run, focus.at) {
+        colour(&mut rows, run, at);
+    }
     let arrows = arrows_of(alloc, case, &rows)?;
     Ok(Picture {
         report,

@@ -4,12 +4,13 @@ use crate::arrow::{Arrow, Reach, Stroke};
 use crate::label::Label;
 use crate::picture::Picture;
 use crate::row::Row;
-use report_lines::{ShownReport, report_sentence};
+use audit_core::Report;
+use report_lines::{ShownReport, breach_code, report_sentence};
 use std::fmt;
 use std::fmt::{Display, Formatter};
 
 /// Where the first column is, and how far the next one is from it.
-const LEFT: u64 = 40;
+const LEFT: u64 = 60;
 
 const COLUMN: u64 = 420;
 
@@ -157,23 +158,41 @@ impl Picture<'_> {
         write!(
             f,
             "<g class=\"{group}\"><circle class=\"{mark}\" cx=\"{x}\" cy=\"{y}\" r=\"3.5\"/><text x=\"{}\" y=\"{}\">{label}</text></g>\n",
-            x + 9,
+            x + 14,
             y + 4
         )
     }
 
-    /// Writes the sentence of what is broken, below the row at fault, or below the head where there is none.
+    /// Writes what is broken, below the row at fault, or below the head where there is none.
     fn put_sentence<W: fmt::Write>(&self, f: &mut Formatter<W>) -> fmt::Result {
         let Some(sentence) = report_sentence(self.report) else {
             return Ok(());
         };
         let y = match self.fault {
-            Some(row) => self.y_of(row) + ROW,
+            Some(row) => self.y_of(row) + 20,
             None => 52,
         };
+        write!(f, "<text class=\"why\" x=\"{LEFT}\" y=\"{y}\">")?;
+        if let Report::Vat { rule, .. } = self.report {
+            write!(f, "{}: ", breach_code(*rule))?;
+        }
+        write!(f, "{sentence}</text>\n")
+    }
+
+    /// Writes how many steps are left out, above or below.
+    fn put_left_out<W: fmt::Write>(
+        &self,
+        f: &mut Formatter<W>,
+        steps: usize,
+        whence: &str,
+        y: u64,
+    ) -> fmt::Result {
+        if steps == 0 {
+            return Ok(());
+        }
         write!(
             f,
-            "<text class=\"why\" x=\"{LEFT}\" y=\"{y}\">{sentence}</text>\n"
+            "<text class=\"note\" x=\"{LEFT}\" y=\"{y}\">{steps} steps {whence} are left out</text>\n"
         )
     }
 }
@@ -201,11 +220,7 @@ impl Display for Picture<'_> {
             "<text class=\"head\" x=\"{LEFT}\" y=\"30\">{head}</text>\n"
         )?;
         self.put_columns(f)?;
-        write!(
-            f,
-            "<text class=\"note\" x=\"{LEFT}\" y=\"76\">{} steps above are left out</text>\n",
-            self.above
-        )?;
+        self.put_left_out(f, self.above, "above", 76)?;
         for arrow in &self.arrows {
             self.put_arrow(f, arrow)?;
         }
@@ -213,11 +228,7 @@ impl Display for Picture<'_> {
             self.put_row(f, at)?;
         }
         self.put_sentence(f)?;
-        let y = self.height() - 14;
-        write!(
-            f,
-            "<text class=\"note\" x=\"{LEFT}\" y=\"{y}\">{} steps below are left out</text>\n</svg>\n",
-            self.below
-        )
+        self.put_left_out(f, self.below, "below", self.height() - 14)?;
+        f.write_str("</svg>\n")
     }
 }

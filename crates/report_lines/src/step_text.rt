@@ -55,7 +55,7 @@ fn call_of_message(message: &Message) -> Option<Name>
 }
 
 /// The call that a step names, if it does.
-fn call_of(step: &Step) -> Option<Name>
+pub fn call_of_step(step: &Step) -> Option<Name>
     ensures { result ≡ call_of_step step.now }
 {
     match step {
@@ -128,7 +128,7 @@ impl Display for NumberedStep<'_> {
         let NumberedStep { at, record, step } = self;
         let vat = vat_of(step);
         let kind = Shown(*step);
-        let called = Shown(call_of(step));
+        let called = Shown(call_of_step(step));
         write!(f, "step {at} vat {vat} record {record} {kind}{called}")
     }
 }

@@ -96,7 +96,7 @@ fn scratch_draw<R: Threads + Wait + Sync + Files + Input + Print + Eprint + Allo
     let Ok(report) = audit_core::audit(rt, alloc, case, order, 1, &Open) else {
         return 3;
     };
-    let Ok(made) = picture::draw(alloc, &copy, &drawn, &report, None) else {
+    let Ok(made) = picture::draw(alloc, &copy, &drawn, &report, None, None) else {
         return 3;
     };
     let _ = out.writeln(made);

@@ -9,11 +9,11 @@
 mod arrange;
 mod arrow;
 mod calls;
+mod drawing;
 mod focus;
 mod label;
 mod late;
 mod mate;
-mod picture;
 mod places;
 mod row;
 mod svg;
@@ -21,6 +21,6 @@ mod window;
 
 pub use arrange::arrange;
 pub use arrow::{Arrow, Reach};
-pub use picture::{Picture, draw};
+pub use drawing::{Picture, draw};
 pub use row::Row;
 pub use window::{MAX_ROWS, Window};

@@ -1,8 +1,8 @@
 //! The text of a picture: an SVG that needs nothing else, with no script and no font of its own.
 
 use crate::arrow::{Arrow, Reach, Stroke};
+use crate::drawing::Picture;
 use crate::label::Label;
-use crate::picture::Picture;
 use crate::row::Row;
 use audit_core::Report;
 use report_lines::{ShownReport, breach_code, report_sentence};

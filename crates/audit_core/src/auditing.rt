@@ -21,7 +21,7 @@ use std::thread::Threads;
 const MAX_WORKERS: u32 = 64;
 
 /// Why a case isn't audited, but for running out of memory.
-fn refused(case: &Case, workers: u32) -> Option<AuditError>
+pub(crate) fn refused(case: &Case, workers: u32) -> Option<AuditError>
     ensures { result ≡ refusal_of case.now workers }
 {
     if workers == 0 {
@@ -66,7 +66,7 @@ fn finish<G: Gate>(alloc: Global, mut book: Book, gate: &G) -> Result<Findings, 
 }
 
 /// The findings of all pieces of a case, by so many workers. The calling thread does what they leave undone.
-fn find_all<R: Threads + Wait + Sync, G: Gate + Sync>(
+pub(crate) fn find_all<R: Threads + Wait + Sync, G: Gate + Sync>(
     rt: &R,
     alloc: Global,
     case: Case,

@@ -3,7 +3,8 @@
 //! It stands on `case_book`, whose book keeps what is found for each piece, on `merge_order` for orders, and on `call_trace`,
 //! which names the run of good logs. Which report a case has, with an order or without one, is said in `specs/Report.antt`;
 //! [`audit`], [`judge`] and [`judge_unordered`] answer just that. What a yes means stands in `specs/Headline.antt`, clause by
-//! clause, and each of the three cites it (clause `headline`); when a case isn't audited, in `specs/Refusals.antt`. Laws: good
+//! clause, and each of the three cites it (clause `headline`), as does [`audit_with_findings`], which also answers what was found of
+//! each log and each link; when a case isn't audited, in `specs/Refusals.antt`. Laws: good
 //! findings of a case and an order that fits are such as name a run ([`good_findings_name_a_run`]), and a case has one line,
 //! whichever order fits ([`a_case_has_one_line`]), and one graph ([`a_case_has_one_graph`]), whatever the versions of its logs
 //! ([`versions_change_nothing`]).
@@ -16,7 +17,9 @@ mod first_bad;
 mod gate;
 mod judging;
 mod laws;
+mod naming;
 mod report;
+mod with_findings;
 mod working;
 
 pub use auditing::audit;
@@ -26,4 +29,6 @@ pub use judging::{judge, judge_unordered};
 pub use laws::{
     a_case_has_one_graph, a_case_has_one_line, good_findings_name_a_run, versions_change_nothing,
 };
+pub use naming::run_of_findings;
 pub use report::{Breach, Report};
+pub use with_findings::audit_with_findings;

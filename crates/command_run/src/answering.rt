@@ -4,7 +4,7 @@ ghost use Rattle.std.specs.Prelude.{◌≡◌, OnOk, OnErr, IfOk, IsSome, option
 ghost use Rattle.report_lines.specs.Lines.{answer_status, answer_text, line};
 ghost use Rattle.command_run.specs.Runs.{Adds, Saves, Wrote};
 
-use crate::notes::cause::Heard;
+use cause_notes::Heard;
 use crate::output::Output;
 use bytes::Bytes;
 use report_lines::Answer;

@@ -8,13 +8,12 @@
 //! a log that is migrated (`specs/MigrationAnswers.antt`), of a case whose order is asked for (`specs/OrderAnswers.antt`), and of one that is judged (`specs/ReportAnswers.antt`); what a
 //! run asks for and writes in `specs/Runs.antt`. [`answer_command`] does just that, or answers the error of a write;
 //! [`run_on`] does it over std's writers and ends with 2 where a write failed, and [`run_with_notes`] tells people more of
-//! it besides (notes/note_lines.rt), on a writer of its own: what it tells is in no contract.
+//! it besides (`cause_notes`), on a writer of its own: what it tells is in no contract.
 #![tactic(auto)]
 
 mod answering;
 mod commands;
 mod host;
-mod notes;
 mod output;
 mod run;
 

@@ -15,12 +15,12 @@ use crate::commands::migrate_log::say_migrated;
 use crate::commands::run_steps::say_run;
 use crate::commands::vat_audit::say_vat;
 use crate::host::Host;
-use crate::notes::cause::Heard;
-use crate::notes::note_lines::notes_of;
 use crate::output::{Failed, Output};
 use case_files::{RememberingSource, Source};
+use cause_notes::{Heard, notes_of, write_note};
 use command_line::Command;
 use std::alloc::Global;
+use std::io;
 use std::io::Write;
 use std::sync::Wait;
 use std::thread::Threads;
@@ -111,7 +111,7 @@ pub fn answer_command<R: Threads + Wait + Sync, S: Source, O: Output, F: Output>
         &Host { rt, alloc },
         command,
         source,
-        &mut Heard::Nothing,
+        &mut Heard::new(),
         out,
         file,
     )
@@ -146,19 +146,40 @@ pub struct NotedSource<S, N> {
 /// Writes the notes beside what was heard of a source. Where a write fails, or memory is refused for them, they are left out.
 fn write_notes<S: RememberingSource, N: Write>(
     alloc: Global,
-    heard: Heard,
-    source: &S,
+    command: &Command<'_>,
+    heard: &Heard,
+    noted: &mut NotedSource<S, N>,
+) {
+    let hex = match command {
+        Command::Frame { hex } => Some(*hex),
+        _ => None,
+    };
+    if let Ok(text) = notes_of(alloc, heard, &noted.source, hex) {
+        let _ = noted.notes.write_all(text.as_bytes());
+    }
+}
+
+/// Writes the note of a write that failed, if one did.
+fn write_failure<N: Write>(
+    alloc: Global,
+    command: &Command<'_>,
+    answered: &Result<u8, Failed<io::Error, io::Error>>,
     notes: &mut N,
 ) {
-    if let Ok(text) = notes_of(alloc, heard, source) {
+    let noted = match answered {
+        Ok(_) => return,
+        Err(Failed::Out(error)) => write_note(alloc, None, error),
+        Err(Failed::File(error)) => write_note(alloc, command.out(), error),
+    };
+    if let Ok(text) = noted {
         let _ = notes.write_all(text.as_bytes());
     }
 }
 
-/// Runs a command over std's writers, as [`run_on`] does, and then writes notes: a line or two for people, beside
-/// a no, an outside, a file that can't be read or a log, an order or a case file that is bad (docs/FORMATS.md). No contract
-/// says what they tell. They change neither what is written elsewhere nor the exit status: where a write of them fails, or
-/// memory is refused for them, they are left out.
+/// Runs a command over std's writers, as [`run_on`] does, and then writes notes: lines for people, beside a no, an outside, an
+/// input that is bad or can't be read, and a write that failed (docs/FORMATS.md). No contract says what they tell. They change
+/// neither what is written elsewhere nor the exit status: where a write of them fails, or memory is refused for them, they are
+/// left out.
 pub fn run_with_notes<R: Threads + Wait + Sync, S: RememberingSource, W: Write, F: Write, N: Write>(
     rt: &R,
     alloc: Global,
@@ -172,9 +193,10 @@ pub fn run_with_notes<R: Threads + Wait + Sync, S: RememberingSource, W: Write, 
         (λ answers. WritesOrFails answers (Adds W.contents)
         (Adds F.contents) out.old out.new file.old file.new result) }
 {
-    let mut heard = Heard::Nothing;
+    let mut heard = Heard::new();
     let host = Host { rt, alloc };
     let answered = answer_heard(&host, command, &mut noted.source, &mut heard, out, file);
-    write_notes(alloc, heard, &noted.source, &mut noted.notes);
+    write_notes(alloc, command, &heard, noted);
+    write_failure(alloc, command, &answered, &mut noted.notes);
     answered.unwrap_or(FAILED)
 }

@@ -5,7 +5,7 @@
 //! no memory. An [`Answer`] is shown as just the text that `specs/Lines.antt` gives it, a [`Fault`] as that of
 //! `specs/Faults.antt`, a message as that of `specs/MessageText.antt`, a [`NumberedRecord`] as that of
 //! `specs/RecordText.antt`, an edge of a run ([`ShownEdge`]) as that of `specs/EdgeText.antt`, a step ([`NumberedStep`]) as
-//! that of `specs/StepText.antt`; `status` is just the exit status beside an answer. A line is the text and its end. What
+//! that of `specs/StepText.antt`; a value from below that is [`Shown`] as its part of these; `status` is just the exit status beside an answer. A line is the text and its end. What
 //! people are told of a rule or of why a record isn't judged ([`rule_sentence`], [`why_sentence`], [`report_sentence`]) is
 //! a line too, and no contract says which.
 #![tactic(auto)]

@@ -4,8 +4,9 @@ ghost use Rattle.std.specs.Prelude.{◌≡◌, ◌≤◌};
 ghost use Rattle.command_run.specs.Glue.{ComesJudged};
 
 use crate::host::Host;
-use audit_core::{AuditError, Gate, Report, audit};
+use audit_core::{AuditError, Gate, Report, audit_with_findings};
 use case_files::{ReadCase, Source, read_case};
+use cause_notes::Heard;
 use report_lines::Fault;
 use std::sync::Wait;
 use std::thread::Threads;
@@ -29,7 +30,7 @@ fn fault_of(error: AuditError) -> Fault
 }
 
 /// The report of the case that a source has under a name, by the order that its file names, if it names one: so many workers
-/// audit it, the calling thread among them.
+/// audit it, the calling thread among them. What was found of its logs and links is heard, unless the report is yes.
 ///
 /// # Errors
 ///
@@ -39,14 +40,18 @@ pub fn case_report<R: Threads + Wait + Sync, S: Source>(
     name: &str,
     workers: u32,
     source: &mut S,
+    heard: &mut Heard,
 ) -> Result<Report, Fault>
     requires some { 1 ≤ workers }
     requires few { workers ≤ 64 }
     ensures { ComesJudged S.read_gives source.old name.now result source.new }
 {
     let ReadCase { case, order } = read_case(host.alloc, source, name)?;
-    match audit(host.rt, host.alloc, case, order, workers, &OpenGate) {
-        Ok(report) => Ok(report),
+    match audit_with_findings(host.rt, host.alloc, case, order, workers, &OpenGate) {
+        Ok((report, findings)) => {
+            heard.keep(&report, findings);
+            Ok(report)
+        }
         Err(error) => Err(fault_of(error)),
     }
 }

@@ -9,7 +9,7 @@ ghost use Rattle.command_run.specs.Runs.{Wrote};
 use crate::answering::say;
 use crate::commands::case_report::case_report;
 use crate::host::Host;
-use crate::notes::cause::Heard;
+use cause_notes::Heard;
 use crate::output::Output;
 use case_files::Source;
 use report_lines::{Answer, Fault};
@@ -35,7 +35,7 @@ pub fn say_report<R: Threads + Wait + Sync, S: Source, O: Output>(
     ensures { Prints (AnswersReportOf AnswersReport S.read_gives source.old name.now source.new)
         (Wrote O.contents O.is_finished) out.old out.new result }
 {
-    match case_report(host, name, workers, source) {
+    match case_report(host, name, workers, source, heard) {
         Ok(report) => say(Answer::Report(report), heard, out),
         Err(fault) => say(Answer::Fault(fault), heard, out),
     }

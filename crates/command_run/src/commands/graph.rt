@@ -9,7 +9,7 @@ ghost use Rattle.command_run.specs.Runs.{Adds, Wrote};
 use crate::answering::say;
 use crate::commands::case_report::case_report;
 use crate::host::Host;
-use crate::notes::cause::Heard;
+use cause_notes::Heard;
 use crate::output::Output;
 use audit_core::Report;
 use authority::{Graph, graph};
@@ -68,7 +68,7 @@ pub fn say_graph<R: Threads + Wait + Sync, S: Source, O: Output>(
     ensures { Prints (AnswersReportOf AnswersGraph S.read_gives source.old name.now source.new)
         (Wrote O.contents O.is_finished) out.old out.new result }
 {
-    let report = match case_report(host, name, 1, source) {
+    let report = match case_report(host, name, 1, source, heard) {
         Ok(report) => report,
         Err(fault) => return say(Answer::Fault(fault), heard, out),
     };

@@ -10,7 +10,7 @@ ghost use Rattle.command_run.specs.Glue.{Prints};
 ghost use Rattle.command_run.specs.Runs.{Wrote};
 
 use crate::answering::say;
-use crate::notes::cause::Heard;
+use cause_notes::Heard;
 use crate::output::Output;
 use bytes::Bytes;
 use hex::FromHexError;

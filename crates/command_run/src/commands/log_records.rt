@@ -11,7 +11,7 @@ ghost use Rattle.command_run.specs.Runs.{Adds, Wrote};
 
 use crate::answering::say;
 use crate::commands::hex_frame::answer_of_bytes;
-use crate::notes::cause::Heard;
+use cause_notes::Heard;
 use crate::output::Output;
 use case_files::Source;
 use report_lines::{Answer, Fault, NumberedRecord};

@@ -7,7 +7,7 @@ ghost use Rattle.command_run.specs.OrderAnswers.{AnswersLogs};
 ghost use Rattle.command_run.specs.Runs.{Writes, Wrote};
 
 use crate::answering::{save, say};
-use crate::notes::cause::Heard;
+use cause_notes::Heard;
 use crate::output::{Failed, Output};
 use bytes::Bytes;
 use case_book::Case;

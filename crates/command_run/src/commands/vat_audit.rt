@@ -7,7 +7,7 @@ ghost use Rattle.command_run.specs.Glue.{Prints, answer_of};
 ghost use Rattle.command_run.specs.Runs.{Wrote};
 
 use crate::answering::say;
-use crate::notes::cause::Heard;
+use cause_notes::Heard;
 use crate::output::Output;
 use case_files::Source;
 use report_lines::{Answer, Fault};

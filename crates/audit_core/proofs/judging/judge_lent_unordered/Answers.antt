@@ -10,23 +10,23 @@ use Rattle.audit_core.specs.Report.{IsOrderFor, IsReport}
 use Rattle.audit_core.specs.declared.report.Report.{Report}
 use Rattle.audit_core.proofs.FirstLine.{good_case}
 use Rattle.audit_core.proofs.Meaning.{yes_means, yes_by_order}
-use Rattle.audit_core.proofs.judging.judge_unordered.Goals as goal
+use Rattle.audit_core.proofs.judging.judge_lent_unordered.Goals as goal
 
 pub returns-in-None-clause-report : goal.returns-in-None-clause-report
 returns-in-None-clause-report c =
     let same = c.logs.ensures.lent ∙ ap (λ (held : Contents). held.logs) c.case.ensures.lent in
-    (good_case c.args.findings c.in_default.ensures, λ order fits. c.in_ok-make_order.ensures.none c.in-None.is order (subst (λ (held : List Log). IsFitting held order) (sym same) fits))
+    (good_case c.args.findings.now c.in_default.ensures, λ order fits. c.in_ok-make_order.ensures.none c.in-None.is order (subst (λ (held : List Log). IsFitting held order) (sym same) fits))
 
 pub returns-clause-report : goal.returns-clause-report
 returns-clause-report c =
     let logs = map (arc_value {X = VatLog} {Z = Global}) c.logs.result.now in
-    let same : logs ≡ c.args.findings.case.logs = c.logs.ensures.lent ∙ ap (λ (held : Contents). held.logs) c.case.ensures.lent in
+    let same : logs ≡ c.args.findings.now.case.logs = c.logs.ensures.lent ∙ ap (λ (held : Contents). held.logs) c.case.ensures.lent in
     let least : TakesLeast logs c.in-Some-2.order = subst (λ made. IfSome made (λ order. TakesLeast logs order)) c.in-Some-2.is c.in_ok-make_order.ensures.least in
-    IfOk-weaker c.by_order.result (λ (answer : Report). (given : Option (List ℕ)) → IsOrderFor c.args.findings.case.logs given c.in-Some-2.order → IsReport c.args.findings.case given answer)
-    (IsReport c.args.findings.case None) (λ answer so. so None (subst (λ (held : List Log). TakesLeast held c.in-Some-2.order) same least)) c.by_order.ensures
+    IfOk-weaker c.by_order.result (λ (answer : Report). (given : Option (List ℕ)) → IsOrderFor c.args.findings.now.case.logs given c.in-Some-2.order → IsReport c.args.findings.now.case given answer)
+    (IsReport c.args.findings.now.case None) (λ answer so. so None (subst (λ (held : List Log). TakesLeast held c.in-Some-2.order) same least)) c.by_order.ensures
 
 pub returns-in-Some-clause-headline : goal.returns-in-Some-clause-headline
-returns-in-Some-clause-headline c = yes_means c.args.findings.case None c.in-Some.line (c.in-Some.ensures None)
+returns-in-Some-clause-headline c = yes_means c.args.findings.now.case None c.in-Some.line (c.in-Some.ensures None)
 
 pub returns-clause-headline : goal.returns-clause-headline
-returns-clause-headline c = yes_by_order c.args.findings.case c.in-Some-2.order c.by_order.result c.by_order.ensures
+returns-clause-headline c = yes_by_order c.args.findings.now.case c.in-Some-2.order c.by_order.result c.by_order.ensures

@@ -1,0 +1,287 @@
+//! Capability tables that don't say what the references beside them stand for.
+
+use crate::life_notes::put_life;
+use crate::lives::{Life, number_described};
+use crate::past::Past;
+use crate::turns::{put_reference, reference_at};
+use crate::view_text::{NumberText, ViewText};
+use report_lines::Shown;
+use rpc_view::{Descriptor, RpcMessage};
+use std::alloc::AllocError;
+use std::fmt::Write;
+use vat_view::{BorrowedView, DecodedRecord, View};
+
+/// How many entries of a table are capabilities.
+fn caps_in(descriptors: &[Descriptor]) -> usize {
+    let mut count = 0_usize;
+    for descriptor in descriptors {
+        if !matches!(descriptor, Descriptor::NoCap) {
+            count = count.saturating_add(1);
+        }
+    }
+    count
+}
+
+/// Notes that there are more or fewer references than capabilities, where it is so; and says whether it is.
+pub(crate) fn put_unpaired(past: &Past<'_>, text: &mut String) -> Result<bool, AllocError> {
+    let DecodedRecord::Wire { references, .. } = &past.event else {
+        return Ok(false);
+    };
+    if past.state.notes_each(&past.event) {
+        return Ok(false);
+    }
+    let caps = caps_in(past.event.descriptors());
+    let noted = references.as_slice().len();
+    write!(
+        text,
+        "note: capabilities in its table: {caps}, references noted: {noted}\n"
+    )?;
+    if past.state.is_late(&past.event) {
+        write!(
+            text,
+            "note: it is a late Return, beside which no reference is noted\n"
+        )?;
+    }
+    Ok(true)
+}
+
+/// Whether a reference leads to what an entry stands for.
+fn leads(past: &Past<'_>, view: Option<&View>, stands: Option<&View>) -> bool {
+    match (view, stands) {
+        (Some(view), Some(stands)) => past.state.leads(view, stands),
+        _ => false,
+    }
+}
+
+/// The life of the number that an entry of the record's table names.
+fn life_of(past: &Past<'_>, descriptor: &Descriptor) -> Option<Life> {
+    match &past.event {
+        DecodedRecord::Wire {
+            sent,
+            connection,
+            ..
+        } => past
+            .lives
+            .of(*connection, number_described(*sent, descriptor)?),
+        _ => None,
+    }
+}
+
+/// Notes what an entry stands for, and the record since which it does.
+pub(crate) fn put_entry(
+    past: &Past<'_>,
+    text: &mut String,
+    place: usize,
+    stands: Option<&View>,
+) -> Result<(), AllocError> {
+    let Some(descriptor) = past.event.descriptors().get(place) else {
+        return Ok(());
+    };
+    let shown = Shown(descriptor);
+    if let Some(stands) = stands {
+        let view = ViewText(BorrowedView::of(stands));
+        write!(
+            text,
+            "note: entry {place} of its table, {shown}, stands for {view}\n"
+        )?;
+    }
+    match life_of(past, descriptor) {
+        Some(life) if life.held > 0 => put_life(past, text, life),
+        _ => Ok(()),
+    }
+}
+
+/// Notes of an entry for which another reference is noted.
+fn put_mismatch(
+    past: &Past<'_>,
+    text: &mut String,
+    reference: u64,
+    place: usize,
+    stands: Option<&View>,
+) -> Result<(), AllocError> {
+    write!(
+        text,
+        "note: entry {place} of its table has reference {reference} beside it\n"
+    )?;
+    put_reference(past, text, reference)?;
+    put_entry(past, text, place, stands)
+}
+
+/// Whether a capability came as senderHosted.
+fn came_hosted(past: &Past<'_>, at: usize, place: usize) -> bool {
+    match past.get(at) {
+        Some(event) => matches!(
+            event.descriptors().get(place),
+            Some(Descriptor::SenderHosted(_))
+        ),
+        None => false,
+    }
+}
+
+/// Notes of an entry that says senderHosted of what is still open, and says whether it does.
+fn put_open(
+    past: &Past<'_>,
+    text: &mut String,
+    reference: u64,
+    place: usize,
+    view: &View,
+) -> Result<bool, AllocError> {
+    if !matches!(
+        past.event.descriptors().get(place),
+        Some(Descriptor::SenderHosted(_))
+    ) {
+        return Ok(false);
+    }
+    let end = match past.state.end(view) {
+        None | Some(BorrowedView::Object(_)) => return Ok(false),
+        Some(BorrowedView::Import(at, brought)) if came_hosted(past, at, brought) => {
+            return Ok(false);
+        }
+        Some(end) => end,
+    };
+    let end = ViewText(end);
+    put_reference(past, text, reference)?;
+    write!(
+        text,
+        "note: {end} is still open, so entry {place} was expected to be a senderPromise\n"
+    )?;
+    Ok(true)
+}
+
+/// Notes of the entry at a place, where its reference doesn't lead to what it stands for; and says whether it doesn't.
+fn put_if_amiss(
+    past: &Past<'_>,
+    text: &mut String,
+    place: usize,
+    stands: Option<&View>,
+) -> Result<bool, AllocError> {
+    let DecodedRecord::Wire { references, .. } = &past.event else {
+        return Ok(false);
+    };
+    let Some(reference) = reference_at(references.as_slice(), past.event.descriptors(), place)
+    else {
+        return Ok(false);
+    };
+    let view = past.state.view_of_reference(reference)?;
+    if !leads(past, view.as_ref(), stands) {
+        put_mismatch(past, text, reference, place, stands)?;
+        return Ok(true);
+    }
+    match &view {
+        Some(view) => put_open(past, text, reference, place, view),
+        None => Ok(false),
+    }
+}
+
+/// Notes of the first entry whose reference doesn't lead to what it stands for, and says whether there is one.
+fn put_amiss(past: &Past<'_>, text: &mut String) -> Result<bool, AllocError> {
+    let stands = past.state.views_of_descriptors(&past.event)?;
+    for (place, view) in stands.iter().enumerate() {
+        if put_if_amiss(past, text, place, view.as_ref())? {
+            return Ok(true);
+        }
+    }
+    Ok(false)
+}
+
+/// The record that resolved an import or export in its present life.
+pub(crate) fn resolved_by(
+    past: &Past<'_>,
+    sent: bool,
+    connection: u32,
+    number: u32,
+    since: usize,
+) -> Option<usize> {
+    for at in since..past.at {
+        if let DecodedRecord::Wire {
+            sent: out,
+            connection: over,
+            message: RpcMessage::Resolve { promise, .. },
+            ..
+        } = past.get(at)?
+        {
+            if *out == sent && *over == connection && *promise == number {
+                return Some(at);
+            }
+        }
+    }
+    None
+}
+
+/// The kind under which a number is introduced: its number, and whether as a promise.
+fn introduced_as(descriptor: &Descriptor) -> Option<(u32, bool)> {
+    match descriptor {
+        Descriptor::SenderHosted(number) => Some((*number, false)),
+        Descriptor::SenderPromise(number) => Some((*number, true)),
+        _ => None,
+    }
+}
+
+/// Notes of an entry that introduces a number in use again as something else, or after its Resolve.
+fn put_if_changed(
+    past: &Past<'_>,
+    text: &mut String,
+    sent: bool,
+    connection: u32,
+    descriptor: &Descriptor,
+) -> Result<(), AllocError> {
+    let (Some((number, promised)), Some(life)) = (
+        introduced_as(descriptor),
+        life_of(past, descriptor),
+    ) else {
+        return Ok(());
+    };
+    let Some(began) = life.began.filter(|_| life.held > 0) else {
+        return Ok(());
+    };
+    let shown = NumberText {
+        connection: life.connection,
+        number: life.number,
+    };
+    if let Some(at) = resolved_by(past, sent, connection, number, began) {
+        write!(
+            text,
+            "note: {shown}, introduced by record {began}, was resolved by record {at}\n"
+        )?;
+    }
+    let first = past.state.began_promised(life.number.on(connection));
+    match (first, promised) {
+        (Some(true), false) => write!(
+            text,
+            "note: {shown} was introduced as senderPromise by record {began}\n"
+        ),
+        (Some(false), true) => write!(
+            text,
+            "note: {shown} was introduced as senderHosted by record {began}\n"
+        ),
+        _ => Ok(()),
+    }
+}
+
+/// Notes of the entries that introduce a number in use again otherwise than at first.
+fn put_changed(past: &Past<'_>, text: &mut String) -> Result<(), AllocError> {
+    let DecodedRecord::Wire {
+        sent,
+        connection,
+        ..
+    } = &past.event
+    else {
+        return Ok(());
+    };
+    for descriptor in past.event.descriptors() {
+        put_if_changed(past, text, *sent, *connection, descriptor)?;
+    }
+    Ok(())
+}
+
+/// Notes what was expected of a table, and what stands there.
+pub(crate) fn put_misdescribed(past: &Past<'_>, text: &mut String) -> Result<(), AllocError> {
+    let sent = matches!(past.event, DecodedRecord::Wire { sent: true, .. });
+    if sent && put_unpaired(past, text)? {
+        return Ok(());
+    }
+    if sent && put_amiss(past, text)? {
+        return Ok(());
+    }
+    put_changed(past, text)
+}

@@ -1,45 +1,60 @@
-//! The order in which the records of a conversation are drawn.
+//! The order in which the records of a case are drawn.
 
+ghost use Rattle.std.specs.Prelude.{◌≡◌, ◌≤◌, ◌-◌, ◌++◌, count_by, length, map, replicate, IfOk};
+ghost use Rattle.std.specs.Arc.{arc_value};
+ghost use Rattle.std.specs.Option.{option_copied};
+ghost use Rattle.picture.specs.Places.{completed, is_vat};
+ghost use Rattle.picture.specs.Picture.{IsArranged};
+
+use crate::orders::steps_of;
 use case_book::Case;
 use merge_order::{Order, begin_order};
 use std::alloc::{AllocError, Global};
+use std::sync::Arc;
+use vat_log::VatLog;
 
-/// How many steps of an order are this vat's.
-fn steps_of(order: &[u32], vat: u32) -> usize {
-    let mut steps = 0;
-    for step in order {
-        if *step == vat {
-            steps += 1;
-        }
-    }
-    steps
-}
-
-/// Puts so many steps of a vat behind an order.
-fn put_steps(order: &mut Vec<u32>, vat: u32, steps: usize) -> Result<(), AllocError> {
+/// An order, with so many steps of a vat behind it.
+fn with_steps(order: Vec<u32>, vat: u32, steps: usize) -> Result<Vec<u32>, AllocError>
+    ensures { IfOk result (λ more. more.items ≡ order.items ++ replicate steps vat) }
+{
+    let mut order = order;
     for _ in 0..steps {
         order.push(vat)?;
     }
-    Ok(())
+    Ok(order)
 }
 
-/// The steps of an order that is given, or else of the one that takes the smallest vat number that may come, as far as it
-/// goes.
-fn begun(alloc: Global, case: &Case, given: Option<&Order>) -> Result<Vec<u32>, AllocError> {
-    match given {
-        Some(order) => Ok(Vec::from_slice(alloc, order.as_slice())?),
-        None => Ok(Vec::from_slice(alloc, begin_order(alloc, case.logs())?.as_slice())?),
+/// An order, and behind it what it leaves of these logs, by rising vat number.
+fn completed(
+    alloc: Global,
+    order: &[u32],
+    logs: &[Arc<VatLog>],
+) -> Result<Vec<u32>, AllocError>
+    ensures { IfOk result (λ all. all.items ≡ completed (map arc_value logs.now) order.now) }
+{
+    let mut all = Vec::from_slice(alloc, order)?;
+    for log in logs {
+        let came = steps_of(order, log.vat());
+        all = with_steps(all, log.vat(), log.len().saturating_sub(came))?;
     }
+    Ok(all)
 }
 
 /// The order in which the records of a case are drawn: the order that is given, or else the one by which the case is judged,
-/// as far as it goes; and behind it what is left, by rising vat number.
-pub fn arrange(alloc: Global, case: &Case, given: Option<&Order>) -> Result<Vec<u32>, AllocError> {
-    let mut order = begun(alloc, case, given)?;
-    let begun = order.len();
-    for log in case.logs() {
-        let steps = steps_of(&order[..begun], log.vat());
-        put_steps(&mut order, log.vat(), log.len().saturating_sub(steps))?;
+/// as far as it goes; and behind it what it leaves, by rising vat number.
+///
+/// # Errors
+///
+/// Out of memory.
+pub fn arrange(alloc: Global, case: &Case, given: Option<&Order>) -> Result<Vec<u32>, AllocError>
+    ensures { IfOk result
+        (λ all. IsArranged case.now.logs (option_copied given.entry) all.items) }
+{
+    match given {
+        Some(order) => completed(alloc, order.as_slice(), case.logs()),
+        None => {
+            let begun = begin_order(alloc, case.logs())?;
+            completed(alloc, begun.as_slice(), case.logs())
+        }
     }
-    Ok(order)
 }

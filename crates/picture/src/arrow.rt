@@ -1,19 +1,41 @@
 //! Arrows: the messages of rows.
 
-use crate::late::is_late;
-use crate::mate::{Place, mate_of, passage_of};
-use crate::row::{Row, column_of};
-use case_book::Case;
+ghost use Rattle.std.specs.Prelude.{◌≡◌, ◌++◌, IfOk};
+ghost use Rattle.std.specs.Option.{option_to_list};
+ghost use Rattle.picture.specs.Rows.{arrow_by, arrow_of, arrow_to, arrows_of, is_drawn_there, outcome_stroke, reach_away, reach_in, reach_of, stroke_of};
+
+use crate::frames::passage_of;
+use crate::logs::column_of;
+use crate::mate::mate_of;
+use crate::place::Place;
+use crate::row::{Row, Tone};
+use crate::scene::Scene;
+use crate::window::{line_of, lines_of, row_of};
 use rpc_view::{Outcome, RpcMessage};
 use std::alloc::{AllocError, Global};
 
-/// Where the other end of a message is.
+/// Where the other end of an arrow is.
 #[derive(Clone, Copy, Debug, PartialEq, Eq)]
 pub enum Reach {
-    /// In this row, counted from 0.
-    Row(usize),
-    /// In a record that isn't drawn.
-    Away,
+    /// At another row.
+    At {
+        /// Its column, counted from 0.
+        column: u32,
+        /// Its line, counted from 0.
+        line: u16,
+    },
+    /// In a record below those that are drawn.
+    Below {
+        /// Its column, counted from 0.
+        column: u32,
+        /// The line below the last one.
+        line: u16,
+    },
+    /// In a record above those that are drawn.
+    Above {
+        /// Its column, counted from 0.
+        column: u32,
+    },
     /// In no record: it wasn't received, or wasn't sent.
     Nowhere,
 }
@@ -34,94 +56,152 @@ pub enum Stroke {
 /// An arrow: a message that a row sends or receives.
 #[derive(Clone, Copy, Debug)]
 pub struct Arrow {
-    /// The row, counted from 0.
-    pub row: usize,
-    /// Whether it sends the message.
+    /// The column of the row, counted from 0.
+    pub column: u32,
+    /// The line of the row, counted from 0.
+    pub line: u16,
+    /// Whether the row sends the message.
     pub sent: bool,
-    /// The other end.
+    /// Where its other end is.
     pub reach: Reach,
-    /// The column of the other end, counted from 0; the row's own where the other end is in no record.
-    pub column: usize,
     /// How it is drawn.
     pub stroke: Stroke,
+    /// How its row is marked.
+    pub tone: Tone,
 }
 
-/// The row of a record, where it is drawn.
-fn row_of(rows: &[Row<'_>], place: Place) -> Option<usize> {
-    for at in 0..rows.len() {
-        if rows[at].place == place {
-            return Some(at);
-        }
-    }
-    None
-}
-
-/// The other end of a message, and its column.
-fn reach_of(case: &Case, rows: &[Row<'_>], row: &Row<'_>) -> (Reach, usize) {
-    let Some(mate) = mate_of(case, row.place, row.body) else {
-        return (Reach::Nowhere, row.column);
-    };
-    let column = column_of(case, mate.vat);
-    match row_of(rows, mate) {
-        Some(at) => (Reach::Row(at), column),
-        None => (Reach::Away, column),
+/// The stroke of what a Return says of its call.
+fn outcome_stroke(outcome: &Outcome) -> Stroke
+    ensures { result ≡ outcome_stroke outcome.now }
+{
+    match outcome {
+        Outcome::Canceled => Stroke::Canceled,
+        Outcome::Elsewhere | Outcome::TakeFrom(_) => Stroke::Tail,
+        Outcome::Results(_) | Outcome::Exception => Stroke::Plain,
     }
 }
 
-/// How the arrow of a row's message is drawn.
-fn stroke_of(alloc: Global, case: &Case, row: &Row<'_>) -> Result<Stroke, AllocError> {
-    Ok(match &row.message {
-        Some(RpcMessage::Return { .. }) if is_late(alloc, case, row)? => Stroke::Late,
-        Some(
-            RpcMessage::Return {
-                outcome: Outcome::Canceled,
-                ..
-            },
-        ) => Stroke::Canceled,
-        Some(
-            RpcMessage::Return {
-                outcome: Outcome::Elsewhere | Outcome::TakeFrom(_),
-                ..
+/// The stroke of a message.
+fn stroke_of(late: bool, message: &Option<RpcMessage>) -> Stroke
+    ensures { result ≡ stroke_of late message.now }
+{
+    match message {
+        Some(RpcMessage::Return { outcome, .. }) => {
+            if late {
+                Stroke::Late
+            } else {
+                outcome_stroke(outcome)
             }
-            | RpcMessage::Call { yourself: true, .. },
-        ) => Stroke::Tail,
+        }
+        Some(RpcMessage::Call { yourself, .. }) => {
+            if *yourself {
+                Stroke::Tail
+            } else {
+                Stroke::Plain
+            }
+        }
         _ => Stroke::Plain,
+    }
+}
+
+/// Out of the window: downwards from what sends, upwards from what receives.
+fn reach_away(scene: &Scene<'_>, sent: bool, column: u32) -> Reach
+    ensures { result ≡ reach_away scene.now sent column }
+{
+    if sent {
+        Reach::Below {
+            column,
+            line: lines_of(scene.fault, scene.window.count),
+        }
+    } else {
+        Reach::Above { column }
+    }
+}
+
+/// Where an arrow ends in this column.
+fn reach_in(scene: &Scene<'_>, sent: bool, column: u32, row: Option<u8>) -> Reach
+    ensures { result ≡ reach_in scene.now sent column row }
+{
+    match row {
+        Some(row) => Reach::At {
+            column,
+            line: line_of(scene.fault, row),
+        },
+        None => reach_away(scene, sent, column),
+    }
+}
+
+/// Where an arrow ends whose other end is this record.
+fn reach_of(scene: &Scene<'_>, sent: bool, mate: Option<Place>) -> Reach
+    ensures { result ≡ reach_of scene.now sent mate }
+{
+    match mate {
+        Some(mate) => {
+            let column = column_of(scene.case.logs(), mate.vat);
+            reach_in(scene, sent, column, row_of(scene.order, scene.window, mate))
+        }
+        None => Reach::Nowhere,
+    }
+}
+
+/// Whether it is drawn from its other end: it is received here, and sent in another row.
+fn is_drawn_there(sent: bool, reach: Reach) -> bool
+    ensures { result ≡ is_drawn_there sent reach }
+{
+    match (sent, reach) {
+        (false, Reach::At { .. }) => true,
+        _ => false,
+    }
+}
+
+/// The arrow of a row that goes so far, where it is drawn from here.
+fn arrow_to(row: &Row<'_>, sent: bool, reach: Reach) -> Option<Arrow>
+    ensures { result ≡ arrow_to row.now sent reach }
+{
+    if is_drawn_there(sent, reach) {
+        return None;
+    }
+    Some(Arrow {
+        column: row.column,
+        line: row.line,
+        sent,
+        reach,
+        stroke: stroke_of(row.late, &row.message),
+        tone: row.tone,
     })
 }
 
-/// The arrow of a row, where it has one. What is received in a row and sent in another is drawn from there.
-fn arrow_of(
-    alloc: Global,
-    case: &Case,
-    rows: &[Row<'_>],
-    at: usize,
-) -> Result<Option<Arrow>, AllocError> {
-    let Some(row) = rows.get(at) else {
-        return Ok(None);
-    };
-    let Some((sent, _)) = passage_of(row.body) else {
-        return Ok(None);
-    };
-    let (reach, column) = reach_of(case, rows, row);
-    if !sent && matches!(reach, Reach::Row(_)) {
-        return Ok(None);
-    }
-    Ok(Some(Arrow {
-        row: at,
-        sent,
-        reach,
-        column,
-        stroke: stroke_of(alloc, case, row)?,
-    }))
+/// The arrow of a row, where it has one.
+fn arrow_of(scene: &Scene<'_>, row: &Row<'_>) -> Option<Arrow>
+    ensures { result ≡ arrow_of scene.now row.now }
+{
+    let (sent, _) = passage_of(row.body)?;
+    let mate = mate_of(scene.case, row.place, row.body);
+    arrow_to(row, sent, reach_of(scene, sent, mate))
 }
 
-/// The arrows of these rows, in the order of the rows.
-pub fn arrows_of(alloc: Global, case: &Case, rows: &[Row<'_>]) -> Result<Vec<Arrow>, AllocError> {
+/// These arrows, and one more where there is one.
+fn with_arrow(arrows: Vec<Arrow>, arrow: Option<Arrow>) -> Result<Vec<Arrow>, AllocError>
+    ensures { IfOk result (λ more. more.items ≡ arrows.items ++ option_to_list arrow) }
+{
+    let mut arrows = arrows;
+    if let Some(arrow) = arrow {
+        arrows.push(arrow)?;
+    }
+    Ok(arrows)
+}
+
+/// The arrows of these rows.
+pub fn arrows_of(
+    alloc: Global,
+    scene: &Scene<'_>,
+    rows: &[Row<'_>],
+) -> Result<Vec<Arrow>, AllocError>
+    ensures { IfOk result (λ arrows. arrows.items ≡ arrows_of scene.now rows.now) }
+{
     let mut arrows = Vec::new(alloc);
-    for at in 0..rows.len() {
-        if let Some(arrow) = arrow_of(alloc, case, rows, at)? {
-            arrows.push(arrow)?;
-        }
+    for row in rows {
+        arrows = with_arrow(arrows, arrow_of(scene, row))?;
     }
     Ok(arrows)
 }

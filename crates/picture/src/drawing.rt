@@ -1,78 +1,71 @@
 //! Pictures: what is drawn of a case.
 
+ghost use Rattle.std.specs.Prelude.{◌≡◌, ◌≤◌, length, IfOk};
+ghost use Rattle.std.specs.Option.{option_copied};
+ghost use Rattle.picture.specs.Picture.{IsPictureOf, letters_of, width_of};
+
 use crate::arrow::{Arrow, arrows_of};
-use crate::calls::maker_at;
-use crate::focus::{Focus, focus_of, step_at};
-use crate::mate::Place;
-use crate::row::{Row, rows_in};
-use crate::window::Window;
+use crate::columns::{Column, columns_of};
+use crate::row::{Row, rows_of};
+use crate::scene::scene_of;
+use crate::window::{Asked, lines_of};
 use audit_core::Report;
 use case_book::Case;
-use run_model::Run;
+use report_lines::report_sentence;
+use run_model::Step;
 use std::alloc::{AllocError, Global};
 
-/// A picture of a case. It is shown as an SVG.
+/// A picture of a case. It is shown as an SVG that needs nothing else: no script, no font, no other file.
 #[derive(Debug, Drop)]
 pub struct Picture<'a> {
     /// The report, whose line is the picture's head.
-    pub(crate) report: &'a Report,
-    /// The vats, by rising number: a column each.
-    pub(crate) vats: Vec<u32>,
-    /// The rows, by rising step.
-    pub(crate) rows: Vec<Row<'a>>,
-    /// The arrows, by the row from which each is drawn.
-    pub(crate) arrows: Vec<Arrow>,
+    pub report: &'a Report,
+    /// What is said to people of the rule that is broken, or of why a record isn't judged.
+    pub sentence: Option<&'static str>,
+    /// The vats, by rising number.
+    pub columns: Vec<Column>,
+    /// The rows, from above.
+    pub rows: Vec<Row<'a>>,
+    /// The arrows, by the rows from which they are drawn.
+    pub arrows: Vec<Arrow>,
     /// The row that the verdict names, counted from 0.
-    pub(crate) fault: Option<usize>,
+    pub fault: Option<u8>,
+    /// How many lines there are.
+    pub lines: u16,
     /// How many steps there are above the first row.
-    pub(crate) above: usize,
+    pub above: usize,
     /// How many steps there are below the last row.
-    pub(crate) below: usize,
+    pub below: usize,
+    /// How wide the picture is, in pixels.
+    pub width: u64,
 }
 
-/// The vats of a case, by rising number.
-fn vats_of(alloc: Global, case: &Case) -> Result<Vec<u32>, AllocError> {
-    let mut vats = Vec::with_capacity(alloc, case.logs().len())?;
-    for log in case.logs() {
-        vats.push(log.vat())?;
-    }
-    Ok(vats)
-}
-
-/// Marks the rows that a verdict names, and gives the one at fault.
-fn mark(rows: &mut Vec<Row<'_>>, focus: Focus) -> Option<usize> {
-    let mut fault = None;
-    for at in 0..rows.len() {
-        let place = Some(rows[at].place);
-        rows[at].marked = place == focus.at || place == focus.mate;
-        if place == focus.at {
-            fault = Some(at);
-        }
-    }
-    fault
-}
-
-/// Colours the rows of calls that were made through the reference through which the call at this place was made.
-fn colour(rows: &mut Vec<Row<'_>>, run: &Run, at: Place) {
-    let Some(maker) = maker_at(run, at) else {
-        return;
-    };
-    for row in 0..rows.len() {
-        rows[row].coloured = maker_at(run, rows[row].place) == Some(maker);
+/// How many letters a sentence has that is put into the picture.
+fn letters_of(sentence: Option<&str>) -> u64
+    ensures letters { result ≡ letters_of (option_copied sentence.entry) }
+    ensures few { result ≤ 400 }
+{
+    match sentence {
+        Some(sentence) if sentence.len() < 400 => sentence.len() as u64,
+        Some(_) => 400,
+        None => 0,
     }
 }
 
-/// The window that is drawn: the one that is asked for, or the one around what the verdict names.
-fn window_of(order: &[u32], at: Option<Place>, asked: Option<Window>) -> Window {
-    match asked {
-        Some(window) => window,
-        None => Window::around(step_at(order, at).unwrap_or(0)),
-    }
+/// How wide a picture of so many vats is that has a sentence of so many letters.
+fn width_of(vats: usize, letters: u64) -> u64
+    requires vats { vats ≤ 1024 }
+    requires letters { letters ≤ 400 }
+    ensures { result ≡ width_of vats letters }
+{
+    let columns = 60 + 420 * vats as u64;
+    let sentence = 140 + 8 * letters;
+    if columns < sentence { sentence } else { columns }
 }
 
-/// The picture of a case whose records are drawn in this order, and of its report: the rows of the window that is asked
-/// for, or of the one around what the report names. Where a run of the case is lent, the rows of calls are coloured that
-/// were made through the reference of the call that the report names.
+/// The picture of a case whose records are drawn in this order, and of its report: the rows of the steps that are asked for,
+/// or of those around what the report names, and the arrows of their messages. Where the steps of a run of the case are
+/// lent, the rows of calls are marked that were made through the reference of the call that the report names.
 ///
 /// # Errors
 ///
@@ -80,26 +73,29 @@ fn window_of(order: &[u32], at: Option<Place>, asked: Option<Window>) -> Window 
 pub fn draw<'a>(
     alloc: Global,
     case: &'a Case,
-    order: &[u32],
+    order: &'a [u32],
     report: &'a Report,
-    run: Option<&Run>,
-    asked: Option<Window>,
-) -> Result<Picture<'a>, AllocError> {
-    let focus = focus_of(case, order, report);
-    let window = window_of(order, focus.at, asked);
-    let mut rows = rows_in(alloc, case, order, window)?;
-    let fault = mark(&mut rows, focus);
-    if let (Some(run), Some(at)) = (run, focus.at) {
-        colour(&mut rows, run, at);
-    }
-    let arrows = arrows_of(alloc, case, &rows)?;
+    steps: &'a [Step],
+    asked: Option<Asked>,
+) -> Result<Picture<'a>, AllocError>
+    ensures { IfOk result (IsPictureOf case.now order.now report.now steps.now asked) }
+{
+    let scene = scene_of(case, order, steps, report, asked);
+    let rows = rows_of(alloc, &scene)?;
+    let arrows = arrows_of(alloc, &scene, &rows)?;
+    let lines = lines_of(scene.fault, scene.window.count);
+    let sentence = report_sentence(report);
+    let above = scene.window.from;
     Ok(Picture {
         report,
-        vats: vats_of(alloc, case)?,
+        sentence,
+        columns: columns_of(alloc, case.logs(), lines)?,
         rows,
         arrows,
-        fault,
-        above: window.from.min(order.len()),
-        below: order.len() - window.end(order.len()),
+        fault: scene.fault,
+        lines,
+        above,
+        below: order.len() - (above + scene.window.count as usize),
+        width: width_of(case.logs().len(), letters_of(sentence)),
     })
 }

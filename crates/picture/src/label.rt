@@ -1,50 +1,44 @@
-//! The text of a row.
+//! The words of a row.
 
-use crate::row::Row;
+ghost use Rattle.std.specs.Prelude.{◌≡◌, ℕ, Bool, Some};
+ghost use Rattle.std.specs.Fmt.{WritesOnOk};
+ghost use Rattle.report_lines.specs.MessageText.{loopback_text};
+ghost use Rattle.picture.specs.Labels.{caps_text, label_text, said_text, short_outcome, short_text};
+
 use report_lines::Shown;
-use rpc_view::{Descriptor, Loopback, Outcome, Resolution, RpcMessage};
+use rpc_view::{Descriptor, Loopback, Outcome, Payload, RpcMessage, Target};
 use std::fmt;
 use std::fmt::{Display, Formatter};
 use vat_log::Body;
 
-/// How many entries of a capability table stand in a label.
-const MOST_CAPS: usize = 3;
-
-/// The entries of a capability table: the first of them, and how many more there are.
+/// A capability table: its first three entries, and how many more there are.
 #[derive(Clone, Copy)]
 struct Caps<'a>(&'a [Descriptor]);
 
 impl Display for Caps<'_> {
+    ghost output = { λ caps. Some (caps_text caps.0.now) };
+
     fn fmt<W: fmt::Write>(&self, f: &mut Formatter<W>) -> fmt::Result {
         let caps = self.0;
         if caps.is_empty() {
             return Ok(());
         }
-        if caps.len() <= MOST_CAPS {
+        if caps.len() <= 3 {
             return write!(f, " caps {}", Shown(caps));
         }
-        let more = caps.len() - MOST_CAPS;
-        write!(f, " caps {} and {more} more", Shown(&caps[..MOST_CAPS]))
+        let (first, others) = caps.split_at(3);
+        let more = others.len();
+        write!(f, " caps {} and {more} more", Shown(first))
     }
 }
 
-/// The word for a loopback.
-fn loopback_word(loopback: Loopback) -> &'static str {
-    match loopback {
-        Loopback::Sender => "senderLoopback",
-        Loopback::Receiver => "receiverLoopback",
-    }
-}
-
-/// A message in short: its kind, its question or number, its target, and its capabilities.
-#[derive(Clone, Copy)]
-struct Short<'a>(&'a RpcMessage);
-
-/// What a Return says in short.
+/// What a Return says of its call, in short.
 #[derive(Clone, Copy)]
 struct ShortOutcome<'a>(&'a Outcome);
 
 impl Display for ShortOutcome<'_> {
+    ghost output = { λ outcome. Some (short_outcome outcome.0.now) };
+
     fn fmt<W: fmt::Write>(&self, f: &mut Formatter<W>) -> fmt::Result {
         match self.0 {
             Outcome::Results(payload) => {
@@ -58,7 +52,38 @@ impl Display for ShortOutcome<'_> {
     }
 }
 
+/// Writes a Call in short.
+fn put_call<W: fmt::Write>(
+    f: &mut Formatter<W>,
+    question: u32,
+    target: &Target,
+    params: &Payload,
+) -> fmt::Result
+    ensures { (interface method : ℕ) (yourself : Bool) → WritesOnOk W.write_str_gives f.old result
+        (short_text (RpcMessage.Call question target.now interface method params.now yourself))
+        f.new }
+{
+    let caps = Caps(params.descriptors.as_slice());
+    write!(f, "call {question} to {}{caps}", Shown(target))
+}
+
+/// The word for a loopback.
+fn loopback_word(loopback: Loopback) -> &'static str
+    ensures { result.now ≡ loopback_text loopback }
+{
+    match loopback {
+        Loopback::Sender => "senderLoopback",
+        Loopback::Receiver => "receiverLoopback",
+    }
+}
+
+/// A message in short: its kind, its question or number, its target, and its capabilities.
+#[derive(Clone, Copy)]
+struct Short<'a>(&'a RpcMessage);
+
 impl Display for Short<'_> {
+    ghost output = { λ said. Some (short_text said.0.now) };
+
     fn fmt<W: fmt::Write>(&self, f: &mut Formatter<W>) -> fmt::Result {
         match self.0 {
             RpcMessage::Bootstrap { question } => write!(f, "bootstrap {question}"),
@@ -67,21 +92,15 @@ impl Display for Short<'_> {
                 target,
                 params,
                 ..
-            } => {
-                let caps = Caps(params.descriptors.as_slice());
-                write!(f, "call {question} to {}{caps}", Shown(target))
-            }
+            } => put_call(f, *question, target, params),
             RpcMessage::Return {
-                answer,
-                outcome,
-                ..
+                answer, outcome, ..
             } => write!(f, "return {answer} {}", ShortOutcome(outcome)),
             RpcMessage::Finish { question, .. } => write!(f, "finish {question}"),
             RpcMessage::Resolve {
                 promise,
-                resolution: Resolution::Cap(cap),
-            } => write!(f, "resolve {promise} to {}", Shown(cap)),
-            RpcMessage::Resolve { promise, .. } => write!(f, "resolve {promise} exception"),
+                resolution,
+            } => write!(f, "resolve {promise} to {}", Shown(resolution)),
             RpcMessage::Release { id, count } => write!(f, "release {id} times {count}"),
             RpcMessage::Disembargo {
                 number,
@@ -96,19 +115,47 @@ impl Display for Short<'_> {
     }
 }
 
-/// The text of a row: the number of its record, and what it says in short.
+/// What a record says in short, whose frame has this message.
 #[derive(Clone, Copy)]
-pub struct Label<'a>(pub &'a Row<'a>);
+struct Said<'a> {
+    body: &'a Body,
+    message: &'a Option<RpcMessage>,
+}
+
+impl Display for Said<'_> {
+    ghost output = { λ said. Some (said_text said.body.now said.message.now) };
+
+    fn fmt<W: fmt::Write>(&self, f: &mut Formatter<W>) -> fmt::Result {
+        let body = self.body;
+        match (self.message, body) {
+            (Some(message), _) => write!(f, "{}", Short(message)),
+            (None, Body::Send { .. }) => f.write_str("send, unread"),
+            (None, Body::Receive { .. }) => f.write_str("receive, unread"),
+            (None, _) => write!(f, "{}", Shown(body)),
+        }
+    }
+}
+
+/// The words of a row: the number of its record, and what that says in short.
+#[derive(Clone, Copy)]
+pub struct Label<'a> {
+    /// The record's number in its log, counted from 0.
+    pub number: usize,
+    /// What the record says.
+    pub body: &'a Body,
+    /// The message of its frame, where it is read.
+    pub message: &'a Option<RpcMessage>,
+}
 
 impl Display for Label<'_> {
+    ghost output = { λ label. Some (label_text label.number label.body.now label.message.now) };
+
     fn fmt<W: fmt::Write>(&self, f: &mut Formatter<W>) -> fmt::Result {
-        let number = self.0.place.number;
-        match (self.0.body, &self.0.message) {
-            (Body::Send { .. }, Some(message)) => write!(f, "{number} {}", Short(message)),
-            (Body::Receive { .. }, Some(message)) => write!(f, "{number} {}", Short(message)),
-            (Body::Send { .. }, None) => write!(f, "{number} send, unread"),
-            (Body::Receive { .. }, None) => write!(f, "{number} receive, unread"),
-            (body, _) => write!(f, "{number} {}", Shown(body)),
-        }
+        let number = self.number;
+        let said = Said {
+            body: self.body,
+            message: self.message,
+        };
+        write!(f, "{number} {said}")
     }
 }

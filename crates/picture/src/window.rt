@@ -1,35 +1,119 @@
-//! Which rows of a conversation are drawn.
+//! Which steps of an order are drawn.
 
-/// How many rows a picture has at most.
-pub const MAX_ROWS: usize = 200;
+ghost use Rattle.std.specs.Prelude.{◌≡◌, ◌≤◌, ◌+◌};
+ghost use Rattle.picture.specs.Rows.{count_of, first_of, is_below, least_of, line_of, lines_of, middle_of, row_in, row_of, window_of};
 
-/// Steps of an order that follow one another.
-#[derive(Clone, Copy, Debug, PartialEq, Eq)]
-pub struct Window {
+use crate::orders::step_of;
+use crate::place::Place;
+
+/// Steps of an order that are asked for.
+#[derive(Clone, Copy, Debug)]
+pub struct Asked {
     /// The first step, counted from 0.
     pub from: usize,
-    /// How many steps; what goes past the last one is left out, and so is what goes past [`MAX_ROWS`].
+    /// How many steps; what goes past the last one is left out, and so is what goes past 200.
     pub count: usize,
 }
 
-impl Window {
-    /// As many steps as may be drawn around this one.
-    pub fn around(step: usize) -> Window {
-        Window {
-            from: step.saturating_sub(MAX_ROWS / 2),
-            count: MAX_ROWS,
-        }
-    }
+/// Steps of an order that follow one another: those that are drawn.
+#[derive(Clone, Copy, Debug)]
+pub struct Window {
+    /// The first step, counted from 0.
+    pub from: usize,
+    /// How many steps there are.
+    pub count: u8,
+}
 
-    /// Where the window ends, of so many steps: the step behind its last one.
-    pub fn end(self, steps: usize) -> usize {
-        self.from
-            .saturating_add(self.count.min(MAX_ROWS))
-            .min(steps)
-    }
+/// The smaller of two.
+fn least_of(one: usize, other: usize) -> usize
+    ensures { result ≡ least_of one other }
+{
+    if one < other { one } else { other }
+}
 
-    /// Whether a step of so many lies in the window.
-    pub fn has(self, step: usize, steps: usize) -> bool {
-        self.from <= step && step < self.end(steps)
+/// The first step that is drawn, of so many: the one that is asked for, or one hundred before the one that is named.
+fn first_of(steps: usize, middle: usize, asked: Option<Asked>) -> usize
+    ensures first { result ≡ first_of steps middle asked }
+    ensures within { result ≤ steps }
+{
+    match asked {
+        Some(asked) => least_of(asked.from, steps),
+        None => least_of(middle.saturating_sub(100), steps),
+    }
+}
+
+/// How many steps are drawn where so many are left: 200 at most.
+fn count_of(left: usize, asked: Option<Asked>) -> usize
+    ensures count { result ≡ count_of left asked }
+    ensures few { result ≤ 200 }
+    ensures within { result ≤ left }
+{
+    match asked {
+        Some(asked) => least_of(least_of(asked.count, 200), left),
+        None => least_of(200, left),
+    }
+}
+
+/// The window of so many steps: the one that is asked for, or the one around the step that is named.
+pub fn window_of(steps: usize, middle: usize, asked: Option<Asked>) -> Window
+    ensures window { result ≡ window_of steps middle asked }
+    ensures within { result.from + result.count ≤ steps }
+{
+    let from = first_of(steps, middle, asked);
+    let count = count_of(steps - from, asked) as u8;
+    Window { from, count }
+}
+
+/// The step that the verdict names, or the first.
+pub fn middle_of(order: &[u32], place: Option<Place>) -> usize
+    ensures { result ≡ middle_of order.now place }
+{
+    match place {
+        Some(place) => match step_of(order, place) {
+            Some(step) => step,
+            None => 0,
+        },
+        None => 0,
+    }
+}
+
+/// The row of a step, counted from 0, where it is in the window.
+fn row_in(window: Window, step: usize) -> Option<u8>
+    ensures { result ≡ row_in window step }
+{
+    if window.from <= step && step - window.from < window.count as usize {
+        Some((step - window.from) as u8)
+    } else {
+        None
+    }
+}
+
+/// The row of a record, where it is in the window.
+pub fn row_of(order: &[u32], window: Window, place: Place) -> Option<u8>
+    ensures { result ≡ row_of order.now window place }
+{
+    match step_of(order, place) {
+        Some(step) => row_in(window, step),
+        None => None,
+    }
+}
+
+/// The line of a row: one further down, below the row at fault.
+pub fn line_of(fault: Option<u8>, row: u8) -> u16
+    ensures { result ≡ line_of fault row }
+{
+    match fault {
+        Some(fault) if fault < row => row as u16 + 1,
+        _ => row as u16,
+    }
+}
+
+/// How many lines so many rows have.
+pub fn lines_of(fault: Option<u8>, rows: u8) -> u16
+    ensures { result ≡ lines_of fault rows }
+{
+    match fault {
+        Some(_) => rows as u16 + 1,
+        None => rows as u16,
     }
 }

@@ -1,0 +1,161 @@
+//! Columns, rows and arrows, each as it is drawn.
+
+ghost use Rattle.std.specs.Prelude.{◌≡◌, Some};
+ghost use Rattle.std.specs.Fmt.{WritesOnOk};
+ghost use Rattle.picture.specs.Picture.{arrow_line, arrow_text, band_lines, band_text, column_text, line_text, mark_word, row_text, stroke_word, tone_word};
+ghost use Rattle.picture.specs.Labels.{label_text};
+
+use crate::arrow::{Arrow, Stroke};
+use crate::columns::Column;
+use crate::label::Label;
+use crate::row::{Row, Tone};
+use crate::svg::points::{Point, point_at, reach_point, x_of, y_of};
+use rpc_view::RpcMessage;
+use std::fmt;
+use std::fmt::{Display, Formatter};
+
+impl Display for Column {
+    ghost output = { λ column. Some (column_text column) };
+
+    fn fmt<W: fmt::Write>(&self, f: &mut Formatter<W>) -> fmt::Result {
+        let (x, bottom, vat) = (x_of(self.column), y_of(self.line), self.vat);
+        write!(
+            f,
+            "<path class='life' d='M{x},104V{bottom}'/><text class='vat' x='{x}' y='96' text-anchor='middle'>vat {vat}</text>\n"
+        )
+    }
+}
+
+/// How what is marked so is painted.
+fn tone_word(tone: Tone) -> &'static str
+    ensures { result.now ≡ tone_word tone }
+{
+    match tone {
+        Tone::Plain => "plain",
+        Tone::Kin => "kin",
+        Tone::Named => "named",
+        Tone::Fault => "named fault",
+    }
+}
+
+/// How an arrow is stroked.
+fn stroke_word(stroke: Stroke) -> &'static str
+    ensures { result.now ≡ stroke_word stroke }
+{
+    match stroke {
+        Stroke::Plain => "arrow",
+        Stroke::Late => "arrow late",
+        Stroke::Canceled => "arrow canceled",
+        Stroke::Tail => "arrow tail",
+    }
+}
+
+/// A line from one point to another.
+#[derive(Clone, Copy)]
+struct Line {
+    from: Point,
+    to: Point,
+}
+
+impl Display for Line {
+    ghost output = { λ line. Some (line_text line.from line.to) };
+
+    fn fmt<W: fmt::Write>(&self, f: &mut Formatter<W>) -> fmt::Result {
+        let Line { from, to } = self;
+        write!(f, "M{from}L{to}")
+    }
+}
+
+/// The line of an arrow: from its row where that sends, else to its row.
+fn line_of(arrow: &Arrow) -> Line
+    ensures { line_text result.from result.to ≡ arrow_line arrow.now }
+{
+    let here = point_at(arrow.column, arrow.line);
+    let there = reach_point(arrow.column, arrow.line, arrow.reach);
+    if arrow.sent {
+        Line {
+            from: here,
+            to: there,
+        }
+    } else {
+        Line {
+            from: there,
+            to: here,
+        }
+    }
+}
+
+impl Display for Arrow {
+    ghost output = { λ arrow. Some (arrow_text arrow) };
+
+    fn fmt<W: fmt::Write>(&self, f: &mut Formatter<W>) -> fmt::Result {
+        let tone = tone_word(self.tone);
+        let stroke = stroke_word(self.stroke);
+        let line = line_of(self);
+        write!(f, "<g class='{tone}'><path class='{stroke}' d='{line}'/></g>\n")
+    }
+}
+
+/// Writes a band from this height down.
+fn put_band<W: fmt::Write>(f: &mut Formatter<W>, top: u64, height: u64) -> fmt::Result
+    ensures { WritesOnOk W.write_str_gives f.old result (band_lines top height) f.new }
+{
+    write!(f, "<rect class='band' y='{top}' width='100%' height='{height}'/>\n")
+}
+
+/// The band behind a row that the verdict names; none behind others.
+pub struct Band<'a>(pub &'a Row<'a>);
+
+impl Display for Band<'_> {
+    ghost output = { λ band. Some (band_text band.0.now) };
+
+    fn fmt<W: fmt::Write>(&self, f: &mut Formatter<W>) -> fmt::Result {
+        let row = self.0;
+        let top = y_of(row.line) - 16;
+        match row.tone {
+            Tone::Fault => put_band(f, top, 48),
+            Tone::Named => put_band(f, top, 24),
+            Tone::Plain | Tone::Kin => Ok(()),
+        }
+    }
+}
+
+/// The mark of a message, or of what a vat does by itself.
+fn mark_word(message: &Option<RpcMessage>) -> &'static str
+    ensures { result.now ≡ mark_word message.now }
+{
+    if message.is_some() { "dot" } else { "own" }
+}
+
+/// Writes a row: its mark at a point, and its words.
+fn put_row<W: fmt::Write>(f: &mut Formatter<W>, row: &Row<'_>, label: Label<'_>) -> fmt::Result
+    requires { label_text label.number label.body.now label.message.now
+        ≡ label_text row.now.place.number row.now.body row.now.message }
+    ensures { WritesOnOk W.write_str_gives f.old result (row_text row.now) f.new }
+{
+    let (x, y) = (x_of(row.column), y_of(row.line));
+    let (text_x, text_y) = (x + 14, y + 4);
+    let tone = tone_word(row.tone);
+    let mark = mark_word(&row.message);
+    write!(
+        f,
+        "<g class='{tone}'><circle class='{mark}' cx='{x}' cy='{y}' r='3.5'/><text x='{text_x}' y='{text_y}'>{label}</text></g>\n"
+    )
+}
+
+/// A row: its mark and its words.
+pub struct Shape<'a>(pub &'a Row<'a>);
+
+impl Display for Shape<'_> {
+    ghost output = { λ shape. Some (row_text shape.0.now) };
+
+    fn fmt<W: fmt::Write>(&self, f: &mut Formatter<W>) -> fmt::Result {
+        let row = self.0;
+        let label = Label {
+            number: row.place.number,
+            body: row.body,
+            message: &row.message,
+        };
+        put_row(f, row, label)
+    }
+}

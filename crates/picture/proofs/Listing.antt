@@ -33,3 +33,15 @@ pub filtered : {X Y : Type 0} (f : X → Option Y) (xs : List X) (i : ℕ) (d : 
     → zs ≡ filter_map f (take (i + 1) xs)
 filtered f xs i d ys zs lt so_far more =
     more ∙ ap (λ l. l ++ option_to_list (f (get_or xs i d))) so_far ∙ sym (mapped_more f (take i xs) (get_or xs i d)) ∙ ap (filter_map f) (sym (take_more xs i d lt))
+
+repeated_suc : {X : Type 0} (v : X) (n : ℕ) → replicate n v ++ v ∷ [] ≡ replicate (suc n) v
+repeated_suc v zero = refl
+repeated_suc v (suc n) = ap (λ l. v ∷ l) (repeated_suc v n)
+
+repeated : {X : Type 0} (v : X) (n : ℕ) → replicate n v ++ v ∷ [] ≡ replicate (n + 1) v
+repeated v n = rw (add-one n) (repeated_suc v n)
+
+-- one item more of the same
+pub replicated : {X : Type 0} (v : X) (xs : List X) (n : ℕ) (ys zs : List X) → ys ≡ xs ++ replicate n v → zs ≡ ys ++ v ∷ [] → zs ≡ xs ++ replicate (n + 1) v
+replicated v xs n ys zs so_far more =
+    more ∙ ap (λ l. l ++ v ∷ []) so_far ∙ append_assoc xs (replicate n v) (v ∷ []) ∙ ap (λ l. xs ++ l) (repeated v n)

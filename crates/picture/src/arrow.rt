@@ -201,7 +201,8 @@ pub fn arrows_of(
 {
     let mut arrows = Vec::new(alloc);
     for row in rows {
-        arrows = with_arrow(arrows, arrow_of(scene, row))?;
+        let made = arrow_of(scene, row);
+        arrows = with_arrow(arrows, made)?;
     }
     Ok(arrows)
 }

@@ -175,7 +175,8 @@ pub fn rows_of<'a>(alloc: Global, scene: &Scene<'a>) -> Result<Vec<Row<'a>>, All
 {
     let mut rows = Vec::new(alloc);
     for row in 0..scene.window.count {
-        rows = with_row(rows, row_at(alloc, scene, row)?)?;
+        let made = row_at(alloc, scene, row)?;
+        rows = with_row(rows, made)?;
     }
     Ok(rows)
 }

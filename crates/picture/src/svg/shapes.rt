@@ -104,6 +104,7 @@ fn put_band<W: fmt::Write>(f: &mut Formatter<W>, top: u64, height: u64) -> fmt::
 }
 
 /// The band behind a row that the verdict names; none behind others.
+#[derive(Clone, Copy)]
 pub struct Band<'a>(pub &'a Row<'a>);
 
 impl Display for Band<'_> {
@@ -144,6 +145,7 @@ fn put_row<W: fmt::Write>(f: &mut Formatter<W>, row: &Row<'_>, label: Label<'_>)
 }
 
 /// A row: its mark and its words.
+#[derive(Clone, Copy)]
 pub struct Shape<'a>(pub &'a Row<'a>);
 
 impl Display for Shape<'_> {

@@ -3,7 +3,7 @@ use Rattle.std.specs.Prelude.{ℕ, ◌-◌, List, [], ◌∷◌, ◌++◌, lengt
 use Rattle.std.specs.Fmt.{decimal}
 use Rattle.std.specs.List.{join_by}
 use Rattle.vat_log.specs.declared.body.Body.{Body}
-use Rattle.vat_log.specs.declared.body.Body.TheVariants.{Send, Receive}
+use Rattle.vat_log.specs.declared.body.Body.TheVariants.{Answer, Send, Receive}
 use Rattle.rpc_view.specs.declared.message.Descriptor.{Descriptor}
 use Rattle.rpc_view.specs.declared.message.Outcome.{Outcome}
 use Rattle.rpc_view.specs.declared.message.Outcome.TheVariants as outcomes
@@ -46,11 +46,19 @@ short_text (Disembargo number loopback target) =
     codes "disembargo " ++ (decimal number ++ (codes " " ++ (loopback_text loopback ++ (codes " to " ++ target_text target))))
 short_text Abort = codes "abort"
 
+-- the results of a call: where there are more than three capabilities, how many there are
+abbrev pub answered_text : ℕ → List (ℕ × List ℕ) → List ℕ
+answered_text call results =
+    if nat_lt 3 (length results)
+        then codes "answer call " ++ (decimal call ++ (codes " with " ++ (decimal (length results) ++ codes " capabilities")))
+        else body_text (Answer call results)
+
 -- what a record says, whose frame has this message
 abbrev pub said_text : Body → Option RpcMessage → List ℕ
 said_text event (Some said) = short_text said
 said_text (Send connection call references frame) None = codes "send, unread"
 said_text (Receive connection call references frame) None = codes "receive, unread"
+said_text (Answer call results) None = answered_text call results
 said_text event None = body_text event
 
 -- the words of a row

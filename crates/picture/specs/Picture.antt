@@ -192,7 +192,7 @@ letters_of None = 0
 
 -- how wide a picture of so many vats is that has a sentence of so many letters
 abbrev pub width_of : ℕ → ℕ → ℕ
-width_of vats count = if nat_lt (60 + 420 * vats) (140 + 8 * count) then 140 + 8 * count else 60 + 420 * vats
+width_of vats count = if nat_lt (460 + 420 * vats) (140 + 8 * count) then 140 + 8 * count else 460 + 420 * vats
 
 -- an order in which the records of a case are drawn: the one that is given, or else the one that takes the smallest vat
 -- number that may come at each step, as far as it goes; and behind it what it leaves

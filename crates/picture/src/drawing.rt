@@ -58,7 +58,7 @@ fn width_of(vats: usize, letters: u64) -> u64
     requires letters { letters ≤ 400 }
     ensures { result ≡ width_of vats letters }
 {
-    let columns = 60 + 420 * vats as u64;
+    let columns = 460 + 420 * vats as u64;
     let sentence = 140 + 8 * letters;
     if columns < sentence { sentence } else { columns }
 }

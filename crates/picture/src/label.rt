@@ -3,13 +3,13 @@
 ghost use Rattle.std.specs.Prelude.{◌≡◌, ℕ, Bool, Some};
 ghost use Rattle.std.specs.Fmt.{WritesOnOk};
 ghost use Rattle.report_lines.specs.MessageText.{loopback_text};
-ghost use Rattle.picture.specs.Labels.{caps_text, label_text, said_text, short_outcome, short_text};
+ghost use Rattle.picture.specs.Labels.{answered_text, caps_text, label_text, said_text, short_outcome, short_text};
 
 use report_lines::Shown;
 use rpc_view::{Descriptor, Loopback, Outcome, Payload, RpcMessage, Target};
 use std::fmt;
 use std::fmt::{Display, Formatter};
-use vat_log::Body;
+use vat_log::{Body, ResultReferences};
 
 /// A capability table: its first three entries, and how many more there are.
 #[derive(Clone, Copy)]
@@ -115,6 +115,24 @@ impl Display for Short<'_> {
     }
 }
 
+/// Writes the results of a call: where there are more than three capabilities, how many there are.
+fn put_answer<W: fmt::Write>(
+    f: &mut Formatter<W>,
+    body: &Body,
+    call: u64,
+    results: &ResultReferences,
+) -> fmt::Result
+    requires { body.now ≡ Body.Answer call results.now }
+    ensures { WritesOnOk W.write_str_gives f.old result (answered_text call results.now) f.new }
+{
+    let count = results.as_slice().len();
+    if count > 3 {
+        write!(f, "answer call {call} with {count} capabilities")
+    } else {
+        write!(f, "{}", Shown(body))
+    }
+}
+
 /// What a record says in short, whose frame has this message.
 #[derive(Clone, Copy)]
 struct Said<'a> {
@@ -131,6 +149,7 @@ impl Display for Said<'_> {
             (Some(message), _) => write!(f, "{}", Short(message)),
             (None, Body::Send { .. }) => f.write_str("send, unread"),
             (None, Body::Receive { .. }) => f.write_str("receive, unread"),
+            (None, Body::Answer { call, results }) => put_answer(f, body, *call, results),
             (None, _) => write!(f, "{}", Shown(body)),
         }
     }

@@ -70,39 +70,6 @@ fn take_quiet(words: &mut Vec<String>) -> bool {
     false
 }
 
-struct Open;
-
-impl audit_core::Gate for Open {
-    fn before_post(&self, _piece: u32) {}
-}
-
-fn scratch_draw<R: Threads + Wait + Sync + Files + Input + Print + Eprint + AllocGlobal, W: Write>(
-    rt: &R,
-    alloc: std::alloc::Global,
-    name: &str,
-    out: &mut W,
-) -> u8 {
-    let mut folder = Folder::new(rt);
-    let Ok(read) = case_files::read_case(alloc, &mut folder, name) else {
-        return 2;
-    };
-    let case_files::ReadCase { case, order } = read;
-    let Ok(copy) = case.copy(alloc) else {
-        return 3;
-    };
-    let Ok(drawn) = picture::arrange(alloc, &copy, order.as_ref()) else {
-        return 3;
-    };
-    let Ok(report) = audit_core::audit(rt, alloc, case, order, 1, &Open) else {
-        return 3;
-    };
-    let Ok(made) = picture::draw(alloc, &copy, &drawn, &report, None, None) else {
-        return 3;
-    };
-    let _ = out.writeln(made);
-    0
-}
-
 /// Does what the words ask, writes its lines to `out` and, where none asks for quiet, notes to `notes`; and gives the exit
 /// status.
 fn start<
@@ -111,9 +78,6 @@ fn start<
     N: Write + Drop,
 >(rt: &R, out: &mut W, notes: N, words: &mut Vec<String>) -> u8 {
     let alloc = rt.alloc();
-    if words.len() > 2 && words[1].as_str() == "draw" {
-        return scratch_draw(rt, alloc, words[2].as_str(), out);
-    }
     let is_quiet = take_quiet(words);
     let command = match command_of(alloc, words) {
         Ok(command) => command,

@@ -10,7 +10,7 @@ use Rattle.run_model.specs.declared.step.Step.{Step}
 use Rattle.merge_order.specs.Fits.{BeginsLeast}
 use Rattle.case_book.specs.Case.{Contents}
 use Rattle.audit_core.specs.declared.report.Report.{Report}
-use Rattle.audit_core.specs.declared.report.Report.TheVariants as report
+use Rattle.audit_core.specs.declared.report.Report.TheVariants as reports
 use Rattle.report_lines.specs.Lines.{breach_code, report_text}
 use Rattle.report_lines.specs.Sentences.{IsLine}
 use Rattle.picture.specs.Places.{completed}
@@ -24,7 +24,7 @@ use Rattle.picture.specs.declared.arrow.Arrow.{Arrow}
 use Rattle.picture.specs.declared.arrow.Reach.{Reach}
 use Rattle.picture.specs.declared.arrow.Reach.TheVariants.{At, Below, Above, Nowhere}
 use Rattle.picture.specs.declared.arrow.Stroke.{Stroke}
-use Rattle.picture.specs.declared.arrow.Stroke.TheVariants as stroke
+use Rattle.picture.specs.declared.arrow.Stroke.TheVariants as kinds
 use Rattle.picture.specs.declared.svg.points.Point.{Point}
 use Rattle.picture.specs.declared.drawing.Picture.{Picture}
 
@@ -66,10 +66,10 @@ tone_word Fault = codes "named fault"
 
 -- how an arrow is stroked
 abbrev pub stroke_word : Stroke → List ℕ
-stroke_word stroke.Plain = codes "arrow"
-stroke_word stroke.Late = codes "arrow late"
-stroke_word stroke.Canceled = codes "arrow canceled"
-stroke_word stroke.Tail = codes "arrow tail"
+stroke_word kinds.Plain = codes "arrow"
+stroke_word kinds.Late = codes "arrow late"
+stroke_word kinds.Canceled = codes "arrow canceled"
+stroke_word kinds.Tail = codes "arrow tail"
 
 -- from one point to another
 abbrev pub line_text : Point → Point → List ℕ
@@ -111,7 +111,7 @@ row_text row = codes "<g class='" ++ (tone_word row.tone ++ (codes "'><circle cl
 
 -- the code of the rule that is broken
 abbrev pub code_text : Report → List ℕ
-code_text (report.Vat vat at broken) = breach_code broken ++ codes ": "
+code_text (reports.Vat vat at broken) = breach_code broken ++ codes ": "
 code_text _ = []
 
 -- how far down the sentence is: below the row at fault, or else below the line of `check`

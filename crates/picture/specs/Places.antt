@@ -6,7 +6,7 @@ use Rattle.std.specs.Result.{result_ok}
 use Rattle.cap_reader.specs.Defaults.{default_limits}
 use Rattle.rpc_view.specs.Message.{message_of_bytes}
 use Rattle.rpc_view.specs.declared.message.RpcMessage.{RpcMessage}
-use Rattle.rpc_view.specs.declared.message.RpcMessage.TheVariants as message
+use Rattle.rpc_view.specs.declared.message.RpcMessage.TheVariants as messages
 use Rattle.vat_log.specs.Log.{Log}
 use Rattle.vat_log.specs.declared.body.Body.{Body}
 use Rattle.vat_log.specs.declared.body.Body.TheVariants.{Send, Receive}
@@ -102,9 +102,9 @@ message_of _ = None
 
 -- what a message does to a question: it opens it (false), or finishes it and gives its results back (true)
 abbrev pub turn_of : ℕ → RpcMessage → Option Bool
-turn_of question (message.Bootstrap opened) = if opened == question then Some false else None
-turn_of question (message.Call opened target interface method params yourself) = if opened == question then Some false else None
-turn_of question (message.Finish finished true) = if finished == question then Some true else None
+turn_of question (messages.Bootstrap opened) = if opened == question then Some false else None
+turn_of question (messages.Call opened target interface method params yourself) = if opened == question then Some false else None
+turn_of question (messages.Finish finished true) = if finished == question then Some true else None
 turn_of question _ = None
 
 -- the same of a record, where it goes the way of the one who asks: sent or received, on the connection
@@ -119,7 +119,7 @@ is_released asks connection question records = fold (λ released event. unwrap_o
 -- a message that passes so is a Return that is late, behind these records: a Finish with releaseResultCaps passed since its
 -- question was opened
 abbrev pub is_late : Option (Bool × ℕ) → Option RpcMessage → List Body → Bool
-is_late (Some passage) (Some (message.Return answer releases outcome light)) before = is_released (not passage.0) passage.1 answer before
+is_late (Some passage) (Some (messages.Return answer releases outcome light)) before = is_released (not passage.0) passage.1 answer before
 is_late passage said before = false
 
 -- the steps that an order leaves of a log, each of them its vat's

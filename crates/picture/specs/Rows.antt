@@ -3,7 +3,7 @@ use Rattle.std.specs.Prelude.{◌≡◌, ℕ, ◌+◌, ◌-◌, ◌==◌, ◌&&�
 use Rattle.std.specs.List.{filter_map, range_with_len}
 use Rattle.std.specs.Option.{option_map}
 use Rattle.rpc_view.specs.declared.message.RpcMessage.{RpcMessage}
-use Rattle.rpc_view.specs.declared.message.RpcMessage.TheVariants as message
+use Rattle.rpc_view.specs.declared.message.RpcMessage.TheVariants as messages
 use Rattle.rpc_view.specs.declared.message.Outcome.{Outcome}
 use Rattle.rpc_view.specs.declared.message.Outcome.TheVariants as outcomes
 use Rattle.vat_log.specs.Log.{Log}
@@ -14,7 +14,7 @@ use Rattle.run_model.specs.declared.step.Step.TheVariants.{Make}
 use Rattle.run_model.specs.declared.name.Name.{Name}
 use Rattle.case_book.specs.Case.{Contents}
 use Rattle.audit_core.specs.declared.report.Report.{Report}
-use Rattle.audit_core.specs.declared.report.Report.TheVariants as report
+use Rattle.audit_core.specs.declared.report.Report.TheVariants as reports
 use Rattle.report_lines.specs.StepText.{call_of_step}
 use Rattle.picture.specs.Places.{place_of_nth, is_vat, record_number, step_of, log_of, column_of, passage_of, frame_at, place_in, mate_of, message_of, is_late}
 use Rattle.picture.specs.declared.place.Place.{Place}
@@ -29,7 +29,7 @@ use Rattle.picture.specs.declared.arrow.Arrow.{Arrow}
 use Rattle.picture.specs.declared.arrow.Reach.{Reach}
 use Rattle.picture.specs.declared.arrow.Reach.TheVariants.{At, Below, Above, Nowhere}
 use Rattle.picture.specs.declared.arrow.Stroke.{Stroke}
-use Rattle.picture.specs.declared.arrow.Stroke.TheVariants as stroke
+use Rattle.picture.specs.declared.arrow.Stroke.TheVariants as strokes
 
 -- ---- what the verdict names
 
@@ -43,10 +43,10 @@ place_at order step = option_map (λ vat. place_in vat (record_number order step
 
 -- the record that a verdict names
 abbrev pub named_by : Contents → List ℕ → Report → Option Place
-named_by held order (report.Vat vat at broken) = Some (place_in vat at)
-named_by held order (report.OutsideVat vat at why) = Some (place_in vat at)
-named_by held order (report.Link connection end number) = receipt held.logs connection end number
-named_by held order (report.OrderStep step) = place_at order step
+named_by held order (reports.Vat vat at broken) = Some (place_in vat at)
+named_by held order (reports.OutsideVat vat at why) = Some (place_in vat at)
+named_by held order (reports.Link connection end number) = receipt held.logs connection end number
+named_by held order (reports.OrderStep step) = place_at order step
 named_by held order _ = None
 
 -- the record of this place
@@ -59,7 +59,7 @@ mate_at held place = option_and_then (mate_of held place) (body_at held.logs pla
 
 -- where the verdict is on a link, the other end of its message
 abbrev pub mate_by : Contents → Report → Option Place
-mate_by held (report.Link connection end number) = option_and_then (mate_at held) (receipt held.logs connection end number)
+mate_by held (reports.Link connection end number) = option_and_then (mate_at held) (receipt held.logs connection end number)
 mate_by held _ = None
 
 -- ---- the window
@@ -220,16 +220,16 @@ rows_of scene = filter_map (row_at scene) (range_with_len 0 scene.window.count)
 
 -- the stroke of what a Return says of its call
 abbrev pub outcome_stroke : Outcome → Stroke
-outcome_stroke outcomes.Canceled = stroke.Canceled
-outcome_stroke outcomes.Elsewhere = stroke.Tail
-outcome_stroke (outcomes.TakeFrom question) = stroke.Tail
-outcome_stroke _ = stroke.Plain
+outcome_stroke outcomes.Canceled = strokes.Canceled
+outcome_stroke outcomes.Elsewhere = strokes.Tail
+outcome_stroke (outcomes.TakeFrom question) = strokes.Tail
+outcome_stroke _ = strokes.Plain
 
 -- the stroke of a message: a late Return, a canceled one, what is part of a tail call, or another
 abbrev pub stroke_of : Bool → Option RpcMessage → Stroke
-stroke_of late (Some (message.Return answer releases outcome light)) = if late then stroke.Late else outcome_stroke outcome
-stroke_of late (Some (message.Call question target interface method params yourself)) = if yourself then stroke.Tail else stroke.Plain
-stroke_of late _ = stroke.Plain
+stroke_of late (Some (messages.Return answer releases outcome light)) = if late then strokes.Late else outcome_stroke outcome
+stroke_of late (Some (messages.Call question target interface method params yourself)) = if yourself then strokes.Tail else strokes.Plain
+stroke_of late _ = strokes.Plain
 
 -- how many lines there are
 abbrev pub lines_of : Option ℕ → ℕ → ℕ

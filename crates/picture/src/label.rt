@@ -1,6 +1,6 @@
 //! The words of a row.
 
-ghost use Rattle.std.specs.Prelude.{◌≡◌, ℕ, Bool, Some};
+ghost use Rattle.std.specs.Prelude.{◌≡◌, Some, false};
 ghost use Rattle.std.specs.Fmt.{WritesOnOk};
 ghost use Rattle.report_lines.specs.MessageText.{loopback_text};
 ghost use Rattle.picture.specs.Labels.{answered_text, caps_text, label_text, said_text, short_outcome, short_text};
@@ -59,9 +59,8 @@ fn put_call<W: fmt::Write>(
     target: &Target,
     params: &Payload,
 ) -> fmt::Result
-    ensures { (interface method : ℕ) (yourself : Bool) → WritesOnOk W.write_str_gives f.old result
-        (short_text (RpcMessage.Call question target.now interface method params.now yourself))
-        f.new }
+    ensures { WritesOnOk W.write_str_gives f.old result
+        (short_text (RpcMessage.Call question target.now 0 0 params.now false)) f.new }
 {
     let caps = Caps(params.descriptors.as_slice());
     write!(f, "call {question} to {}{caps}", Shown(target))

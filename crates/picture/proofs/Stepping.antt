@@ -4,11 +4,14 @@ use Rattle.std.specs.Prelude.{count_by, slice_get, unwrap_or}
 use Rattle.std.proofs.lemmas.Bool.{false≢true}
 use Rattle.picture.specs.Places.{passes_in, places_from}
 
+moved : (a u v w : ℕ) → u ≡ v + w → a + u ≡ (a + v) + w
+moved a u v w e = omega (arith, e)
+
 counted_suc : {X : Type 0} (p : X → Bool) (xs : List X) (i : ℕ) → count_by p (take (suc i) xs) ≡ count_by p (take i xs) + cond (passes_in p (slice_get xs i)) 1 0
 counted_suc p [] zero = omega arith
 counted_suc p [] (suc i) = omega arith
 counted_suc p (x ∷ xs) zero = omega arith
-counted_suc p (x ∷ xs) (suc i) = let later = counted_suc p xs i in omega (arith, later)
+counted_suc p (x ∷ xs) (suc i) = moved (cond (p x) 1 0) (count_by p (take (suc i) xs)) (count_by p (take i xs)) (cond (passes_in p (slice_get xs i)) 1 0) (counted_suc p xs i)
 
 counted : {X : Type 0} (p : X → Bool) (xs : List X) (i : ℕ) → count_by p (take (i + 1) xs) ≡ count_by p (take i xs) + cond (passes_in p (slice_get xs i)) 1 0
 counted p xs i = rw (add-one i) (counted_suc p xs i)
@@ -16,15 +19,15 @@ counted p xs i = rw (add-one i) (counted_suc p xs i)
 -- a count, where the next item counts
 pub counts : {X : Type 0} (p : X → Bool) (xs : List X) (i n : ℕ) (b : Bool) → n ≡ count_by p (take i xs) → n ≤ i → b ≡ passes_in p (slice_get xs i) → b ≡ true
     → (n + 1 ≡ count_by p (take (i + 1) xs)) × (n + 1 ≤ i + 1)
-counts p xs i n b so_far few is yes =
-    let more = counted p xs i ∙ ap (λ t. count_by p (take i xs) + cond t 1 0) (sym is ∙ yes) in
+counts p xs i n b so_far few is holds =
+    let more = counted p xs i ∙ ap (λ t. count_by p (take i xs) + cond t 1 0) (sym is ∙ holds) in
     (omega (arith, so_far, more), omega arith)
 
 -- a count, where it doesn't
 pub counts_not : {X : Type 0} (p : X → Bool) (xs : List X) (i n : ℕ) (b : Bool) → n ≡ count_by p (take i xs) → n ≤ i → b ≡ passes_in p (slice_get xs i) → b ≡ false
     → (n ≡ count_by p (take (i + 1) xs)) × (n ≤ i + 1)
-counts_not p xs i n b so_far few is no =
-    let more = counted p xs i ∙ ap (λ t. count_by p (take i xs) + cond t 1 0) (sym is ∙ no) in
+counts_not p xs i n b so_far few is fails =
+    let more = counted p xs i ∙ ap (λ t. count_by p (take i xs) + cond t 1 0) (sym is ∙ fails) in
     (omega (arith, so_far, more), omega arith)
 
 -- the places from an item on
@@ -50,20 +53,20 @@ later_is x xs (suc n) not = let e : suc n - 1 ≡ n = omega arith in rw e refl
 -- the place that is looked for is this one
 pub found : {X : Type 0} (p : X → Bool) (xs : List X) (i left : ℕ) (total : Option ℕ) (b : Bool) → total ≡ slice_get (places_from p i (drop i xs)) left
     → b ≡ passes_in p (slice_get xs i) → b ≡ true → left ≡ 0 → total ≡ Some i
-found p xs i left total b so_far is yes none =
-    so_far ∙ ap (λ l. slice_get l left) (places_at p xs i ∙ ap (λ t. cond t (i ∷ places_from p (i + 1) (drop (i + 1) xs)) (places_from p (i + 1) (drop (i + 1) xs))) (sym is ∙ yes)) ∙ first_is _ _ left none
+found p xs i left total b so_far is holds none =
+    so_far ∙ ap (λ l. slice_get l left) (places_at p xs i ∙ ap (λ t. cond t (i ∷ places_from p (i + 1) (drop (i + 1) xs)) (places_from p (i + 1) (drop (i + 1) xs))) (sym is ∙ holds)) ∙ first_is _ _ left none
 
 -- an item passes, and another is looked for
 pub goes_by : {X : Type 0} (p : X → Bool) (xs : List X) (i left : ℕ) (total : Option ℕ) (b : Bool) → total ≡ slice_get (places_from p i (drop i xs)) left
     → b ≡ passes_in p (slice_get xs i) → b ≡ true → left ≢ 0 → total ≡ slice_get (places_from p (i + 1) (drop (i + 1) xs)) (left - 1)
-goes_by p xs i left total b so_far is yes some =
-    so_far ∙ ap (λ l. slice_get l left) (places_at p xs i ∙ ap (λ t. cond t (i ∷ places_from p (i + 1) (drop (i + 1) xs)) (places_from p (i + 1) (drop (i + 1) xs))) (sym is ∙ yes)) ∙ later_is _ _ left some
+goes_by p xs i left total b so_far is holds some =
+    so_far ∙ ap (λ l. slice_get l left) (places_at p xs i ∙ ap (λ t. cond t (i ∷ places_from p (i + 1) (drop (i + 1) xs)) (places_from p (i + 1) (drop (i + 1) xs))) (sym is ∙ holds)) ∙ later_is _ _ left some
 
 -- an item doesn't pass
 pub passes_by : {X : Type 0} (p : X → Bool) (xs : List X) (i left : ℕ) (total : Option ℕ) (b : Bool) → total ≡ slice_get (places_from p i (drop i xs)) left
     → b ≡ passes_in p (slice_get xs i) → b ≡ false → total ≡ slice_get (places_from p (i + 1) (drop (i + 1) xs)) left
-passes_by p xs i left total b so_far is no =
-    so_far ∙ ap (λ l. slice_get l left) (places_at p xs i ∙ ap (λ t. cond t (i ∷ places_from p (i + 1) (drop (i + 1) xs)) (places_from p (i + 1) (drop (i + 1) xs))) (sym is ∙ no))
+passes_by p xs i left total b so_far is fails =
+    so_far ∙ ap (λ l. slice_get l left) (places_at p xs i ∙ ap (λ t. cond t (i ∷ places_from p (i + 1) (drop (i + 1) xs)) (places_from p (i + 1) (drop (i + 1) xs))) (sym is ∙ fails))
 
 nothing : (n : ℕ) → slice_get {X = ℕ} [] n ≡ None
 nothing zero = refl

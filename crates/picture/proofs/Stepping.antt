@@ -4,17 +4,23 @@ use Rattle.std.specs.Prelude.{count_by, slice_get, unwrap_or}
 use Rattle.std.proofs.lemmas.Bool.{false≢true}
 use Rattle.picture.specs.Places.{passes_in, places_from}
 
-moved : (a u v w : ℕ) → u ≡ v + w → a + u ≡ (a + v) + w
-moved a u v w e = omega (arith, e)
+folded_suc : {X Y : Type 0} (f : Y → X → Y) (g : Y → Option X → Y) (xs : List X) (i : ℕ) (start : Y) → ((y : Y) → g y None ≡ y) → ((y : Y) (x : X) → g y (Some x) ≡ f y x)
+    → fold f start (take (suc i) xs) ≡ g (fold f start (take i xs)) (slice_get xs i)
+folded_suc f g [] zero start none some = sym (none start)
+folded_suc f g [] (suc i) start none some = sym (none start)
+folded_suc f g (x ∷ xs) zero start none some = sym (some start x)
+folded_suc f g (x ∷ xs) (suc i) start none some = folded_suc f g xs i (f start x) none some
 
-counted_suc : {X : Type 0} (p : X → Bool) (xs : List X) (i : ℕ) → count_by p (take (suc i) xs) ≡ count_by p (take i xs) + cond (passes_in p (slice_get xs i)) 1 0
-counted_suc p [] zero = omega arith
-counted_suc p [] (suc i) = omega arith
-counted_suc p (x ∷ xs) zero = omega arith
-counted_suc p (x ∷ xs) (suc i) = moved (cond (p x) 1 0) (count_by p (take (suc i) xs)) (count_by p (take i xs)) (cond (passes_in p (slice_get xs i)) 1 0) (counted_suc p xs i)
+-- one item more
+pub folded : {X Y : Type 0} (f : Y → X → Y) (g : Y → Option X → Y) (xs : List X) (i : ℕ) (start : Y) → ((y : Y) → g y None ≡ y) → ((y : Y) (x : X) → g y (Some x) ≡ f y x)
+    → fold f start (take (i + 1) xs) ≡ g (fold f start (take i xs)) (slice_get xs i)
+folded f g xs i start none some = rw (add-one i) (folded_suc f g xs i start none some)
+
+plus_none : (a : ℕ) → a + 0 ≡ a
+plus_none a = omega arith
 
 counted : {X : Type 0} (p : X → Bool) (xs : List X) (i : ℕ) → count_by p (take (i + 1) xs) ≡ count_by p (take i xs) + cond (passes_in p (slice_get xs i)) 1 0
-counted p xs i = rw (add-one i) (counted_suc p xs i)
+counted p xs i = folded (λ a x. a + cond (p x) 1 0) (λ a o. a + cond (passes_in p o) 1 0) xs i 0 (λ a. plus_none a) (λ a x. refl)
 
 -- a count, where the next item counts
 pub counts : {X : Type 0} (p : X → Bool) (xs : List X) (i n : ℕ) (b : Bool) → n ≡ count_by p (take i xs) → n ≤ i → b ≡ passes_in p (slice_get xs i) → b ≡ true
@@ -81,17 +87,3 @@ dropped (x ∷ xs) (suc i) all = dropped xs i (omega arith)
 -- behind the last item there is none
 pub found_none : {X : Type 0} (p : X → Bool) (xs : List X) (i left : ℕ) (total : Option ℕ) → total ≡ slice_get (places_from p i (drop i xs)) left → length xs ≤ i → total ≡ None
 found_none p xs i left total so_far all = so_far ∙ ap (λ l. slice_get (places_from p i l) left) (dropped xs i all) ∙ nothing left
-
--- ---- what is folded
-
-folded_suc : {X Y : Type 0} (f : Y → X → Y) (g : Y → Option X → Y) (xs : List X) (i : ℕ) (start : Y) → ((y : Y) → g y None ≡ y) → ((y : Y) (x : X) → g y (Some x) ≡ f y x)
-    → fold f start (take (suc i) xs) ≡ g (fold f start (take i xs)) (slice_get xs i)
-folded_suc f g [] zero start none some = sym (none start)
-folded_suc f g [] (suc i) start none some = sym (none start)
-folded_suc f g (x ∷ xs) zero start none some = sym (some start x)
-folded_suc f g (x ∷ xs) (suc i) start none some = folded_suc f g xs i (f start x) none some
-
--- one item more
-pub folded : {X Y : Type 0} (f : Y → X → Y) (g : Y → Option X → Y) (xs : List X) (i : ℕ) (start : Y) → ((y : Y) → g y None ≡ y) → ((y : Y) (x : X) → g y (Some x) ≡ f y x)
-    → fold f start (take (i + 1) xs) ≡ g (fold f start (take i xs)) (slice_get xs i)
-folded f g xs i start none some = rw (add-one i) (folded_suc f g xs i start none some)

@@ -22,8 +22,8 @@ abbrev pub caps_text : List Descriptor → List ℕ
 caps_text [] = []
 caps_text (entry ∷ entries) =
     if nat_lt 3 (length (entry ∷ entries))
-        then codes " caps " ++ (entries_text (take 3 (entry ∷ entries)) ++ (codes " and " ++ (decimal (length (entry ∷ entries) - 3) ++ codes " more")))
-        else codes " caps " ++ entries_text (entry ∷ entries)
+    then codes " caps " ++ (entries_text (take 3 (entry ∷ entries)) ++ (codes " and " ++ (decimal (length (entry ∷ entries) - 3) ++ codes " more")))
+    else codes " caps " ++ entries_text (entry ∷ entries)
 
 -- what a Return says of its call
 abbrev pub short_outcome : Outcome → List ℕ
@@ -50,8 +50,8 @@ short_text Abort = codes "abort"
 abbrev pub answered_text : ℕ → List (ℕ × List ℕ) → List ℕ
 answered_text call results =
     if nat_lt 3 (length results)
-        then codes "answer call " ++ (decimal call ++ (codes " with " ++ (decimal (length results) ++ codes " capabilities")))
-        else body_text (Answer call results)
+    then codes "answer call " ++ (decimal call ++ (codes " with " ++ (decimal (length results) ++ codes " capabilities")))
+    else body_text (Answer call results)
 
 -- what a record says, whose frame has this message
 abbrev pub said_text : Body → Option RpcMessage → List ℕ

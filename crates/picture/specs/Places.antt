@@ -84,7 +84,7 @@ frame_at sent connection frame log = option_map (place_in log.vat) (place_of_nth
 abbrev pub mate_from : Contents → Bool → ℕ → ℕ → Log → Option Place
 mate_from held sent connection number own =
     option_and_then (λ vat. option_and_then (frame_at (not sent) connection (frames_before sent connection own.records number)) (log_of held.logs vat))
-        (other_end held.links connection own.vat)
+    (other_end held.links connection own.vat)
 
 -- the same of a record of a vat that sends, or receives, on a connection
 abbrev pub mate_on : Contents → Place → (Bool × ℕ) → Option Place

@@ -25,11 +25,7 @@ fn with_steps(order: Vec<u32>, vat: u32, steps: usize) -> Result<Vec<u32>, Alloc
 }
 
 /// An order, and behind it what it leaves of these logs, by rising vat number.
-fn completed(
-    alloc: Global,
-    order: &[u32],
-    logs: &[Arc<VatLog>],
-) -> Result<Vec<u32>, AllocError>
+fn completed(alloc: Global, order: &[u32], logs: &[Arc<VatLog>]) -> Result<Vec<u32>, AllocError>
     ensures { IfOk result (λ all. all.items ≡ completed (map arc_value logs.now) order.now) }
 {
     let mut all = Vec::from_slice(alloc, order)?;

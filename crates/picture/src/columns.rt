@@ -22,11 +22,7 @@ pub struct Column {
 }
 
 /// The columns of these logs' vats.
-pub fn columns_of(
-    alloc: Global,
-    logs: &[Arc<VatLog>],
-    line: u16,
-) -> Result<Vec<Column>, AllocError>
+pub fn columns_of(alloc: Global, logs: &[Arc<VatLog>], line: u16) -> Result<Vec<Column>, AllocError>
     requires { length logs.now ≤ vat_limit }
     ensures { IfOk result (λ columns. columns.items ≡ columns_of (map arc_value logs.now) line) }
 {

@@ -60,7 +60,11 @@ fn width_of(vats: usize, letters: u64) -> u64
 {
     let columns = 460 + 420 * vats as u64;
     let sentence = 140 + 8 * letters;
-    if columns < sentence { sentence } else { columns }
+    if columns < sentence {
+        sentence
+    } else {
+        columns
+    }
 }
 
 /// The picture of a case whose records are drawn in this order, and of its report: the rows of the steps that are asked for,

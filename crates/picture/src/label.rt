@@ -93,7 +93,9 @@ impl Display for Short<'_> {
                 ..
             } => put_call(f, *question, target, params),
             RpcMessage::Return {
-                answer, outcome, ..
+                answer,
+                outcome,
+                ..
             } => write!(f, "return {answer} {}", ShortOutcome(outcome)),
             RpcMessage::Finish { question, .. } => write!(f, "finish {question}"),
             RpcMessage::Resolve {

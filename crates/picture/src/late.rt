@@ -18,7 +18,8 @@ fn turn_of(message: &RpcMessage, question: u32) -> Option<bool>
     match message {
         RpcMessage::Bootstrap { question: opened }
         | RpcMessage::Call {
-            question: opened, ..
+            question: opened,
+            ..
         } => {
             if *opened == question {
                 Some(false)

@@ -36,13 +36,7 @@ fn other_end(links: &[Link], connection: u32, vat: u32) -> Option<u32>
 }
 
 /// The other end of the message of a record of this log that sends, or receives, a frame on a connection.
-fn mate_from(
-    case: &Case,
-    own: &VatLog,
-    number: usize,
-    sent: bool,
-    connection: u32,
-) -> Option<Place>
+fn mate_from(case: &Case, own: &VatLog, number: usize, sent: bool, connection: u32) -> Option<Place>
     ensures { result ≡ mate_from case.now sent connection number own.now }
 {
     let vat = other_end(case.links(), connection, own.vat())?;

@@ -55,8 +55,15 @@ impl<'a> Model for Row<'a> {
 
     ghost Value = { Drawn };
 
-    ghost view = { λ row. record { place = row.place; column = row.column; line = row.line;
-        body = row.body.now; message = row.message; late = row.late; tone = row.tone } };
+    ghost view = { λ row. record {
+      place = row.place;
+      column = row.column;
+      line = row.line;
+      body = row.body.now;
+      message = row.message;
+      late = row.late;
+      tone = row.tone;
+    } };
 }
 
 /// Whether it is this record.
@@ -141,11 +148,7 @@ fn drawn_at<'a>(
 }
 
 /// The row of this number, where its step has a record.
-fn row_at<'a>(
-    alloc: Global,
-    scene: &Scene<'a>,
-    row: u8,
-) -> Result<Option<Row<'a>>, AllocError>
+fn row_at<'a>(alloc: Global, scene: &Scene<'a>, row: u8) -> Result<Option<Row<'a>>, AllocError>
     requires within { scene.now.window.from + scene.now.window.count ≤ length scene.now.order }
     requires row { row < scene.now.window.count }
     ensures { IfOk result (λ made. made ≡ row_at scene.now row) }

@@ -36,9 +36,15 @@ impl<'a> Model for Scene<'a> {
 
     ghost Value = { Scene };
 
-    ghost view = { λ scene. record { held = scene.case.now; order = scene.order.now;
-        steps = scene.steps.now; focus = scene.focus; maker = scene.maker; window = scene.window;
-        fault = scene.fault } };
+    ghost view = { λ scene. record {
+      held = scene.case.now;
+      order = scene.order.now;
+      steps = scene.steps.now;
+      focus = scene.focus;
+      maker = scene.maker;
+      window = scene.window;
+      fault = scene.fault;
+    } };
 }
 
 /// Who made the call that this record names, if there is one.

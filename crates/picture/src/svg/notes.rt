@@ -85,7 +85,10 @@ impl Display for Sentence<'_> {
         };
         let y = sentence_y(self.fault);
         let code = Code(self.report);
-        write!(f, "<text class='why' x='60' y='{y}'>{code}{sentence}</text>\n")
+        write!(
+            f,
+            "<text class='why' x='60' y='{y}'>{code}{sentence}</text>\n"
+        )
     }
 }
 

@@ -92,7 +92,10 @@ impl Display for Arrow {
         let tone = tone_word(self.tone);
         let stroke = stroke_word(self.stroke);
         let line = line_of(self);
-        write!(f, "<g class='{tone}'><path class='{stroke}' d='{line}'/></g>\n")
+        write!(
+            f,
+            "<g class='{tone}'><path class='{stroke}' d='{line}'/></g>\n"
+        )
     }
 }
 
@@ -100,7 +103,10 @@ impl Display for Arrow {
 fn put_band<W: fmt::Write>(f: &mut Formatter<W>, top: u64, height: u64) -> fmt::Result
     ensures { WritesOnOk W.write_str_gives f.old result (band_lines top height) f.new }
 {
-    write!(f, "<rect class='band' y='{top}' width='100%' height='{height}'/>\n")
+    write!(
+        f,
+        "<rect class='band' y='{top}' width='100%' height='{height}'/>\n"
+    )
 }
 
 /// The band behind a row that the verdict names; none behind others.

@@ -51,5 +51,6 @@ pub fn begin_order(alloc: Global, logs: &[Arc<VatLog>]) -> Result<Order, AllocEr
         vats.push(vat)?;
         schedule = schedule.take(vat)?;
     }
-    Ok(Order::new(vats))
+    let order = Order::new(vats);
+    Ok(order)
 }

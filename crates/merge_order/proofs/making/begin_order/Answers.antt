@@ -25,4 +25,4 @@ loop-vat-preserved c =
     )
 
 pub returns : goal.returns
-returns c = rw c.new-2.ensures (begun_all _ c.loop-vat.schedule c.loop-vat.vats.items c.loop-vat.invariant.0 c.in_default.ensures)
+returns c = rw c.new-order.ensures (begun_all _ c.loop-vat.schedule c.loop-vat.vats.items c.loop-vat.invariant.0 c.in_default.ensures)

@@ -49,7 +49,7 @@ abbrev pub reach_point : ℕ → ℕ → Reach → Point
 reach_point column line (At other other_line) = point_at other other_line
 reach_point column line (Below other other_line) = point_at other other_line
 reach_point column line (Above other) = record { x = x_of other; y = 104 }
-reach_point column line Nowhere = record { x = x_of column + 30; y = y_of line + 10 }
+reach_point column line Nowhere = record { x = x_of column - 30; y = y_of line + 10 }
 
 -- ---- columns, rows and arrows
 

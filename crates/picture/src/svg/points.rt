@@ -60,7 +60,7 @@ pub fn reach_point(column: u32, line: u16, reach: Reach) -> Point
             y: 104,
         },
         Reach::Nowhere => Point {
-            x: x_of(column) + 30,
+            x: x_of(column) - 30,
             y: y_of(line) + 10,
         },
     }

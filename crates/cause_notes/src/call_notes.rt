@@ -189,11 +189,8 @@ pub(crate) fn settled_by(past: &Past<'_>, call: u64) -> Option<usize> {
 /// The first path that stands twice among results.
 fn repeated_path(results: &[(u64, Path)]) -> Option<&Path> {
     for (index, (_, path)) in results.iter().enumerate() {
-        let (before, _) = results.split_at(index);
-        if before
-            .iter()
-            .any(|other| other.1.as_slice() == path.as_slice())
-        {
+        let mut before = results.iter().take(index);
+        if before.any(|other| other.1.as_slice() == path.as_slice()) {
             return Some(path);
         }
     }

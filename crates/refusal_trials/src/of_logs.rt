@@ -26,7 +26,7 @@ struct Spelled {
 }
 
 /// Those of the log of a vat that recorded this.
-fn spelled(alloc: Global, number: &str, records: &str) -> Result<Spelled, Refused> {
+fn log_spelled(alloc: Global, number: &str, records: &str) -> Result<Spelled, Refused> {
     Ok(Spelled {
         old: bytes_of_log(alloc, number, records)?,
         new: bytes_of_new_log(alloc, number, records)?,
@@ -179,7 +179,7 @@ pub fn try_log(
     tally: &mut Tally,
 ) -> io::Result<()> {
     let (number, records) = recorded;
-    let Ok(bytes) = ask_again(|| spelled(alloc, number, records)) else {
+    let Ok(bytes) = ask_again(|| log_spelled(alloc, number, records)) else {
         return tally.count(rt, "a log", false);
     };
     tally.count(rt, "parse_log", is_so(|| is_parsed(alloc, &bytes)))?;

@@ -10,20 +10,40 @@ use vat_log::{Body, Record, VatLog};
 use vat_tap::{CloseError, Lane, Tap};
 use worked_cases::Refused;
 
-/// A tap of vat 1, whose log is of version 3 or else of version 2, and its two lanes, each with a ring of two records.
-fn two_lanes(alloc: Global, later: bool) -> Result<(Tap, Lane, Lane), Refused>
+/// A tap of vat 1, and its two lanes, each with a ring of two records. Its log is of version 2.
+fn two_lanes(alloc: Global) -> Result<(Tap, Lane, Lane), Refused>
     ensures first { IfOk result (λ opened. IsLaneOf opened.0 opened.1 × (opened.1.number ≡ 0)) }
     ensures second { IfOk result (λ opened. IsLaneOf opened.0 opened.2 × (opened.2.number ≡ 1)) }
 {
-    let (tap, opened) = if later {
-        Tap::open_later(alloc, 1, 2, 2)?
-    } else {
-        Tap::open(alloc, 1, 2, 2)?
-    };
+    let (tap, opened) = Tap::open(alloc, 1, 2, 2)?;
     let mut lanes = opened;
     let second = lanes.pop().ok_or("lane 1")?;
     let first = lanes.pop().ok_or("lane 0")?;
     Ok((tap, first, second))
+}
+
+/// The same, of version 3.
+fn two_later_lanes(alloc: Global) -> Result<(Tap, Lane, Lane), Refused>
+    ensures first { IfOk result (λ opened. IsLaneOf opened.0 opened.1 × (opened.1.number ≡ 0)) }
+    ensures second { IfOk result (λ opened. IsLaneOf opened.0 opened.2 × (opened.2.number ≡ 1)) }
+{
+    let (tap, opened) = Tap::open_later(alloc, 1, 2, 2)?;
+    let mut lanes = opened;
+    let second = lanes.pop().ok_or("lane 1")?;
+    let first = lanes.pop().ok_or("lane 0")?;
+    Ok((tap, first, second))
+}
+
+/// The same, of version 3 or else of version 2.
+fn lanes_of(alloc: Global, later: bool) -> Result<(Tap, Lane, Lane), Refused>
+    ensures first { IfOk result (λ opened. IsLaneOf opened.0 opened.1 × (opened.1.number ≡ 0)) }
+    ensures second { IfOk result (λ opened. IsLaneOf opened.0 opened.2 × (opened.2.number ≡ 1)) }
+{
+    if later {
+        two_later_lanes(alloc)
+    } else {
+        two_lanes(alloc)
+    }
 }
 
 /// The same, opened once more where memory is refused.
@@ -31,8 +51,8 @@ fn open_lanes(alloc: Global, later: bool) -> Result<(Tap, Lane, Lane), Refused>
     ensures first { IfOk result (λ opened. IsLaneOf opened.0 opened.1 × (opened.1.number ≡ 0)) }
     ensures second { IfOk result (λ opened. IsLaneOf opened.0 opened.2 × (opened.2.number ≡ 1)) }
 {
-    match two_lanes(alloc, later) {
-        Err(Refused::OutOfMemory) => two_lanes(alloc, later),
+    match lanes_of(alloc, later) {
+        Err(Refused::OutOfMemory) => lanes_of(alloc, later),
         answer => answer,
     }
 }

@@ -179,8 +179,7 @@ module _ (limits : Limits) (log : List Body) where
 
   all_more : (n : ℕ) → AllGood First first log n → AllGood Later later log n
   all_more n all i lt =
-      let this = all i lt in
-      (
+      let this = all i lt in (
         this.0,
         some_and_more (λ b. event_of first b ≡ Ok this.0) (λ b. event_of later b ≡ Ok this.0) (λ b. event_more limits b this.0) (slice_get log i) this.1,
         subst (λ p. IsGoodBy Later p this.0) (past_same i (λ j less. all j (let fewer : j < n = omega (arith, lt, less) in fewer))) (keeps_more (past_at first log i) this.0 this.2),

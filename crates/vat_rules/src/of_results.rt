@@ -119,12 +119,7 @@ fn returns_taken(edition: Edition, state: &VatState, from: Option<u64>, call: u6
 
 /// Whether the call of a question was answered by the one for which the question stands whose results are taken, or, by
 /// the later edition, that question stands for the call itself.
-fn takes_answer(
-    edition: Edition,
-    state: &VatState,
-    question: TableKey,
-    taken: TableKey,
-) -> bool
+fn takes_answer(edition: Edition, state: &VatState, question: TableKey, taken: TableKey) -> bool
     ensures { Decides result (IsSomeAnd (call_at (opening question state.now))
         (ReturnsTaken edition state.now (call_of taken state.now))) }
 {

@@ -20,17 +20,18 @@ mod file;
 mod new_file;
 
 use clap::error::ErrorKind;
-use command_line::command_of;
+use command_line::{VERSION, command_of};
 use command_run::{FAILED, NotedSource, run_on, run_with_notes};
 use file::{Folder, RememberingFolder};
 use new_file::NewFile;
 use report_lines::Fault;
+use std::fmt::{Display, Formatter};
 use std::io::Write;
 use std::process::ExitCode;
 use std::rt::Files;
 use std::sync::Wait;
 use std::thread::Threads;
-use std::{env, fs, io};
+use std::{env, fmt, fs, io};
 
 /// Prints that memory ran out, and gives the exit status: that of a failed write where the line can't be written.
 fn out_of_memory(rt: &impl Print) -> u8
@@ -62,8 +63,34 @@ fn hold_standard_places<R: Files>(rt: &R) -> [io::Result<R::File>; 3] {
     [fs::open(rt, "/"), fs::open(rt, "/"), fs::open(rt, "/")]
 }
 
+/// The kit by which the program is proved.
+const KIT: &str = "rattle-kit-13b logic dac8208d650f15bf";
+
 /// What `--version` prints: the version of the program, and the kit by which it was proved.
-const VERSION: &str = "vataudit 1.0, proved with rattle-kit-13b logic dac8208d650f15bf";
+#[derive(Clone, Copy)]
+struct ProvedVersion;
+
+impl Display for ProvedVersion {
+    fn fmt<W: fmt::Write>(&self, f: &mut Formatter<W>) -> fmt::Result {
+        write!(f, "vataudit {VERSION}, proved with {KIT}")
+    }
+}
+
+/// Whether the words ask for the version alone.
+fn asks_version(words: &[String]) -> bool {
+    match words {
+        [_, word] => word.as_str() == "--version",
+        _ => false,
+    }
+}
+
+/// Prints the version, and gives the exit status.
+fn say_version<W: Write>(out: &mut W) -> u8 {
+    if out.writeln(ProvedVersion).is_err() || out.flush().is_err() {
+        return FAILED;
+    }
+    0
+}
 
 /// Whether `--quiet` is the last word and nothing else than that: not the name that `--out` asks for, and behind no `--`.
 fn ends_quiet(words: &[String]) -> bool {
@@ -87,22 +114,6 @@ fn take_quiet(words: &mut Vec<String>) -> bool {
         return true;
     }
     false
-}
-
-/// Whether the words ask for the version alone.
-fn asks_version(words: &[String]) -> bool {
-    match words {
-        [_, word] => word.as_str() == "--version",
-        _ => false,
-    }
-}
-
-/// Prints the version, and gives the exit status.
-fn say_version<W: Write>(out: &mut W) -> u8 {
-    if out.writeln(VERSION).is_err() || out.flush().is_err() {
-        return FAILED;
-    }
-    0
 }
 
 /// Does what the words ask, writes its lines to `out` and, where none asks for quiet, notes to `notes`; and gives the exit

@@ -14,7 +14,7 @@ returns-in-Some-2 c =
     let here : slice_get log c.loop-at.at ≡ Some c.in-Some.stored.now = sym c.in-Some.ensures in
     let same : c.edition_of-edition.result ≡ edition = c.edition_of-edition.ensures in
     let is : event_of read c.in-Some.stored.now ≡ Ok c.in-Ok.event =
-        ap (event_of read) (sym c.body.ensures.value) ∙ ap (λ (e : Edition). event_of (reads_by e c.args.limits) c.body.result.now) (sym same) ∙ sym c.in_ok-event.ensures ∙ c.in-Ok.is in
+    ap (event_of read) (sym c.body.ensures.value) ∙ ap (λ (e : Edition). event_of (reads_by e c.args.limits) c.body.result.now) (sym same) ∙ sym c.in_ok-event.ensures ∙ c.in-Ok.is in
     is_first-Broken edition read log c.loop-at.at c.in-Some.stored.now c.in-Ok.event c.loop-at.state c.in-Some-2.rule here is
     c.loop-at.invariant.read (rw (c.in-Some-2.is, same) at c.in_ok-rule.ensures) c.loop-at.invariant.good
 
@@ -26,7 +26,7 @@ loop-at-preserved c =
     let here : slice_get log c.loop-at.at ≡ Some c.in-Some.stored.now = sym c.in-Some.ensures in
     let same : c.edition_of-edition.result ≡ edition = c.edition_of-edition.ensures in
     let is : event_of read c.in-Some.stored.now ≡ Ok c.in-Ok.event =
-        ap (event_of read) (sym c.body.ensures.value) ∙ ap (λ (e : Edition). event_of (reads_by e c.args.limits) c.body.result.now) (sym same) ∙ sym c.in_ok-event.ensures ∙ c.in-Ok.is in
+    ap (event_of read) (sym c.body.ensures.value) ∙ ap (λ (e : Edition). event_of (reads_by e c.args.limits) c.body.result.now) (sym same) ∙ sym c.in_ok-event.ensures ∙ c.in-Ok.is in
     let good = rw (c.in-None.is, same) at c.in_ok-rule.ensures in
     record {
       read = good.1 ∙ ap (λ p. c.in-Ok.event ∷ p) c.loop-at.invariant.read ∙ sym (past_at-more read log c.loop-at.at c.in-Some.stored.now c.in-Ok.event here is);

@@ -3,11 +3,11 @@ use Rattle.std.proofs.Common.{◌≡◌, ◌≤◌, inl, inr, refl, sym, ◌∙�
 use Rattle.std.specs.Prelude.{is_some, option_to_list, IfSome}
 use Rattle.std.specs.List.{list_all, filter_map}
 use Rattle.std.specs.Bool.{beq}
-use Rattle.std.proofs.lemmas.Bool.{false≢true, eq-eqb, and_parts, and_from, ltb-true, lt-ltb}
+use Rattle.std.proofs.lemmas.Bool.{false≢true, eq-eqb, and_parts, and_from, or_cases, or_left, or_right, ltb-true, lt-ltb}
 use Rattle.std.proofs.lemmas.Bool.Decides.{nat_tests}
 use Rattle.agree.specs.Types.{Descriptor, SenderHosted, ReceiverHosted, ReceiverAnswer, Imported, Promised, Results, Exception, Canceled, Elsewhere, TakeFrom, RpcMessage, Bootstrap, Call, Return, Finish, Release, Disembargo, DecodedRecord, Wire, TableKey}
 use Rattle.vat_view.specs.Past.{Past, id, Each}
-use Rattle.vat_view.specs.Questions.{question_returned, question_finished, question_taken, returns, opening, is_tail, is_taken, is_opened, is_returned, is_finished, is_free, is_unfinished, is_unreturned}
+use Rattle.vat_view.specs.Questions.{question_returned, question_finished, question_taken, returns, opening, is_tail, is_taken, is_opened, is_returned, is_returned_lightly, is_finished, is_over, is_free, is_unfinished, is_unreturned}
 use Rattle.vat_view.specs.Lives.{gives_back, held, is_in_life, descriptors_of, GivesBackHeld}
 use Rattle.vat_view.specs.Uses.{OpensFree, UsesQuestions, UsesNumbers, question_targeted, question_described, questions_used, number_targeted, number_described, number_released, numbers_used}
 use Rattle.agree.specs.Streams.{passing, stream, IsPassed}
@@ -15,7 +15,7 @@ use Rattle.agree.specs.Agreeing.{AreLinked}
 use Rattle.agree.specs.Told.{AreTold}
 use Rattle.agree.specs.Arrival.{ArrivesWell}
 use Rattle.agree.proofs.Points.{before_it, each_so}
-use Rattle.agree.proofs.Asking.{asks, answers, count, one_if, last_number, came_since, ends, opened_stream, finished_stream, takes, taken_stream, asked_away, tail_stream, unfinished_in, unfinished_stream, free_parts, ReturnsDue, OpensIdle, returns_waiting, opens_idle, fewer_returns, more_returns, is_due}
+use Rattle.agree.proofs.Asking.{asks, answers, count, one_if, last_number, came_since, ends, opened_stream, finished_stream, takes, taken_stream, asked_away, tail_stream, unfinished_in, unfinished_stream, over_parts, ReturnsDue, OpensIdle, returns_waiting, opens_idle, fewer_returns, more_returns, is_due}
 use Rattle.agree.proofs.Cuts.{IsMet, other_way, same_before, met_after, linked_back}
 use Rattle.agree.proofs.Openings.{openings_linked, passing_is, one_way, same_way}
 use Rattle.agree.proofs.Telling.{none_or_some, stream_of}
@@ -24,6 +24,7 @@ use Rattle.agree.proofs.Covered.{held_at_cut, exporter_counts}
 use Rattle.agree.proofs.Closing.{introduces_none}
 use Rattle.agree.proofs.Held.{gives_none}
 use Rattle.agree.proofs.Coming.{more_counted, return_comes}
+use Rattle.agree.proofs.Freed.{lightly_there}
 use Rattle.agree.proofs.Standing.{linked_before}
 
 -- ---- lists of numbers at the two ends
@@ -115,29 +116,36 @@ module _ (k c d : ℕ) (rs ss : List ℕ) (P Q : TableKey → Bool) (same : (n :
 
 -- ---- a message that is sent and received
 
-free_still : (o r f s : Bool) → (not o || (r && f)) ≡ true → (o && not s) ≡ false → (not o || (s && f)) ≡ true
-free_still o r f s h g = grind (arith, nat_tests)
+over_still : (o r f s : Bool) → (not o || (r && f)) ≡ true → (o && not s) ≡ false → (not o || (s && f)) ≡ true
+over_still o r f s h g = grind (arith, nat_tests)
 
 not_one : (b : Bool) → one_if b ≤ 0 → b ≡ false
 not_one b le = grind (arith, nat_tests)
 
 module _ (k : ℕ) (from to : Past) (linked : AreLinked k from to) (same : stream k true from ≡ stream k false to)
     (uses_x : Each UsesQuestions from) (uses_y : Each UsesQuestions to) (free_x : Each OpensFree from) (free_y : Each OpensFree to) where
-  -- a question that is free at its asker is free at the other end
-  free_there : (q : ℕ) → is_free (id k true q) from ≡ true → is_free (id k false q) to ≡ true
-  free_there q h =
+  -- a question that is over at its asker is over at the other end
+  over_there : (q : ℕ) → is_over (id k true q) from ≡ true → is_over (id k false q) to ≡ true
+  over_there q h =
       let mine : TableKey = id k true q in
       let theirs : TableKey = id k false q in
       let more = more_returns mine from (each_so OpensFree (OpensIdle mine) (opens_idle mine) from free_x) in
       let fewer = fewer_returns theirs to (each_so UsesQuestions (ReturnsDue theirs) (returns_waiting theirs) to uses_y) in
-      let idle = ap (λ b. one_if b) (free_parts (is_opened mine from) (is_returned mine from) (is_finished mine from) h) in
+      let idle = ap (λ b. one_if b) (over_parts (is_opened mine from) (is_returned mine from) (is_finished mine from) h) in
       let asked = ap (λ l. count (asks q) l) same in
       let answered = more_counted (answers q) (stream k true to) (stream k false from) linked.cut.to_one in
       let none : is_due theirs (returns theirs) to ≡ false = not_one (is_due theirs (returns theirs) to) (omega (arith, more, fewer, idle, asked, answered)) in
       let opened_same : is_opened mine from ≡ is_opened theirs to =
       opened_stream mine from ∙ ap (λ l. is_some (last_number (asks q) l)) same ∙ sym (opened_stream theirs to) in
       let finished_same : is_finished mine from ≡ is_finished theirs to = finished_stream mine from ∙ ap (λ l. came_since (asks q) (ends q) l) same ∙ sym (finished_stream theirs to) in
-      free_still (is_opened theirs to) (is_returned mine from) (is_finished theirs to) (is_returned theirs to) (ap₂ (λ a b. not a || (is_returned mine from && b)) (sym opened_same) (sym finished_same) ∙ h) none
+      over_still (is_opened theirs to) (is_returned mine from) (is_finished theirs to) (is_returned theirs to) (ap₂ (λ a b. not a || (is_returned mine from && b)) (sym opened_same) (sym finished_same) ∙ h) none
+
+  -- and one that is free is free
+  free_there : (q : ℕ) → is_free (id k true q) from ≡ true → is_free (id k false q) to ≡ true
+  free_there q h = elim (or_cases (is_over (id k true q) from) (is_returned_lightly (id k true q) from) h) [
+    | inl over ↦ or_left (is_over (id k false q) to) (is_returned_lightly (id k false q) to) (over_there q over)
+    | inr light ↦ or_right (is_over (id k false q) to) (is_returned_lightly (id k false q) to) (lightly_there k from to linked same uses_y free_x q light)
+  ]
 
   unfinished_there : (q : ℕ) → is_unfinished (id k true q) from ≡ true → is_unfinished (id k false q) to ≡ true
   unfinished_there q h = unfinished_stream (id k false q) to ∙ ap (λ l. unfinished_in q l) (sym same) ∙ sym (unfinished_stream (id k true q) from) ∙ h

@@ -7,7 +7,7 @@ use Rattle.std.proofs.lemmas.Bool.{false≢true, and_parts}
 use Rattle.std.proofs.lemmas.Bool.Decides.{nat_tests}
 use Rattle.agree.specs.Types.{Results, Exception, Canceled, Elsewhere, TakeFrom, RpcMessage, Bootstrap, Call, Return, Finish, DecodedRecord, Host, Wire, TableKey}
 use Rattle.vat_view.specs.Past.{Past, id, Point, point, names, last_since, Each}
-use Rattle.vat_view.specs.Questions.{question_opened, question_returned, question_finished, question_released, question_taken, asks_elsewhere, opens, returns, finishes, releases, takes_results, opening, is_tail, is_taken, is_finished, is_opened, is_released, is_free, is_unfinished, is_unreturned}
+use Rattle.vat_view.specs.Questions.{question_opened, question_returned, question_returned_lightly, question_finished, question_released, question_taken, asks_elsewhere, opens, returns, returns_lightly, finishes, releases, takes_results, opening, is_tail, is_taken, is_finished, is_opened, is_released, is_free, is_unfinished, is_unreturned}
 use Rattle.vat_view.specs.Uses.{OpensFree, UsesQuestions}
 use Rattle.vat_view.proofs.Once.{used_so}
 use Rattle.agree.specs.Streams.{passing, stream, opening_number}
@@ -22,6 +22,11 @@ asks n _ = false
 abbrev pub answers : ℕ → RpcMessage → Bool
 answers n (Return q release outcome light) = n == q
 answers n _ = false
+
+-- returns one of its receiver's, and says that no Finish is needed
+abbrev pub answers_lightly : ℕ → RpcMessage → Bool
+answers_lightly n (Return q release outcome true) = n == q
+answers_lightly n _ = false
 
 -- gives back the results of one of its sender's
 abbrev pub frees : ℕ → RpcMessage → Bool
@@ -122,6 +127,15 @@ returns_is q (Wire t j c rs (Bootstrap n)) = not_asked ((q.connection == j) && b
 returns_is q (Wire t j c rs m) = not_asked ((q.connection == j) && beq (not q.ours) t) (answers q.number) m refl
 returns_is q (Host r o) = refl
 returns_is q _ = refl
+
+pub lightly_is : (q : TableKey) (e : DecodedRecord) → names q (question_returned_lightly e) ≡ passes (answers_lightly q.number) (passing q.connection (not q.ours) e)
+lightly_is q (Wire t j c rs (Return n release outcome true)) =
+    turn (q.connection == j) q.ours t (q.number == n) ∙ as_asked ((q.connection == j) && beq (not q.ours) t) (answers_lightly q.number) (Return n release outcome true)
+lightly_is q (Wire t j c rs (Return n release outcome false)) = not_asked ((q.connection == j) && beq (not q.ours) t) (answers_lightly q.number) (Return n release outcome false) refl
+lightly_is q (Wire t j c rs (Bootstrap n)) = not_asked ((q.connection == j) && beq (not q.ours) t) (answers_lightly q.number) (Bootstrap n) refl
+lightly_is q (Wire t j c rs m) = not_asked ((q.connection == j) && beq (not q.ours) t) (answers_lightly q.number) m refl
+lightly_is q (Host r o) = refl
+lightly_is q _ = refl
 
 -- ---- a stream, one record on
 
@@ -302,11 +316,39 @@ return_due q before e once h = used_so q (λ i. is_unreturned i before) (questio
 pub returns_waiting : (q : TableKey) (before : Past) (e : DecodedRecord) → UsesQuestions before e → returns q before e ≡ true → is_due q (returns q) before ≡ true
 returns_waiting q before e uses h = used_so q (λ i. is_unreturned i before) (question_returned e) uses.returned_once h
 
-pub free_parts : (o r f : Bool) → (not o || (r && f)) ≡ true → (o && not r) ≡ false
-free_parts o r f e = grind (arith, nat_tests)
+-- what came since of one kind came of each wider kind
+so_at : (o a b : Bool) (p : Point) (x y : Option Point) → (a ≡ true → b ≡ true) → (is_some x ≡ true → is_some y ≡ true) →
+    is_some (if o then None else if a then Some p else x) ≡ true → is_some (if o then None else if b then Some p else y) ≡ true
+so_at true a b p x y f g h = h
+so_at false true true p x y f g h = refl
+so_at false true false p x y f g h = absurd (false≢true (f refl))
+so_at false false true p x y f g h = refl
+so_at false false false p x y f g h = g h
+
+since_so : (start s t : Past → DecodedRecord → Bool) → ((before : Past) (e : DecodedRecord) → s before e ≡ true → t before e ≡ true) → (past : Past) →
+    is_some (last_since start s past) ≡ true → is_some (last_since start t past) ≡ true
+since_so start s t wider [] h = h
+since_so start s t wider (e ∷ before) h =
+    so_at (start before e) (s before e) (t before e) (point before e) (last_since start s before) (last_since start t before) (wider before e) (since_so start s t wider before) h
+
+-- a Return that says that no Finish is needed is a Return
+light_returns : (q : TableKey) (e : DecodedRecord) → names q (question_returned_lightly e) ≡ true → names q (question_returned e) ≡ true
+light_returns q (Wire s j c rs (Return n release outcome true)) h = h
+light_returns q (Wire s j c rs (Return n release outcome false)) h = absurd (false≢true h)
+light_returns q (Wire s j c rs (Bootstrap n)) h = absurd (false≢true h)
+light_returns q (Wire s j c rs _) h = absurd (false≢true h)
+light_returns q (Host r o) h = absurd (false≢true h)
+light_returns q _ h = absurd (false≢true h)
+
+pub over_parts : (o r f : Bool) → (not o || (r && f)) ≡ true → (o && not r) ≡ false
+over_parts o r f e = grind (arith, nat_tests)
+
+free_parts : (o r f l : Bool) → ((not o || (r && f)) || l) ≡ true → (l ≡ true → r ≡ true) → (o && not r) ≡ false
+free_parts o r f l e g = grind (arith, nat_tests)
 
 idle_so : (q : TableKey) (before : Past) (o : Option TableKey) → IfSome o (λ i. is_free i before ≡ true) → names q o ≡ true → is_due q (returns q) before ≡ false
-idle_so q before o free h = free_parts _ _ _ (used_so q (λ i. is_free i before) o free h)
+idle_so q before o free h =
+    free_parts _ _ _ _ (used_so q (λ i. is_free i before) o free h) (since_so (opens q) (returns_lightly q) (returns q) (λ b e. light_returns q e) before)
 
 -- an opening comes while no Return is due
 pub opens_idle : (q : TableKey) (before : Past) (e : DecodedRecord) → OpensFree before e → opens q before e ≡ true → is_due q (returns q) before ≡ false

@@ -13,5 +13,6 @@ pub mod Lasting
 pub mod Standing
 pub mod Good
 pub mod Coming
+pub mod Freed
 pub mod Balance
 pub mod Arriving

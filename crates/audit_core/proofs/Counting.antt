@@ -8,7 +8,7 @@ use Rattle.cap_reader.specs.declared.limits.Limits.{Limits}
 use Rattle.vat_log.specs.Log.{Log}
 use Rattle.vat_log.specs.declared.body.Body.{Body}
 use Rattle.vat_log.specs.declared.body.Body.TheVariants as body
-use Rattle.vat_rules.specs.Audit.{Found, IsTrueOf, reads_within}
+use Rattle.vat_rules.specs.Audit.{Found, IsTrueOf, reads_by, edition_of}
 use Rattle.vat_rules.specs.Events.{Reader, with_message, event_of, event_or_none}
 use Rattle.vat_rules.specs.LogFacts.{Told}
 use Rattle.vat_rules.specs.Telling.{is_delivery}
@@ -52,11 +52,12 @@ deliveries read (b ∷ bs) =
 
 pub delivered_is : (log : Log) (limits : Limits) (outcome : Outcome) (story : Told) → IsTrueOf log limits outcome → outcome ≡ Good story → story.delivered ≡ count_by delivers log.records
 delivered_is log limits outcome story means is =
+    let read = reads_by (edition_of log) limits in
     let told = (subst (IsTrueOf log limits) is means).1 in
     let whole = take_all (length log.records) log.records (omega arith) in
     ap (λ (t : Told). t.delivered) told
-    ∙ ap (λ (bs : List Body). count_by is_delivery (filter_map (λ b. event_or_none (event_of (reads_within limits) b)) bs)) whole
-    ∙ deliveries (reads_within limits) log.records
+    ∙ ap (λ (bs : List Body). count_by is_delivery (filter_map (λ b. event_or_none (event_of read b)) bs)) whole
+    ∙ deliveries read log.records
 
 -- so many so far, and those of the next log
 pub delivered_so_far : (vats : List Found) (i : ℕ) (found : Found) → found ≡ get_or vats i found → i < length vats

@@ -4,7 +4,7 @@ use Rattle.std.specs.Prelude.{MatchOption, slice_get}
 use Rattle.cap_reader.specs.Defaults.{default_limits}
 use Rattle.cap_reader.specs.declared.limits.Limits.{Limits}
 use Rattle.vat_log.specs.Log.{Log}
-use Rattle.vat_rules.specs.Audit.{Found, IsTrueOf, reads_within}
+use Rattle.vat_rules.specs.Audit.{Found, IsTrueOf, reads_by, edition_of}
 use Rattle.vat_rules.specs.First.{AllGood}
 use Rattle.vat_rules.specs.LogFacts.{Told}
 use Rattle.vat_rules.specs.declared.outcome.Outcome.{Outcome}
@@ -72,7 +72,7 @@ first_broken links n ends outcome connection end message item lt means is number
 module _ (all : AllFound) (whole : AreAll all) where
   good_log : (k : ℕ) (found : Found) (log : Log) → slice_get all.vats k ≡ Some found → found.log ≡ log → found.limits ≡ default_limits → IsGoodFinding found → IsGoodLog log
   good_log k found log at same within good =
-      as_log (λ (l : Log) (limits : Limits). AllGood (reads_within limits) l.records (length l.records)) found log same within good.means
+      as_log (λ (l : Log) (limits : Limits). AllGood (edition_of l) (reads_by (edition_of l) limits) l.records (length l.records)) found log same within good.means
 
   pub logs_good : HoldsOfEach IsGoodFinding all.vats → AreGoodLogs all.case
   logs_good each log held =

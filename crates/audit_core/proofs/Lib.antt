@@ -13,3 +13,4 @@ pub mod OneLine
 pub mod Meaning
 pub mod Merging
 pub mod Versions
+pub mod Raising

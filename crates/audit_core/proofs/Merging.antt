@@ -6,12 +6,12 @@ use Rattle.std.proofs.lemmas.List.Sums.{sum_by-cons}
 use Rattle.vat_log.specs.declared.body.Body.{Body}
 use Rattle.vat_log.specs.declared.body.Body.TheVariants.{Host, Vow, Fulfil, Break, Make, Field, Deliver, Answer, Fault, Send, Receive, AnswerBy}
 use Rattle.vat_log.specs.Log.{Log}
-use Rattle.vat_log.specs.Migrated.{migrated}
+use Rattle.vat_log.specs.Migrated.{raised}
 use Rattle.merge_order.specs.Fits.{Part, sent_so_far, received_so_far, part_of, sent_by_the_others, may_follow, may_come_from, may_come, further, after, used_up, begin, FitsFrom, IsFitting, TakesLeastFrom, TakesLeast, fault_from, finding_at, finding_of_order}
 
--- a part of a migrated log
+-- a part of a log that is raised, as any log can be
 abbrev moved : Part → Part
-moved p = record { log = migrated p.log; came = p.came }
+moved p = record { log = raised p.log; came = p.came }
 
 part_moved : (v : ℕ) (ps : List Part) → part_of v (map moved ps) ≡ option_map moved (part_of v ps)
 part_moved v [] = refl
@@ -78,9 +78,9 @@ unfolding used_up
 used_moved [] = refl
 used_moved (p ∷ ps) = ap (λ b. nat_le (length p.log.records) p.came && b) (used_moved ps)
 
-begin_moved : (logs : List Log) → begin (map migrated logs) ≡ map moved (begin logs)
+begin_moved : (logs : List Log) → begin (map raised logs) ≡ map moved (begin logs)
 begin_moved [] = refl
-begin_moved (log ∷ logs) = ap (λ (qs : List Part). record { log = migrated log; came = 0 } ∷ qs) (begin_moved logs)
+begin_moved (log ∷ logs) = ap (λ (qs : List Part). record { log = raised log; came = 0 } ∷ qs) (begin_moved logs)
 
 fits_moved : (ps : List Part) (order : List ℕ) → FitsFrom ps order → FitsFrom (map moved ps) order
 fits_moved ps [] h = used_moved ps ∙ h
@@ -115,7 +115,7 @@ fault_moved ps (v ∷ order) =
 
 -- ---- logs that are the same but for their versions
 
-module _ (logs others : List Log) (same : map migrated logs ≡ map migrated others) where
+module _ (logs others : List Log) (same : map raised logs ≡ map raised others) where
   parts_same : map moved (begin logs) ≡ map moved (begin others)
   parts_same = sym (begin_moved logs) ∙ ap begin same ∙ begin_moved others
 

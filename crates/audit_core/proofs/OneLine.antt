@@ -7,8 +7,9 @@ use Rattle.std.proofs.lemmas.Option.{slice_get-map, slice_get-get_or}
 use Rattle.cap_reader.specs.Defaults.{default_limits}
 use Rattle.vat_log.specs.Log.{Log}
 use Rattle.vat_view.specs.Past.{Each}
-use Rattle.vat_rules.specs.Audit.{Found, IsTrueOf, reads_within}
+use Rattle.vat_rules.specs.Audit.{Found, IsTrueOf, reads_by, edition_of}
 use Rattle.vat_rules.specs.LogFacts.{Told}
+use Rattle.vat_rules.specs.Events.{Reader}
 use Rattle.vat_rules.specs.Telling.{told_of}
 use Rattle.vat_rules.specs.declared.rule.Rule.{Rule as RuleType}
 use Rattle.vat_rules.specs.declared.outcome.Why.{Why}
@@ -47,8 +48,16 @@ use Rattle.audit_core.proofs.Naming.{named_of}
 
 -- ---- a log that isn't good has one line
 
-not_good : (log : Log) (outcome : Outcome) → IsTrueOf log default_limits outcome → IsGoodLog log → outcome ≡ Good (told_of (reads_within default_limits) log.records)
-not_good log outcome found good = one_outcome (reads_within default_limits) log.records outcome (Good (told_of (reads_within default_limits) log.records)) found (good, refl)
+-- how a log is read
+abbrev reads_log : Log → Reader
+reads_log log bytes = reads_by (edition_of log) default_limits bytes
+
+-- what it tells
+abbrev tells : Log → Told
+tells log = told_of (reads_log log) log.records
+
+not_good : (log : Log) (outcome : Outcome) → IsTrueOf log default_limits outcome → IsGoodLog log → outcome ≡ Good (tells log)
+not_good log outcome found good = one_outcome (edition_of log) (reads_log log) log.records outcome (Good (tells log)) found (good, refl)
 
 -- an outcome that isn't good
 abbrev pub IsBad : Outcome → Type 0
@@ -58,18 +67,18 @@ IsBad a = (story : Told) → a ≡ Good story → ⊥
 one_first_bad : (held : Contents) → IsCase held → (v w : ℕ) (a b : Outcome) → IsFirstBad held.logs v a → IsFirstBad held.logs w b → IsBad a → IsBad b → (v ≡ w) × (a ≡ b)
 one_first_bad held case v w a b one other a_bad b_bad =
     elim (cases_lt v w) [
-      | inl lt ↦ absurd (a_bad (told_of (reads_within default_limits) one.log.records) (not_good one.log a one.found (other.smaller one.log one.there (let own = one.own in omega arith))))
+      | inl lt ↦ absurd (a_bad (tells one.log) (not_good one.log a one.found (other.smaller one.log one.there (let own = one.own in omega arith))))
       | inr ge ↦ elim (cases_lt w v) [
-        | inl lt ↦ absurd (b_bad (told_of (reads_within default_limits) other.log.records) (not_good other.log b other.found (one.smaller other.log other.there (let own = other.own in omega arith))))
+        | inl lt ↦ absurd (b_bad (tells other.log) (not_good other.log b other.found (one.smaller other.log other.there (let own = other.own in omega arith))))
         | inr le ↦
             let same : v ≡ w = omega arith in
             let logs : one.log ≡ other.log = one_contained (λ (log : Log). log.vat) held.logs case.rising_vats one.log other.log one.there other.there (one.own ∙ same ∙ sym other.own) in
-            (same, one_outcome (reads_within default_limits) other.log.records a b (subst (λ (log : Log). IsTrueOf log default_limits a) logs one.found) other.found)
+            (same, one_outcome (edition_of other.log) (reads_log other.log) other.log.records a b (subst (λ (log : Log). IsTrueOf log default_limits a) logs one.found) other.found)
       ]
     ]
 
 no_bad_log : (held : Contents) (v : ℕ) (a : Outcome) → IsFirstBad held.logs v a → IsBad a → AreGoodLogs held → ⊥
-no_bad_log held v a first bad good = bad (told_of (reads_within default_limits) first.log.records) (not_good first.log a first.found (good first.log first.there))
+no_bad_log held v a first bad good = bad (tells first.log) (not_good first.log a first.found (good first.log first.there))
 
 -- ---- a link that isn't good has one line
 
@@ -127,7 +136,7 @@ module _ (held : Contents) (case : IsCase held) where
 -- ---- the findings of good logs
 
 abbrev pub finding_for : Log → Found
-finding_for log = record { log = log; limits = default_limits; outcome = Good (told_of (reads_within default_limits) log.records) }
+finding_for log = record { log = log; limits = default_limits; outcome = Good (tells log) }
 
 abbrev pub findings_for : List Log → List Found
 findings_for logs = map finding_for logs

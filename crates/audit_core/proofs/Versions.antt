@@ -1,4 +1,5 @@
--- A report doesn't depend on the versions of logs: a story, a link, an order and a run speak of records and messages.
+-- A report depends on the versions of logs by their editions alone: a link, an order and a run speak of records and
+-- messages. Logs are compared as they are once they are raised, which leaves nothing of their versions.
 use Rattle.std.proofs.Common.{◌≡◌, ℕ, ◌+◌, ◌-◌, ◌<◌, Bool, true, false, cond, ◌&&◌, ◌||◌, if◌then◌else◌, List, [], ◌∷◌, ◌++◌, length, map, Option, Some, None, refl, sym, ap, ap₂, ◌∙◌, subst, inl, inr, ◌⊎◌, arith}
 use Rattle.std.specs.Prelude.{◌==◌, not, Contains, IsTrue, count_by, filter, sum_by, slice_get}
 use Rattle.std.specs.Option.{option_map}
@@ -10,9 +11,14 @@ use Rattle.std.proofs.lemmas.Option.{slice_get-map}
 use Rattle.cap_reader.specs.Defaults.{default_limits}
 use Rattle.vat_log.specs.declared.body.Body.{Body}
 use Rattle.vat_log.specs.Log.{Log}
-use Rattle.vat_log.specs.Migrated.{migrated}
+use Rattle.vat_log.specs.Migrated.{migrated_version, migrated, raised}
+use Rattle.vat_log.specs.declared.version.LogVersion.{LogVersion}
+use Rattle.vat_log.specs.declared.version.LogVersion.TheVariants.{One, Two, Three}
 use Rattle.vat_view.specs.Past.{Each}
-use Rattle.vat_rules.specs.Audit.{IsTrueOf}
+use Rattle.vat_rules.specs.Audit.{reads_by, edition_of_version, edition_of, IsTrueOf}
+use Rattle.vat_rules.specs.First.{AllGood, IsFirst}
+use Rattle.vat_rules.specs.Types.{Edition}
+use Rattle.vat_rules.proofs.Editions.{all_good_later}
 use Rattle.vat_rules.specs.declared.outcome.Outcome.{Outcome}
 use Rattle.link_check.specs.Prefix.{Ends, IsOutcome, IsBrokenAtFirst, IsBrokenAtSecond}
 use Rattle.link_check.specs.declared.outcome.LinkOutcome.TheVariants.{Broken as BrokenAt}
@@ -43,14 +49,14 @@ use Rattle.audit_core.proofs.OneLine.{one_line, one_graph}
 
 -- ---- what is counted and tested of all logs
 
-any_moved : (test : ℕ → Bool) (logs : List Log) → list_any (λ log. test log.vat) (map migrated logs) ≡ list_any (λ log. test log.vat) logs
+any_moved : (test : ℕ → Bool) (logs : List Log) → list_any (λ log. test log.vat) (map raised logs) ≡ list_any (λ log. test log.vat) logs
 any_moved test [] = refl
 any_moved test (log ∷ logs) = ap (λ b. test log.vat || b) (any_moved test logs)
 
-sum_moved : (f : List Body → ℕ) (logs : List Log) → sum_by (λ log. f log.records) (map migrated logs) ≡ sum_by (λ log. f log.records) logs
+sum_moved : (f : List Body → ℕ) (logs : List Log) → sum_by (λ log. f log.records) (map raised logs) ≡ sum_by (λ log. f log.records) logs
 sum_moved f [] = refl
 sum_moved f (log ∷ logs) =
-    sum_by-cons (λ (l : Log). f l.records) (migrated log) (map migrated logs) ∙ ap (λ n. f log.records + n) (sum_moved f logs)
+    sum_by-cons (λ (l : Log). f l.records) (raised log) (map raised logs) ∙ ap (λ n. f log.records + n) (sum_moved f logs)
     ∙ sym (sum_by-cons (λ (l : Log). f l.records) log logs)
 
 each_as : {X : Type 0} (P Q : X → Type 0) → ((x : X) → P x → Q x) → (xs : List X) → AllByRecursion P xs → AllByRecursion Q xs
@@ -59,35 +65,32 @@ each_as P Q turn (x ∷ xs) h = (turn x h.0, each_as P Q turn xs h.1)
 
 -- ---- whether a case ties up
 
-unlinked_moved : (links : List Link) (logs : List Log) → flat_map (unlinked_in links) (map migrated logs) ≡ flat_map (unlinked_in links) logs
+unlinked_moved : (links : List Link) (logs : List Log) → flat_map (unlinked_in links) (map raised logs) ≡ flat_map (unlinked_in links) logs
 unlinked_moved links [] = refl
 unlinked_moved links (log ∷ logs) =
-    flat_map-cons (unlinked_in links) (migrated log) (map migrated logs) ∙ ap (λ (rest : List ℕ). unlinked_in links log ++ rest) (unlinked_moved links logs)
+    flat_map-cons (unlinked_in links) (raised log) (map raised logs) ∙ ap (λ (rest : List ℕ). unlinked_in links log ++ rest) (unlinked_moved links logs)
     ∙ sym (flat_map-cons (unlinked_in links) log logs)
 
-lacks_moved : (logs : List Log) (link : Link) → lacks_log (map migrated logs) link ≡ lacks_log logs link
+lacks_moved : (logs : List Log) (link : Link) → lacks_log (map raised logs) link ≡ lacks_log logs link
 lacks_moved logs link = ap₂ (λ (a b : Bool). not (a && b)) (any_moved (λ n. n == link.a) logs) (any_moved (λ n. n == link.b) logs)
 
 filter_as : {X : Type 0} (f g : X → Bool) → ((x : X) → f x ≡ g x) → (xs : List X) → filter f xs ≡ filter g xs
 filter_as f g same [] = refl
 filter_as {X = X} f g same (x ∷ xs) = ap₂ (λ (b : Bool) (rest : List X). cond b (x ∷ rest) rest) (same x) (filter_as f g same xs)
 
-ties_moved : (logs : List Log) (links : List Link) → tie_fault_of (record { logs = map migrated logs; links = links }) ≡ tie_fault_of (record { logs = logs; links = links })
+ties_moved : (logs : List Log) (links : List Link) → tie_fault_of (record { logs = map raised logs; links = links }) ≡ tie_fault_of (record { logs = logs; links = links })
 unfolding tie_fault_of
 ties_moved logs links =
     ap₂ (λ (used lacking : List ℕ). or_else (option_map MissingLog (least (used ++ lacking))) (option_map SameEnds (least (links_of_one_vat links))))
-    (unlinked_moved links logs) (ap connections_of (filter_as (lacks_log (map migrated logs)) (lacks_log logs) (lacks_moved logs) links))
+    (unlinked_moved links logs) (ap connections_of (filter_as (lacks_log (map raised logs)) (lacks_log logs) (lacks_moved logs) links))
 
-pub ties_same : (held other : Contents) → AreSameButVersions held other → tie_fault_of held ≡ tie_fault_of other
-ties_same held other s =
-    let logs : tie_fault_of held ≡ tie_fault_of (record { logs = other.logs; links = held.links }) =
-    sym (ties_moved held.logs held.links) ∙ ap (λ (ls : List Log). tie_fault_of (record { logs = ls; links = held.links })) s.logs ∙ ties_moved other.logs held.links in
-    logs ∙ ap (λ (links : List Link). tie_fault_of (record { logs = other.logs; links = links })) s.links
+pub ties_alike : (logs others : List Log) → map raised logs ≡ map raised others → (links : List Link) → tie_fault_of (record { logs = logs; links = links }) ≡ tie_fault_of (record { logs = others; links = links })
+ties_alike logs others same links = sym (ties_moved logs links) ∙ ap (λ (ls : List Log). tie_fault_of (record { logs = ls; links = links })) same ∙ ties_moved others links
 
 -- ---- the ends of a link
 
 abbrev moved_ends : Ends → Ends
-moved_ends ends = record { connection = ends.connection; first = migrated ends.first; second = migrated ends.second }
+moved_ends ends = record { connection = ends.connection; first = raised ends.first; second = raised ends.second }
 
 good_moved : (ends : Ends) → AreGoodEnds ends → AreGoodEnds (moved_ends ends)
 good_moved ends h = record { at_first = h.at_first; at_second = h.at_second }
@@ -106,45 +109,35 @@ broken_back ends at message (inr h) = inr (record { end = h.end; at_first = h.at
 -- ---- the log of the same vat in another list
 
 -- what two logs that are the same but for their versions have in common
-vats_same : (a b : Log) → migrated a ≡ migrated b → a.vat ≡ b.vat
+vats_same : (a b : Log) → raised a ≡ raised b → a.vat ≡ b.vat
 vats_same a b e = ap (λ (l : Log). l.vat) e
 
-pub twin : (logs others : List Log) → map migrated logs ≡ map migrated others → (log : Log) → Contains logs log → (other : Log) × Contains others other × (migrated other ≡ migrated log)
-twin logs others same log there =
+-- the log of another list that is changed into the same
+twin_by : (f : Log → Log) (logs others : List Log) → map f logs ≡ map f others → (log : Log) → Contains logs log → (other : Log) × Contains others other × (f other ≡ f log)
+twin_by f logs others same log there =
     let at = place_of logs log there in
-    let moved : slice_get (map migrated others) at.0 ≡ Some (migrated log) = ap (λ (ls : List Log). slice_get ls at.0) (sym same) ∙ slice_get-map migrated logs at.0 ∙ ap (option_map migrated) at.1 in
-    let found = from_map migrated (slice_get others at.0) (migrated log) (sym (slice_get-map migrated others at.0) ∙ moved) in
+    let moved : slice_get (map f others) at.0 ≡ Some (f log) = ap (λ (ls : List Log). slice_get ls at.0) (sym same) ∙ slice_get-map f logs at.0 ∙ ap (option_map f) at.1 in
+    let found = from_map f (slice_get others at.0) (f log) (sym (slice_get-map f others at.0) ∙ moved) in
     (found.0, contained others at.0 found.0 found.1, found.2)
 
-module _ (logs others : List Log) (same : map migrated logs ≡ map migrated others) where
+twin : (logs others : List Log) → map raised logs ≡ map raised others → (log : Log) → Contains logs log → (other : Log) × Contains others other × (raised other ≡ raised log)
+twin = twin_by raised
+
+module _ (logs others : List Log) (same : map raised logs ≡ map raised others) where
   -- what holds of each log, whatever its version, holds of each of the others
-  each_log : (P : Log → Type 0) → ((l : Log) → P l → P (migrated l)) → ((l : Log) → P (migrated l) → P l) → ((log : Log) → Contains logs log → P log) → (other : Log) → Contains others other → P other
+  each_log : (P : Log → Type 0) → ((l : Log) → P l → P (raised l)) → ((l : Log) → P (raised l) → P l) → ((log : Log) → Contains logs log → P log) → (other : Log) → Contains others other → P other
   each_log P to back h other there =
       let t = twin others logs (sym same) other there in
       back other (subst P t.2 (to t.0 (h t.0 t.1)))
-
-  first_bad : (vat : ℕ) (outcome : Outcome) → IsFirstBad logs vat outcome → IsFirstBad others vat outcome
-  first_bad vat outcome h =
-      let t = twin logs others same h.log h.there in
-      record {
-        log = t.0;
-        there = t.1;
-        own = vats_same t.0 h.log t.2 ∙ h.own;
-        found = subst (λ (l : Log). IsTrueOf l default_limits outcome) (sym t.2) h.found;
-        smaller = λ other there lt. (
-            let b = twin others logs (sym same) other there in
-            let less : b.0.vat < vat = subst (λ (n : ℕ). n < vat) (sym (vats_same b.0 other b.2)) lt in
-            subst IsGoodLog b.2 (h.smaller b.0 b.1 less));
-      }
 
   same_ends : (link : Link) (ends : Ends) → IsComparisonOf logs link ends → (other : Ends) × IsComparisonOf others link other × (moved_ends other ≡ moved_ends ends)
   same_ends link ends h =
       let a = twin logs others same ends.first h.first_held in
       let b = twin logs others same ends.second h.second_held in
-      let first : moved_ends (record { connection = ends.connection; first = a.0; second = b.0 }) ≡ record { connection = ends.connection; first = migrated ends.first; second = migrated b.0 } =
-      ap (λ (l : Log). let e : Ends = record { connection = ends.connection; first = l; second = migrated b.0 } in e) a.2 in
-      let second : record { connection = ends.connection; first = migrated ends.first; second = migrated b.0 } ≡ moved_ends ends =
-      ap (λ (l : Log). let e : Ends = record { connection = ends.connection; first = migrated ends.first; second = l } in e) b.2 in (
+      let first : moved_ends (record { connection = ends.connection; first = a.0; second = b.0 }) ≡ record { connection = ends.connection; first = raised ends.first; second = raised b.0 } =
+      ap (λ (l : Log). let e : Ends = record { connection = ends.connection; first = l; second = raised b.0 } in e) a.2 in
+      let second : record { connection = ends.connection; first = raised ends.first; second = raised b.0 } ≡ moved_ends ends =
+      ap (λ (l : Log). let e : Ends = record { connection = ends.connection; first = raised ends.first; second = l } in e) b.2 in (
         record { connection = ends.connection; first = a.0; second = b.0 },
         record {
           connection = h.connection;
@@ -175,11 +168,8 @@ module _ (logs others : List Log) (same : map migrated logs ≡ map migrated oth
         smaller = λ other there lt. good_link other (h.smaller other there lt);
       }
 
-  good_logs : (links : List Link) → AreGoodLogs (record { logs = logs; links = links }) → AreGoodLogs (record { logs = others; links = links })
-  good_logs links h = each_log IsGoodLog (λ l is. is) (λ l is. is) h
-
-  good_case : (links : List Link) → IsGoodCase (record { logs = logs; links = links }) → IsGoodCase (record { logs = others; links = links })
-  good_case links h = record { logs_good = good_logs links h.logs_good; links_good = λ link there. good_link link (h.links_good link there) }
+  pub good_links : (links : List Link) → AreGoodLinks (record { logs = logs; links = links }) → AreGoodLinks (record { logs = others; links = links })
+  good_links links h link there = good_link link (h link there)
 
   order_for : (given : Option (List ℕ)) (order : List ℕ) → IsOrderFor logs given order → IsOrderFor others given order
   order_for (Some given) order h = h
@@ -198,7 +188,7 @@ module _ (logs others : List Log) (same : map migrated logs ≡ map migrated oth
   any_same : (v : ℕ) → list_any (λ log. log.vat == v) logs ≡ list_any (λ log. log.vat == v) others
   any_same v = sym (any_moved (λ n. n == v) logs) ∙ ap (list_any (λ (log : Log). log.vat == v)) same ∙ any_moved (λ n. n == v) others
 
-  ends_back : (k : ℕ) (one other a b : Log) → Contains logs a → Contains logs b → migrated a ≡ migrated one → migrated b ≡ migrated other → AreEnds others k one other → AreEnds logs k a b
+  ends_back : (k : ℕ) (one other a b : Log) → Contains logs a → Contains logs b → raised a ≡ raised one → raised b ≡ raised other → AreEnds others k one other → AreEnds logs k a b
   ends_back k one other a b a_there b_there a_is b_is h = record {
     one_there = a_there;
     other_there = b_there;
@@ -245,12 +235,12 @@ module _ (logs others : List Log) (same : map migrated logs ≡ map migrated oth
   }
 
   lengths_same : length logs ≡ length others
-  lengths_same = sym (length-map logs migrated) ∙ ap length same ∙ length-map others migrated
+  lengths_same = sym (length-map logs raised) ∙ ap length same ∙ length-map others raised
 
   sums_same : (f : List Body → ℕ) → sum_by (λ log. f log.records) logs ≡ sum_by (λ log. f log.records) others
   sums_same f = sym (sum_moved f logs) ∙ ap (sum_by (λ (log : Log). f log.records)) same ∙ sum_moved f others
 
-  yes : (given : Option (List ℕ)) (vats records delivered under_way : ℕ) (run : List Step) → IsYes logs given vats records delivered under_way run → IsYes others given vats records delivered under_way run
+  pub yes : (given : Option (List ℕ)) (vats records delivered under_way : ℕ) (run : List Step) → IsYes logs given vats records delivered under_way run → IsYes others given vats records delivered under_way run
   yes given vats records delivered under_way run h = record {
     order = h.order;
     by = order_for given h.order h.by;
@@ -262,14 +252,78 @@ module _ (logs others : List Log) (same : map migrated logs ≡ map migrated oth
     under_way_are = h.under_way_are ∙ ap₂ (λ a b. a - b) (sums_same (count_by sends)) (sums_same (count_by receives));
   }
 
+-- ---- a log that is migrated keeps its edition
+
+raised_again : (logs : List Log) → map raised (map migrated logs) ≡ map raised logs
+raised_again [] = refl
+raised_again (log ∷ logs) = ap (λ (ls : List Log). raised log ∷ ls) (raised_again logs)
+
+both_raised : (logs others : List Log) → map migrated logs ≡ map migrated others → map raised logs ≡ map raised others
+both_raised logs others same = sym (raised_again logs) ∙ ap (map raised) same ∙ raised_again others
+
+edition_kept : (v : LogVersion) → edition_of_version (migrated_version v) ≡ edition_of_version v
+edition_kept One = refl
+edition_kept Two = refl
+edition_kept Three = refl
+
+same_edition : (a b : Log) → migrated a ≡ migrated b → edition_of a ≡ edition_of b
+same_edition a b e = sym (edition_kept a.version) ∙ ap edition_of e ∙ edition_kept b.version
+
+same_records : (a b : Log) → migrated a ≡ migrated b → a.records ≡ b.records
+same_records a b e = ap (λ (l : Log). l.records) e
+
+same_vat : (a b : Log) → migrated a ≡ migrated b → a.vat ≡ b.vat
+same_vat a b e = ap (λ (l : Log). l.vat) e
+
+true_of_both : (a b : Log) (outcome : Outcome) → migrated a ≡ migrated b → IsTrueOf a default_limits outcome → IsTrueOf b default_limits outcome
+true_of_both a b outcome e h =
+    subst (λ (edition : Edition). IsFirst edition (reads_by edition default_limits) b.records outcome) (same_edition a b e)
+    (subst (λ (records : List Body). IsFirst (edition_of a) (reads_by (edition_of a) default_limits) records outcome) (same_records a b e) h)
+
+good_both : (a b : Log) → migrated a ≡ migrated b → IsGoodLog a → IsGoodLog b
+good_both a b e h =
+    subst (λ (edition : Edition). AllGood edition (reads_by edition default_limits) b.records (length b.records)) (same_edition a b e)
+    (subst (λ (records : List Body). AllGood (edition_of a) (reads_by (edition_of a) default_limits) records (length records)) (same_records a b e) h)
+
+module _ (logs others : List Log) (same : map migrated logs ≡ map migrated others) where
+  alike : map raised logs ≡ map raised others
+  alike = both_raised logs others same
+
+  first_bad : (vat : ℕ) (outcome : Outcome) → IsFirstBad logs vat outcome → IsFirstBad others vat outcome
+  first_bad vat outcome h =
+      let t = twin_by migrated logs others same h.log h.there in
+      record {
+        log = t.0;
+        there = t.1;
+        own = same_vat t.0 h.log t.2 ∙ h.own;
+        found = true_of_both h.log t.0 outcome (sym t.2) h.found;
+        smaller = λ other there lt. (
+            let b = twin_by migrated others logs (sym same) other there in
+            let less : b.0.vat < vat = subst (λ (n : ℕ). n < vat) (sym (same_vat b.0 other b.2)) lt in
+            good_both b.0 other b.2 (h.smaller b.0 b.1 less));
+      }
+
+  good_logs : (links : List Link) → AreGoodLogs (record { logs = logs; links = links }) → AreGoodLogs (record { logs = others; links = links })
+  good_logs links h other there =
+      let t = twin_by migrated others logs (sym same) other there in
+      good_both t.0 other t.2 (h t.0 t.1)
+
+  good_case : (links : List Link) → IsGoodCase (record { logs = logs; links = links }) → IsGoodCase (record { logs = others; links = links })
+  good_case links h = record { logs_good = good_logs links h.logs_good; links_good = good_links logs others alike links h.links_good }
+
   of_report : (links : List Link) (given : Option (List ℕ)) (r : Report) → IsReport (record { logs = logs; links = links }) given r → IsReport (record { logs = others; links = links }) given r
   of_report links given (report.Vat vat at (Rule rule)) h = first_bad vat _ h
   of_report links given (report.OutsideVat vat at why) h = first_bad vat _ h
-  of_report links given (report.Link connection end message) h = (good_logs links h.0, first_broken links connection end message h.1)
-  of_report links given (report.OrderStep step) h = (good_case links h.0, fails_at given step h.1)
-  of_report links given report.NoOrder h = (good_case links h.0, no_order given h.1)
-  of_report links given (report.Vat vat at Order) h = (good_case links h.0, early_at given vat at h.1)
-  of_report links given (report.Yes vats records delivered under_way run) h = (good_case links h.0, yes given vats records delivered under_way run h.1)
+  of_report links given (report.Link connection end message) h = (good_logs links h.0, first_broken logs others alike links connection end message h.1)
+  of_report links given (report.OrderStep step) h = (good_case links h.0, fails_at logs others alike given step h.1)
+  of_report links given report.NoOrder h = (good_case links h.0, no_order logs others alike given h.1)
+  of_report links given (report.Vat vat at Order) h = (good_case links h.0, early_at logs others alike given vat at h.1)
+  of_report links given (report.Yes vats records delivered under_way run) h = (good_case links h.0, yes logs others alike given vats records delivered under_way run h.1)
+
+pub ties_same : (held other : Contents) → AreSameButVersions held other → tie_fault_of held ≡ tie_fault_of other
+ties_same held other s =
+    ties_alike held.logs other.logs (both_raised held.logs other.logs s.logs) held.links
+    ∙ ap (λ (links : List Link). tie_fault_of (record { logs = other.logs; links = links })) s.links
 
 -- a report of a case is one of each case that is the same but for the versions of its logs
 pub one_report : (held other : Contents) → AreSameButVersions held other → (given : Option (List ℕ)) (r : Report) → IsReport held given r → IsReport other given r
@@ -292,13 +346,21 @@ one_graph_in_all held other s case tied given v r d u v' r' d' u' run other_run 
     one_graph held case tied given given v r d u v' r' d' u' run other_run h (one_report other held (other_way held other s) given (report.Yes v' r' d' u' other_run) k) edges other_edges e e'
 
 -- a log that is migrated or not, migrated
-chosen_moved : (chosen : Log → Bool) (logs : List Log) → map migrated logs ≡ map migrated (map (λ log. if chosen log then migrated log else log) logs)
-chosen_moved chosen [] = refl
-chosen_moved chosen (log ∷ logs) = ap₂ (λ (l : Log) (ls : List Log). l ∷ ls) (go (chosen log)) (chosen_moved chosen logs)
+again : (log : Log) → migrated (migrated log) ≡ migrated log
+again log = ap (λ (v : LogVersion). let l : Log = record log { version = v } in l) (twice log.version)
+  where
+    twice : (v : LogVersion) → migrated_version (migrated_version v) ≡ migrated_version v
+    twice One = refl
+    twice Two = refl
+    twice Three = refl
+
+chosen_migrated : (chosen : Log → Bool) (logs : List Log) → map migrated logs ≡ map migrated (map (λ log. if chosen log then migrated log else log) logs)
+chosen_migrated chosen [] = refl
+chosen_migrated chosen (log ∷ logs) = ap₂ (λ (l : Log) (ls : List Log). l ∷ ls) (go (chosen log)) (chosen_migrated chosen logs)
   where
     go : (b : Bool) → migrated log ≡ migrated (if b then migrated log else log)
-    go true = refl
+    go true = sym (again log)
     go false = refl
 
 pub some_migrated : (held : Contents) (chosen : Log → Bool) → AreSameButVersions held (record held { logs = map (λ log. if chosen log then migrated log else log) held.logs })
-some_migrated held chosen = record { logs = chosen_moved chosen held.logs; links = refl }
+some_migrated held chosen = record { logs = chosen_migrated chosen held.logs; links = refl }

@@ -5,7 +5,7 @@ use Rattle.cap_reader.specs.Defaults.{default_limits}
 use Rattle.vat_log.specs.Log.{Log}
 use Rattle.vat_log.specs.declared.body.Body.{Body}
 use Rattle.vat_log.specs.declared.body.Body.TheVariants as body
-use Rattle.vat_rules.specs.Audit.{Found, IsTrueOf, reads_within}
+use Rattle.vat_rules.specs.Audit.{Found, IsTrueOf, reads_by, edition_of}
 use Rattle.vat_rules.specs.First.{AllGood}
 use Rattle.vat_rules.specs.declared.outcome.Outcome.{Outcome}
 use Rattle.vat_rules.specs.declared.outcome.Outcome.TheVariants.{Broken, Outside}
@@ -25,9 +25,9 @@ use Rattle.audit_core.specs.declared.report.Breach.TheVariants.{Rule, Order}
 use Rattle.audit_core.specs.declared.report.Report.{Report}
 use Rattle.audit_core.specs.declared.report.Report.TheVariants as report
 
--- every record of a log is good, within the default limits
+-- every record of a log is good by the log's edition, within the default limits
 abbrev pub IsGoodLog : Log → Type 0
-IsGoodLog log = AllGood (reads_within default_limits) log.records (length log.records)
+IsGoodLog log = AllGood (edition_of log) (reads_by (edition_of log) default_limits) log.records (length log.records)
 
 -- the log of this vat isn't good, all of smaller numbers are, and its audit finds this
 pub record IsFirstBad (logs : List Log) (vat : ℕ) (outcome : Outcome) : Type 0 where
@@ -157,7 +157,7 @@ HoldsOfEach {X = X} P xs = (k : ℕ) (x : X) → slice_get xs k ≡ Some x → P
 -- a finding says that every record is good, and it is so
 pub record IsGoodFinding (found : Found) : Type 0 where
   pub says : IsTrue (is_good found.outcome)
-  pub means : AllGood (reads_within found.limits) found.log.records (length found.log.records)
+  pub means : AllGood (edition_of found.log) (reads_by (edition_of found.log) found.limits) found.log.records (length found.log.records)
 
 -- the findings of a case are good
 pub record AreGoodFindings (all : AllFound) : Type 0 where

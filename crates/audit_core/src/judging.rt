@@ -84,10 +84,7 @@ pub(crate) fn judge_lent(
 }
 
 /// The report of findings that are lent, where no order is given: [`judge_unordered`] answers just that.
-pub(crate) fn judge_lent_unordered(
-    alloc: Global,
-    findings: &Findings,
-) -> Result<Report, AllocError>
+pub(crate) fn judge_lent_unordered(alloc: Global, findings: &Findings) -> Result<Report, AllocError>
     ensures report { IfOk result (IsReport findings.now.case None) }
     // What a yes means.
     ensures headline { IfOk result (YesMeansHeadline findings.now.case.logs) }

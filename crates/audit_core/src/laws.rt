@@ -9,7 +9,7 @@ ghost use Rattle.case_book.specs.Books.{AllFound};
 ghost use Rattle.case_book.specs.Case.{Contents, IsCase};
 ghost use Rattle.case_book.specs.Ties.{tie_fault_of};
 ghost use Rattle.audit_core.specs.Report.{IsReport, IsFittingIfGiven, line_in, AreGoodFindings};
-ghost use Rattle.audit_core.specs.Versions.{AreSameButVersions};
+ghost use Rattle.audit_core.specs.Versions.{AreSameButVersions, with_raised};
 ghost use Rattle.vat_log.specs.Log.{Log};
 ghost use Rattle.vat_log.specs.Migrated.{migrated};
 ghost use Rattle.audit_core.specs.declared.report.Report.{Report};
@@ -40,8 +40,8 @@ pub fn good_findings_name_a_run()
         → IsFitting (logs_of all.vats) order → MayBeNamed all.vats order }
 {}
 
-/// The versions of a case's logs change nothing. Of two cases that are the same but for them, as a case and the case with
-/// any of its logs migrated, both tie up or neither does, for the same reason, and each report of the one is a report of
+/// Migrating changes nothing. Of two cases whose logs are the same once they are migrated, as a case and the case with any
+/// of its logs migrated, both tie up or neither does, for the same reason, and each report of the one is a report of
 /// the other, with its run; so their lines are equal, and so are their graphs.
 pub fn versions_change_nothing()
     ensures ties { (held other : Contents) → AreSameButVersions held other
@@ -65,4 +65,32 @@ pub fn versions_change_nothing()
     // Migrating any logs of a case changes versions alone.
     ensures chosen { (held : Contents) (is_chosen : Log → Bool) → AreSameButVersions held
         (record held { logs = map (λ log. if is_chosen log then migrated log else log) held.logs }) }
+{}
+
+/// A log that is raised is judged by the later edition of rpc.capnp, which lets more pass. So where a case says yes, it
+/// says the same yes with any of its logs raised: by the same order and with the same run, so that its line and its graph
+/// are the same.
+pub fn raising_keeps_a_yes()
+    ensures ties { (held : Contents) (is_chosen : Log → Bool)
+        → tie_fault_of held ≡ tie_fault_of (with_raised is_chosen held) }
+    ensures reports { (held : Contents) (is_chosen : Log → Bool) (given : Option (List ℕ))
+        (vats records delivered under_way : ℕ) (run : List Step)
+        → IsReport held given (Yes vats records delivered under_way run)
+        → IsReport (with_raised is_chosen held) given
+        (Yes vats records delivered under_way run) }
+    ensures lines { (held : Contents) (is_chosen : Log → Bool) → IsCase held
+        → tie_fault_of held ≡ None → (given : Option (List ℕ)) → IsFittingIfGiven held.logs given
+        → (vats records delivered under_way : ℕ) (run : List Step) (other : Report)
+        → IsReport held given (Yes vats records delivered under_way run)
+        → IsReport (with_raised is_chosen held) given other
+        → line_in (Yes vats records delivered under_way run) ≡ line_in other }
+    ensures graphs { (held : Contents) (is_chosen : Log → Bool) → IsCase held
+        → tie_fault_of held ≡ None → (given : Option (List ℕ))
+        → (vats records delivered under_way other_vats other_records other_delivered other_under_way : ℕ)
+        (run other_run : List Step)
+        → IsReport held given (Yes vats records delivered under_way run)
+        → IsReport (with_raised is_chosen held) given
+        (Yes other_vats other_records other_delivered other_under_way other_run)
+        → (edges other_edges : List Edge) → AreEdges run edges → AreEdges other_run other_edges
+        → edges ≡ other_edges }
 {}

@@ -6,29 +6,30 @@
 //! clause, and each of the three cites it (clause `headline`), as does [`audit_with_findings`], which also answers what was found of
 //! each log and each link; when a case isn't audited, in `specs/Refusals.antt`. Laws: good
 //! findings of a case and an order that fits are such as name a run ([`good_findings_name_a_run`]), and a case has one line,
-//! whichever order fits ([`a_case_has_one_line`]), and one graph ([`a_case_has_one_graph`]), whatever the versions of its logs
-//! ([`versions_change_nothing`]).
+//! whichever order fits ([`a_case_has_one_line`]), and one graph ([`a_case_has_one_graph`]), also with logs migrated
+//! ([`versions_change_nothing`]); and where it says yes, it says the same yes with logs raised ([`raising_keeps_a_yes`]).
 #![tactic(auto)]
 
 mod auditing;
 mod counts;
 mod error;
 mod first_bad;
+mod found_run;
 mod gate;
 mod judging;
 mod laws;
-mod naming;
 mod report;
 mod with_findings;
 mod working;
 
 pub use auditing::audit;
 pub use error::AuditError;
+pub use found_run::run_of_findings;
 pub use gate::Gate;
 pub use judging::{judge, judge_unordered};
 pub use laws::{
-    a_case_has_one_graph, a_case_has_one_line, good_findings_name_a_run, versions_change_nothing,
+    a_case_has_one_graph, a_case_has_one_line, good_findings_name_a_run, raising_keeps_a_yes,
+    versions_change_nothing,
 };
-pub use naming::run_of_findings;
 pub use report::{Breach, Report};
 pub use with_findings::audit_with_findings;

@@ -15,7 +15,7 @@ use Rattle.agree.proofs.Openings.{passing_is, own_linked}
 use Rattle.vat_rules.specs.Judged.{IsGood}
 use Rattle.vat_rules.specs.declared.rule.Rule.TheVariants as rule
 use Rattle.vat_view.specs.Past.{Past, Point, point, Each, id, last_where}
-use Rattle.vat_view.specs.Questions.{opens, opening, is_free, is_opened, is_returned, is_finished, is_unfinished, is_unreturned, noted_call, call_at, call_of}
+use Rattle.vat_view.specs.Questions.{opens, opening, is_over, is_opened, is_returned, is_finished, is_unfinished, is_unreturned, noted_call, call_at, call_of}
 use Rattle.vat_view.specs.Bindings.{Refers}
 use Rattle.vat_view.specs.declared.record.table_key.TableKey.{TableKey}
 use Rattle.call_trace.specs.Types.{Outcome, RpcMessage, Bootstrap, Call, Return, DecodedRecord, Wire, Name, Cap, Message, Step}
@@ -34,7 +34,7 @@ use Rattle.vat_view.specs.Views.{view_of_target}
 
 -- ---- the record that opened a question
 
-found_there : (test : Past → DecodedRecord → Bool) (past : Past) (p : Point) → last_where test past ≡ Some p → GoesOn past (p.event ∷ p.before) × (test p.before p.event ≡ true)
+pub found_there : (test : Past → DecodedRecord → Bool) (past : Past) (p : Point) → last_where test past ≡ Some p → GoesOn past (p.event ∷ p.before) × (test p.before p.event ≡ true)
 found_there test [] p h = absurd (let no : ⊥ = cc in no)
 found_there test (e ∷ before) p h = elim (cases_Bool (test before e)) [
   | inl here ↦
@@ -213,7 +213,7 @@ unreturned_used true true f h = absurd (let no : ⊥ = cc in no)
 unreturned_used false r f h = absurd (let no : ⊥ = cc in no)
 
 pub call_in_use : (q : TableKey) (past : Past) (c : ℕ) → call_of q past ≡ Some c → call_at (opening q past) ≡ Some c
-call_in_use q past c h = at (is_free q past) h
+call_in_use q past c h = at (is_over q past) h
   where
     at : (b : Bool) → (if b then None else call_at (opening q past)) ≡ Some c → call_at (opening q past) ≡ Some c
     at true h = absurd (let no : ⊥ = cc in no)

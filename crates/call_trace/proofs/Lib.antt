@@ -17,6 +17,7 @@ pub mod Using
 pub mod Sayable
 pub mod Resulting
 pub mod Asking
+pub mod SendingOn
 pub mod Describing
 pub mod Binding
 pub mod Receipts

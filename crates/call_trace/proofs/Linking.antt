@@ -14,6 +14,7 @@ use Rattle.vat_log.specs.declared.body.Body.TheVariants as body
 use Rattle.link_check.specs.Prefix.{IsPrefix, frame_sent, frame_received, frames_sent, frames_received}
 use Rattle.vat_rules.specs.Audit.{Found, reads_within, read_as}
 use Rattle.vat_rules.specs.Events.{event_of}
+use Rattle.vat_rules.specs.Types.{Later}
 use Rattle.call_trace.specs.Types.{RpcMessage, DecodedRecord, Wire}
 use Rattle.call_trace.specs.Named.{past_of}
 use Rattle.call_trace.specs.Taking.{event_in}
@@ -68,7 +69,7 @@ read_is (Err why) m e = absurd (let no : ⊥ = cc in no)
 
 alike : (f g : Found) (frame : List ℕ) → IsRead f frame → IsRead g frame → message_in g frame ≡ message_in f frame
 alike f g frame p q =
-    let same : q.0 ≡ p.0 = is_one (segments_of frame) g.limits f.limits q.0 p.0 (read_is (message_of_bytes frame g.limits) q.0 q.1) (read_is (message_of_bytes frame f.limits) p.0 p.1) in
+    let same : q.0 ≡ p.0 = is_one Later (segments_of frame) g.limits f.limits q.0 p.0 (read_is (message_of_bytes Later frame g.limits) q.0 q.1) (read_is (message_of_bytes Later frame f.limits) p.0 p.1) in
     ap message_or_none q.1 ∙ ap (λ m. Some m) same ∙ sym (ap message_or_none p.1)
 
 first_alike : (f g : Found) (frames rest : List (List ℕ)) → AllByRecursion (IsRead f) frames → AllByRecursion (IsRead g) (frames ++ rest) → filter_map (message_in g) frames ≡ filter_map (message_in f) frames

@@ -10,6 +10,8 @@ use Rattle.std.proofs.lemmas.Option.{slice_get_within, get_or_from_slice_get}
 use Rattle.std.proofs.Math.Seq.{take-suc}
 use Rattle.agree.specs.Streams.{passing, stream}
 use Rattle.agree.proofs.Dying.{eqb_turns}
+use Rattle.cap_reader.specs.declared.limits.Limits.{Limits}
+use Rattle.vat_log.specs.Log.{Log}
 use Rattle.vat_log.specs.declared.body.Body.{Body}
 use Rattle.vat_log.specs.declared.body.Body.TheVariants as body
 use Rattle.link_check.specs.Prefix.{frame_sent, frame_received}
@@ -19,7 +21,9 @@ use Rattle.vat_rules.specs.declared.outcome.Outcome.{Outcome}
 use Rattle.vat_rules.specs.declared.outcome.Outcome.TheVariants as outcome
 use Rattle.vat_rules.specs.Audit.{Found, IsTrueOf, reads_within}
 use Rattle.vat_rules.specs.Events.{Reader, event_of, event_or_none, with_message}
-use Rattle.vat_rules.specs.First.{IsGoodAt, AllGood, IsFirst}
+use Rattle.vat_rules.specs.First.{IsGoodAt, AllGood}
+use Rattle.vat_rules.specs.Types.{Later}
+use Rattle.vat_rules.proofs.Editions.{good_logs_good}
 use Rattle.vat_rules.specs.Judged.{IsGood}
 use Rattle.vat_view.specs.Past.{Each}
 use Rattle.call_trace.specs.Types.{RpcMessage, DecodedRecord, Wire}
@@ -45,18 +49,19 @@ there_is : (P : Body → Type 0) (o : Option Body) → IsSomeAnd o P → (b : Bo
 there_is P (Some b) p = (b, refl, p)
 there_is P None p = absurd p
 
-good_record : (f : Found) (i : ℕ) → IsGoodAt (reads_within f.limits) f.log.records i → IsGoodRecord f i
+good_record : (f : Found) (i : ℕ) → IsGoodAt Later (reads_within f.limits) f.log.records i → IsGoodRecord f i
 good_record f i g =
     let b = there_is (λ b. event_of (reads_within f.limits) b ≡ Ok g.0) (slice_get f.log.records i) g.1 in
     record { body = b.0; event = g.0; there = b.1; reads = b.2; good = g.2 }
 
-all_of : (read : Reader) (log : List Body) (o : Outcome) → IsFirst read log o → is_good o ≡ true → AllGood read log (length log)
-all_of read log (outcome.Good story) first good = first.0
-all_of read log (outcome.Broken at rule) first good = absurd (let no : ⊥ = cc in no)
-all_of read log (outcome.Outside at why) first good = absurd (let no : ⊥ = cc in no)
+-- whichever edition a log is judged by, its records are good by the later one
+all_of : (log : Log) (limits : Limits) (o : Outcome) → IsTrueOf log limits o → is_good o ≡ true → AllGood Later (reads_within limits) log.records (length log.records)
+all_of log limits (outcome.Good story) first good = (good_logs_good log limits story first).0
+all_of log limits (outcome.Broken at rule) first good = absurd (let no : ⊥ = cc in no)
+all_of log limits (outcome.Outside at why) first good = absurd (let no : ⊥ = cc in no)
 
 pub records_good : (f : Found) → IsTrueOf f.log f.limits f.outcome → is_good f.outcome ≡ true → AllRecordsGood f
-records_good f first good = λ i lt. good_record f i (all_of (reads_within f.limits) f.log.records f.outcome first good i lt)
+records_good f first good = λ i lt. good_record f i (all_of f.log f.limits f.outcome first good i lt)
 
 pub reads_record : (f : Found) (i : ℕ) (r : IsGoodRecord f i) → record_in f i ≡ Some r.event
 reads_record f i r = ap (λ o. option_and_then (event_in f) o) r.there ∙ ap event_or_none r.reads

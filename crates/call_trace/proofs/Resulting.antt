@@ -1,12 +1,13 @@
--- A sent Return with results comes after its call's answer, and its results and what a Resolve says are led to in the run.
-use Rattle.std.proofs.Common.{◌≡◌, ◌⊎◌, inl, inr, refl, sym, ◌∙◌, ap, ap₂, subst, ℕ, zero, suc, ◌==◌, List, [], ◌∷◌, ◌++◌, Bool, true, false, not, ◌&&◌, Option, Some, None, if◌then◌else◌, option_and_then, option_map, slice_get, eqb-true}
+-- A sent Return with results comes after its call was answered or passed back, and its results and what a Resolve says are led
+-- on to in the run.
+use Rattle.std.proofs.Common.{◌≡◌, ◌⊎◌, inl, inr, refl, sym, ◌∙◌, ap, ap₂, subst, ℕ, zero, suc, ◌==◌, List, [], ◌∷◌, ◌++◌, Bool, true, false, not, ◌&&◌, ◌||◌, Option, Some, None, if◌then◌else◌, option_and_then, option_map, slice_get, eqb-true}
 use Rattle.std.specs.Prelude.{map, IsSomeAnd, is_some}
 use Rattle.std.specs.List.{AllByRecursion, cons_option, list_any}
 use Rattle.std.specs.Option.{option_or}
-use Rattle.std.proofs.lemmas.Bool.{and_parts, or_left, or_right, cases_Bool, false≢true, not-true, eq-eqb}
+use Rattle.std.proofs.lemmas.Bool.{and_from, and_parts, or_left, or_right, cases_Bool, false≢true, not-true, eq-eqb}
 use Rattle.agree.proofs.Good.{all_sound}
 use Rattle.vat_view.specs.Past.{Past, point, Each, id, is, last_answer, last_where}
-use Rattle.vat_view.specs.Questions.{is_late, is_free, call_at, call_of, opening}
+use Rattle.vat_view.specs.Questions.{is_late, is_over, call_at, call_of, opening}
 use Rattle.vat_view.specs.Lives.{descriptors}
 use Rattle.vat_view.specs.Views.{view_of_reference, view_of_descriptor, descriptor_view}
 use Rattle.vat_view.specs.Calls.{knows, has_passed, is_known, call_taken_from, answerer, answered_by}
@@ -15,6 +16,7 @@ use Rattle.vat_view.specs.Walks.{LeadsByTurns}
 use Rattle.vat_rules.specs.Judged.{IsGood}
 use Rattle.vat_rules.specs.OfCaps.{is_cap_at}
 use Rattle.vat_rules.specs.OfResults.{ReturnsField, ReturnsFields, ReturnsTaken}
+use Rattle.vat_rules.specs.Types.{Later}
 use Rattle.vat_rules.specs.Ways.{LeadsOnTo}
 use Rattle.vat_rules.specs.declared.rule.Rule.TheVariants as rule
 use Rattle.rpc_view.specs.declared.message.Payload.{Payload}
@@ -23,6 +25,8 @@ use Rattle.call_trace.specs.Naming.{Naming, naming, cap_at, call_named, cap_name
 use Rattle.call_trace.specs.Said.{all_there, say_return, say_taken, say_resolve, descriptor_named, caps_named, promise_named, call_answered, caps_at_paths, message_of_record}
 use Rattle.call_trace.specs.Part.{result_named, Says, PairsOff}
 use Rattle.call_trace.specs.Within.{IsWithin}
+use Rattle.call_trace.proofs.Asking.{call_in_use}
+use Rattle.call_trace.proofs.SendingOn.{IsHeard, sent_on}
 use Rattle.call_trace.proofs.AsSent.{read, heard, says_read, says_heard, taken_heard, taken_parts}
 use Rattle.call_trace.proofs.Naming.{then_is, mapped_is, call_keeps, cap_step}
 use Rattle.call_trace.proofs.Carried.{paired_at, each_after}
@@ -30,13 +34,12 @@ use Rattle.call_trace.proofs.Tells.{read_return, return_said, call_is, in_time}
 use Rattle.call_trace.proofs.Within.{StandsIn, stands_in, each_earlier, by_turns_lead}
 use Rattle.call_trace.proofs.Using.{number_known, known_had}
 use Rattle.call_trace.proofs.Sayable.{cap_at_is, unresolved_lives}
-use Rattle.run_model.specs.Leads.{LeadsByTurns as RunLeadsByTurns}
-use Rattle.run_model.specs.Legal.{is_present, answers_call, hands, IsLegal, MayCome, MaySend}
+use Rattle.run_model.specs.Legal.{is_present, answers_call, hands, sends_on, passes_back, is_passed_back, LeadsOn, IsLegal, MayCome, MaySend}
 use Rattle.run_model.specs.Links.{IsLinked}
 use Rattle.run_model.specs.Steps.{is_same_call, vat_of}
 use Rattle.run_model.specs.Steps.{EachStep}
-use Rattle.run_model.proofs.Once.{or_either}
-use Rattle.run_model.proofs.Sending.{passes_later, received_answered, received_taken}
+use Rattle.run_model.proofs.Once.{names_same, or_either, some_of}
+use Rattle.run_model.proofs.Sending.{passes_later, either_later, received_answered, received_taken}
 use Rattle.run_model.specs.declared.cap.Cap.TheVariants as cap
 use Rattle.run_model.specs.declared.message.Message.TheVariants as message
 use Rattle.run_model.specs.declared.step.Step.TheVariants as step
@@ -65,9 +68,13 @@ passed_at test (e ∷ before) h = elim (cases_Bool (test before e)) [
       let r = passed_at test before (sym (ap (λ b. is_some (if b then Some (point before e) else last_where test before)) other) ∙ h) in (e ∷ r.0, r.1, r.2, ap (λ l. e ∷ l) r.3, r.4)
 ]
 
+-- a step receives a Return of a call that takes the results of another, or of the same
+abbrev ReceivesTaken : Name → Name → Step → Type 0
+ReceivesTaken name other s = (v : ℕ) × (k : ℕ) × (bound : List Cap) × (s ≡ step.Receive v k (message.Taken name other) bound)
+
 -- a step answers a call by another, or receives a Return that takes the results of that one
 abbrev TellsTaken : Name → Name → Step → Type 0
-TellsTaken name other s = (hands name other s ≡ true) ⊎ ((v : ℕ) × (k : ℕ) × (bound : List Cap) × (s ≡ step.Receive v k (message.Taken name other) bound))
+TellsTaken name other s = (hands name other s ≡ true) ⊎ ReceivesTaken name other s
 
 -- a step answers a call of this name, or receives its results, or that it is answered by another
 abbrev TellsResults : Name → Step → Type 0
@@ -93,14 +100,24 @@ results_told v call es steps k c rs q release payload light s says own late =
     let caps = caps_named names es e in
     let name = then_is (λ name. say_return (is_late es e) payload.fields name caps) (call_answered names es k false q) (read es e says.message) (says_read says refl) in
     let asked = then_is names.call (call_of (id k true q) es) name.0 name.1 in
-    let same = call_is (is_free (id k true q) es) (call_at (opening (id k true q) es)) call asked.0 own asked.1 in
+    let same = call_is (is_over (id k true q) es) (call_at (opening (id k true q) es)) call asked.0 own asked.1 in
     let told = return_said (is_late es e) payload.fields name.0 caps (read es e says.message) late name.2 in
     let came = read_return es e says.message name.0 (caps_at_paths told.0 payload.fields) told.0 told.2 in
     (name.0, ap names.call (sym same) ∙ asked.2, inr (inr (v, k, caps_at_paths told.0 payload.fields, told.0, says.bound, says.step ∙ ap (λ m. step.Receive v k m says.bound) came)))
 
--- the two calls have names, and the step tells that the first is answered by the second
+-- a question asked of this vat stands for this call
+abbrev IsAsked : Past → ℕ → Type 0
+IsAsked es by = (k : ℕ) × (n : ℕ) × (call_at (opening (id k false n) es) ≡ Some by)
+
+-- the two calls have names, and the step tells that the first is answered by the second, or is passed back; where it is told
+-- by a Return, the second was asked of this vat
 abbrev AreTakenNames : ℕ → Past → List Step → ℕ → ℕ → Step → Type 0
-AreTakenNames v es steps call by s = (name : Name) × (other : Name) × (call_named v es steps call ≡ Some name) × (call_named v es steps by ≡ Some other) × TellsTaken name other s
+AreTakenNames v es steps call by s =
+    (name : Name) × (other : Name) × (call_named v es steps call ≡ Some name) × (call_named v es steps by ≡ Some other) × ((hands name other s ≡ true) ⊎ (ReceivesTaken name other s × IsAsked es by))
+
+tells_taken : (es : Past) (by : ℕ) (name other : Name) (s : Step) → (hands name other s ≡ true) ⊎ (ReceivesTaken name other s × IsAsked es by) → TellsTaken name other s
+tells_taken es by name other s (inl own) = inl own
+tells_taken es by name other s (inr told) = inr told.0
 
 by_told : (v : ℕ) (es : Past) (steps : List Step) (c by : ℕ) (s : Step) → Says v es steps (AnswerBy c by) s → AreTakenNames v (AnswerBy c by ∷ es) (s ∷ steps) c by s
 by_told v es steps c by s says =
@@ -120,13 +137,13 @@ taken_told v call by es steps k c rs q release n light s says own late from =
     let t = taken_parts names es k c rs q release n light heard_so.0 heard_so.1 in
     let came = in_time (is_late es e) says.message (message.Taken t.name t.by_name) (message.Late t.name) late
     (taken_heard es e says.message t.name t.by_name (subst (λ m. heard es e says.message m ≡ read es e says.message) t.is heard_so.2)) in
-    let same = call_is (is_free (id k true q) es) (call_at (opening (id k true q) es)) call t.call own t.answered in
+    let same = call_is (is_over (id k true q) es) (call_at (opening (id k true q) es)) call t.call own t.answered in
     let same_by : t.by ≡ by = some_same (sym t.taken ∙ from) in (
       t.name,
       t.by_name,
       ap names.call (sym same) ∙ t.named,
       ap names.call (sym same_by) ∙ t.by_named,
-      inr (v, k, says.bound, says.step ∙ ap (λ m. step.Receive v k m says.bound) came),
+      inr ((v, k, says.bound, says.step ∙ ap (λ m. step.Receive v k m says.bound) came), (k, n, call_in_use (id k false n) es by from)),
     )
 
 -- where a record answers a call by another
@@ -161,56 +178,76 @@ known_told v call es steps (Wire false k c rs (Return q release (TakeFrom n) lig
     let e = Wire false k c rs (Return q release (TakeFrom n) light) in
     let by = there (answerer call es e) h in
     let t = answerer_told v call by.0 es steps e s says by.1 in
-    (t.0, t.2, inr (inl (t.1, t.4)))
+    (t.0, t.2, inr (inl (t.1, tells_taken (e ∷ es) by.0 t.0 t.1 s t.4)))
 known_told v call es steps (AnswerBy c by) s says h =
     let t = by_told v es steps c by s says in
-    subst (λ call. (name : Name) × (call_named v (AnswerBy c by ∷ es) (s ∷ steps) call ≡ Some name) × TellsResults name s) (eqb-true c call h) (t.0, t.2, inr (inl (t.1, t.4)))
+    subst (λ call. (name : Name) × (call_named v (AnswerBy c by ∷ es) (s ∷ steps) call ≡ Some name) × TellsResults name s) (eqb-true c call h)
+    (t.0, t.2, inr (inl (t.1, tells_taken (AnswerBy c by ∷ es) by t.0 t.1 s t.4)))
 known_told v call es steps e s says h = absurd (false≢true h)
 
--- such a step stands behind one that answers the call by the other
-told_taken : (before : List Step) (name other : Name) (s : Step) → EachStep IsLegal before → EachStep IsLinked before → StandsIn before s → TellsTaken name other s → list_any (hands name other) before ≡ true
-told_taken before name other s legal linked at tells =
+-- a call was answered by another, or it is that one and was passed back
+abbrev IsHanded : List Step → Name → Name → Type 0
+IsHanded before name other = (list_any (hands name other) before || (is_same_call name other && is_passed_back name before)) ≡ true
+
+-- a call was answered or passed back
+abbrev IsReturned : List Step → Name → Type 0
+IsReturned before name = (list_any (answers_call name) before || is_passed_back name before) ≡ true
+
+handed_later : (later earlier : List Step) (name other : Name) → IsHanded earlier name other → IsHanded (later ++ earlier) name other
+handed_later later earlier name other h = elim (or_either (list_any (hands name other) earlier) (is_same_call name other && is_passed_back name earlier) h) [
+  | inl handed ↦ or_left (list_any (hands name other) (later ++ earlier)) (is_same_call name other && is_passed_back name (later ++ earlier)) (passes_later (hands name other) later earlier handed)
+  | inr back ↦
+      let parts = and_parts (is_same_call name other) (is_passed_back name earlier) back in
+      or_right (list_any (hands name other) (later ++ earlier)) (is_same_call name other && is_passed_back name (later ++ earlier))
+      (and_from (is_same_call name other) (is_passed_back name (later ++ earlier)) parts.0 (passes_later (passes_back name) later earlier parts.1))
+]
+
+-- a step that stands in the run passes a test there
+stands_so : (test : Step → Bool) (before : List Step) (s : Step) → StandsIn before s → test s ≡ true → list_any test before ≡ true
+stands_so test before s at so = subst (λ l. list_any test l ≡ true) (sym at.2) (passes_later test at.0 (s ∷ at.1) (or_left (test s) (list_any test at.1) so))
+
+-- such a step stands behind one that answers the call by the other, or passes it back
+told_taken : (before : List Step) (name other : Name) (s : Step) → EachStep IsLegal before → EachStep IsLinked before → StandsIn before s → TellsTaken name other s → IsHanded before name other
+told_taken before name other s legal linked at (inl own) =
+    or_left (list_any (hands name other) before) (is_same_call name other && is_passed_back name before) (stands_so (hands name other) before s at own)
+told_taken before name other s legal linked at (inr r) =
     let legal_then = each_earlier IsLegal at.0 (s ∷ at.1) (subst (EachStep IsLegal) at.2 legal) in
     let linked_then = each_earlier IsLinked at.0 (s ∷ at.1) (subst (EachStep IsLinked) at.2 linked) in
-    subst (λ l. list_any (hands name other) l ≡ true) (sym at.2) (passes_later (hands name other) at.0 (s ∷ at.1) (elim tells [
-      | inl own ↦ or_left (hands name other s) (list_any (hands name other) at.1) own
-      | inr r ↦ passes_later (hands name other) (s ∷ []) at.1 (received_taken at.1 legal_then.1 r.0 r.1 name other r.2 (subst (IsLinked at.1) r.3 linked_then.0))
-    ]))
+    let told = received_taken at.1 legal_then.1 r.0 r.1 name other r.2 (subst (IsLinked at.1) r.3 linked_then.0) in
+    subst (λ l. IsHanded l name other) (sym at.2) (handed_later at.0 (s ∷ at.1) name other (handed_later (s ∷ []) at.1 name other told))
 
 -- and answers it so
 hands_answers : (name other : Name) (s : Step) → hands name other s ≡ true → answers_call name s ≡ true
 hands_answers name other (step.AnswerBy v c d) h = (and_parts (is_same_call c name) (is_same_call d other) h).0
 hands_answers name other s h = absurd (false≢true h)
 
-handed_answered : (name other : Name) (before : List Step) → list_any (hands name other) before ≡ true → list_any (answers_call name) before ≡ true
-handed_answered name other [] h = h
-handed_answered name other (s ∷ before) h = elim (or_either (hands name other s) (list_any (hands name other) before) h) [
-  | inl now ↦ or_left (answers_call name s) (list_any (answers_call name) before) (hands_answers name other s now)
-  | inr old ↦ or_right (answers_call name s) (list_any (answers_call name) before) (handed_answered name other before old)
+handed_returned : (name other : Name) (before : List Step) → IsHanded before name other → IsReturned before name
+handed_returned name other before h = elim (or_either (list_any (hands name other) before) (is_same_call name other && is_passed_back name before) h) [
+  | inl handed ↦ or_left (list_any (answers_call name) before) (is_passed_back name before) (some_of (hands name other) (answers_call name) (hands_answers name other) before handed)
+  | inr back ↦ or_right (list_any (answers_call name) before) (is_passed_back name before) (and_parts (is_same_call name other) (is_passed_back name before) back).1
 ]
 
-told_answered : (before : List Step) (name : Name) (s : Step) → EachStep IsLegal before → EachStep IsLinked before → StandsIn before s → TellsResults name s → list_any (answers_call name) before ≡ true
-told_answered before name s legal linked at (inr (inl taken)) = handed_answered name taken.0 before (told_taken before name taken.0 s legal linked at taken.1)
-told_answered before name s legal linked at (inl own) =
-    subst (λ l. list_any (answers_call name) l ≡ true) (sym at.2) (passes_later (answers_call name) at.0 (s ∷ at.1) (or_left (answers_call name s) (list_any (answers_call name) at.1) own))
-told_answered before name s legal linked at (inr (inr r)) =
+told_returned : (before : List Step) (name : Name) (s : Step) → EachStep IsLegal before → EachStep IsLinked before → StandsIn before s → TellsResults name s → IsReturned before name
+told_returned before name s legal linked at (inr (inl taken)) = handed_returned name taken.0 before (told_taken before name taken.0 s legal linked at taken.1)
+told_returned before name s legal linked at (inl own) = or_left (list_any (answers_call name) before) (is_passed_back name before) (stands_so (answers_call name) before s at own)
+told_returned before name s legal linked at (inr (inr r)) =
     let legal_then = each_earlier IsLegal at.0 (s ∷ at.1) (subst (EachStep IsLegal) at.2 legal) in
     let linked_then = each_earlier IsLinked at.0 (s ∷ at.1) (subst (EachStep IsLinked) at.2 linked) in
-    subst (λ l. list_any (answers_call name) l ≡ true) (sym at.2) (passes_later (answers_call name) at.0 (s ∷ at.1)
-    (passes_later (answers_call name) (s ∷ []) at.1 (received_answered at.1 legal_then.1 r.0 r.1 name r.2 r.3 r.4 (subst (IsLinked at.1) r.5 linked_then.0))))
+    let told = received_answered at.1 legal_then.1 r.0 r.1 name r.2 r.3 r.4 (subst (IsLinked at.1) r.5 linked_then.0) in
+    subst (λ l. IsReturned l name) (sym at.2)
+    (either_later (answers_call name) (passes_back name) at.0 (s ∷ at.1) (either_later (answers_call name) (passes_back name) (s ∷ []) at.1 told))
 
-known_answered : (v : ℕ) (es : Past) (steps before : List Step) → IsWithin v es steps before → (call : ℕ) (name : Name) → is_known call es ≡ true → call_named v es steps call ≡ Some name →
-    list_any (answers_call name) before ≡ true
-known_answered v es steps before w call name known named =
+known_returned : (v : ℕ) (es : Past) (steps before : List Step) → IsWithin v es steps before → (call : ℕ) (name : Name) → is_known call es ≡ true → call_named v es steps call ≡ Some name → IsReturned before name
+known_returned v es steps before w call name known named =
     let t = passed_at (knows call) es known in
     let pair = paired_at v t.0 t.1 t.2 steps (subst (λ es. PairsOff v es steps) t.3 w.paired) in
     let at = stands_in (λ s. vat_of s == v) before pair.added pair.earlier pair.step (w.own ∙ pair.whole) in
     let told = known_told v call t.2 pair.earlier t.1 pair.step pair.paired.0 t.4 in
     let later = call_keeps v t.0 (t.1 ∷ t.2) pair.added (pair.step ∷ pair.earlier) pair.as_long (each_after t.0 (t.1 ∷ t.2) (subst (Each Refers) t.3 w.refers)) call told.0 told.1 in
     let same : told.0 ≡ name = some_same (sym later ∙ sym (ap₂ (λ es steps. call_named v es steps call) t.3 pair.whole) ∙ named) in
-    subst (λ name. list_any (answers_call name) before ≡ true) same (told_answered before told.0 pair.step w.legal w.linked at told.2)
+    subst (IsReturned before) same (told_returned before told.0 pair.step w.legal w.linked at told.2)
 
--- ---- a call that was answered by another was so in the run
+-- ---- a call that was answered by another was so in the run, or was passed back
 
 -- a record of the log gives this answer
 abbrev Given : {A : Type 0} → (Past → DecodedRecord → Option A) → Past → A → Type 0
@@ -224,9 +261,22 @@ given_at ask (e ∷ before) x h = at (ask before e) refl h (given_at ask before 
     at None n h rest = let r = rest h in (e ∷ r.0, r.1, r.2, ap (λ l. e ∷ l) r.3, r.4)
     at (Some y) n h rest = ([], e, before, refl, n ∙ h)
 
-answered_handed : (v : ℕ) (es : Past) (steps before : List Step) → IsWithin v es steps before → (call by : ℕ) (name other : Name) → answered_by call es ≡ Some by → call_named v es steps call ≡ Some name →
-    call_named v es steps by ≡ Some other → list_any (hands name other) before ≡ true
-answered_handed v es steps before w call by name other answered named by_named =
+-- the other call was asked of this vat where the first was passed back
+abbrev IsHandedOn : List Step → Past → ℕ → Name → Name → Type 0
+IsHandedOn before es by name other = (list_any (hands name other) before ≡ true) ⊎ (((is_same_call name other && is_passed_back name before) ≡ true) × IsHeard es by)
+
+told_on : (before : List Step) (es later : Past) (e : DecodedRecord) (past : Past) (by : ℕ) (name other : Name) (s : Step) → EachStep IsLegal before → EachStep IsLinked before → StandsIn before s → es ≡ later ++ e ∷ past →
+    (hands name other s ≡ true) ⊎ (ReceivesTaken name other s × IsAsked (e ∷ past) by) → IsHandedOn before es by name other
+told_on before es later e past by name other s legal linked at whole (inl own) = inl (stands_so (hands name other) before s at own)
+told_on before es later e past by name other s legal linked at whole (inr told) =
+    elim (or_either (list_any (hands name other) before) (is_same_call name other && is_passed_back name before) (told_taken before name other s legal linked at (inr told.0))) [
+      | inl handed ↦ inl handed
+      | inr back ↦ inr (back, (told.1.0, told.1.1, e ∷ past, (later, whole), told.1.2))
+    ]
+
+answered_on : (v : ℕ) (es : Past) (steps before : List Step) → IsWithin v es steps before → (call by : ℕ) (name other : Name) → answered_by call es ≡ Some by → call_named v es steps call ≡ Some name →
+    call_named v es steps by ≡ Some other → IsHandedOn before es by name other
+answered_on v es steps before w call by name other answered named by_named =
     let t = given_at (answerer call) es by answered in
     let pair = paired_at v t.0 t.1 t.2 steps (subst (λ es. PairsOff v es steps) t.3 w.paired) in
     let at = stands_in (λ s. vat_of s == v) before pair.added pair.earlier pair.step (w.own ∙ pair.whole) in
@@ -235,8 +285,8 @@ answered_handed v es steps before w call by name other answered named by_named =
     let later = call_keeps v t.0 (t.1 ∷ t.2) pair.added (pair.step ∷ pair.earlier) pair.as_long refers in
     let same : told.0 ≡ name = some_same (sym (later call told.0 told.2) ∙ sym (ap₂ (λ es steps. call_named v es steps call) t.3 pair.whole) ∙ named) in
     let same_by : told.1 ≡ other = some_same (sym (later by told.1 told.3) ∙ sym (ap₂ (λ es steps. call_named v es steps by) t.3 pair.whole) ∙ by_named) in
-    subst (λ name. list_any (hands name other) before ≡ true) same
-    (subst (λ other. list_any (hands told.0 other) before ≡ true) same_by (told_taken before told.0 told.1 pair.step w.legal w.linked at told.4))
+    subst (λ name. IsHandedOn before es by name other) same
+    (subst (λ other. IsHandedOn before es by told.0 other) same_by (told_on before es t.0 t.1 t.2 by told.0 told.1 pair.step w.legal w.linked at t.3 told.4))
 
 -- ---- what stands at a place of a record's caps is led to where the log says so
 
@@ -270,20 +320,20 @@ cap_there names es e place cs c all there is =
 module _ (v : ℕ) (es : Past) (steps before : List Step) (w : IsWithin v es steps before) (e : DecodedRecord) (s : Step) (refers : Refers es e) where
   -- where a view leads to that of a descriptor, its name leads to the cap at that place
   described_leads : (a : View) (x : Cap) (place : ℕ) (c : Cap) → cap_named v es steps a ≡ Some x → Describes (naming v (e ∷ es) (s ∷ steps)) es e place c →
-      (is_cap_at (slice_get (descriptors e) place) ≡ true → LeadsOnTo es (Some a) (view_of_descriptor es e place)) → RunLeadsByTurns before x c
+      (is_cap_at (slice_get (descriptors e) place) ≡ true → LeadsOnTo es (Some a) (view_of_descriptor es e place)) → LeadsOn before x c
   described_leads a x place c named d keeps =
       let leads : LeadsByTurns es a d.0 = subst (λ o. IsSomeAnd o (λ b. LeadsByTurns es a b)) d.1 (keeps d.3) in
       let y = by_turns_lead v es steps before w a d.0 x leads named in
       let same : y.0 ≡ c = some_same (sym (cap_step v es e steps s d.0 y.0 refers y.1) ∙ d.2) in
-      subst (λ y. RunLeadsByTurns before x y) same y.2
+      subst (λ y. LeadsOn before x y) same y.2
 
   results_lead : (call : ℕ) (name : Name) (cs : List Cap) (fields : List (List ℕ × ℕ)) → call_named v es steps call ≡ Some name → caps_named (naming v (e ∷ es) (s ∷ steps)) es e ≡ Some cs →
-      AllByRecursion (ReturnsField es e call) fields → AllByRecursion (λ result. RunLeadsByTurns before (cap.Field name result.0) result.1) (caps_at_paths cs fields)
+      AllByRecursion (ReturnsField es e call) fields → AllByRecursion (λ result. LeadsOn before (cap.Field name result.0) result.1) (caps_at_paths cs fields)
   results_lead call name cs [] named all rules = tt
   results_lead call name cs (field ∷ fields) named all rules = at (cap_at field.1 cs) refl (results_lead call name cs fields named all rules.1)
     where
-      at : (o : Option Cap) → cap_at field.1 cs ≡ o → AllByRecursion (λ result. RunLeadsByTurns before (cap.Field name result.0) result.1) (caps_at_paths cs fields) →
-          AllByRecursion (λ (result : List ℕ × Cap). RunLeadsByTurns before (cap.Field name result.0) result.1) (cons_option (option_map (λ c. (field.0, c)) o) (caps_at_paths cs fields))
+      at : (o : Option Cap) → cap_at field.1 cs ≡ o → AllByRecursion (λ result. LeadsOn before (cap.Field name result.0) result.1) (caps_at_paths cs fields) →
+          AllByRecursion (λ (result : List ℕ × Cap). LeadsOn before (cap.Field name result.0) result.1) (cons_option (option_map (λ c. (field.0, c)) o) (caps_at_paths cs fields))
       at None h rest = rest
       at (Some c) h rest =
           let there = cap_at_is field.1 cs c h in
@@ -319,14 +369,14 @@ module _ (v : ℕ) (es : Past) (steps before : List Step) (w : IsWithin v es ste
         let told = return_said (is_late es giving) payload.fields name (caps_named names es giving) M late h in
         let known : ReturnsFields es giving payload.fields call = subst (λ o. IsSomeAnd o (ReturnsFields es giving payload.fields)) asked (g rule.Result late).1 in
         subst (MaySend before v) (sym told.2)
-        (known_answered v es steps before w call name known.0 named, results_lead v es steps before w giving s (g rule.Ref) call name told.0 payload.fields named told.1 known.1)
+        (known_returned v es steps before w call name known.0 named, results_lead v es steps before w giving s (g rule.Ref) call name told.0 payload.fields named told.1 known.1)
 
     results_come : Says v es steps giving s → MayCome before s
     results_come says =
         let M = sent_is (Return q release (Results payload) light) s says in
         let name = then_is (λ name. say_return (is_late es giving) payload.fields name (caps_named names es giving)) (call_answered names es k true q) M.0 M.1 in
         let asked = then_is names.call (call_of (id k false q) es) name.0 name.1 in
-        subst (MayCome before) M.2 (results_sent (is_late es giving) refl M.0 name.0 asked.0 (call_here (is_free (id k false q) es) (call_at (opening (id k false q) es)) asked.0 asked.1) asked.2 name.2)
+        subst (MayCome before) M.2 (results_sent (is_late es giving) refl M.0 name.0 asked.0 (call_here (is_over (id k false q) es) (call_at (opening (id k false q) es)) asked.0 asked.1) asked.2 name.2)
 
   module _ (q : ℕ) (release : Bool) (n : ℕ) (light : Bool) (s : Step) (g : IsGood es (Wire true k c rs (Return q release (TakeFrom n) light))) where
     abbrev taking : DecodedRecord
@@ -335,6 +385,28 @@ module _ (v : ℕ) (es : Past) (steps before : List Step) (w : IsWithin v es ste
     abbrev from : Option Name
     from = option_and_then (naming v (taking ∷ es) (s ∷ steps)).call (call_of (id k true n) es)
 
+    -- a call that is passed back was sent on
+    passed_may : (name other : Name) (by : ℕ) → is_same_call name other ≡ true → IsHeard es by → call_of (id k true n) es ≡ Some by → call_named v es steps by ≡ Some other → MaySend before v (message.Taken name other)
+    passed_may name other by same heard stands by_named =
+        let sent = subst (λ d. list_any (sends_on d v) before ≡ true) (sym (names_same name other same)) (sent_on v es steps before w by k n stands heard other by_named) in
+        or_right (list_any (hands name other) before) (is_same_call name other && list_any (sends_on name v) before) (and_from (is_same_call name other) (list_any (sends_on name v) before) same sent)
+
+    handed_may : (name other : Name) (by : ℕ) → call_of (id k true n) es ≡ Some by → call_named v es steps by ≡ Some other → IsHandedOn before es by name other → MaySend before v (message.Taken name other)
+    handed_may name other by stands by_named (inl handed) = or_left (list_any (hands name other) before) (is_same_call name other && list_any (sends_on name v) before) handed
+    handed_may name other by stands by_named (inr back) =
+        passed_may name other by (and_parts (is_same_call name other) (is_passed_back name before) back.0).0 back.1 stands by_named
+
+    taken_may : (name other : Name) (call by : ℕ) → call_at (opening (id k false q) es) ≡ Some call → call_named v es steps call ≡ Some name → call_of (id k true n) es ≡ Some by → call_named v es steps by ≡ Some other →
+        ReturnsTaken Later es (call_of (id k true n) es) call → MaySend before v (message.Taken name other)
+    taken_may name other call by asked named stands by_named (inl answered_so) =
+        let answered = and_then_there (answered_by call es) (λ d. call_of (id k true n) es ≡ Some d) answered_so in
+        let same : answered.0 ≡ by = some_same (sym answered.2 ∙ stands) in
+        handed_may name other by stands by_named (answered_on v es steps before w call by name other (answered.1 ∙ ap (λ d. Some d) same) named by_named)
+    taken_may name other call by asked named stands by_named (inr own) =
+        let same : call ≡ by = some_same (sym own ∙ stands) in
+        let names : name ≡ other = some_same (sym named ∙ ap (call_named v es steps) same ∙ by_named) in
+        passed_may name other by (subst (λ d. is_same_call name d ≡ true) names (own_same name)) (k, q, es, ([], refl), asked ∙ ap (λ c. Some c) same) stands by_named
+
     taken_sent : (late : Bool) → is_late es taking ≡ late → (M : Message) (name : Name) (call : ℕ) → call_at (opening (id k false q) es) ≡ Some call → call_named v es steps call ≡ Some name →
         say_taken (is_late es taking) name from ≡ Some M → MaySend before v M
     taken_sent true late M name call asked named h =
@@ -342,10 +414,8 @@ module _ (v : ℕ) (es : Past) (steps before : List Step) (w : IsWithin v es ste
     taken_sent false late M name call asked named h =
         let other = mapped_is (λ by. message.Taken name by) from M (sym (ap (λ b. say_taken b name from) late) ∙ h) in
         let by = then_is (naming v (taking ∷ es) (s ∷ steps)).call (call_of (id k true n) es) other.0 other.1 in
-        let known : ReturnsTaken es (call_of (id k true n) es) call = subst (λ o. IsSomeAnd o (ReturnsTaken es (call_of (id k true n) es))) asked (g rule.Result late) in
-        let answered = and_then_there (answered_by call es) (λ d. call_of (id k true n) es ≡ Some d) known in
-        let same : answered.0 ≡ by.0 = some_same (sym answered.2 ∙ by.1) in
-        subst (MaySend before v) other.2 (answered_handed v es steps before w call by.0 name other.0 (answered.1 ∙ ap (λ d. Some d) same) named by.2)
+        let known : ReturnsTaken Later es (call_of (id k true n) es) call = subst (λ o. IsSomeAnd o (ReturnsTaken Later es (call_of (id k true n) es))) asked (g rule.Result late) in
+        subst (MaySend before v) other.2 (taken_may name other.0 call by.0 asked named by.1 by.2 known)
 
     taken_comes : Says v es steps taking s → MayCome before s
     taken_comes says =
@@ -353,7 +423,7 @@ module _ (v : ℕ) (es : Past) (steps before : List Step) (w : IsWithin v es ste
         let M = sent_is (Return q release (TakeFrom n) light) s says in
         let name = then_is (λ name. say_taken (is_late es taking) name from) (call_answered names es k true q) M.0 M.1 in
         let asked = then_is names.call (call_of (id k false q) es) name.0 name.1 in
-        subst (MayCome before) M.2 (taken_sent (is_late es taking) refl M.0 name.0 asked.0 (call_here (is_free (id k false q) es) (call_at (opening (id k false q) es)) asked.0 asked.1) asked.2 name.2)
+        subst (MayCome before) M.2 (taken_sent (is_late es taking) refl M.0 name.0 asked.0 (call_here (is_over (id k false q) es) (call_at (opening (id k false q) es)) asked.0 asked.1) asked.2 name.2)
 
   -- a message of which nothing is asked
   free_comes : (m : RpcMessage) (s : Step) (answer : Name → Message) → ((name : Name) → MaySend before v (answer name)) → (q : ℕ) → ((names : Naming) → message_of_record names es (Wire true k c rs m) ≡ option_map answer (call_answered names es k true q)) →
@@ -373,7 +443,7 @@ module _ (v : ℕ) (es : Past) (steps before : List Step) (w : IsWithin v es ste
 
   promise_leads : (n : ℕ) (resolution : Resolution) (s : Step) (promise : Cap) (cs : List Cap) → IsGood es (Wire true k c rs (Resolve n resolution)) →
       promise_named (naming v (Wire true k c rs (Resolve n resolution) ∷ es) (s ∷ steps)) es k true n ≡ Some promise → caps_named (naming v (Wire true k c rs (Resolve n resolution) ∷ es) (s ∷ steps)) es (Wire true k c rs (Resolve n resolution)) ≡ Some cs →
-      (x : Cap) → slice_get cs 0 ≡ Some x → is_present x ≡ true → RunLeadsByTurns before promise x
+      (x : Cap) → slice_get cs 0 ≡ Some x → is_present x ≡ true → LeadsOn before promise x
   promise_leads n resolution s promise cs g named all x there is =
       let e = Wire true k c rs (Resolve n resolution) in
       let refers = g rule.Ref in
@@ -384,7 +454,7 @@ module _ (v : ℕ) (es : Past) (steps before : List Step) (w : IsWithin v es ste
       described_leads v es steps before w e s refers known.0 promise 0 x (had.1 ∙ ap (λ y. Some y) same) (cap_there (naming v (e ∷ es) (s ∷ steps)) es e 0 cs x all there is)
       (λ caps. subst (λ o. LeadsOnTo es o (view_of_descriptor es e 0)) known.1 (resolves.1 caps))
 
-  resolve_sent : (promise : Cap) (cs : List Cap) → ((x : Cap) → slice_get cs 0 ≡ Some x → is_present x ≡ true → RunLeadsByTurns before promise x) → MaySend before v (say_resolve promise cs)
+  resolve_sent : (promise : Cap) (cs : List Cap) → ((x : Cap) → slice_get cs 0 ≡ Some x → is_present x ≡ true → LeadsOn before promise x) → MaySend before v (say_resolve promise cs)
   resolve_sent promise [] leads = tt
   resolve_sent promise (cap.Nothing ∷ cs) leads = tt
   resolve_sent promise (x ∷ cs) leads = leads x refl refl

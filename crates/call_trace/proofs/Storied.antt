@@ -10,9 +10,9 @@ use Rattle.call_trace.specs.Findings.{is_good}
 use Rattle.call_trace.specs.Named.{past_before}
 use Rattle.call_trace.specs.Taking.{event_in, record_in}
 use Rattle.call_trace.specs.Glue.Ledgers.{story_in}
-use Rattle.vat_log.specs.declared.body.Body.{Body}
-use Rattle.vat_rules.specs.Events.{Reader}
-use Rattle.vat_rules.specs.First.{IsFirst}
+use Rattle.cap_reader.specs.declared.limits.Limits.{Limits}
+use Rattle.vat_log.specs.Log.{Log}
+use Rattle.vat_rules.proofs.Editions.{good_logs_good}
 use Rattle.vat_rules.specs.declared.outcome.Outcome.{Outcome}
 use Rattle.vat_rules.specs.declared.outcome.Outcome.TheVariants as outcome
 use Rattle.call_trace.proofs.Reading.{IsGoodRecord, AllRecordsGood, records_good, reads_record, good_more}
@@ -92,10 +92,10 @@ told_at f all i = at (within_or i (length f.log.records))
         slice_get_past (entries f (length f.log.records)) i (let long = entries_long f all (length f.log.records) (omega arith) in omega (arith, long, le))
         ∙ ap (λ o. option_map (λ e. entry_of (past_before f i) e) (option_and_then (event_in f) o)) (sym (slice_get_past f.log.records i le))
 
-story_by : (read : Reader) (log : List Body) (o : Outcome) (story : Told) → IsFirst read log o → story_in o ≡ Some story → story ≡ told_of read log
-story_by read log (outcome.Good told) story first is = some_same (sym is) ∙ first.1
-story_by read log (outcome.Broken at rule) story first is = absurd (let none : ⊥ = cc in none)
-story_by read log (outcome.Outside at why) story first is = absurd (let none : ⊥ = cc in none)
+story_by : (log : Log) (limits : Limits) (o : Outcome) (story : Told) → IsTrueOf log limits o → story_in o ≡ Some story → story ≡ told_of (reads_within limits) log.records
+story_by log limits (outcome.Good told) story first is = some_same (sym is) ∙ (good_logs_good log limits told first).1
+story_by log limits (outcome.Broken at rule) story first is = absurd (let none : ⊥ = cc in none)
+story_by log limits (outcome.Outside at why) story first is = absurd (let none : ⊥ = cc in none)
 
 good_by : (o : Outcome) (story : Told) → story_in o ≡ Some story → is_good o ≡ true
 good_by (outcome.Good told) story is = refl
@@ -105,7 +105,7 @@ good_by (outcome.Outside at why) story is = absurd (let none : ⊥ = cc in none)
 entry_told : (f : Found) (story : Told) → IsTrueOf f.log f.limits f.outcome → story_in f.outcome ≡ Some story → (i : ℕ) →
     slice_get story.entries i ≡ option_map (λ e. entry_of (past_before f i) e) (record_in f i)
 entry_told f story first is i =
-    ap (λ (told : Told). slice_get told.entries i) (story_by (reads_within f.limits) f.log.records f.outcome story first is)
+    ap (λ (told : Told). slice_get told.entries i) (story_by f.log f.limits f.outcome story first is)
     ∙ told_at f (records_good f first (good_by f.outcome story is)) i
 
 -- its record

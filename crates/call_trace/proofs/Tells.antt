@@ -6,7 +6,7 @@ use Rattle.std.specs.Str.{bytes_eq as same_path}
 use Rattle.std.proofs.lemmas.Bool.{cases_Bool, false≢true}
 use Rattle.std.proofs.lemmas.Slice.Eq.{bytes_eq-Decides}
 use Rattle.vat_view.specs.Past.{Past, id, is, record_index}
-use Rattle.vat_view.specs.Questions.{call_at, call_of, opening, is_late, is_free}
+use Rattle.vat_view.specs.Questions.{call_at, call_of, opening, is_late, is_over}
 use Rattle.vat_view.specs.Lives.{Birth, birth, descriptors}
 use Rattle.vat_view.specs.Views.{field_view, view_of_reference, view_of_number, view_of_descriptor, view_given, descriptor_view}
 use Rattle.vat_view.specs.Walks.{Next, turns, stops, on_to, is_promise, keeps, began_at, resolves, answer_view_at, result_at, answers, turn}
@@ -231,7 +231,7 @@ return_tells v call path es steps k c rs q release (Results payload) light s b s
     let caps = caps_named names es e in
     let name = then_is (λ name. say_return (is_late es e) payload.fields name caps) (call_answered names es k false q) (read es e says.message) (says_read says refl) in
     let asked = then_is names.call (call_of (id k true q) es) name.0 name.1 in
-    let same = call_is (is_free (id k true q) es) (call_at (opening (id k true q) es)) call asked.0 own asked.1 in
+    let same = call_is (is_over (id k true q) es) (call_at (opening (id k true q) es)) call asked.0 own asked.1 in
     let told = return_said (is_late es e) payload.fields name.0 caps (read es e says.message) late name.2 in
     let came : says.message ≡ message.Return name.0 (caps_at_paths told.0 payload.fields) told.0 = read_return es e says.message name.0 (caps_at_paths told.0 payload.fields) told.0 told.2 in
     let y = given_made names es e path payload.fields told.0 b name.0 (names_are_caps v (e ∷ es) (s ∷ steps)) told.1 there in
@@ -262,7 +262,7 @@ taken_tells v call path es steps k c rs q release n light s b says own late ther
     let t = taken_parts names es k c rs q release n light heard_so.0 heard_so.1 in
     let came = in_time (is_late es e) says.message (message.Taken t.name t.by_name) (message.Late t.name) late
     (taken_heard es e says.message t.name t.by_name (subst (λ m. heard es e says.message m ≡ read es e says.message) t.is heard_so.2)) in
-    let same = call_is (is_free (id k true q) es) (call_at (opening (id k true q) es)) call t.call own t.answered in
+    let same = call_is (is_over (id k true q) es) (call_at (opening (id k true q) es)) call t.call own t.answered in
     subst (λ b. TurnsNames names (FieldOf call path) b s) (field_is (call_of (id k false n) es) t.by path b t.taken there) (record {
       from = cap.Field t.name path;
       to = cap.Field t.by_name path;

@@ -1,9 +1,9 @@
--- Where one view leads to another in a log, its name leads there in the run.
-use Rattle.std.proofs.Common.{◌≡◌, refl, sym, ◌∙◌, ap, ap₂, subst, ℕ, suc, ◌<◌, ◌==◌, List, [], ◌∷◌, ◌++◌, length, Bool, true, false, ◌&&◌, Option, Some, None, if◌then◌else◌, option_and_then, arith, eqb-true, length-append, ◌⊎◌, inl, inr}
+-- Where one view leads to another in a log, its name leads on to the other's in the run.
+use Rattle.std.proofs.Common.{◌≡◌, refl, sym, ◌∙◌, ap, ap₂, subst, ℕ, suc, ◌<◌, ◌==◌, List, [], ◌∷◌, ◌++◌, length, Bool, true, false, ◌&&◌, ◌||◌, Option, Some, None, if◌then◌else◌, option_and_then, arith, eqb-true, length-append, ◌⊎◌, inl, inr}
 use Rattle.std.specs.Prelude.{filter, unwrap_or}
-use Rattle.std.specs.List.{AllByRecursion}
+use Rattle.std.specs.List.{AllByRecursion, list_any}
 use Rattle.std.specs.Option.{option_or}
-use Rattle.std.proofs.lemmas.Bool.{cases_Bool}
+use Rattle.std.proofs.lemmas.Bool.{and_parts, cases_Bool}
 use Rattle.vat_view.specs.Past.{Past, Each, id, last_answer}
 use Rattle.vat_view.specs.Bindings.{Refers}
 use Rattle.vat_view.specs.Lives.{Birth, birth, begins, is_in_life}
@@ -18,15 +18,16 @@ use Rattle.call_trace.specs.Within.{IsWithin, HasNameAfter}
 use Rattle.call_trace.proofs.Naming.{cap_keeps}
 use Rattle.call_trace.proofs.Carried.{paired_at, pairs_as_long, each_after}
 use Rattle.call_trace.proofs.Tells.{own_promise, of_call, of_import}
-use Rattle.run_model.specs.Legal.{IsLegal, caps_brought}
+use Rattle.run_model.specs.Legal.{IsLegal, LeadsOn, caps_brought, hands, is_passed_back}
 use Rattle.run_model.specs.Links.{IsLinked}
 use Rattle.run_model.specs.Leads.{MakesTurn}
-use Rattle.run_model.specs.Leads.{Leads as RunLeads, LeadsByTurns as RunLeadsByTurns}
-use Rattle.run_model.specs.Leads.{here as stay, turn as run_turn}
-use Rattle.run_model.specs.Steps.{OneOf, vat_of}
+use Rattle.run_model.specs.Leads.{Leads as RunLeads}
+use Rattle.run_model.specs.Leads.{here as stay}
+use Rattle.run_model.specs.Steps.{OneOf, is_same_call, vat_of}
 use Rattle.run_model.specs.Steps.{EachStep}
-use Rattle.run_model.proofs.Growing.{leads_by_turns_grow, leads_through, by_turns_first}
-use Rattle.run_model.proofs.Sending.{received_leads, received_taken, resolved_leads, fields_turn}
+use Rattle.run_model.proofs.Growing.{leads_through}
+use Rattle.run_model.proofs.Once.{names_same, or_either}
+use Rattle.run_model.proofs.Sending.{leads_on_grow, on_leads, on_then_leads, received_leads, received_taken, resolved_leads, fields_turn}
 use Rattle.run_model.specs.declared.cap.Cap.TheVariants as cap
 use Rattle.run_model.specs.declared.message.Message.TheVariants as message
 use Rattle.run_model.specs.declared.step.Step.TheVariants as step
@@ -129,27 +130,34 @@ each_earlier P [] rest h = h
 each_earlier P (s ∷ later) rest h = each_earlier P later rest h.1
 
 one_led : (before : List Step) (c : Name) (x y : Cap) (results : List (List ℕ × Cap)) → OneOf (λ result. (x ≡ cap.Field c result.0) × (y ≡ result.1)) results →
-    AllByRecursion (λ result. RunLeadsByTurns before (cap.Field c result.0) result.1) results → RunLeadsByTurns before x y
-one_led before c x y (r ∷ rs) (inl h) all = subst (λ x. RunLeadsByTurns before x y) (sym h.0) (subst (λ y. RunLeadsByTurns before (cap.Field c r.0) y) (sym h.1) all.0)
+    AllByRecursion (λ result. LeadsOn before (cap.Field c result.0) result.1) results → LeadsOn before x y
+one_led before c x y (r ∷ rs) (inl h) all = subst (λ x. LeadsOn before x y) (sym h.0) (subst (λ y. LeadsOn before (cap.Field c r.0) y) (sym h.1) all.0)
 one_led before c x y (r ∷ rs) (inr h) all = one_led before c x y rs h all.1
 one_led before c x y [] h all = absurd h
 
-told_leads : (earlier : List Step) (x y : Cap) (s : Step) → EachStep IsLegal earlier → IsLinked earlier s → Tells x y s → RunLeadsByTurns earlier x y
+-- a field of a call whose results are taken: of another's, or of its own, which was passed back
+taken_leads : (before : List Step) (c by : Name) (path : List ℕ) → (list_any (hands c by) before || (is_same_call c by && is_passed_back c before)) ≡ true → LeadsOn before (cap.Field c path) (cap.Field by path)
+taken_leads before c by path h = elim (or_either (list_any (hands c by) before) (is_same_call c by && is_passed_back c before) h) [
+  | inl handed ↦ inl (cap.Field by path, fields_turn before c by path handed, stay)
+  | inr back ↦ let parts = and_parts (is_same_call c by) (is_passed_back c before) back in inr (ap (λ d. cap.Field d path) (names_same c by parts.0), parts.1)
+]
+
+told_leads : (earlier : List Step) (x y : Cap) (s : Step) → EachStep IsLegal earlier → IsLinked earlier s → Tells x y s → LeadsOn earlier x y
 told_leads earlier x y (step.Receive v k (message.Return c results caps) bound) legal linked tells = one_led earlier c x y results tells (received_leads earlier legal v k c results caps bound linked)
 told_leads earlier x y (step.Receive v k (message.Taken c by) bound) legal linked tells =
-    let one : RunLeadsByTurns earlier (cap.Field c tells.0) (cap.Field by tells.0) = (cap.Field by tells.0, fields_turn earlier c by tells.0 (received_taken earlier legal v k c by bound linked), stay) in
-    subst (λ x. RunLeadsByTurns earlier x y) (sym tells.1) (subst (λ y. RunLeadsByTurns earlier (cap.Field c tells.0) y) (sym tells.2) one)
+    subst (λ x. LeadsOn earlier x y) (sym tells.1)
+    (subst (λ y. LeadsOn earlier (cap.Field c tells.0) y) (sym tells.2) (taken_leads earlier c by tells.0 (received_taken earlier legal v k c by bound linked)))
 told_leads earlier x y (step.Receive v k (message.Resolve promise to) bound) legal linked tells =
-    subst (λ x. RunLeadsByTurns earlier x y) (sym tells.0) (subst (λ y. RunLeadsByTurns earlier promise y) (sym tells.1) (resolved_leads earlier legal v k promise to bound linked))
+    subst (λ x. LeadsOn earlier x y) (sym tells.0) (subst (λ y. LeadsOn earlier promise y) (sym tells.1) (resolved_leads earlier legal v k promise to bound linked))
 told_leads earlier x y s legal linked tells = absurd tells
 
-step_leads : (before : List Step) (x y : Cap) (s : Step) → EachStep IsLegal before → EachStep IsLinked before → StandsIn before s → MakesTurn x y s ⊎ Tells x y s → RunLeadsByTurns before x y
+step_leads : (before : List Step) (x y : Cap) (s : Step) → EachStep IsLegal before → EachStep IsLinked before → StandsIn before s → MakesTurn x y s ⊎ Tells x y s → LeadsOn before x y
 step_leads before x y s legal linked at says =
     let legal_then = each_earlier IsLegal at.0 (s ∷ at.1) (subst (EachStep IsLegal) at.2 legal) in
     let linked_then = each_earlier IsLinked at.0 (s ∷ at.1) (subst (EachStep IsLinked) at.2 linked) in
-    subst (λ l. RunLeadsByTurns l x y) (sym at.2) (leads_by_turns_grow at.0 (s ∷ at.1) x y (elim says [
-      | inl made ↦ (y, inl made, stay)
-      | inr tells ↦ leads_by_turns_grow (s ∷ []) at.1 x y (told_leads at.1 x y s legal_then.1 linked_then.0 tells)
+    subst (λ l. LeadsOn l x y) (sym at.2) (leads_on_grow at.0 (s ∷ at.1) x y (elim says [
+      | inl made ↦ inl (y, inl made, stay)
+      | inr tells ↦ leads_on_grow (s ∷ []) at.1 x y (told_leads at.1 x y s legal_then.1 linked_then.0 tells)
     ]))
 
 -- ---- together
@@ -172,20 +180,20 @@ module _ (v : ℕ) (later past : Past) (e : DecodedRecord) (added earlier : List
   name_grows view c h = cap_keeps v later (e ∷ past) added (s ∷ earlier) as_long (each_after later (e ∷ past) refers) view c h
 
   turned_then : (before : List Step) (a b : View) (x : Cap) → EachStep IsLegal before → EachStep IsLinked before → StandsIn before s → turn a past e ≡ Some (turns b) →
-      cap_named v (later ++ e ∷ past) (added ++ s ∷ earlier) a ≡ Some x → HasNameAfter (naming v (later ++ e ∷ past) (added ++ s ∷ earlier)) (RunLeadsByTurns before) x b
+      cap_named v (later ++ e ∷ past) (added ++ s ∷ earlier) a ≡ Some x → HasNameAfter (naming v (later ++ e ∷ past) (added ++ s ∷ earlier)) (LeadsOn before) x b
   turned_then before a b x legal linked at h named =
       let t = told_at v (later ++ e ∷ past) past e added earlier s a b x paired.0 (pairs_as_long v past earlier paired.1) h named in
       let same = same_cap (cap_named v (later ++ e ∷ past) (added ++ s ∷ earlier) a) t.from x (name_grows a t.from t.from_named) named in
-      (t.to, name_grows b t.to t.to_named, subst (λ x. RunLeadsByTurns before x t.to) same (step_leads before t.from t.to s legal linked at t.turned))
+      (t.to, name_grows b t.to t.to_named, subst (λ x. LeadsOn before x t.to) same (step_leads before t.from t.to s legal linked at t.turned))
 
 pub turned_leads : (v : ℕ) (es : Past) (steps before : List Step) → IsWithin v es steps before → (a b : View) (x : Cap) → next es a ≡ turns b → cap_named v es steps a ≡ Some x →
-    HasNameAfter (naming v es steps) (RunLeadsByTurns before) x b
+    HasNameAfter (naming v es steps) (LeadsOn before) x b
 turned_leads v es steps before w a b x h named =
     let t = next_is a b es h in
     let pair = paired_at v t.0 t.1 t.2 steps (subst (λ es. PairsOff v es steps) t.3 w.paired) in
     let at = stands_in (λ s. vat_of s == v) before pair.added pair.earlier pair.step (w.own ∙ pair.whole) in
-    subst (λ es. HasNameAfter (naming v es steps) (RunLeadsByTurns before) x b) (sym t.3)
-    (subst (λ steps. HasNameAfter (naming v (t.0 ++ t.1 ∷ t.2) steps) (RunLeadsByTurns before) x b) (sym pair.whole)
+    subst (λ es. HasNameAfter (naming v es steps) (LeadsOn before) x b) (sym t.3)
+    (subst (λ steps. HasNameAfter (naming v (t.0 ++ t.1 ∷ t.2) steps) (LeadsOn before) x b) (sym pair.whole)
     (turned_then v t.0 t.2 t.1 pair.added pair.earlier pair.step pair.as_long pair.paired (subst (Each Refers) t.3 w.refers) before a b x w.legal w.linked at t.4
     (sym (ap₂ (λ es steps. cap_named v es steps a) t.3 pair.whole) ∙ named)))
 
@@ -194,11 +202,11 @@ all_leads v es steps before w a b x here named = (x, named, stay)
 all_leads v es steps before w a c x (onward {b = b} h rest) named =
     let one = turned_leads v es steps before w a b x h named in
     let more = all_leads v es steps before w b c one.0 rest one.1 in
-    (more.0, more.1, run_turn one.2.1 (leads_through before one.2.0 one.0 more.0 one.2.2 more.2))
+    (more.0, more.1, leads_through before x one.0 more.0 (on_leads before x one.0 one.2) more.2)
 
 pub by_turns_lead : (v : ℕ) (es : Past) (steps before : List Step) → IsWithin v es steps before → (a b : View) (x : Cap) → LeadsByTurns es a b → cap_named v es steps a ≡ Some x →
-    HasNameAfter (naming v es steps) (RunLeadsByTurns before) x b
+    HasNameAfter (naming v es steps) (LeadsOn before) x b
 by_turns_lead v es steps before w a c x (turned {b = b} h rest) named =
     let one = turned_leads v es steps before w a b x h named in
     let more = all_leads v es steps before w b c one.0 rest one.1 in
-    (more.0, more.1, by_turns_first before x one.0 more.0 one.2 more.2)
+    (more.0, more.1, on_then_leads before x one.0 more.0 one.2 more.2)

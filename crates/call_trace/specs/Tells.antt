@@ -9,7 +9,7 @@ use Rattle.run_model.specs.declared.message.Message.TheVariants as message
 use Rattle.run_model.specs.declared.step.Step.TheVariants as step
 
 -- a step receives a message that says that a cap leads to another: a Return that the field of its call does, or one that
--- takes the results of another call that each field of its call leads to that call's at the same path; a Resolve that its
+-- takes the results of a call that each field of its call leads to that call's at the same path; a Resolve that its
 -- promise does
 abbrev pub Tells : Cap → Cap → Step → Type 0
 Tells a b (step.Receive v connection (message.Return c results caps) bound) = OneOf (λ result. (a ≡ cap.Field c result.0) × (b ≡ result.1)) results

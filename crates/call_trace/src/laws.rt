@@ -16,13 +16,13 @@ ghost use Rattle.agree.specs.Rows.{log_of_vat, IsShared};
 ghost use Rattle.agree.specs.Agreeing.{AreLinked};
 ghost use Rattle.agree.specs.Streams.{IsCut, IsPassed};
 ghost use Rattle.agree.specs.Standing.{AgreeOneWay, Agree};
-ghost use Rattle.run_model.specs.Legal.{is_present, MayCome, HasUsed, MayBind};
+ghost use Rattle.run_model.specs.Legal.{is_present, LeadsOn, MayCome, HasUsed, MayBind};
 ghost use Rattle.run_model.specs.Early.{IsOrderFault};
 ghost use Rattle.run_model.specs.Edges.{Edge, AreEdges};
 ghost use Rattle.run_model.specs.Has.{Has};
 ghost use Rattle.run_model.specs.Reordered.{HaveSameSteps, KeepsReferences};
 ghost use Rattle.run_model.specs.declared.cap.Cap.TheVariants.{Field as FieldCap};
-ghost use Rattle.run_model.specs.Leads.{Leads as RunLeads, LeadsByTurns as RunLeadsByTurns};
+ghost use Rattle.run_model.specs.Leads.{Leads as RunLeads};
 ghost use Rattle.call_trace.specs.Types.{Outcome, Return, Resolution, Resolve, DecodedRecord, Wire, View, Name, Cap, Step, Target, Call, Deliver, Answer, AnswerBy, Fault, RpcMessage, Message};
 ghost use Rattle.call_trace.specs.Naming.{call_named, cap_named, naming, message_at};
 ghost use Rattle.call_trace.specs.Part.{reference_named, ReadsAsSent, Says, PairsOff};
@@ -116,15 +116,15 @@ pub fn turns_are_told()
 {}
 
 /// Where a log is paired with its vat's steps of a run so far, and each step of the run is legal and keeps to its link, a
-/// view that has a name leads to views that have names, and in the run its name leads to theirs (`leads`), by 1 or more
-/// turns where the view does (`by_turns`).
+/// view that has a name leads to views that have names, and in the run its name leads to theirs (`leads`), and leads on to
+/// them where the view leads there by 1 or more turns (`by_turns`).
 pub fn views_lead_in_the_run()
     ensures leads { (v : ℕ) (es : Past) (steps before : List Step) → IsWithin v es steps before
         → (a b : View) (x : Cap) → Leads es a b → cap_named v es steps a ≡ Some x
         → HasNameAfter (naming v es steps) (RunLeads before) x b }
     ensures by_turns { (v : ℕ) (es : Past) (steps before : List Step) → IsWithin v es steps before
         → (a b : View) (x : Cap) → LeadsByTurns es a b → cap_named v es steps a ≡ Some x
-        → HasNameAfter (naming v es steps) (RunLeadsByTurns before) x b }
+        → HasNameAfter (naming v es steps) (LeadsOn before) x b }
 {}
 
 /// In the run a vat has what its log binds: the cap of each reference (`references`), and each field of each call that has a
@@ -163,9 +163,9 @@ pub fn what_is_used_is_had()
 {}
 
 /// Where a log is paired with its vat's steps of a run so far, and its records are good, the step of a further good record
-/// that sends a Return (`returned`) or a Resolve (`resolved`) may come. So a call was answered before its results are sent,
-/// and they lead to what is given, as a promise does to what it is resolved to; and it was answered by the call whose
-/// results a Return takes.
+/// that sends a Return (`returned`) or a Resolve (`resolved`) may come. So a call was answered or passed back before its
+/// results are sent, and they lead on to what is given, as a promise does to what it is resolved to; and the call whose results
+/// a Return takes is the one by which the call that it returns was answered, or is that call, and this vat sent it on.
 pub fn returns_follow_answers()
     ensures returned { (v : ℕ) (es : Past) (steps before : List Step) → IsWithin v es steps before
         → Each IsGood es → (k c : ℕ) (references : List ℕ) (q : ℕ) (release : Bool)

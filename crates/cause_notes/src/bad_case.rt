@@ -8,6 +8,9 @@ use std::alloc::{AllocError, Global};
 use std::fmt::Write;
 use vat_log::{Body, LogError, VatLog, parse_log};
 
+/// In how many files it is sought which logs use a connection, at most.
+const MOST: usize = 64;
+
 /// A link of a case file.
 #[derive(Clone, Copy, Debug)]
 struct Tie {
@@ -278,7 +281,7 @@ fn put_missing(
     if let Some(tie) = tie {
         put_unlogged(text, logs, tie)?;
     }
-    for file in logs.files {
+    for file in logs.files.iter().take(MOST) {
         if vat_of(&file.1).is_some() {
             put_stranger(alloc, text, file, connection, tie)?;
         }

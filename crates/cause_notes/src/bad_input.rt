@@ -7,11 +7,12 @@ use bytes::Bytes;
 use cap_frame::FrameError;
 use case_files::RememberingSource;
 use merge_order::OrderError;
-use report_lines::Fault;
+use report_lines::{Fault, why_sentence};
 use rpc_view::{Outside, ReadError};
 use std::alloc::{AllocError, Global};
 use std::fmt::Write;
 use vat_log::LogError;
+use vat_rules::Why;
 
 /// Why a pointer can't be followed.
 fn read_sentence(fault: ReadError) -> Option<&'static str> {
@@ -39,21 +40,12 @@ fn frame_sentence(fault: FrameError) -> &'static str {
     }
 }
 
-/// Why a frame isn't read as a message.
+/// Why a frame isn't read as a message. None where it is outside of what is judged.
 pub(crate) fn message_sentence(fault: Fault) -> Option<&'static str> {
     match fault {
         Fault::Frame(fault) => Some(frame_sentence(fault)),
         Fault::Read(fault) => read_sentence(fault),
         Fault::BadTag => Some("a union's tag is a number that isn't listed"),
-        Fault::Outside(Outside::Level) => Some("it is part of a level of the protocol above 1"),
-        Fault::Outside(Outside::Unimplemented) => Some(
-            "it says that another message wasn't understood",
-        ),
-        Fault::Outside(Outside::LaterField) => {
-            Some(
-                "it sets a bit by which later editions of the protocol change the life of a number",
-            )
-        }
         _ => None,
     }
 }
@@ -188,6 +180,15 @@ fn put_hex(alloc: Global, text: &mut String, hex: Option<&str>) -> Result<(), Al
     }
 }
 
+/// Why a message isn't judged.
+fn outside_sentence(why: Outside) -> &'static str {
+    match why {
+        Outside::Level => why_sentence(Why::Level),
+        Outside::Unimplemented => why_sentence(Why::Unimplemented),
+        Outside::LaterField => why_sentence(Why::LaterField),
+    }
+}
+
 /// Appends the notes of a frame that isn't read: of a file that is something else than frames what it is, of the frame of
 /// the command line why.
 fn put_frame<S: RememberingSource>(
@@ -199,6 +200,10 @@ fn put_frame<S: RememberingSource>(
     if let Some(file) = last_file(source) {
         let _ = put_kind(alloc, text, file, FileKind::Other)?;
         return Ok(());
+    }
+    if let Fault::Outside(why) = fault {
+        let sentence = outside_sentence(why);
+        return write!(text, "note: not judged: {sentence}\n");
     }
     match message_sentence(fault) {
         Some(sentence) => write!(text, "note: the frame isn't read: {sentence}\n"),

@@ -160,7 +160,9 @@ pub(crate) fn put_absent(past: &Past<'_>, text: &mut String) -> Result<(), Alloc
         DecodedRecord::Deliver { call, .. } | DecodedRecord::Wire { call, .. } => *call,
         _ => return Ok(()),
     };
-    let _ = put_origin(past, text, call)?;
+    if put_origin(past, text, call)? {
+        return write!(text, "note: the call of a Bootstrap is never at a vat\n");
+    }
     put_left(past, text, call)
 }
 
@@ -187,11 +189,8 @@ pub(crate) fn settled_by(past: &Past<'_>, call: u64) -> Option<usize> {
 /// The first path that stands twice among results.
 fn repeated_path(results: &[(u64, Path)]) -> Option<&Path> {
     for (index, (_, path)) in results.iter().enumerate() {
-        let (before, _) = results.split_at(index);
-        if before
-            .iter()
-            .any(|other| other.1.as_slice() == path.as_slice())
-        {
+        let mut before = results.iter().take(index);
+        if before.any(|other| other.1.as_slice() == path.as_slice()) {
             return Some(path);
         }
     }

@@ -3,7 +3,7 @@
 use crate::life_notes::put_life;
 use crate::lives::{Life, number_described};
 use crate::past::Past;
-use crate::turns::{put_reference, reference_at};
+use crate::turns::put_reference;
 use crate::view_text::{NumberText, ViewText};
 use report_lines::Shown;
 use rpc_view::{Descriptor, RpcMessage};
@@ -152,16 +152,10 @@ fn put_open(
 fn put_if_amiss(
     past: &Past<'_>,
     text: &mut String,
+    reference: u64,
     place: usize,
     stands: Option<&View>,
 ) -> Result<bool, AllocError> {
-    let DecodedRecord::Wire { references, .. } = &past.event else {
-        return Ok(false);
-    };
-    let Some(reference) = reference_at(references.as_slice(), past.event.descriptors(), place)
-    else {
-        return Ok(false);
-    };
     let view = past.state.view_of_reference(reference)?;
     if !leads(past, view.as_ref(), stands) {
         put_mismatch(past, text, reference, place, stands)?;
@@ -175,16 +169,27 @@ fn put_if_amiss(
 
 /// Notes of the first entry whose reference doesn't lead to what it stands for, and says whether there is one.
 fn put_amiss(past: &Past<'_>, text: &mut String) -> Result<bool, AllocError> {
+    let DecodedRecord::Wire { references, .. } = &past.event else {
+        return Ok(false);
+    };
     let stands = past.state.views_of_descriptors(&past.event)?;
-    for (place, view) in stands.iter().enumerate() {
-        if put_if_amiss(past, text, place, view.as_ref())? {
+    let mut rest = references.as_slice();
+    for (place, descriptor) in past.event.descriptors().iter().enumerate() {
+        if matches!(descriptor, Descriptor::NoCap) {
+            continue;
+        }
+        let (Some((reference, others)), Some(view)) = (rest.split_first(), stands.get(place)) else {
+            return Ok(false);
+        };
+        if put_if_amiss(past, text, *reference, place, view.as_ref())? {
             return Ok(true);
         }
+        rest = others;
     }
     Ok(false)
 }
 
-/// The record that resolved an import or export in its present life.
+/// The record that resolved an import or export behind the one since which it is in life.
 pub(crate) fn resolved_by(
     past: &Past<'_>,
     sent: bool,
@@ -200,7 +205,7 @@ pub(crate) fn resolved_by(
             ..
         } = past.get(at)?
         {
-            if *out == sent && *over == connection && *promise == number {
+            if at > since && *out == sent && *over == connection && *promise == number {
                 return Some(at);
             }
         }
@@ -217,59 +222,74 @@ fn introduced_as(descriptor: &Descriptor) -> Option<(u32, bool)> {
     }
 }
 
-/// Notes of an entry that introduces a number in use again as something else, or after its Resolve.
-fn put_if_changed(
+/// Notes of a number that was resolved in its present life; and says whether the record is found that did.
+fn put_resolved(
     past: &Past<'_>,
     text: &mut String,
     sent: bool,
-    connection: u32,
-    descriptor: &Descriptor,
-) -> Result<(), AllocError> {
-    let (Some((number, promised)), Some(life)) = (
-        introduced_as(descriptor),
-        life_of(past, descriptor),
-    ) else {
-        return Ok(());
+    life: Life,
+    number: u32,
+) -> Result<bool, AllocError> {
+    let Some(began) = life.began else {
+        return Ok(false);
     };
-    let Some(began) = life.began.filter(|_| life.held > 0) else {
-        return Ok(());
+    let Some(at) = resolved_by(past, sent, life.connection, number, began) else {
+        return Ok(false);
     };
     let shown = NumberText {
         connection: life.connection,
         number: life.number,
     };
-    if let Some(at) = resolved_by(past, sent, connection, number, began) {
-        write!(
-            text,
-            "note: {shown}, introduced by record {began}, was resolved by record {at}\n"
-        )?;
-    }
-    let first = past.state.began_promised(life.number.on(connection));
-    match (first, promised) {
-        (Some(true), false) => write!(
-            text,
-            "note: {shown} was introduced as senderPromise by record {began}\n"
-        ),
-        (Some(false), true) => write!(
-            text,
-            "note: {shown} was introduced as senderHosted by record {began}\n"
-        ),
-        _ => Ok(()),
-    }
+    write!(
+        text,
+        "note: {shown}, introduced by record {began}, was resolved by record {at}\n"
+    )?;
+    Ok(true)
 }
 
-/// Notes of the entries that introduce a number in use again otherwise than at first.
-fn put_changed(past: &Past<'_>, text: &mut String) -> Result<(), AllocError> {
-    let DecodedRecord::Wire {
-        sent,
-        connection,
-        ..
-    } = &past.event
-    else {
-        return Ok(());
+/// Notes of an entry that introduces a number in use again as something else, or after its Resolve; and says whether it does.
+fn put_if_changed(
+    past: &Past<'_>,
+    text: &mut String,
+    sent: bool,
+    descriptor: &Descriptor,
+) -> Result<bool, AllocError> {
+    let (Some((number, promised)), Some(life)) = (
+        introduced_as(descriptor),
+        life_of(past, descriptor),
+    ) else {
+        return Ok(false);
     };
+    let (Some(began), false) = (life.began, life.held == 0) else {
+        return Ok(false);
+    };
+    let shown = NumberText {
+        connection: life.connection,
+        number: life.number,
+    };
+    let key = life.number.on(life.connection);
+    if past.state.is_resolved(key) {
+        return put_resolved(past, text, sent, life, number);
+    }
+    let word = match past.state.began_promised(key) {
+        Some(true) if !promised => "senderPromise",
+        Some(false) if promised => "senderHosted",
+        _ => return Ok(false),
+    };
+    write!(
+        text,
+        "note: {shown} was introduced as {word} by record {began}\n"
+    )?;
+    Ok(true)
+}
+
+/// Notes of the first entry that introduces a number in use again otherwise than at first.
+fn put_changed(past: &Past<'_>, text: &mut String) -> Result<(), AllocError> {
+    let sent = matches!(past.event, DecodedRecord::Wire { sent: true, .. });
     for descriptor in past.event.descriptors() {
-        put_if_changed(past, text, *sent, *connection, descriptor)?;
+        if put_if_changed(past, text, sent, descriptor)? {
+            return Ok(());
+        }
     }
     Ok(())
 }

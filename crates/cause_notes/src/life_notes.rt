@@ -152,26 +152,17 @@ fn put_overdrawn(past: &Past<'_>, text: &mut String, source: usize) -> Result<()
     let Some(event) = past.get(source) else {
         return Ok(());
     };
-    let DecodedRecord::Wire {
-        sent,
-        connection,
-        ..
-    } = event
-    else {
+    let DecodedRecord::Wire { sent, .. } = event else {
         return Ok(());
     };
-    for descriptor in event.descriptors() {
-        if let Some(number) = number_described(*sent, descriptor) {
-            let given = introduced(*sent, event.descriptors(), number);
-            if let Some(life) = past.lives.of(*connection, number) {
-                if life.held < given {
-                    write!(
-                        text,
-                        "note: it gives back what record {source} introduced\n"
-                    )?;
-                    return put_counted(past, text, life, given);
-                }
-            }
+    for life in past.lives.each() {
+        let given = introduced(*sent, event.descriptors(), life.number);
+        if life.held < given {
+            write!(
+                text,
+                "note: it gives back what record {source} introduced\n"
+            )?;
+            return put_counted(past, text, *life, given);
         }
     }
     Ok(())

@@ -146,6 +146,11 @@ impl Lives {
         }
     }
 
+    /// What was seen of each.
+    pub(crate) fn each(&self) -> &[Life] {
+        &self.items
+    }
+
     /// What was seen of a number.
     pub(crate) fn of(&self, connection: u32, number: Number) -> Option<Life> {
         for life in &self.items {

@@ -44,12 +44,9 @@ fn put_unread_frame(
     let Some(Err(fault)) = message_at(alloc, &log, at)? else {
         return Ok(());
     };
-    match Fault::from(fault) {
-        Fault::Outside(_) => Ok(()),
-        fault => match message_sentence(fault) {
-            Some(sentence) => write!(text, "note: the frame isn't read: {sentence}\n"),
-            None => Ok(()),
-        },
+    match message_sentence(Fault::from(fault)) {
+        Some(sentence) => write!(text, "note: the frame isn't read: {sentence}\n"),
+        None => Ok(()),
     }
 }
 

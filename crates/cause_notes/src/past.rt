@@ -28,10 +28,16 @@ fn apply(state: &mut VatState, event: DecodedRecord) -> Result<bool, AllocError>
     if !state.refers(&event)? {
         return Ok(false);
     }
-    if !state.uses_questions(&event) || !state.uses_numbers(&event) {
+    if !state.uses_questions(&event) {
         return Ok(false);
     }
-    if !state.gives_back_held(&event)? || !state.notes_each(&event) {
+    if !state.uses_numbers(&event) {
+        return Ok(false);
+    }
+    if !state.gives_back_held(&event)? {
+        return Ok(false);
+    }
+    if !state.notes_each(&event) {
         return Ok(false);
     }
     state.apply(event)?;

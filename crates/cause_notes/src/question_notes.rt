@@ -7,6 +7,9 @@ use std::alloc::AllocError;
 use std::fmt::Write;
 use vat_view::{DecodedRecord, TableKey};
 
+/// In how many entries of a capability table a question is sought, at most.
+const MOST: usize = 64;
+
 /// How a record uses a question.
 #[derive(Clone, Copy)]
 enum Use {
@@ -169,7 +172,7 @@ fn put_described(
     sent: bool,
     connection: u32,
 ) -> Result<(), AllocError> {
-    for descriptor in past.event.descriptors() {
+    for descriptor in past.event.descriptors().iter().take(MOST) {
         if let Descriptor::ReceiverAnswer(question, _) = descriptor {
             let key = TableKey::of_sender(sent, connection, *question);
             if put_if_refused(past, text, key, Use::Names)? {

@@ -5,6 +5,7 @@ use rpc_view::{Limits, RpcMessage, ViewError, read_bytes};
 use std::alloc::{AllocError, Global};
 use std::fmt::Write;
 use vat_log::{Body, References, VatLog};
+use vat_rules::edition_of;
 use vat_view::DecodedRecord;
 
 /// What the frame says of the record of this number, or why it isn't read. None where it has no frame.
@@ -20,7 +21,7 @@ pub(crate) fn message_at(
         Body::Send { frame, .. } | Body::Receive { frame, .. } => frame.clone()?,
         _ => return Ok(None),
     };
-    match read_bytes(alloc, frame, Limits::default()) {
+    match read_bytes(alloc, frame, Limits::default(), edition_of(log)) {
         Ok(message) => Ok(Some(Ok(message))),
         Err(ViewError::OutOfMemory) => Err(AllocError),
         Err(fault) => Ok(Some(Err(fault))),

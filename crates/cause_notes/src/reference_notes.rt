@@ -9,6 +9,9 @@ use std::fmt::Write;
 use vat_log::{Body, VatLog};
 use vat_view::DecodedRecord;
 
+/// Of how many references of a record the one that bound it is sought, at most.
+const MOST: usize = 64;
+
 /// Whether a record binds a reference, as its body says.
 fn binds(body: &Body, sought: u64) -> bool {
     match body {
@@ -149,7 +152,7 @@ fn put_named(past: &Past<'_>, text: &mut String) -> Result<(), AllocError> {
             put_if_unbound(past, text, *reference)
         }
         DecodedRecord::Answer { results, .. } => {
-            for (reference, _) in results.as_slice() {
+            for (reference, _) in results.as_slice().iter().take(MOST) {
                 put_if_unbound(past, text, *reference)?;
             }
             Ok(())
@@ -159,7 +162,7 @@ fn put_named(past: &Past<'_>, text: &mut String) -> Result<(), AllocError> {
             references,
             ..
         } => {
-            for reference in references.as_slice() {
+            for reference in references.as_slice().iter().take(MOST) {
                 put_if_unbound(past, text, *reference)?;
             }
             Ok(())
@@ -170,7 +173,7 @@ fn put_named(past: &Past<'_>, text: &mut String) -> Result<(), AllocError> {
 
 /// Notes of the references and calls that a record binds again, or names unbound.
 pub(crate) fn put_unbound(past: &Past<'_>, text: &mut String) -> Result<(), AllocError> {
-    for reference in past.event.new_references() {
+    for reference in past.event.new_references().iter().take(MOST) {
         put_if_bound(past, text, *reference)?;
     }
     put_named(past, text)?;

@@ -28,11 +28,7 @@ fn to_reference(past: &Past<'_>, at: usize, reference: u64) -> Result<Option<Tur
 }
 
 /// The reference that stands for the capability at a place of a table.
-pub(crate) fn reference_at(
-    references: &[u64],
-    descriptors: &[Descriptor],
-    place: usize,
-) -> Option<u64> {
+fn reference_at(references: &[u64], descriptors: &[Descriptor], place: usize) -> Option<u64> {
     let mut before = 0_usize;
     for (index, descriptor) in descriptors.iter().enumerate() {
         if index == place {
@@ -259,18 +255,37 @@ fn turn_of(past: &Past<'_>, view: &View) -> Result<Option<Turn>, AllocError> {
     }
 }
 
-/// Appends a note of each turn from a view on, and gives the view at which they end.
+/// Whether a view is among these.
+fn is_among(views: &[View], sought: &View) -> bool {
+    views.iter().any(|view| view.is_same(sought))
+}
+
+/// Appends the note of a turn.
+fn put_turn(text: &mut String, view: &View, turn: &Turn) -> Result<(), AllocError> {
+    let at = turn.at;
+    let from = ViewText(BorrowedView::of(view));
+    let to = ViewText(BorrowedView::of(&turn.to));
+    write!(text, "note: {from} is {to}, by record {at}\n")
+}
+
+/// Appends a note of each turn from a view on, and gives the view at which they end. Where that leads nowhere a note says so.
 pub(crate) fn put_way(past: &Past<'_>, text: &mut String, view: View) -> Result<View, AllocError> {
+    let mut passed = Vec::new(past.alloc);
     let mut view = view;
     for _ in 0..MOST {
         let Some(turn) = turn_of(past, &view)? else {
+            if past.state.end(&view).is_none() {
+                write!(text, "note: that leads nowhere\n")?;
+            }
             return Ok(view);
         };
-        let at = turn.at;
-        let from = ViewText(BorrowedView::of(&view));
-        let to = ViewText(BorrowedView::of(&turn.to));
-        write!(text, "note: {from} is {to}, by record {at}\n")?;
+        put_turn(text, &view, &turn)?;
+        passed.push(view)?;
         view = turn.to;
+        if is_among(&passed, &view) {
+            write!(text, "note: that goes in a circle\n")?;
+            return Ok(view);
+        }
     }
     Ok(view)
 }

@@ -1,5 +1,5 @@
 -- What clap's matches hold.
-use Rattle.std.proofs.Common.{◌≡◌, ◌⊎◌, ◌∙◌, ◌∷◌, ℕ, Result, Ok, Err, IfOk, IsErrAnd, true, inl, inr, List, [], Option, Some, None, IsSome, option_map, refl, sym, ap, ap₂, subst}
+use Rattle.std.proofs.Common.{◌≡◌, ◌⊎◌, ◌∙◌, ◌∷◌, ℕ, Bool, Result, Ok, Err, IfOk, IsErrAnd, true, inl, inr, List, [], Option, Some, None, IsSome, option_map, refl, sym, ap, ap₂, subst}
 use Rattle.clap.specs.Words.{App, HasKind, HasMatchesOf, Kinds, Row, Text, is_simple, is_simple_and_free, kind_of, first_of, first_value, fault_of, found_of, rows_of, subcommand_name_of, subcommand_of, subcommand_rows_of}
 use Rattle.clap.specs.declared.ArgMatches.{ArgMatches}
 use Rattle.clap.specs.Kinds.{FailsBy}
@@ -11,7 +11,7 @@ use Rattle.command_line.proofs.Faultless.{never}
 use Rattle.command_line.proofs.Named.{Named, Reader, name_of, reading, same_command, word_of}
 use Rattle.command_line.proofs.Reading.{Besides, reads}
 use Rattle.command_line.specs.Parser.{input, program}
-use Rattle.command_line.specs.Spelled.{AreMatchesOf, IsChecked, IsNumber, IsRead, SpellsOne}
+use Rattle.command_line.specs.Spelled.{AreMatchesOf, IsChecked, IsNumber, IsRead, SpellsOne, is_set}
 
 pub some_same : {A : Type 0} {x y : A} → Some x ≡ Some y → x ≡ y
 some_same e = cc
@@ -93,6 +93,9 @@ module _ {words : List Text} {name : Text} {given : ArgMatches} (m : Matches wor
 
   pub number_as : (id : Text) (number : Option ℕ) → IsNumber (first_value (found_of given) id) number → IsNumber (first_of id m.rows) number
   number_as id number is = subst (λ (o : Option Text). IsNumber o number) (m.each id) is
+
+  pub set_as : (id : Text) (set : Bool) → is_set (first_value (found_of given) id) ≡ set → is_set (first_of id m.rows) ≡ set
+  set_as id set is = ap is_set (sym (m.each id)) ∙ is
 
   pub checked_as : (least last : ℕ) (id : Text) → IsChecked least last (first_of id m.rows) → IsChecked least last (first_value (found_of given) id)
   checked_as least last id is = subst (IsChecked least last) (sym (m.each id)) is

@@ -10,14 +10,12 @@ pub data Reader : Type 0 where
   of_graph : Reader
   of_run : Reader
   of_vat : Reader
-  of_frame : Reader
   of_frames : Reader
 
 abbrev pub word_of : Reader → Text
 word_of of_graph = codes "graph"
 word_of of_run = codes "run"
 word_of of_vat = codes "vat"
-word_of of_frame = codes "frame"
 word_of of_frames = codes "frames"
 
 -- all commands
@@ -27,6 +25,7 @@ pub data Named : Type 0 where
   ordering : Named
   migrating : Named
   listing : Named
+  framing : Named
 
 abbrev pub name_of : Named → Text
 name_of (reading r) = word_of r
@@ -34,6 +33,7 @@ name_of checking = codes "check"
 name_of ordering = codes "order"
 name_of listing = codes "records"
 name_of migrating = codes "migrate"
+name_of framing = codes "frame"
 
 -- the names, as clap has them, of which the last is its own
 abbrev pub help_word : Text
@@ -54,7 +54,7 @@ which w (inr (inr (inl is))) = inl (reading of_graph, is)
 which w (inr (inr (inr (inl is)))) = inl (reading of_run, is)
 which w (inr (inr (inr (inr (inl is))))) = inl (reading of_vat, is)
 which w (inr (inr (inr (inr (inr (inl is)))))) = inl (listing, is)
-which w (inr (inr (inr (inr (inr (inr (inl is))))))) = inl (reading of_frame, is)
+which w (inr (inr (inr (inr (inr (inr (inl is))))))) = inl (framing, is)
 which w (inr (inr (inr (inr (inr (inr (inr (inl is)))))))) = inl (reading of_frames, is)
 which w (inr (inr (inr (inr (inr (inr (inr (inr (inl is))))))))) = inl (migrating, is)
 which w (inr (inr (inr (inr (inr (inr (inr (inr (inr (inl is)))))))))) = inr is
@@ -65,30 +65,31 @@ abbrev by_name : Text → Named
 by_name w =
     if bytes_eq w (codes "check") then checking else (if bytes_eq w (codes "order") then ordering else (if bytes_eq w (codes "graph") then reading of_graph
     else (if bytes_eq w (codes "run") then reading of_run else (if bytes_eq w (codes "vat") then reading of_vat else (if bytes_eq w (codes "records") then listing
-    else (if bytes_eq w (codes "frame") then reading of_frame
+    else (if bytes_eq w (codes "frame") then framing
     else (if bytes_eq w (codes "migrate") then migrating else reading of_frames)))))))
 
 by_its_name : (c : Named) → by_name (name_of c) ≡ c
 by_its_name (reading of_graph) = refl
 by_its_name (reading of_run) = refl
 by_its_name (reading of_vat) = refl
-by_its_name (reading of_frame) = refl
 by_its_name (reading of_frames) = refl
 by_its_name checking = refl
 by_its_name ordering = refl
 by_its_name listing = refl
 by_its_name migrating = refl
+by_its_name framing = refl
 
 -- so no two have one name
 pub same_command : (a b : Named) → name_of a ≡ name_of b → a ≡ b
 same_command a b same = sym (by_its_name a) ∙ ap by_name same ∙ by_its_name b
 
-pub reader_of : (name : Text) → IsReader name → (r : Reader) × (name ≡ word_of r)
-reader_of name (inl is) = (of_graph, is)
-reader_of name (inr (inl is)) = (of_run, is)
-reader_of name (inr (inr (inl is))) = (of_vat, is)
-reader_of name (inr (inr (inr (inl is)))) = (of_frame, is)
-reader_of name (inr (inr (inr (inr is)))) = (of_frames, is)
+-- a command that may be given one thing alone reads nothing else, or is `frame`
+pub reader_of : (name : Text) → IsReader name → ((r : Reader) × (name ≡ word_of r)) ⊎ (name ≡ name_of framing)
+reader_of name (inl is) = inl (of_graph, is)
+reader_of name (inr (inl is)) = inl (of_run, is)
+reader_of name (inr (inr (inl is))) = inl (of_vat, is)
+reader_of name (inr (inr (inr (inl is)))) = inr is
+reader_of name (inr (inr (inr (inr is)))) = inl (of_frames, is)
 
 -- texts that were compared
 pub same_text : (a b : Text) → true ≡ bytes_eq a b → a ≡ b
@@ -106,6 +107,6 @@ last_command (reading of_graph) name is no_check no_order no_graph no_run no_vat
 last_command (reading of_run) name is no_check no_order no_graph no_run no_vat no_records no_frame no_migrate = absurd (no_run is)
 last_command (reading of_vat) name is no_check no_order no_graph no_run no_vat no_records no_frame no_migrate = absurd (no_vat is)
 last_command listing name is no_check no_order no_graph no_run no_vat no_records no_frame no_migrate = absurd (no_records is)
-last_command (reading of_frame) name is no_check no_order no_graph no_run no_vat no_records no_frame no_migrate = absurd (no_frame is)
+last_command framing name is no_check no_order no_graph no_run no_vat no_records no_frame no_migrate = absurd (no_frame is)
 last_command migrating name is no_check no_order no_graph no_run no_vat no_records no_frame no_migrate = absurd (no_migrate is)
 last_command (reading of_frames) name is no_check no_order no_graph no_run no_vat no_records no_frame no_migrate = is

@@ -1,7 +1,8 @@
 -- What clap makes of the words.
-use Rattle.std.proofs.Common.{◌≡◌, ◌⊎◌, ◌∙◌, ◌==◌, ◌||◌, ◌++◌, ℕ, Bool, true, false, List, [], ◌∷◌, Option, Some, None, if◌then◌else◌, length, map, fold, option_map, refl, sym, ap, subst, inl, inr, append_assoc, append-nil, codes}
-use Rattle.std.specs.Prelude.{IfSome, find, not, slice_get, unwrap_or, option_map}
+use Rattle.std.proofs.Common.{◌≡◌, ◌⊎◌, ◌∙◌, ◌==◌, ◌||◌, ◌++◌, ℕ, Bool, true, false, List, [], ◌∷◌, Option, Some, None, if◌then◌else◌, length, map, fold, option_map, refl, sym, ap, subst, inl, inr, append_assoc, append-nil, codes, arith}
+use Rattle.std.specs.Prelude.{IfSome, find, not, slice_get, unwrap_or, option_map, ⊤}
 use Rattle.std.specs.Str.{bytes_eq}
+use Rattle.std.proofs.lemmas.Bool.{eqb-true}
 use Rattle.std.proofs.lemmas.Slice.Eq.{bytes_eq-Decides}
 use Rattle.clap.specs.Words.{Row, Text, Kinds, built, first_of, fault_of, subcommand_of}
 use Rattle.clap.specs.Walk.{Held, Step, Waiting, answers_to, arg_by_long, arg_by_short, has_row, idle, nothing_held, rows_after, settled, subcommand_or_other, walk, walked, with_default, word_met}
@@ -13,15 +14,15 @@ use Rattle.clap.specs.ValueTests.{accepts}
 use Rattle.clap.proofs.ValueTestLemmas.{accepts-Accepts}
 use Rattle.clap.specs.Faults.{built_fault, check_fault, entered_fault, level_fault, other_fault, repeat_fault, step_fault, turn_fault, walk_fault}
 use Rattle.clap.specs.declared.parser.matches.ValueSource.TheVariants.{CommandLine}
-use Rattle.clap.specs.declared.error.ErrorKind.TheVariants.{DisplayHelp}
+use Rattle.clap.specs.declared.error.ErrorKind.TheVariants.{DisplayHelp, WrongNumberOfValues}
 use Rattle.clap.specs.declared.builder.value_parser.ValueParser.{ValueParser}
 use Rattle.clap.specs.declared.builder.value_parser.ValueParser.TheVariants as parser
 use Rattle.clap.proofs.OnLiterals.{clap_on_literals}
 use Rattle.command_line.proofs.Faultless.{first_none, never, then_none}
 use Rattle.command_line.proofs.Filled.{AllBring, AreFull, Brings, default_row, first_passes, given_value, level_full, no_default, parser_by, replaced_full, row_value, values_pass}
-use Rattle.command_line.proofs.Named.{IsOneOf, Named, Reader, all_names, checking, help_word, listing, migrating, name_of, of_frame, of_frames, of_graph, of_run, of_vat, ordering, reading, which, word_of}
+use Rattle.command_line.proofs.Named.{IsOneOf, Named, Reader, all_names, checking, framing, help_word, listing, migrating, name_of, of_frames, of_graph, of_run, of_vat, ordering, reading, which, word_of}
 use Rattle.command_line.proofs.One.{HasFile, at, dashes, help, holding, main, names, sub, word_plain, words_read}
-use Rattle.command_line.specs.Parser.{check, count, input, input_rule, most, number_rule, path, path_rule, program, records, start, workers, workers_rule, writer}
+use Rattle.command_line.specs.Parser.{check, count, frame, input, input_rule, later, later_rule, migrate, most, number_rule, path, path_rule, program, records, start, workers, workers_rule, writer}
 use Rattle.command_line.specs.Spelled.{IsChecked, SpellsOne}
 
 -- ---- the first word
@@ -79,7 +80,10 @@ abbrev records_sub : Shape
 records_sub = unwrap_or (slice_get (built program).subs 5) records.top
 
 abbrev migrate_sub : Shape
-migrate_sub = unwrap_or (slice_get (built program).subs 8) (writer (codes "migrate")).top
+migrate_sub = unwrap_or (slice_get (built program).subs 8) migrate.top
+
+abbrev frame_sub : Shape
+frame_sub = unwrap_or (slice_get (built program).subs 6) frame.top
 
 abbrev pub shape_by : Named → Shape
 shape_by (reading r) = sub (word_of r)
@@ -87,6 +91,7 @@ shape_by checking = check_sub
 shape_by ordering = order_sub
 shape_by listing = records_sub
 shape_by migrating = migrate_sub
+shape_by framing = frame_sub
 
 -- past the name of a command the walk keeps the words
 stops : (h : Held) (waiting : Waiting) (n : ℕ) (ended : Bool) (name : Text) (seen words : List Text)
@@ -101,35 +106,35 @@ unfolding walked
 stop_at (reading of_graph) words = stops (holding None) idle 1 false (word_of of_graph) [] words
 stop_at (reading of_run) words = stops (holding None) idle 1 false (word_of of_run) [] words
 stop_at (reading of_vat) words = stops (holding None) idle 1 false (word_of of_vat) [] words
-stop_at (reading of_frame) words = stops (holding None) idle 1 false (word_of of_frame) [] words
 stop_at (reading of_frames) words = stops (holding None) idle 1 false (word_of of_frames) [] words
 stop_at checking words = stops (holding None) idle 1 false (name_of checking) [] words
 stop_at ordering words = stops (holding None) idle 1 false (name_of ordering) [] words
 stop_at listing words = stops (holding None) idle 1 false (name_of listing) [] words
 stop_at migrating words = stops (holding None) idle 1 false (name_of migrating) [] words
+stop_at framing words = stops (holding None) idle 1 false (name_of framing) [] words
 
 -- the command that is entered reads the words that are left
 entered_level : (c : Named) (words : List Text) → entered_fault (built program) (Some (name_of c, words)) ≡ level_fault (shape_by c) [] nothing_held words false []
 entered_level (reading of_graph) words = refl
 entered_level (reading of_run) words = refl
 entered_level (reading of_vat) words = refl
-entered_level (reading of_frame) words = refl
 entered_level (reading of_frames) words = refl
 entered_level checking words = refl
 entered_level ordering words = refl
 entered_level listing words = refl
 entered_level migrating words = refl
+entered_level framing words = refl
 
 entered_rows : (c : Named) (words : List Text) → entered (built program) (Some (name_of c, words)) ≡ Some (name_of c, rows_after (shape_by c).rules [] words)
 entered_rows (reading of_graph) words = refl
 entered_rows (reading of_run) words = refl
 entered_rows (reading of_vat) words = refl
-entered_rows (reading of_frame) words = refl
 entered_rows (reading of_frames) words = refl
 entered_rows checking words = refl
 entered_rows ordering words = refl
 entered_rows listing words = refl
 entered_rows migrating words = refl
+entered_rows framing words = refl
 
 no_command : (rest : List Text) → built_fault (built program) nothing_held (dashes ∷ rest) ≡ [] → ⊥
 unfolding clap_on_literals
@@ -163,7 +168,7 @@ main_read (w ∷ rest) e =
 
 -- ---- what it finds in them
 
--- the one thing, --workers, --out, --from, --count and --help bring values that pass
+-- the one thing, --workers, --out, --later, --from, --count and --help bring values that pass
 brings_case : Brings false (with_index 1 (filled input_rule))
 brings_case [] rows e full = absurd (never e)
 brings_case (v ∷ vs) rows e full =
@@ -179,6 +184,14 @@ brings_workers [] rows e full = absurd (never e)
 brings_workers (v ∷ vs) rows e full =
     replaced_full workers _ CommandLine (v ∷ vs) rows (values_pass workers (v ∷ vs) (then_none (repeat_fault false workers rows) _ (then_none (range_kinds 1 1 (length (v ∷ vs))) _ e))) full
 
+brings_later : Brings false (filled later_rule)
+brings_later [] rows e full = replaced_full later _ CommandLine (codes "true" ∷ []) rows (refl, tt) full
+brings_later (v ∷ vs) rows e full = absurd (no_value (0 == length (v ∷ vs)) refl (first_none (range_kinds 0 0 (length (v ∷ vs))) _ e))
+  where
+    no_value : (b : Bool) → (0 == length (v ∷ vs)) ≡ b → (if b then [] else WrongNumberOfValues ∷ []) ≡ [] → ⊥
+    no_value true is e = omega (arith, eqb-true 0 (length (v ∷ vs)) is)
+    no_value false is e = never e
+
 brings_help : Brings false help
 brings_help values rows e full = absurd (never (then_none (range_kinds 0 0 (length values)) (DisplayHelp ∷ []) e))
 
@@ -192,17 +205,15 @@ brings : (c : Named) → AllBring (shape_by c).args_override_self (shape_by c).r
 brings (reading r) = (brings_case, tt, (brings_help, tt, tt))
 brings checking = (brings_case, tt, (brings_workers, (refl, tt), (brings_help, tt, tt)))
 brings ordering = (brings_case, tt, (brings_path, tt, (brings_help, tt, tt)))
-brings migrating = (brings_case, tt, (brings_path, tt, (brings_help, tt, tt)))
+brings migrating = (brings_case, tt, (brings_later, (refl, tt), (brings_path, tt, (brings_help, tt, tt))))
+brings framing = (brings_case, tt, (brings_later, (refl, tt), (brings_help, tt, tt)))
 brings listing = (brings_case, tt, (brings_number start refl, tt, (brings_number count refl, tt, (brings_help, tt, tt))))
 
 -- what has to be given was
-both_given : (rows : List Row) → check_fault order_sub rows false ≡ [] → (is_given input rows ≡ true) × (is_given path rows ≡ true)
-both_given rows e = go (is_given input rows) (is_given path rows) e
-  where
-    go : (a b : Bool) → check_kinds false false (not a || (not b || false)) ≡ [] → (a ≡ true) × (b ≡ true)
-    go true true e = (refl, refl)
-    go true false e = absurd (never e)
-    go false b e = absurd (never e)
+both_given : (a b : Bool) → check_kinds false false (not a || (not b || false)) ≡ [] → (a ≡ true) × (b ≡ true)
+both_given true true e = (refl, refl)
+both_given true false e = absurd (never e)
+both_given false b e = absurd (never e)
 
 one_given : (a : Bool) → check_kinds false false (not a || false) ≡ [] → a ≡ true
 one_given true e = refl
@@ -228,6 +239,7 @@ Besides (reading r) words rows file = SpellsOne (word_of r) words file
 Besides checking words rows file = (t : Text) × ((first_of workers rows ≡ Some t) × IsUnsignedIn 1 64 t)
 Besides ordering words rows file = (out : Text) × (first_of path rows ≡ Some out)
 Besides migrating words rows file = (out : Text) × (first_of path rows ≡ Some out)
+Besides framing words rows file = ⊤
 Besides listing words rows file = IsChecked 0 most (first_of start rows) × IsChecked 0 most (first_of count rows)
 
 abbrev pub Finds : Named → List Text → List Row → Type 0
@@ -251,16 +263,20 @@ finds_by checking first rest e full none =
     (file.0, (file.1, (many.0, (many.1, accepts-Accepts false (parser.Unsigned 1 64) many.0 many.2))))
 finds_by ordering first rest e full none =
     let rows = rows_after order_sub.rules [] rest in
-    let given = both_given rows none in
+    let given = both_given (is_given input rows) (is_given path rows) none in
     let file = given_value input rows given.0 full in
     let out = given_value path rows given.1 full in
     (file.0, (file.1, (out.0, out.1)))
 finds_by migrating first rest e full none =
     let rows = rows_after migrate_sub.rules [] rest in
-    let given = both_given rows none in
+    let given = both_given (is_given input rows) (is_given path rows) none in
     let file = given_value input rows given.0 full in
     let out = given_value path rows given.1 full in
     (file.0, (file.1, (out.0, out.1)))
+finds_by framing first rest e full none =
+    let rows = rows_after frame_sub.rules [] rest in
+    let hex = given_value input rows (one_given (is_given input rows) none) full in
+    (hex.0, (hex.1, tt))
 finds_by listing first rest e full none =
     let rows = rows_after records_sub.rules [] rest in
     let file = given_value input rows (one_given (is_given input rows) none) full in

@@ -1,6 +1,6 @@
 -- Words in which clap finds no fault, and words in which it finds one.
 use Rattle.std.proofs.lemmas.Bool.{eqb-true}
-use Rattle.std.proofs.Common.{◌≡◌, ◌∙◌, ◌==◌, ◌&&◌, ℕ, Bool, true, false, List, [], ◌∷◌, Some, None, if◌then◌else◌, fold, codes, refl, ap, ap₂, subst, arith}
+use Rattle.std.proofs.Common.{◌≡◌, ◌∙◌, ◌==◌, ◌&&◌, ℕ, Bool, true, false, List, [], ◌∷◌, Some, None, if◌then◌else◌, fold, codes, refl, ap, ap₂, subst, arith, inl, inr}
 use Rattle.std.specs.Prelude.{option_and_then}
 use Rattle.std.specs.Str.{bytes_eq}
 use Rattle.clap.specs.Lexer.{long_of, long_of_rest, short_of, short_of_rest, strip_byte}
@@ -17,7 +17,7 @@ use Rattle.clap.specs.declared.error.ErrorKind.TheVariants.{ValueValidation}
 use Rattle.clap.specs.declared.builder.value_parser.ValueParser.{ValueParser}
 use Rattle.clap.specs.declared.builder.value_parser.ValueParser.TheVariants as parser
 use Rattle.clap.proofs.OnLiterals.{clap_on_literals}
-use Rattle.command_line.proofs.Named.{Reader, checking, listing, migrating, name_of, of_frame, of_frames, of_graph, of_run, of_vat, ordering, reader_of, word_of}
+use Rattle.command_line.proofs.Named.{Reader, checking, framing, listing, migrating, name_of, of_frames, of_graph, of_run, of_vat, ordering, reader_of, word_of}
 use Rattle.command_line.proofs.One.{at, dashes, given, holding, sub}
 use Rattle.command_line.proofs.Reading.{shape_by}
 use Rattle.command_line.specs.Parser.{most, program, start}
@@ -72,7 +72,6 @@ unfolding clap_on_literals
 taken_by of_graph first file e = ap (λ (k : Kinds). or_else k []) (file_taken (word_of of_graph) file e)
 taken_by of_run first file e = ap (λ (k : Kinds). or_else k []) (file_taken (word_of of_run) file e)
 taken_by of_vat first file e = ap (λ (k : Kinds). or_else k []) (file_taken (word_of of_vat) file e)
-taken_by of_frame first file e = ap (λ (k : Kinds). or_else k []) (file_taken (word_of of_frame) file e)
 taken_by of_frames first file e = ap (λ (k : Kinds). or_else k []) (file_taken (word_of of_frames) file e)
 
 taken_after_by : (r : Reader) (first file : Text) → fault_of program (first ∷ word_of r ∷ dashes ∷ file ∷ []) ≡ []
@@ -80,20 +79,48 @@ unfolding clap_on_literals
 taken_after_by of_graph first file = refl
 taken_after_by of_run first file = refl
 taken_after_by of_vat first file = refl
-taken_after_by of_frame first file = refl
 taken_after_by of_frames first file = refl
+
+-- ---- frame
+
+frame_words : (hex : Text) → is_flag hex ≡ false → level_fault (shape_by framing) [] nothing_held (hex ∷ []) false [] ≡ []
+unfolding clap_on_literals
+frame_words hex e =
+    let is = plain_word_is hex e in
+    rw (is.0, is.1, is.2) refl
+
+takes_frame : (first hex : Text) → is_flag hex ≡ false → fault_of program (first ∷ name_of framing ∷ hex ∷ []) ≡ []
+unfolding clap_on_literals
+takes_frame first hex e = ap (λ (k : Kinds). or_else k []) (frame_words hex e)
+
+takes_frame_after : (first hex : Text) → fault_of program (first ∷ name_of framing ∷ dashes ∷ hex ∷ []) ≡ []
+unfolding clap_on_literals
+takes_frame_after first hex = refl
+
+frame_later_words : (hex : Text) → is_flag hex ≡ false → level_fault (shape_by framing) [] nothing_held (codes "--later" ∷ hex ∷ []) false [] ≡ []
+unfolding clap_on_literals
+frame_later_words hex e =
+    let is = plain_word_is hex e in
+    rw (is.0, is.1, is.2) refl
+
+-- `frame --later HEX` has no fault, where HEX is no flag
+pub takes_frame_later : (first hex : Text) → is_flag hex ≡ false → fault_of program (first ∷ name_of framing ∷ codes "--later" ∷ hex ∷ []) ≡ []
+unfolding clap_on_literals
+takes_frame_later first hex e = ap (λ (k : Kinds). or_else k []) (frame_later_words hex e)
 
 -- the name of a command and one word have no fault, where the word is no flag
 pub takes_one : (first name file : Text) → IsReader name → is_flag file ≡ false → fault_of program (first ∷ name ∷ file ∷ []) ≡ []
-takes_one first name file reads e =
-    let r = reader_of name reads in
-    ap (λ (n : Text). fault_of program (first ∷ n ∷ file ∷ [])) r.1 ∙ taken_by r.0 first file e
+takes_one first name file reads e = elim (reader_of name reads) [
+  | inl r ↦ ap (λ (n : Text). fault_of program (first ∷ n ∷ file ∷ [])) r.1 ∙ taken_by r.0 first file e
+  | inr is ↦ ap (λ (n : Text). fault_of program (first ∷ n ∷ file ∷ [])) is ∙ takes_frame first file e
+]
 
 -- with `--` between them they have none, whatever the word is
 pub takes_after_dashes : (first name file : Text) → IsReader name → fault_of program (first ∷ name ∷ dashes ∷ file ∷ []) ≡ []
-takes_after_dashes first name file reads =
-    let r = reader_of name reads in
-    ap (λ (n : Text). fault_of program (first ∷ n ∷ dashes ∷ file ∷ [])) r.1 ∙ taken_after_by r.0 first file
+takes_after_dashes first name file reads = elim (reader_of name reads) [
+  | inl r ↦ ap (λ (n : Text). fault_of program (first ∷ n ∷ dashes ∷ file ∷ [])) r.1 ∙ taken_after_by r.0 first file
+  | inr is ↦ ap (λ (n : Text). fault_of program (first ∷ n ∷ dashes ∷ file ∷ [])) is ∙ takes_frame_after first file
+]
 
 -- ---- check
 
@@ -169,6 +196,20 @@ migrate_words file out e h =
 pub takes_migrate : (first file out : Text) → is_flag file ≡ false → is_flag out ≡ false → fault_of program (first ∷ name_of migrating ∷ file ∷ codes "--out" ∷ out ∷ []) ≡ []
 unfolding clap_on_literals
 takes_migrate first file out e h = ap (λ (k : Kinds). or_else k []) (migrate_words file out e h)
+
+migrate_later_words : (file out : Text) → is_flag file ≡ false → is_flag out ≡ false
+    → level_fault (shape_by migrating) [] nothing_held (file ∷ codes "--later" ∷ codes "--out" ∷ out ∷ []) false [] ≡ []
+unfolding clap_on_literals
+migrate_later_words file out e h =
+    let is = plain_word_is file e in
+    let are = plain_word_is out h in
+    rw (is.0, is.1, is.2, are.0, are.1, are.2) refl
+
+-- nor has it with `--later`
+pub takes_migrate_later : (first file out : Text) → is_flag file ≡ false → is_flag out ≡ false
+    → fault_of program (first ∷ name_of migrating ∷ file ∷ codes "--later" ∷ codes "--out" ∷ out ∷ []) ≡ []
+unfolding clap_on_literals
+takes_migrate_later first file out e h = ap (λ (k : Kinds). or_else k []) (migrate_later_words file out e h)
 
 -- ---- records
 

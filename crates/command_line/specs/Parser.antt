@@ -2,6 +2,7 @@
 use Rattle.std.specs.Prelude.{ℕ, List, [], ◌∷◌, Some, codes, true}
 use Rattle.clap.specs.Words.{App, Rule, new_app, new_rule, with_rule, with_subcommand}
 use Rattle.clap.specs.Simple.{on_top}
+use Rattle.clap.specs.declared.builder.action.ArgAction.TheVariants.{SetTrue}
 use Rattle.clap.specs.declared.builder.value_parser.ValueParser.TheVariants as parser
 
 -- by what clap knows the one thing that a command reads
@@ -12,7 +13,7 @@ input = codes "input"
 abbrev pub input_rule : Rule
 input_rule = record (new_rule input) { value_names = 1; required = true }
 
--- a command that reads one thing: `graph CASE`, `run CASE`, `vat FILE`, `frame HEX`, `frames FILE`
+-- a command that reads one thing: `graph CASE`, `run CASE`, `vat FILE`, `frames FILE`
 abbrev pub reader : List ℕ → App
 reader name = with_rule (new_app name) input_rule
 
@@ -38,7 +39,7 @@ path = codes "out"
 abbrev pub path_rule : Rule
 path_rule = record (new_rule path) { long = Some (codes "out"); value_names = 1; required = true }
 
--- a command that reads one thing and writes a file: `order CASE --out FILE`, `migrate FILE --out FILE`
+-- a command that reads one thing and writes a file: `order CASE --out FILE`
 abbrev pub writer : List ℕ → App
 writer name = with_rule (with_rule (new_app name) input_rule) path_rule
 
@@ -56,6 +57,22 @@ most = 18446744073709551615
 abbrev pub records : App
 records = with_rule (with_rule (with_rule (new_app (codes "records")) input_rule) (number_rule start 0 most)) (number_rule count 0 most)
 
+-- by what clap knows that the later edition of rpc.capnp is asked for, which is said by `--later`
+abbrev pub later : List ℕ
+later = codes "later"
+
+-- an option that has no value: it is given, or it isn't
+abbrev pub later_rule : Rule
+later_rule = record (new_rule later) { long = Some (codes "later"); action = Some SetTrue }
+
+-- `frame HEX`, with `--later` if wanted
+abbrev pub frame : App
+frame = with_rule (with_rule (new_app (codes "frame")) input_rule) later_rule
+
+-- `migrate FILE --out FILE`, with `--later` if wanted
+abbrev pub migrate : App
+migrate = with_rule (with_rule (with_rule (new_app (codes "migrate")) input_rule) later_rule) path_rule
+
 -- the program, of which a command has to be given
 abbrev pub top : App
 top = on_top (λ s. record s { subcommand_required = true; arg_required_else_help = true }) (new_app (codes "vataudit"))
@@ -67,8 +84,8 @@ judging = with_subcommand (with_subcommand (with_subcommand (with_subcommand top
 -- and with those that read a file or a frame
 abbrev pub reading : App
 reading =
-    with_subcommand (with_subcommand (with_subcommand (with_subcommand judging (reader (codes "vat")).top) records.top) (reader (codes "frame")).top) (reader (codes "frames")).top
+    with_subcommand (with_subcommand (with_subcommand (with_subcommand judging (reader (codes "vat")).top) records.top) frame.top) (reader (codes "frames")).top
 
 -- and with the one that writes a log
 abbrev pub program : App
-program = with_subcommand reading (writer (codes "migrate")).top
+program = with_subcommand reading migrate.top

@@ -1,5 +1,6 @@
 -- How words spell commands.
 use Rattle.std.specs.Prelude.{◌≡◌, ◌⊎◌, ◌==◌, ◌≤◌, ⊤, ℕ, Bool, false, List, [], ◌∷◌, Option, Some, None, codes}
+use Rattle.std.specs.Str.{bytes_eq}
 use Rattle.std.specs.Str.Parse.{IsNumeral, digits_value, without_leading_plus}
 use Rattle.command_line.specs.declared.command.Command.{Command}
 use Rattle.command_line.specs.declared.command.Command.TheVariants.{Check, Order, Graph, Run, Vat, Records, Frame, Frames, Migrate}
@@ -7,7 +8,7 @@ use Rattle.clap.specs.Simple.{subcommand_rows_of}
 use Rattle.clap.specs.Values.{IsUnsignedIn}
 use Rattle.clap.specs.Words.{Row, fault_of, first_of, subcommand_of}
 use Rattle.clap.specs.declared.ArgMatches.{ArgMatches}
-use Rattle.command_line.specs.Parser.{count, input, path, program, start, workers}
+use Rattle.command_line.specs.Parser.{count, input, later, path, program, start, workers}
 
 -- a word that begins with a hyphen, but `-`
 abbrev pub is_flag : List ℕ → Bool
@@ -52,9 +53,25 @@ abbrev pub SpellsCheck : List (List ℕ) → List ℕ → ℕ → Type 0
 SpellsCheck words name many = (rows : List Row) ×
     (IsRead words (codes "check") rows × (first_of input rows ≡ Some name) × IsNumber (first_of workers rows) (Some many))
 
+-- an option without a value was given: clap has the word `true` for it then, and else `false`
+abbrev pub is_set : Option (List ℕ) → Bool
+is_set None = false
+is_set (Some text) = bytes_eq text (codes "true")
+
+-- the words are read as `frame HEX`, and clap finds HEX in them, and whether `--later` is there
+abbrev pub SpellsFrame : List (List ℕ) → List ℕ → Bool → Type 0
+SpellsFrame words hex is_later = (rows : List Row) ×
+    (IsRead words (codes "frame") rows × (first_of input rows ≡ Some hex) × (is_set (first_of later rows) ≡ is_later))
+
 -- the words are read as `COMMAND THING --out FILE`, and clap finds THING and FILE in them
 abbrev pub SpellsWriter : List ℕ → List (List ℕ) → List ℕ → List ℕ → Type 0
 SpellsWriter command words name out = (rows : List Row) × (IsRead words command rows × (first_of input rows ≡ Some name) × (first_of path rows ≡ Some out))
+
+-- the words are read as `migrate FILE --out FILE`, and clap finds both files in them, and whether `--later` is there
+abbrev pub SpellsMigrate : List (List ℕ) → List ℕ → Bool → List ℕ → Type 0
+SpellsMigrate words name is_later out = (rows : List Row) ×
+    (IsRead words (codes "migrate") rows × (first_of input rows ≡ Some name)
+    × (is_set (first_of later rows) ≡ is_later) × (first_of path rows ≡ Some out))
 
 -- the words are read as `records FILE`, and clap finds FILE and, where they were given, the number of the first record and
 -- how many are wanted
@@ -71,11 +88,11 @@ Spells words (Graph name) = SpellsOne (codes "graph") words name.now
 Spells words (Run name) = SpellsOne (codes "run") words name.now
 Spells words (Vat file) = SpellsOne (codes "vat") words file.now
 Spells words (Records file first many) = SpellsRecords words file.now first many
-Spells words (Frame hex) = SpellsOne (codes "frame") words hex.now
+Spells words (Frame hex is_later) = SpellsFrame words hex.now is_later
 Spells words (Frames file) = SpellsOne (codes "frames") words file.now
-Spells words (Migrate file out) = SpellsWriter (codes "migrate") words file.now out.now
+Spells words (Migrate file is_later out) = SpellsMigrate words file.now is_later out.now
 
--- the name of a command that reads one thing
+-- the name of a command that may be given one thing alone, and no option
 abbrev pub IsReader : List ℕ → Type 0
 IsReader name =
     (name ≡ codes "graph") ⊎ ((name ≡ codes "run") ⊎ ((name ≡ codes "vat") ⊎ ((name ≡ codes "frame") ⊎ (name ≡ codes "frames"))))
@@ -88,9 +105,9 @@ HasWorkers (Graph name) = ⊤
 HasWorkers (Run name) = ⊤
 HasWorkers (Vat name) = ⊤
 HasWorkers (Records name first many) = ⊤
-HasWorkers (Frame hex) = ⊤
+HasWorkers (Frame hex is_later) = ⊤
 HasWorkers (Frames name) = ⊤
-HasWorkers (Migrate file out) = ⊤
+HasWorkers (Migrate file is_later out) = ⊤
 
 -- the name of the file that a command writes, if it writes one
 abbrev pub out_of : Command → Option (List ℕ)
@@ -100,6 +117,6 @@ out_of (Graph name) = None
 out_of (Run name) = None
 out_of (Vat name) = None
 out_of (Records name first many) = None
-out_of (Frame hex) = None
+out_of (Frame hex is_later) = None
 out_of (Frames name) = None
-out_of (Migrate file out) = Some out.now
+out_of (Migrate file is_later out) = Some out.now

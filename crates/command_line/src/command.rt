@@ -6,9 +6,9 @@ ghost use Rattle.clap.specs.Simple.{subcommand_rows_of};
 ghost use Rattle.clap.specs.Values.{IsUnsignedIn};
 ghost use Rattle.clap.specs.Words.{fault_of, first_value, found_of, kind_of, subcommand_of};
 ghost use Rattle.command_line.specs.Parser.{most, program, workers};
-ghost use Rattle.command_line.specs.Spelled.{AreMatchesOf, HasWorkers, IsChecked, IsNumber, IsReader, Spells, is_flag, out_of};
+ghost use Rattle.command_line.specs.Spelled.{AreMatchesOf, HasWorkers, IsChecked, IsNumber, IsReader, Spells, is_flag, is_set, out_of};
 
-use crate::parser::{self, COUNT, FROM, INPUT, OUT, WORKERS};
+use crate::parser::{self, COUNT, FROM, INPUT, LATER, OUT, WORKERS};
 use clap::error::ErrorKind;
 use clap::{ArgMatches, Error};
 use std::alloc::Global;
@@ -46,17 +46,21 @@ pub enum Command<'a> {
         from: Option<u64>,
         count: Option<u64>,
     },
-    /// Print the message of a frame, which is given in hexadecimal.
+    /// Print the message of a frame, which is given in hexadecimal, and is read by the first edition of rpc.capnp or by the
+    /// later one.
     Frame {
         hex: &'a str,
+        later: bool,
     },
     /// Print the messages of a file of frames, one after another, which the source has under this name.
     Frames {
         file: &'a str,
     },
-    /// Write the log that the source has under this name to a file, in version 2.
+    /// Write the log that the source has under this name to a file: one of version 1 in version 2, or any in version 3,
+    /// which is that of the later edition.
     Migrate {
         file: &'a str,
+        later: bool,
         out: &'a str,
     },
 }
@@ -94,6 +98,16 @@ fn number_of(given: &ArgMatches<'_>, name: &str) -> Option<u64>
     match given.get_str(name) {
         Some(text) => text.parse::<u64>().ok(),
         None => None,
+    }
+}
+
+/// Whether an option without a value was given, for which `clap` has the word `true` then.
+fn is_set(given: &ArgMatches<'_>, name: &str) -> bool
+    ensures { is_set (first_value (found_of given.now) name.now) ≡ result }
+{
+    match given.get_str(name) {
+        Some(text) => text == "true",
+        None => false,
     }
 }
 
@@ -138,9 +152,13 @@ fn command_in<'a>(matches: &ArgMatches<'a>) -> Command<'a>
             from: number_of(given, FROM),
             count: number_of(given, COUNT),
         },
-        "frame" => Command::Frame { hex: input },
+        "frame" => Command::Frame {
+            hex: input,
+            later: is_set(given, LATER),
+        },
         "migrate" => Command::Migrate {
             file: input,
+            later: is_set(given, LATER),
             out: value_of(given, OUT),
         },
         _ => Command::Frames { file: input },
@@ -159,10 +177,11 @@ fn matches_of<'a, S: AsStr>(alloc: Global, words: &'a [S]) -> Result<ArgMatches<
     parser::command_line(alloc)?.try_get_matches_from(words)
 }
 
-/// The command that the words spell, of which the first is the program's name: `graph CASE`, `run CASE`, `vat FILE`, `frame
-/// HEX` or `frames FILE`, where before or after the last of these may stand `--`, and it may begin with a hyphen only after
-/// that or where it is `-`; or `check CASE` with `--workers N` if wanted, a number from 1 to 64, or `order CASE --out FILE`,
-/// or `migrate FILE --out FILE`, or `records FILE` with `--from I` and `--count N` if wanted, numbers of 64 bits, as `clap` reads them.
+/// The command that the words spell, of which the first is the program's name: `graph CASE`, `run CASE`, `vat FILE` or
+/// `frames FILE`, where before or after the last of these may stand `--`, and it may begin with a hyphen only after that or
+/// where it is `-`; or, as `clap` reads them, `check CASE` with `--workers N` if wanted, a number from 1 to 64, or `order
+/// CASE --out FILE`, or `frame HEX` with `--later` if wanted, or `migrate FILE --out FILE` with `--later` if wanted, or
+/// `records FILE` with `--from I` and `--count N` if wanted, numbers of 64 bits.
 ///
 /// # Errors
 ///
@@ -195,6 +214,14 @@ pub fn command_of<'a, S: AsStr>(alloc: Global, words: &'a [S]) -> Result<Command
         → IfErr result (λ e. kind_of e ≡ ErrorKind.OutOfMemory) }
     ensures taken_migrate { (first file out : List ℕ)
         → map S.text words.entry.now ≡ first ∷ codes "migrate" ∷ file ∷ codes "--out" ∷ out ∷ []
+        → is_flag file ≡ false → is_flag out ≡ false
+        → IfErr result (λ e. kind_of e ≡ ErrorKind.OutOfMemory) }
+    ensures taken_frame_later { (first hex : List ℕ)
+        → map S.text words.entry.now ≡ first ∷ codes "frame" ∷ codes "--later" ∷ hex ∷ []
+        → is_flag hex ≡ false → IfErr result (λ e. kind_of e ≡ ErrorKind.OutOfMemory) }
+    ensures taken_migrate_later { (first file out : List ℕ)
+        → map S.text words.entry.now
+        ≡ first ∷ codes "migrate" ∷ file ∷ codes "--later" ∷ codes "--out" ∷ out ∷ []
         → is_flag file ≡ false → is_flag out ≡ false
         → IfErr result (λ e. kind_of e ≡ ErrorKind.OutOfMemory) }
     ensures taken_records { (first file : List ℕ)

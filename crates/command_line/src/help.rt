@@ -9,9 +9,10 @@ pub const PROGRAM_END: &str = "\
 Each command prints its answer in lines on standard output; its own --help has
 the lines, an example and the exit status.
 
-Notes for people go to standard error: the record of a no and what its rule asks,
-or the file that is bad or can't be read. They change no line and no status.
-vataudit --quiet COMMAND .. leaves them out; --quiet stands before the command.
+Notes for people go to standard error: the record of a no, what its rule asks and
+what led to it, or why an input is bad. They change no line and no status.
+vataudit --quiet COMMAND .. leaves them out, as --quiet does as the last word.
+vataudit --version prints the version, and the kit by which it was proved.
 
 Examples:
   $ vataudit vat samples/pipelined_call.vat2.log
@@ -146,7 +147,7 @@ pub const VAT: &str = "Audits the log of one vat";
 
 pub const VAT_LONG: &str = "\
 Audits the log of one vat of Cap'n Proto RPC. Reads the log, in the format
-VATLOG01 or VATLOG02, and prints one line:
+VATLOG01, VATLOG02 or VATLOG03, and prints one line:
 
   good vat V records N delivered D   every record keeps the rules
   no vat V record I rule CODE        record I is the first that breaks a rule
@@ -181,7 +182,8 @@ pub const FRAME: &str = "Prints the message of a frame";
 
 pub const FRAME_LONG: &str = "\
 Reads a frame of the Cap'n Proto stream framing, given in hexadecimal, as a
-message of rpc.capnp, and prints one line:
+message of rpc.capnp, by its first edition or, with --later, by the later one, and
+prints one line:
 
   bootstrap question Q
   call question Q target TARGET interface H method M PAYLOAD
@@ -189,6 +191,7 @@ message of rpc.capnp, and prints one line:
   return answer Q releaseParamCaps B results PAYLOAD
   return answer Q releaseParamCaps B exception, or in its place canceled,
                    resultsSentElsewhere or takeFromOtherQuestion N
+  return .. noFinishNeeded, the same where it says so; with --later alone
   finish question Q releaseResultCaps B
   resolve promise P DESCRIPTOR, or exception in its place
   release id N count C
@@ -209,7 +212,8 @@ capability with its place in the table, counted from 0. DESCRIPTOR is none,
 senderHosted N, senderPromise N, receiverHosted N or receiverAnswer Q PATH. PATH
 is [a,b], pointer fields counted from 0. H is 16 hexadecimal digits, B is true or
 false, and other numbers are decimal. docs/FORMATS.md says what each WHY and NAME
-means. A frame that is too long for a command line goes into a file: see frames.";
+means. A frame of a log is read by the later edition where the log is of VATLOG03.
+A frame that is too long for a command line goes into a file: see frames.";
 
 pub const FRAME_END: &str = "\
 Example:
@@ -225,14 +229,18 @@ Exit status:
 /// HEX of `frame`.
 pub const HEX: &str = "The frame, two digits a byte in either case, without blanks";
 
+/// `--later` of `frame`.
+pub const LATER_FRAME: &str = "Reads the frame by the later edition of rpc.capnp";
+
 /// `frames`, in the list of commands.
 pub const FRAMES: &str = "Prints the messages of a file of frames";
 
 pub const FRAMES_LONG: &str = "\
 Reads a file of frames of the Cap'n Proto stream framing, one after another, as a
 connection's bytes have them, and prints a line for each in order, as frame does
-(vataudit frame --help has the lines). A frame that isn't read has its line too,
-and the next follows. Where no frame can be cut, bad frame NAME is the last line:
+without --later (vataudit frame --help has the lines). A frame that isn't read has
+its line too, and the next follows. Where no frame can be cut, bad frame NAME is
+the last line:
 
   bad frame Short             the bytes end inside a frame
   bad frame TooManySegments   more than 512 segments
@@ -302,8 +310,8 @@ Exit status:
 pub const RECORDS: &str = "Prints the records of a log";
 
 pub const RECORDS_LONG: &str = "\
-Reads the log of one vat, in the format VATLOG01 or VATLOG02, and prints a line
-for each record, in order, with its number, counted from 0:
+Reads the log of one vat, in the format VATLOG01, VATLOG02 or VATLOG03, and prints
+a line for each record, in order, with its number, counted from 0:
 
   I host reference R object O
   I vow reference R
@@ -317,9 +325,10 @@ for each record, in order, with its number, counted from 0:
   I send connection N [call C] [references [R,R]] MESSAGE
   I receive connection N [call C] [references [R,R]] MESSAGE
 
-MESSAGE is the line that frame prints of the record's frame, also where it can't
-be read (vataudit frame --help has the lines). A call of 0 and a list of no
-references are left out. A file that is no log, or can't be read, has one line:
+MESSAGE is the line that frame prints of the record's frame, and of a log of
+VATLOG03 frame --later, also where it can't be read (vataudit frame --help has the
+lines). A call of 0 and a list of no references are left out. A file that is no
+log, or can't be read, has one line:
 
   bad log NAME [OFFSET]   as vat prints it
   cannot read
@@ -353,20 +362,22 @@ pub const CASE: &str = "The case, a path from the working directory; - is standa
 pub const OUT: &str = "The file that is written";
 
 /// `migrate`, in the list of commands.
-pub const MIGRATE: &str = "Writes a log in version 2 of its format";
+pub const MIGRATE: &str = "Writes a log in another version of its format";
 
 pub const MIGRATE_LONG: &str = "\
-Reads the log of one vat, in the format VATLOG01 or VATLOG02, writes the log with
-the same vat and records to the file of --out, in the format VATLOG02, and prints
-one line:
+Reads the log of one vat, in the format VATLOG01, VATLOG02 or VATLOG03, writes the
+log with the same vat and records to the file of --out, and prints one line. A log
+of VATLOG01 is written in the format VATLOG02, and with --later each log in the
+format VATLOG03; any other is written as it is.
 
   migrated vat V records N   the log of N records is written
   bad log NAME [OFFSET]      as vat prints it; nothing is written
   cannot read
   out of memory
 
-A log of VATLOG02 is written as it is. No command prints another line of the new
-log than of the old one.";
+Without --later no command prints another line of the new log than of the old one.
+A log of VATLOG03 is one of a runtime that speaks the later edition of rpc.capnp:
+say --later where the runtime did, and its log was recorded in an earlier version.";
 
 pub const MIGRATE_END: &str = "\
 Example:
@@ -377,3 +388,6 @@ Exit status:
   0  the log is written
   2  the log is bad or can't be read, a write failed, or the command line is wrong
   3  memory ran out";
+
+/// `--later` of `migrate`.
+pub const LATER_LOG: &str = "Writes version 3, of a runtime that speaks the later edition";

@@ -9,5 +9,7 @@
 mod command;
 mod help;
 mod parser;
+mod version;
 
 pub use command::{Command, command_of};
+pub use version::VERSION;

@@ -2,11 +2,11 @@
 
 ghost use Rattle.std.specs.Prelude.{◌≡◌, ℕ, List, IfOk, Some, codes, false};
 ghost use Rattle.clap.specs.Words.{Rule, app_of, new_rule, rule_of, with_subcommand};
-ghost use Rattle.command_line.specs.Parser.{check, input_rule, judging, program, reader, reading, records, top, workers_rule, writer};
+ghost use Rattle.command_line.specs.Parser.{check, frame, input_rule, judging, later_rule, migrate, path_rule, program, reader, reading, records, top, workers_rule, writer};
 
 use crate::help;
 use clap::builder::ValueParser;
-use clap::{Arg, Command};
+use clap::{Arg, ArgAction, Command};
 use std::alloc::{AllocError, Global};
 
 /// By what `clap` knows the one thing that a command reads.
@@ -23,6 +23,9 @@ pub(crate) const FROM: &str = "from";
 
 /// By what `clap` knows how many records are wanted.
 pub(crate) const COUNT: &str = "count";
+
+/// By what `clap` knows that the later edition is asked for.
+pub(crate) const LATER: &str = "later";
 
 /// What is said of a command that reads one thing.
 #[derive(Drop)]
@@ -64,6 +67,29 @@ fn number_option<'a>(
         .value_name(thing)
         .value_parser(numbers)
         .help(help)
+}
+
+/// The option `--later`, which has no value.
+fn later<'a>(alloc: Global, help: &'a str) -> Arg<'a>
+    ensures rule { rule_of result ≡ later_rule }
+    ensures local { result.global ≡ false }
+{
+    Arg::new(alloc, LATER)
+        .long("later")
+        .action(ArgAction::SetTrue)
+        .help(help)
+}
+
+/// The option `--out FILE`, which has to be given.
+fn out<'a>(alloc: Global) -> Arg<'a>
+    ensures rule { rule_of result ≡ path_rule }
+    ensures local { result.global ≡ false }
+{
+    Arg::new(alloc, OUT)
+        .long("out")
+        .value_name("FILE")
+        .required(true)
+        .help(help::OUT)
 }
 
 /// The program with a command that reads one thing.
@@ -119,18 +145,30 @@ fn with_writer<'a>(
     ensures { IfOk result
         (λ c. app_of c ≡ with_subcommand (app_of program.entry) (writer said.entry.name.now).top) }
 {
-    let out = Arg::new(alloc, OUT)
-        .long("out")
-        .value_name("FILE")
-        .required(true)
-        .help(help::OUT);
     let command = Command::new(alloc, said.name)
         .about(said.about)
         .long_about(said.long_about)
         .after_help(said.after_help)
         .arg(input(alloc, said.thing, said.help))?
-        .arg(out)?;
+        .arg(out(alloc))?;
     program.subcommand(command)
+}
+
+/// The program with its command `frame HEX`, which has the option `--later`.
+///
+/// # Errors
+///
+/// Out of memory.
+fn with_frame<'a>(alloc: Global, program: Command<'a>) -> Result<Command<'a>, AllocError>
+    ensures { IfOk result (λ c. app_of c ≡ with_subcommand (app_of program.entry) frame.top) }
+{
+    let frame = Command::new(alloc, "frame")
+        .about(help::FRAME)
+        .long_about(help::FRAME_LONG)
+        .after_help(help::FRAME_END)
+        .arg(input(alloc, "HEX", help::HEX))?
+        .arg(later(alloc, help::LATER_FRAME))?;
+    program.subcommand(frame)
 }
 
 /// The program with its command `records FILE`, which has the options `--from I` and `--count N`.
@@ -207,14 +245,6 @@ fn with_files<'a>(alloc: Global, cases: Command<'a>) -> Result<Command<'a>, Allo
         thing: "FILE",
         help: help::FILE,
     };
-    let frame = Reader {
-        name: "frame",
-        about: help::FRAME,
-        long_about: help::FRAME_LONG,
-        after_help: help::FRAME_END,
-        thing: "HEX",
-        help: help::HEX,
-    };
     let frames = Reader {
         name: "frames",
         about: help::FRAMES,
@@ -224,10 +254,10 @@ fn with_files<'a>(alloc: Global, cases: Command<'a>) -> Result<Command<'a>, Allo
         help: help::FRAMES_FILE,
     };
     let logs = with_records(alloc, with_reader(alloc, cases, vat)?)?;
-    with_reader(alloc, with_reader(alloc, logs, frame)?, frames)
+    with_reader(alloc, with_frame(alloc, logs)?, frames)
 }
 
-/// The program with its command that writes a log: `migrate FILE --out FILE`.
+/// The program with its command that writes a log: `migrate FILE --out FILE`, which has the option `--later`.
 ///
 /// # Errors
 ///
@@ -236,15 +266,14 @@ fn with_migration<'a>(alloc: Global, readers: Command<'a>) -> Result<Command<'a>
     requires { app_of readers ≡ reading }
     ensures { IfOk result (λ c. app_of c ≡ program) }
 {
-    let migrate = Reader {
-        name: "migrate",
-        about: help::MIGRATE,
-        long_about: help::MIGRATE_LONG,
-        after_help: help::MIGRATE_END,
-        thing: "FILE",
-        help: help::FILE,
-    };
-    with_writer(alloc, readers, migrate)
+    let migrate = Command::new(alloc, "migrate")
+        .about(help::MIGRATE)
+        .long_about(help::MIGRATE_LONG)
+        .after_help(help::MIGRATE_END)
+        .arg(input(alloc, "FILE", help::FILE))?
+        .arg(later(alloc, help::LATER_LOG))?
+        .arg(out(alloc))?;
+    readers.subcommand(migrate)
 }
 
 /// The program's command line, with its help.

@@ -10,6 +10,7 @@ use Rattle.std.specs.Io.KnownBytes.{Appends}
 use Rattle.std.proofs.KnownBytes.{Appends-nil, Appends-trans}
 use Rattle.std.proofs.lemmas.List.Folds.{list_all-append}
 use Rattle.std.proofs.lemmas.Grind.{flat_map-append}
+use Rattle.rpc_view.specs.declared.edition.Edition.TheVariants.{First}
 use Rattle.rpc_view.specs.Message.{message_of_bytes}
 use Rattle.rpc_view.specs.declared.message.RpcMessage.{RpcMessage}
 use Rattle.rpc_view.specs.declared.view_error.ViewError.{ViewError}
@@ -41,7 +42,7 @@ status_more : (pieces : List (List ℕ)) (piece : List ℕ) → status_of (piece
 status_more pieces piece =
     let is_message : List ℕ → Bool = λ p. eqb (piece_status p) 0 in
     ap (λ (all : Bool). cond all 0 2) (list_all-append is_message pieces (piece ∷ []))
-    ∙ message_or_not (list_all is_message pieces) (message_of_bytes piece default_limits)
+    ∙ message_or_not (list_all is_message pieces) (message_of_bytes First piece default_limits)
 
 -- the greater of two numbers
 pub ord_max-max : (a b : ℕ) → ord_max nat_cmp a b ≡ max a b

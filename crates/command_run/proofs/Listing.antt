@@ -6,10 +6,12 @@ use Rattle.std.proofs.KnownBytes.{Appends-nil, Appends-trans}
 use Rattle.std.proofs.lemmas.List.{get_or-drop, take_all, take_min, take_more, take-take}
 use Rattle.std.proofs.lemmas.Option.{get_or_from_slice_get}
 use Rattle.case_files.specs.CaseReading.{Read}
+use Rattle.rpc_view.specs.declared.edition.Edition.{Edition}
 use Rattle.vat_log.specs.declared.body.Body.{Body}
 use Rattle.vat_log.specs.declared.error.LogError.{LogError}
 use Rattle.vat_log.specs.Log.{Log}
 use Rattle.vat_log.specs.Reading.{log_of}
+use Rattle.vat_rules.specs.Audit.{edition_of}
 use Rattle.report_lines.specs.declared.answer.Answer.TheVariants.{Fault}
 use Rattle.report_lines.specs.declared.fault.Fault.{Fault as FaultOf}
 use Rattle.report_lines.specs.declared.fault.Fault.TheVariants.{OutOfMemory}
@@ -19,26 +21,29 @@ use Rattle.command_run.specs.Glue.{CameOf, Ends, Prints}
 use Rattle.command_run.specs.RecordAnswers.{AnswersListing, AnswersRecords, first_number, first_ones, record_line, record_lines}
 use Rattle.command_run.specs.Runs.{Writing, Wrote}
 
-lines_more : (at : ℕ) (events : List Body) (event : Body) → record_lines at (events ++ event ∷ []) ≡ record_lines at events ++ record_line (at + length events) event
-lines_more at [] event = append-nil (record_line at event) ∙ ap (λ n. record_line n event) (let same : at ≡ at + 0 = omega arith in same)
-lines_more at (x ∷ xs) event =
+lines_more : (edition : Edition) (at : ℕ) (events : List Body) (event : Body)
+    → record_lines edition at (events ++ event ∷ []) ≡ record_lines edition at events ++ record_line edition (at + length events) event
+lines_more edition at [] event = append-nil (record_line edition at event) ∙ ap (λ n. record_line edition n event) (let same : at ≡ at + 0 = omega arith in same)
+lines_more edition at (x ∷ xs) event =
     let on : at + 1 + length xs ≡ at + length (x ∷ xs) = omega arith in
-    ap (λ t. record_line at x ++ t) (lines_more (at + 1) xs event ∙ ap (λ n. record_lines (at + 1) xs ++ record_line n event) on)
-    ∙ sym (append_assoc (record_line at x) (record_lines (at + 1) xs) (record_line (at + length (x ∷ xs)) event))
+    ap (λ t. record_line edition at x ++ t) (lines_more edition (at + 1) xs event ∙ ap (λ n. record_lines edition (at + 1) xs ++ record_line edition n event) on)
+    ∙ sym (append_assoc (record_line edition at x) (record_lines edition (at + 1) xs) (record_line edition (at + length (x ∷ xs)) event))
 
 -- those from one on up to a second one were written
-pub record Listed (events : List Body) (first at : ℕ) (old new : Option (List ℕ)) : Type 0 where
+pub record Listed (log : Log) (first at : ℕ) (old new : Option (List ℕ)) : Type 0 where
   pub past : first ≤ at
-  pub wrote : Appends old new (record_lines first (take (at - first) (drop first events)))
+  pub wrote : Appends old new (record_lines (edition_of log) first (take (at - first) (drop first log.records)))
 
-pub none_listed : (events : List Body) (first : ℕ) (old : Option (List ℕ)) → Listed events first first old old
-none_listed events first old =
+pub none_listed : (log : Log) (first : ℕ) (old : Option (List ℕ)) → Listed log first first old old
+none_listed log first old =
     let none : 0 ≡ first - first = omega arith in
-    record { past = omega arith; wrote = subst (λ n. Appends old old (record_lines first (take n (drop first events)))) none (Appends-nil old) }
+    record { past = omega arith; wrote = subst (λ n. Appends old old (record_lines (edition_of log) first (take n (drop first log.records)))) none (Appends-nil old) }
 
-pub one_listed : (events : List Body) (first at : ℕ) (event : Body) (old now new : Option (List ℕ)) → at < length events → slice_get events at ≡ Some event
-    → Listed events first at old now → Appends now new (record_line at event) → Listed events first (at + 1) old new
-one_listed events first at event old now new within is so_far wrote =
+pub one_listed : (log : Log) (first at : ℕ) (event : Body) (old now new : Option (List ℕ)) → at < length log.records → slice_get log.records at ≡ Some event
+    → Listed log first at old now → Appends now new (record_line (edition_of log) at event) → Listed log first (at + 1) old new
+one_listed log first at event old now new within is so_far wrote =
+    let edition = edition_of log in
+    let events = log.records in
     let past : first ≤ at = so_far.past in
     let rest = drop first events in
     let n = at - first in
@@ -47,13 +52,13 @@ one_listed events first at event old now new within is so_far wrote =
     let this : get_or rest n event ≡ event = get_or-drop first events n event ∙ ap (λ i. get_or events i event) on ∙ get_or_from_slice_get events at event event is in
     let long : first + length (take n rest) ≡ at = omega (arith, past, left, length-take n rest) in
     let next : n + 1 ≡ at + 1 - first = omega (arith, past) in
-    let lines : record_lines first (take (n + 1) rest) ≡ record_lines first (take n rest) ++ record_line at event =
-    ap (record_lines first) (take_more rest n event left ∙ ap (λ x. take n rest ++ x ∷ []) this) ∙ lines_more first (take n rest) event
-    ∙ ap (λ i. record_lines first (take n rest) ++ record_line i event) long in
+    let lines : record_lines edition first (take (n + 1) rest) ≡ record_lines edition first (take n rest) ++ record_line edition at event =
+    ap (record_lines edition first) (take_more rest n event left ∙ ap (λ x. take n rest ++ x ∷ []) this) ∙ lines_more edition first (take n rest) event
+    ∙ ap (λ i. record_lines edition first (take n rest) ++ record_line edition i event) long in
     record {
       past = omega (arith, past);
-      wrote = subst (λ k. Appends old new (record_lines first (take k rest))) next
-          (subst (λ t. Appends old new t) (sym lines) (Appends-trans old now new (record_lines first (take n rest)) (record_line at event) so_far.wrote wrote));
+      wrote = subst (λ k. Appends old new (record_lines edition first (take k rest))) next
+          (subst (λ t. Appends old new t) (sym lines) (Appends-trans old now new (record_lines edition first (take n rest)) (record_line edition at event) so_far.wrote wrote));
     }
 
 -- ---- the end of what is asked for
@@ -77,7 +82,7 @@ prints_by answers others wrote old new (Ok s) each p = (p.0, each p.0 s p.1, p.2
 prints_by answers others wrote old new (Err e) each p = (p.0, (p.1.0, each p.0 p.1.0 p.1.1))
 
 pub listing_is : (first many : Option ℕ) (read : Read) (log : Log) → CameOf read (Ok log) → (text : List ℕ) (status : ℕ)
-    → AnswersListing first many log.records text status → AnswersLogRecords first many read text status
+    → AnswersListing first many log text status → AnswersLogRecords first many read text status
 listing_is first many (Ok bytes) log is text status answers = subst (λ (r : Result Log LogError). AnswersRecords first many r text status) (sym is) answers
 listing_is first many (Err found) log is text status answers = absurd is
 
@@ -103,26 +108,30 @@ fault_is first many (Err found) fault same = (ap text_of same, ap status_by same
 
 -- ---- the end of a listing
 
-module _ (first many : Option ℕ) (n at end count : ℕ) (events : List Body) (old now : Option (List ℕ)) (is : n ≡ first_number first) (ends : Ends n many count end)
-    (long : length events ≡ count) (listed : Listed events n at old now) (within : at - n ≤ end - n) where
+module _ (first many : Option ℕ) (n at end count : ℕ) (log : Log) (old now : Option (List ℕ)) (is : n ≡ first_number first) (ends : Ends n many count end)
+    (long : length log.records ≡ count) (listed : Listed log n at old now) (within : at - n ≤ end - n) where
   abbrev pub shown : List ℕ
-  shown = record_lines n (take (at - n) (drop n events))
+  shown = record_lines (edition_of log) n (take (at - n) (drop n log.records))
 
   -- memory ran out
-  pub stopped : AnswersListing first many events (shown ++ text_of OutOfMemory) 3
+  pub stopped : AnswersListing first many log (shown ++ text_of OutOfMemory) 3
   stopped =
+      let edition = edition_of log in
+      let events = log.records in
       let cut : take (at - n) (drop n events) ≡ take (at - n) (first_ones many (drop n events)) =
       sym (take-take (at - n) (end - n) (drop n events) within) ∙ ap (take (at - n)) (ends events long) in
-      let lines : shown ≡ record_lines (first_number first) (take (at - n) (first_ones many (drop (first_number first) events))) =
-      ap (record_lines n) cut ∙ ap (λ k. record_lines k (take (at - n) (first_ones many (drop k events)))) is in
+      let lines : shown ≡ record_lines edition (first_number first) (take (at - n) (first_ones many (drop (first_number first) events))) =
+      ap (record_lines edition n) cut ∙ ap (λ k. record_lines edition k (take (at - n) (first_ones many (drop k events)))) is in
       inr (at - n, (text_of OutOfMemory, (refl, refl), ap (λ t. t ++ text_of OutOfMemory) lines))
 
   -- all were said
-  pub whole : end ≤ at → AnswersListing first many events shown 0
+  pub whole : end ≤ at → AnswersListing first many log shown 0
   whole past =
+      let edition = edition_of log in
+      let events = log.records in
       let last : at - n ≡ end - n = omega (arith, past, within) in
       let all : take (at - n) (drop n events) ≡ first_ones many (drop n events) = ap (λ k. take k (drop n events)) last ∙ ends events long in
-      inl (ap (record_lines n) all ∙ ap (λ k. record_lines k (first_ones many (drop k events))) is, refl)
+      inl (ap (record_lines edition n) all ∙ ap (λ k. record_lines edition k (first_ones many (drop k events))) is, refl)
 
 -- lines were written, and a last one for out of memory is said or not
 pub stop_said : {W E : Type 0} (contents : W → Option (List ℕ)) (is_finished : W → Type 0) (old now new : W) (answers : List ℕ → ℕ → Type 0) (lines : List ℕ) (r : Result ℕ E)

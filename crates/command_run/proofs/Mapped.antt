@@ -31,8 +31,8 @@ module _ {W F E X : Type 0} (in_out : W → Option (List ℕ)) (out_done : W →
   carried gives (Graph name) old new c = mapped _ c
   carried gives (Run name) old new c = mapped _ c
   carried gives (Vat name) old new c = (c.0, c.1, mapped _ c.2)
-  carried gives (Frame hex) old new c = (c.0, mapped _ c.1)
+  carried gives (Frame hex later) old new c = (c.0, mapped _ c.1)
   carried gives (Frames name) old new c = (c.0, c.1, mapped _ c.2)
   carried gives (Records name first many) old new c = (c.0, c.1, mapped _ c.2)
   carried gives (Order name path) old new c = mapped _ c
-  carried gives (Migrate name path) old new c = (c.0, c.1, mapped _ c.2)
+  carried gives (Migrate name later path) old new c = (c.0, c.1, mapped _ c.2)

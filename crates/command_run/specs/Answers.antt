@@ -1,8 +1,10 @@
 -- The line and the exit status that answer the bytes of a log, the bytes of a frame, and a frame in hexadecimal.
-use Rattle.std.specs.Prelude.{◌≡◌, ℕ, List, length, Result, Ok, Err}
+use Rattle.std.specs.Prelude.{◌≡◌, ℕ, Bool, true, false, List, length, Result, Ok, Err}
 use Rattle.hex.specs.Hex.{decode_of}
 use Rattle.hex.specs.declared.error.FromHexError.{FromHexError}
 use Rattle.cap_reader.specs.Defaults.{default_limits}
+use Rattle.rpc_view.specs.declared.edition.Edition.{Edition}
+use Rattle.rpc_view.specs.declared.edition.Edition.TheVariants.{First, Later}
 use Rattle.rpc_view.specs.Message.{message_of_bytes}
 use Rattle.rpc_view.specs.declared.message.RpcMessage.{RpcMessage}
 use Rattle.rpc_view.specs.declared.view_error.ViewError.{ViewError}
@@ -46,11 +48,16 @@ view_status (Err fault) = 2
 abbrev pub AnswersView : Result RpcMessage ViewError → List ℕ → ℕ → Type 0
 AnswersView view text status = (text ≡ view_line view) × (status ≡ view_status view)
 
--- a line and a status answer what hexadecimal digits give: a frame's bytes, or nothing
-abbrev pub AnswersDigits : Result (List ℕ) FromHexError → List ℕ → ℕ → Type 0
-AnswersDigits (Ok bytes) text status = AnswersView (message_of_bytes bytes default_limits) text status
-AnswersDigits (Err fault) text status = SaysAnswer (Fault BadHex) text status
+-- the edition of rpc.capnp by which a frame is read: the later one where it is asked for
+abbrev pub edition_asked : Bool → Edition
+edition_asked false = First
+edition_asked true = Later
 
--- a line and a status answer a frame in hexadecimal
-abbrev pub AnswersHex : List ℕ → List ℕ → ℕ → Type 0
-AnswersHex hex text status = AnswersDigits (decode_of hex) text status
+-- a line and a status answer what hexadecimal digits give: a frame's bytes, read by an edition, or nothing
+abbrev pub AnswersDigits : Edition → Result (List ℕ) FromHexError → List ℕ → ℕ → Type 0
+AnswersDigits edition (Ok bytes) text status = AnswersView (message_of_bytes edition bytes default_limits) text status
+AnswersDigits edition (Err fault) text status = SaysAnswer (Fault BadHex) text status
+
+-- a line and a status answer a frame in hexadecimal, read by an edition
+abbrev pub AnswersHex : Edition → List ℕ → List ℕ → ℕ → Type 0
+AnswersHex edition hex text status = AnswersDigits edition (decode_of hex) text status

@@ -1,5 +1,6 @@
 -- The lines and the exit status that answer a command, where memory may run out.
-use Rattle.std.specs.Prelude.{◌≡◌, ◌≢◌, ◌⊎◌, ℕ, List, [], ◌++◌, Option, None, Result, Ok, Err}
+use Rattle.std.specs.Prelude.{◌≡◌, ◌≢◌, ◌⊎◌, ℕ, Bool, List, [], ◌++◌, Option, None, Result, Ok, Err}
+use Rattle.rpc_view.specs.declared.edition.Edition.{Edition}
 use Rattle.vat_log.specs.Reading.{log_of}
 use Rattle.case_files.specs.CaseReading.{ComesOfCase, Read, Reads}
 use Rattle.case_files.specs.declared.case_fault.CaseFault.{CaseFault}
@@ -24,9 +25,9 @@ abbrev pub AnswersSource : Read → List ℕ → ℕ → Type 0
 AnswersSource (Ok bytes) text status = AnswersLog bytes text status ⊎ IsOutOfMemory text status
 AnswersSource (Err fault) text status = SaysAnswer (Fault (of_source fault)) text status
 
--- a line and a status answer a frame in hexadecimal
-abbrev pub AnswersFrame : List ℕ → List ℕ → ℕ → Type 0
-AnswersFrame hex text status = AnswersHex hex text status ⊎ IsOutOfMemory text status
+-- a line and a status answer a frame in hexadecimal, read by an edition
+abbrev pub AnswersFrame : Edition → List ℕ → List ℕ → ℕ → Type 0
+AnswersFrame edition hex text status = AnswersHex edition hex text status ⊎ IsOutOfMemory text status
 
 -- the lines and the status where memory ran out over a piece of a file of frames: those of the pieces before it, and
 -- then that of this
@@ -48,11 +49,11 @@ abbrev pub AnswersLogRecords : Option ℕ → Option ℕ → Read → List ℕ �
 AnswersLogRecords first many (Ok bytes) text status = AnswersRecords first many (log_of bytes) text status
 AnswersLogRecords first many (Err fault) text status = SaysAnswer (Fault (of_source fault)) text status
 
--- A line, a status and the bytes for the file answer what a source gave as a log that is to be migrated; where memory ran
--- out there are no bytes.
-abbrev pub AnswersMigration : Read → List ℕ → ℕ → Option (List ℕ) → Type 0
-AnswersMigration (Ok came) text status bytes = AnswersMigrated (log_of came) text status bytes ⊎ (IsOutOfMemory text status × (bytes ≡ None))
-AnswersMigration (Err fault) text status bytes = SaysAnswer (Fault (of_source fault)) text status × (bytes ≡ None)
+-- A line, a status and the bytes for the file answer what a source gave as a log that is to be migrated, to that of the
+-- later edition or not; where memory ran out there are no bytes.
+abbrev pub AnswersMigration : Bool → Read → List ℕ → ℕ → Option (List ℕ) → Type 0
+AnswersMigration later (Ok came) text status bytes = AnswersMigrated later (log_of came) text status bytes ⊎ (IsOutOfMemory text status × (bytes ≡ None))
+AnswersMigration later (Err fault) text status bytes = SaysAnswer (Fault (of_source fault)) text status × (bytes ≡ None)
 
 -- A line, a status and the bytes for the file answer the case that a source has under a name; or memory ran out, and then
 -- nothing is said of what the source was asked for.

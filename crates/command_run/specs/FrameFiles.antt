@@ -3,6 +3,7 @@ use Rattle.std.specs.Prelude.{◌≡◌, ◌≢◌, ℕ, ◌==◌, if◌then◌e
 use Rattle.std.specs.List.{flat_map, list_all}
 use Rattle.cap_frame.specs.declared.frame_error.FrameError.{FrameError}
 use Rattle.cap_frame.specs.Segments.{first_len_of}
+use Rattle.rpc_view.specs.declared.edition.Edition.TheVariants.{First}
 use Rattle.rpc_view.specs.Message.{message_of_bytes}
 use Rattle.command_run.specs.Answers.{view_line, view_status}
 use Rattle.cap_reader.specs.Defaults.{default_limits}
@@ -20,12 +21,12 @@ abbrev pub Falls : List ℕ → List (List ℕ) → List ℕ → Type 0
 Falls bytes [] rest = bytes ≡ rest
 Falls bytes (piece ∷ pieces) rest = (bytes ≢ []) × (piece ≡ take (piece_len bytes) bytes) × Falls (drop (piece_len bytes) bytes) pieces rest
 
--- a piece answered as a frame of its own: its line, and its status
+-- a piece answered as a frame of its own, which is read by the first edition: its line, and its status
 abbrev pub piece_line : List ℕ → List ℕ
-piece_line piece = view_line (message_of_bytes piece default_limits)
+piece_line piece = view_line (message_of_bytes First piece default_limits)
 
 abbrev pub piece_status : List ℕ → ℕ
-piece_status piece = view_status (message_of_bytes piece default_limits)
+piece_status piece = view_status (message_of_bytes First piece default_limits)
 
 -- the lines of pieces, in order; and the status, 0 where each piece is a message, else 2
 abbrev pub lines : List (List ℕ) → List ℕ

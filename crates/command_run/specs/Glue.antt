@@ -1,5 +1,5 @@
 -- This file serves the contracts of private functions alone, and is no part of the meaning.
-use Rattle.std.specs.Prelude.{◌≡◌, ◌⊎◌, ℕ, ◌-◌, List, length, take, drop, Option, None, Result, Ok, Err, option_map}
+use Rattle.std.specs.Prelude.{◌≡◌, ◌⊎◌, ℕ, ◌-◌, Bool, List, length, take, drop, Option, None, Result, Ok, Err, option_map}
 use Rattle.report_lines.specs.declared.answer.Answer.{Answer}
 use Rattle.report_lines.specs.declared.answer.Answer.TheVariants.{Finding}
 use Rattle.report_lines.specs.declared.answer.Answer.TheVariants as answer
@@ -56,9 +56,9 @@ of_lines (Ok status) = Ok status
 of_lines (Err fault) = Err (Out fault)
 
 -- what came of a log that was to be migrated answers it
-abbrev pub Migrates : Read → Result MigrationAnswer Fault → Type 0
-Migrates read (Ok made) = AnswersMigration read (line (answer_text made.answer)) (answer_status made.answer) (option_map (λ bytes. bytes) made.bytes)
-Migrates read (Err fault) = AnswersMigration read (line (answer_text (answer.Fault fault))) (answer_status (answer.Fault fault)) None
+abbrev pub Migrates : Bool → Read → Result MigrationAnswer Fault → Type 0
+Migrates later read (Ok made) = AnswersMigration later read (line (answer_text made.answer)) (answer_status made.answer) (option_map (λ bytes. bytes) made.bytes)
+Migrates later read (Err fault) = AnswersMigration later read (line (answer_text (answer.Fault fault))) (answer_status (answer.Fault fault)) None
 
 -- a line, a status and the bytes for the file are those of an answer that was made
 abbrev pub IsMade : MigrationAnswer → List ℕ → ℕ → Option (List ℕ) → Type 0

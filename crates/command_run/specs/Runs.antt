@@ -6,6 +6,7 @@ use Rattle.command_line.specs.declared.command.Command.{Command}
 use Rattle.command_line.specs.declared.command.Command.TheVariants.{Check, Order, Graph, Run, Vat, Records, Frame, Frames, Migrate}
 use Rattle.command_run.specs.declared.output.Failed.{Failed}
 use Rattle.command_run.specs.declared.output.Failed.TheVariants.{Out, File}
+use Rattle.command_run.specs.Answers.{edition_asked}
 use Rattle.command_run.specs.CommandAnswers.{AnswersFile, AnswersFrame, AnswersLogRecords, AnswersMigration, AnswersOrder, AnswersReportOf, AnswersSource}
 use Rattle.command_run.specs.ReportAnswers.{AnswersGraph, AnswersReport, AnswersRun}
 
@@ -21,13 +22,13 @@ NoFile answers text status bytes = answers text status × (bytes ≡ None)
 -- migrated, as a file of frames is; a frame asks for nothing; a case is read with the files that it names.
 abbrev pub CarriesOut : {S : Type 0} → Reads S → Command → S → S → (Answering → Type 0) → Type 0
 CarriesOut gives (Vat file) old new writes = (read : Read) × gives old file.now read new × writes (NoFile (AnswersSource read))
-CarriesOut gives (Frame hex) old new writes = (new ≡ old) × writes (NoFile (AnswersFrame hex.now))
+CarriesOut gives (Frame hex later) old new writes = (new ≡ old) × writes (NoFile (AnswersFrame (edition_asked later) hex.now))
 CarriesOut gives (Frames file) old new writes = (read : Read) × gives old file.now read new × writes (NoFile (AnswersFile read))
 CarriesOut gives (Records file first many) old new writes = (read : Read) × gives old file.now read new × writes (NoFile (AnswersLogRecords first many read))
 CarriesOut gives (Check name workers) old new writes = writes (NoFile (AnswersReportOf AnswersReport gives old name.now new))
 CarriesOut gives (Graph name) old new writes = writes (NoFile (AnswersReportOf AnswersGraph gives old name.now new))
 CarriesOut gives (Run name) old new writes = writes (NoFile (AnswersReportOf AnswersRun gives old name.now new))
-CarriesOut gives (Migrate file out) old new writes = (read : Read) × gives old file.now read new × writes (AnswersMigration read)
+CarriesOut gives (Migrate file later out) old new writes = (read : Read) × gives old file.now read new × writes (AnswersMigration later read)
 CarriesOut gives (Order name out) old new writes = writes (λ text status bytes. AnswersOrder gives old name.now text status bytes new)
 
 -- what may come of writing: the writer, what was written, and the writer afterwards

@@ -73,13 +73,17 @@ fn answer_heard<R: Threads + Wait + Sync, S: Source, O: Output, F: Output>(
             };
             of_lines(say_records(host.alloc, name, range, source, heard, out))
         }
-        Command::Frame { hex } => of_lines(say_frame(host.alloc, hex, heard, out)),
+        Command::Frame { hex, later } => {
+            of_lines(say_frame(host.alloc, hex, *later, heard, out))
+        }
         Command::Frames { file: name } => of_lines(say_frames(
             host.alloc, name, source, heard, out,
         )),
-        Command::Migrate { file: name, .. } => {
-            say_migrated(host.alloc, name, source, heard, out, file)
-        }
+        Command::Migrate {
+            file: name,
+            later,
+            ..
+        } => say_migrated(host.alloc, name, *later, source, heard, out, file),
     }
 }
 
@@ -148,14 +152,15 @@ fn write_notes<S: RememberingSource, N: Write>(
     alloc: Global,
     command: &Command<'_>,
     heard: &Heard,
-    noted: &mut NotedSource<S, N>,
+    source: &S,
+    notes: &mut N,
 ) {
     let hex = match command {
-        Command::Frame { hex } => Some(*hex),
+        Command::Frame { hex, .. } => Some(*hex),
         _ => None,
     };
-    if let Ok(text) = notes_of(alloc, heard, &noted.source, hex) {
-        let _ = noted.notes.write_all(text.as_bytes());
+    if let Ok(text) = notes_of(alloc, heard, source, hex) {
+        let _ = notes.write_all(text.as_bytes());
     }
 }
 
@@ -196,7 +201,7 @@ pub fn run_with_notes<R: Threads + Wait + Sync, S: RememberingSource, W: Write, 
     let mut heard = Heard::new();
     let host = Host { rt, alloc };
     let answered = answer_heard(&host, command, &mut noted.source, &mut heard, out, file);
-    write_notes(alloc, command, &heard, noted);
+    write_notes(alloc, command, &heard, &noted.source, &mut noted.notes);
     write_failure(alloc, command, &answered, &mut noted.notes);
     answered.unwrap_or(FAILED)
 }

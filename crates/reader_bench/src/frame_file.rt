@@ -7,7 +7,7 @@ ghost use Rattle.reader_bench.specs.Cut.{AreFrames};
 use bytes::Bytes;
 use cap_frame::Frame;
 use cap_reader::Limits;
-use rpc_view::read_bytes;
+use rpc_view::{Edition, read_bytes};
 use std::alloc::{AllocError, Global};
 
 /// What a file of frames has.
@@ -23,8 +23,9 @@ pub struct Frames {
     pub left: usize,
 }
 
-/// Cuts off frame after frame, and reads the message of each within the default limits. The frames stand one right after
-/// another, by the stream framing of the Cap'n Proto encoding specification ("Serialization Over a Stream").
+/// Cuts off frame after frame, and reads the message of each by the first edition of rpc.capnp, within the default limits.
+/// The frames stand one right after another, by the stream framing of the Cap'n Proto encoding specification
+/// ("Serialization Over a Stream").
 ///
 /// # Errors
 ///
@@ -44,7 +45,7 @@ pub fn read_frames(alloc: Global, bytes: Bytes) -> Result<Frames, AllocError>
     let mut refused: u64 = 0;
     while let Ok(len) = Frame::first_len(rest.as_slice()) {
         let frame = rest.split_to(len)?;
-        if read_bytes(alloc, frame, Limits::default()).is_err() {
+        if read_bytes(alloc, frame, Limits::default(), Edition::First).is_err() {
             refused += 1;
         }
         count += 1;

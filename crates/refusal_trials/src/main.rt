@@ -13,7 +13,7 @@ mod rows;
 mod tally;
 
 use of_cases::try_case;
-use of_logs::try_log;
+use of_logs::{try_log, try_writing};
 use of_taps::try_tap;
 use rows::{ROWS, Row};
 use std::io;
@@ -40,6 +40,7 @@ fn try_all<R: Print + Threads + Wait + Sync + AllocGlobal>(rt: &R) -> io::Result
     for row in &ROWS {
         try_row(rt, row, &mut tally)?;
     }
+    try_writing(rt, rt.alloc(), &mut tally)?;
     try_tap(rt, rt.alloc(), &mut tally)?;
     Ok(tally)
 }

@@ -4,23 +4,115 @@ use crate::tally::{Tally, is_same_twice};
 use bytes::Bytes;
 use cap_frame::Frame;
 use cap_reader::{Limits, fields, root};
-use rpc_view::read_message;
+use rpc_view::{Edition, read_message};
 use std::alloc::Global;
 use std::io;
 use std::sync::Arc;
-use vat_log::{Body, VatLog, parse_log, write_lent_log};
+use vat_log::{
+    Body, LogError, LogWriter, Record, VatLog, parse_log, raise, write_later_log,
+    write_lent_later_log, write_lent_log,
+};
 use vat_rules::{Outcome, audit_vat};
-use worked_cases::{Refused, ask_again, bytes_of_log, bytes_of_new_log, is_so, log};
+use worked_cases::{
+    Refused, ask_again, bytes_of_later_log, bytes_of_log, bytes_of_new_log, is_so, log,
+};
 
-/// Whether bytes are read as a log whose records are written, in version 2, with these bytes.
-fn is_parsed(alloc: Global, bytes: &Bytes, new: &Bytes) -> Result<bool, Refused> {
-    let log = parse_log(alloc, bytes.clone()?)?;
+/// The bytes of one log in each version.
+#[derive(Drop)]
+struct Spelled {
+    old: Bytes,
+    new: Bytes,
+    later: Bytes,
+}
+
+/// Those of the log of a vat that recorded this.
+fn log_spelled(alloc: Global, number: &str, records: &str) -> Result<Spelled, Refused> {
+    Ok(Spelled {
+        old: bytes_of_log(alloc, number, records)?,
+        new: bytes_of_new_log(alloc, number, records)?,
+        later: bytes_of_later_log(alloc, number, records)?,
+    })
+}
+
+/// Whether a log has this version and these bytes.
+fn is_log_of(log: &VatLog, version: u32, bytes: &Bytes) -> bool {
+    log.version() == version && log.bytes().as_slice() == bytes.as_slice()
+}
+
+/// Whether bytes are read as a log whose records are written, in versions 2 and 3, with the bytes of these.
+fn is_parsed(alloc: Global, bytes: &Spelled) -> Result<bool, Refused> {
+    let log = parse_log(alloc, bytes.old.clone()?)?;
     let mut records = Vec::new(alloc);
     for index in 0..log.len() {
         records.push(log.get(index).ok_or("a record")?)?;
     }
-    let written = write_lent_log(alloc, log.vat(), &records)?;
-    Ok(written.bytes().as_slice() == new.as_slice())
+    let new = write_lent_log(alloc, log.vat(), &records)?;
+    let later = write_lent_later_log(alloc, log.vat(), &records)?;
+    Ok(is_log_of(&new, 2, &bytes.new) && is_log_of(&later, 3, &bytes.later))
+}
+
+/// Whether a log of each version is raised to version 3.
+fn is_raised(alloc: Global, bytes: &Spelled) -> Result<bool, Refused> {
+    for from in [&bytes.old, &bytes.new, &bytes.later] {
+        let log = parse_log(alloc, from.clone()?)?;
+        if !is_log_of(&raise(alloc, &log)?, 3, &bytes.later) {
+            return Ok(false);
+        }
+    }
+    Ok(true)
+}
+
+/// VOW of 1 and 2.
+const VOWS: &str = "VOW r1; VOW r2";
+
+/// The record VOW of this reference.
+fn vow(reference: u64) -> Result<Record, Refused> {
+    ask_again(|| Ok(Record::new(Body::Vow { reference })?))
+}
+
+/// Whether VOW of 1 and 2 are written so in version 3, all at once.
+fn is_written(alloc: Global, bytes: &Bytes) -> Result<bool, Refused> {
+    let mut records = Vec::new(alloc);
+    for reference in [1, 2] {
+        records.push(vow(reference)?)?;
+    }
+    Ok(is_log_of(&write_later_log(alloc, 4, &records)?, 3, bytes))
+}
+
+/// Puts a record behind the others, and once more where memory is refused.
+fn push(writer: &mut LogWriter, entry: Record) -> Result<(), Refused> {
+    match writer.push(entry) {
+        Err((LogError::OutOfMemory, entry)) => Ok(writer.push(entry)?),
+        pushed => Ok(pushed?),
+    }
+}
+
+/// The log of the records that were pushed, finished once more where memory is refused.
+fn finish(writer: LogWriter) -> Result<VatLog, Refused> {
+    match writer.finish() {
+        Err((LogError::OutOfMemory, writer)) => Ok(writer.finish()?),
+        finished => Ok(finished?),
+    }
+}
+
+/// Whether they are written so one by one.
+fn is_pushed(alloc: Global, bytes: &Bytes) -> Result<bool, Refused> {
+    let mut writer = LogWriter::later(alloc, 4);
+    for reference in [1, 2] {
+        push(&mut writer, vow(reference)?)?;
+    }
+    Ok(is_log_of(&finish(writer)?, 3, bytes))
+}
+
+/// Makes the calls that write a log of version 3.
+pub fn try_writing(rt: &impl Print, alloc: Global, tally: &mut Tally) -> io::Result<()> {
+    let Ok(bytes) = ask_again(|| bytes_of_later_log(alloc, "4", VOWS)) else {
+        return tally.count(rt, "a log", false);
+    };
+    let is_written = is_so(|| is_written(alloc, &bytes));
+    tally.count(rt, "write_later_log", is_written)?;
+    let is_pushed = is_pushed(alloc, &bytes) == Ok(true);
+    tally.count(rt, "LogWriter::later, push, finish", is_pushed)
 }
 
 /// Whether all records of a log are good, and so many calls were delivered.
@@ -34,9 +126,9 @@ fn is_good(alloc: Global, log: &Arc<VatLog>, delivered: u64) -> Result<bool, Ref
     })
 }
 
-/// The message of a frame.
-fn message_text(alloc: Global, frame: &Frame) -> Result<String, Refused> {
-    let message = read_message(alloc, frame, Limits::default())?;
+/// The message of a frame by an edition.
+fn message_text(alloc: Global, frame: &Frame, edition: Edition) -> Result<String, Refused> {
+    let message = read_message(alloc, frame, Limits::default(), edition)?;
     Ok(format!(in alloc; "{message:?}")?)
 }
 
@@ -58,8 +150,10 @@ fn frame_of(body: &Body) -> Option<Result<Frame, Refused>> {
 
 /// Makes the calls on a frame.
 fn try_frame(rt: &impl Print, alloc: Global, frame: &Frame, tally: &mut Tally) -> io::Result<()> {
-    let is_read = is_same_twice(|| message_text(alloc, frame));
-    tally.count(rt, "read_message", is_read)?;
+    for edition in [Edition::First, Edition::Later] {
+        let is_read = is_same_twice(|| message_text(alloc, frame, edition));
+        tally.count(rt, "read_message", is_read)?;
+    }
     let is_listed = is_same_twice(|| fields_text(alloc, frame));
     tally.count(rt, "fields", is_listed)
 }
@@ -85,13 +179,11 @@ pub fn try_log(
     tally: &mut Tally,
 ) -> io::Result<()> {
     let (number, records) = recorded;
-    let Ok(bytes) = ask_again(|| bytes_of_log(alloc, number, records)) else {
+    let Ok(bytes) = ask_again(|| log_spelled(alloc, number, records)) else {
         return tally.count(rt, "a log", false);
     };
-    let Ok(new) = ask_again(|| bytes_of_new_log(alloc, number, records)) else {
-        return tally.count(rt, "a log", false);
-    };
-    tally.count(rt, "parse_log", is_so(|| is_parsed(alloc, &bytes, &new)))?;
+    tally.count(rt, "parse_log", is_so(|| is_parsed(alloc, &bytes)))?;
+    tally.count(rt, "raise", is_so(|| is_raised(alloc, &bytes)))?;
     let Ok(log) = ask_again(|| log(alloc, number, records)) else {
         return tally.count(rt, "a log", false);
     };

@@ -10,7 +10,7 @@ use vat_log::{Body, Record, VatLog};
 use vat_tap::{CloseError, Lane, Tap};
 use worked_cases::Refused;
 
-/// A tap of vat 1 and its two lanes, each with a ring of two records.
+/// A tap of vat 1, and its two lanes, each with a ring of two records. Its log is of version 2.
 fn two_lanes(alloc: Global) -> Result<(Tap, Lane, Lane), Refused>
     ensures first { IfOk result (λ opened. IsLaneOf opened.0 opened.1 × (opened.1.number ≡ 0)) }
     ensures second { IfOk result (λ opened. IsLaneOf opened.0 opened.2 × (opened.2.number ≡ 1)) }
@@ -22,13 +22,37 @@ fn two_lanes(alloc: Global) -> Result<(Tap, Lane, Lane), Refused>
     Ok((tap, first, second))
 }
 
-/// The same, opened once more where memory is refused.
-fn open_lanes(alloc: Global) -> Result<(Tap, Lane, Lane), Refused>
+/// The same, of version 3.
+fn two_later_lanes(alloc: Global) -> Result<(Tap, Lane, Lane), Refused>
     ensures first { IfOk result (λ opened. IsLaneOf opened.0 opened.1 × (opened.1.number ≡ 0)) }
     ensures second { IfOk result (λ opened. IsLaneOf opened.0 opened.2 × (opened.2.number ≡ 1)) }
 {
-    match two_lanes(alloc) {
-        Err(Refused::OutOfMemory) => two_lanes(alloc),
+    let (tap, opened) = Tap::open_later(alloc, 1, 2, 2)?;
+    let mut lanes = opened;
+    let second = lanes.pop().ok_or("lane 1")?;
+    let first = lanes.pop().ok_or("lane 0")?;
+    Ok((tap, first, second))
+}
+
+/// The same, of version 3 or else of version 2.
+fn lanes_of(alloc: Global, later: bool) -> Result<(Tap, Lane, Lane), Refused>
+    ensures first { IfOk result (λ opened. IsLaneOf opened.0 opened.1 × (opened.1.number ≡ 0)) }
+    ensures second { IfOk result (λ opened. IsLaneOf opened.0 opened.2 × (opened.2.number ≡ 1)) }
+{
+    if later {
+        two_later_lanes(alloc)
+    } else {
+        two_lanes(alloc)
+    }
+}
+
+/// The same, opened once more where memory is refused.
+fn open_lanes(alloc: Global, later: bool) -> Result<(Tap, Lane, Lane), Refused>
+    ensures first { IfOk result (λ opened. IsLaneOf opened.0 opened.1 × (opened.1.number ≡ 0)) }
+    ensures second { IfOk result (λ opened. IsLaneOf opened.0 opened.2 × (opened.2.number ≡ 1)) }
+{
+    match lanes_of(alloc, later) {
+        Err(Refused::OutOfMemory) => lanes_of(alloc, later),
         answer => answer,
     }
 }
@@ -100,30 +124,33 @@ fn close_lanes(alloc: Global, tap: Tap, first: Lane, second: Lane) -> Result<Vat
 }
 
 /// The log of a tap that is opened, drained and closed.
-fn taped_log(alloc: Global) -> Result<VatLog, Refused> {
-    let (mut tap, mut first, mut second) = open_lanes(alloc)?;
+fn taped_log(alloc: Global, later: bool) -> Result<VatLog, Refused> {
+    let (mut tap, mut first, mut second) = open_lanes(alloc, later)?;
     record(&mut first, &mut second, [1, 2, 3])?;
     drain(&mut tap)?;
     record(&mut first, &mut second, [4, 5, 6])?;
     close_lanes(alloc, tap, first, second)
 }
 
-/// Whether a log has VOW of 1 to 6.
-fn has_vows(log: &VatLog) -> bool {
+/// Whether a log is of this version and has VOW of 1 to 6.
+fn has_vows(log: &VatLog, version: u32) -> bool {
     for index in 0..log.len() {
         match log.get(index).map(|record| record.body()) {
             Some(Body::Vow { reference }) if *reference == index as u64 + 1 => {}
             _ => return false,
         }
     }
-    log.vat() == 1 && log.len() == 6
+    log.vat() == 1 && log.version() == version && log.len() == 6
 }
 
-/// Makes the calls of a tap.
+/// Makes the calls of a tap whose log is of each version that is written.
 pub fn try_tap(rt: &impl Print, alloc: Global, tally: &mut Tally) -> io::Result<()> {
-    let is_whole = match taped_log(alloc) {
-        Ok(log) => has_vows(&log),
-        Err(_) => false,
-    };
-    tally.count(rt, "Tap::open, drain, close", is_whole)
+    for (later, version) in [(false, 2), (true, 3)] {
+        let is_whole = match taped_log(alloc, later) {
+            Ok(log) => has_vows(&log, version),
+            Err(_) => false,
+        };
+        tally.count(rt, "Tap::open or open_later, drain, close", is_whole)?;
+    }
+    Ok(())
 }

@@ -70,13 +70,17 @@ loopback_text Receiver = codes "receiverLoopback"
 abbrev pub yourself_text : Bool → List ℕ
 yourself_text yourself = if yourself then codes " yourself" else []
 
--- a message: its kind, and each of its fields behind its name; of a Return it isn't said whether a Finish follows
+-- at the end of a Return behind which no Finish is needed
+abbrev pub light_text : Bool → List ℕ
+light_text light = if light then codes " noFinishNeeded" else []
+
+-- a message: its kind, and each of its fields behind its name
 abbrev pub message_text : RpcMessage → List ℕ
 message_text (Bootstrap question) = codes "bootstrap question " ++ decimal question
 message_text (Call question target interface method params yourself) = codes "call question " ++ (decimal question ++ (codes " target " ++ (target_text target
     ++ (codes " interface " ++ (hexadecimal interface ++ (codes " method " ++ (decimal method ++ (codes " " ++ (payload_text params ++ yourself_text yourself)))))))))
 message_text (Return answer releases outcome light) = codes "return answer " ++ (decimal answer
-    ++ (codes " releaseParamCaps " ++ (bool_text releases ++ (codes " " ++ outcome_text outcome))))
+    ++ (codes " releaseParamCaps " ++ (bool_text releases ++ (codes " " ++ (outcome_text outcome ++ light_text light)))))
 message_text (Finish question releases) = codes "finish question " ++ (decimal question ++ (codes " releaseResultCaps " ++ bool_text releases))
 message_text (Resolve promise resolution) = codes "resolve promise " ++ (decimal promise ++ (codes " " ++ resolution_text resolution))
 message_text (Release id count) = codes "release id " ++ (decimal id ++ (codes " count " ++ decimal count))

@@ -1,9 +1,9 @@
 //! The text of a message, without an end of line: its kind, and each of its fields behind its name (docs/FORMATS.md).
 
-ghost use Rattle.std.specs.Prelude.{◌≡◌, Some, codes, false};
+ghost use Rattle.std.specs.Prelude.{◌≡◌, Some, codes};
 ghost use Rattle.std.specs.Fmt.{WritesOnOk, decimal};
 ghost use Rattle.std.specs.List.{join_by};
-ghost use Rattle.report_lines.specs.MessageText.{path_text, target_text, descriptor_text, field_text, payload_text, outcome_text, resolution_text, loopback_text, hexadecimal, yourself_text, message_text};
+ghost use Rattle.report_lines.specs.MessageText.{path_text, target_text, descriptor_text, field_text, payload_text, outcome_text, resolution_text, light_text, loopback_text, hexadecimal, yourself_text, message_text};
 
 use crate::shown::Shown;
 use cap_frame::Path;
@@ -178,21 +178,30 @@ fn put_call<W: fmt::Write>(
     )
 }
 
-/// Writes a Return: its answer, whether it gives back the parameters' capabilities, and what came of the call. The line
-/// doesn't say whether a Finish follows.
+/// What the line of a Return says of its Finish: nothing where one is needed.
+fn light_text(light: bool) -> &'static str
+    ensures { result.now ≡ light_text light }
+{
+    if light { " noFinishNeeded" } else { "" }
+}
+
+/// Writes a Return: its answer, whether it gives back the parameters' capabilities, what came of the call, and whether a
+/// Finish is needed.
 fn put_return<W: fmt::Write>(
     f: &mut Formatter<W>,
     answer: u32,
     releases: bool,
     outcome: &Outcome,
+    light: bool,
 ) -> fmt::Result
     ensures { WritesOnOk W.write_str_gives f.old result
-        (message_text (RpcMessage.Return answer releases outcome.now false)) f.new }
+        (message_text (RpcMessage.Return answer releases outcome.now light)) f.new }
 {
     let outcome = Shown(outcome);
+    let finish = light_text(light);
     write!(
         f,
-        "return answer {answer} releaseParamCaps {releases} {outcome}"
+        "return answer {answer} releaseParamCaps {releases} {outcome}{finish}"
     )
 }
 
@@ -236,8 +245,8 @@ impl Display for Shown<&RpcMessage> {
                 answer,
                 release_param_caps,
                 outcome,
-                ..
-            } => put_return(f, *answer, *release_param_caps, outcome),
+                light,
+            } => put_return(f, *answer, *release_param_caps, outcome, *light),
             RpcMessage::Finish {
                 question,
                 release_result_caps,

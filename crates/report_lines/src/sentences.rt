@@ -12,14 +12,16 @@ pub fn rule_sentence(rule: Rule) -> &'static str
     ensures { IsLine result.now }
 {
     match rule {
-        Rule::Closed => "nothing is sent on a connection on which an abort was sent or received",
+        Rule::Closed => {
+            "nothing is sent on a connection on which an abort was sent or received, but in a log of version 3 an abort where none was sent"
+        }
         Rule::Ref => {
             "a record binds new references and calls once, names others only where they were bound, and notes a call beside a Bootstrap or a Call alone"
         }
         Rule::Vow => "FULFIL and BREAK take a promise of this vat that had neither before",
         Rule::Here => "a call is delivered, or sent on, only while it is at the vat",
         Rule::QNew => {
-            "a Bootstrap or a Call opens a question whose number is free: never used, or both its Return and its Finish have passed"
+            "a Bootstrap or a Call opens a question whose number is free: never used, or both its Return and its Finish have passed, or a Return with noFinishNeeded"
         }
         Rule::QUse => {
             "a Return answers an opened question that had no Return, a Finish ends one that had no Finish, a target, a capability or takeFromOtherQuestion names one that had no Finish, and results are taken once, where they were to go elsewhere"
@@ -34,11 +36,11 @@ pub fn rule_sentence(rule: Rule) -> &'static str
             "a call ends once, where it was delivered or is a received Bootstrap's, and no path of its results has two answers"
         }
         Rule::Desc => {
-            "each capability that is sent has one reference, which leads to what its entry stands for, and a number in use is introduced again as it first was"
+            "each capability that is sent has one reference, which leads to what its entry stands for, a number in use is introduced again as it first was, and a Return with noFinishNeeded has no capabilities"
         }
         Rule::Count => "nothing gives back more of a number than is held",
         Rule::Result => {
-            "a Return has the results that are known of its call, each capability leading to what its entry stands for, or takes those of the call by which it was answered; results go elsewhere where that was asked, and canceled comes after a Finish"
+            "a Return has the results that are known of its call, each capability leading to what its entry stands for, or takes those of the call by which it was answered, in a log of version 3 its own too; results go elsewhere where that was asked, and canceled comes after a Finish"
         }
         Rule::Resolve => {
             "a Resolve names a promise that had none, and when it is sent the promise has turned to what it says"
@@ -71,7 +73,7 @@ pub fn why_sentence(why: Why) -> &'static str
         Why::Level => "its message is part of a level of the protocol above 1",
         Why::Unimplemented => "its message says that another wasn't understood",
         Why::LaterField =>
-            "it sets a bit by which later editions of the protocol change the life of a number",
+            "it sets a bit by which the later edition of the protocol changes the life of a number, in a log of version 1 or 2",
         Why::Unread => "its frame isn't read as a message, for the reason that its line ends with",
     }
 }

@@ -1,7 +1,6 @@
 -- Higher limits never change a message: what is read of trees that are cut at some depth is read of the whole trees too.
-use Rattle.std.proofs.Common.{◌≡◌, ℕ, zero, suc, ◌+◌, ◌-◌, ◌≤◌, ◌∙◌, inl, inr, Bool, true, false, cond, List, [], ◌∷◌, ◌++◌, Option, Some, None, Result, Ok, Err, refl, sym, arith}
+use Rattle.std.proofs.Common.{◌≡◌, ℕ, zero, suc, ◌+◌, ◌-◌, ◌≤◌, ◌∙◌, Bool, true, false, cond, List, [], ◌∷◌, ◌++◌, Option, Some, None, Result, Ok, Err, refl, sym, arith}
 use Rattle.std.specs.Prelude.{nat_lt, if◌then◌else◌}
-use Rattle.std.proofs.lemmas.Bool.{cases_lt, lt-ltb, le-ltb}
 use Rattle.cap_frame.specs.declared.frame_error.FrameError.{FrameError}
 use Rattle.cap_reader.specs.declared.limits.Limits.{Limits}
 use Rattle.cap_reader.specs.declared.pointee.Pointee.{Pointee}
@@ -10,62 +9,16 @@ use Rattle.cap_reader.specs.declared.read_error.ReadError.{ReadError}
 use Rattle.cap_reader.specs.declared.read_error.ReadError.TheVariants as reads
 use Rattle.cap_reader.specs.Pointers.{extent, pointee_at}
 use Rattle.cap_reader.specs.Tree.{Tree, nothing, structure, bad_structure, composite, bad_composite, plain, bad_plain, capability, reserved, unfollowed, structure_there, composite_there, plain_there, plain_words, list_there, elements_behind, tree_behind, structure_at, root_tree}
-use Rattle.cap_reader.specs.Reading.{Reading, done, fault, visit, and_then, pay_for, each, structure_in, elements_in, root_in, or_default, Sections, Elements}
+use Rattle.cap_reader.specs.Reading.{Reading, done, fault, and_then, structure_in, elements_in, root_in, or_default, Sections, Elements}
 use Rattle.cap_reader.specs.Fields.{fields_in}
+use Rattle.rpc_view.specs.declared.edition.Edition.{Edition}
 use Rattle.rpc_view.specs.declared.message.RpcMessage.{RpcMessage}
 use Rattle.rpc_view.specs.declared.view_error.ViewError.{ViewError}
 use Rattle.rpc_view.specs.declared.view_error.ViewError.TheVariants as errors
-use Rattle.rpc_view.specs.Reading.{part, run, struct_in, list_in, or_empty}
+use Rattle.rpc_view.specs.Reading.{part, struct_in, list_in, or_empty}
 use Rattle.rpc_view.specs.Layouts.{message_tag}
 use Rattle.rpc_view.specs.Message.{message_of, message_in_frame, message_in, body_in, bootstrap_in, unless_refused, call_in, called_in, return_in, returned_in, outcome_in, finish_in, resolve_in, release_in, disembargo_in, disembargoed_in, target_in, promised_in, operation_in, operations_in, payload_in, descriptors_in, descriptor_in, described_in}
-
--- ---- readings of which the second goes on where the first has a fault, and else makes the same visits to a value that goes with the first one's
-
-unfoldable Keeps : {E A : Type 0} → (A → A → Type 0) → Reading E A → Reading E A → Type 0
-Keeps R (fault e) other = Unit {0}
-Keeps R (done value) (done same) = R value same
-Keeps R (done value) (fault e) = ⊥
-Keeps R (done value) (visit cost rest) = ⊥
-Keeps R (visit cost rest) (done same) = ⊥
-Keeps R (visit cost rest) (fault e) = ⊥
-Keeps R (visit cost rest) (visit same others) = (cost ≡ same) × Keeps R rest others
-
-abbrev Same : {A : Type 0} → A → A → Type 0
-Same value other = value ≡ other
-
-module _ {E A B : Type 0} (R : A → A → Type 0) (S : B → B → Type 0) (next others : A → Reading E B) (q : (value other : A) → R value other → Keeps S (next value) (others other)) where
-  keeps_then : (reading other : Reading E A) → Keeps R reading other → Keeps S (and_then reading next) (and_then other others)
-  unfolding Keeps and_then
-  keeps_then (fault e) other p = tt
-  keeps_then (done value) (done same) p = q value same p
-  keeps_then (done value) (fault e) p = absurd p
-  keeps_then (done value) (visit cost rest) p = absurd p
-  keeps_then (visit cost rest) (done same) p = absurd p
-  keeps_then (visit cost rest) (fault e) p = absurd p
-  keeps_then (visit cost rest) (visit same more) p = (p.0, keeps_then rest more p.1)
-
-same_then : {E A B : Type 0} (reading other : Reading E A) (next others : A → Reading E B) → Keeps Same reading other → ((value : A) → Keeps Same (next value) (others value)) → Keeps Same (and_then reading next) (and_then other others)
-same_then reading other next others p q = keeps_then Same Same next others (λ value same e. rw (← e) (q value)) reading other p
-
-kept : (E : Type 0) {A : Type 0} (value : A) → Keeps {E = E} Same (done value) (done value)
-unfolding Keeps
-kept E value = refl
-
-each_keeps : {E A : Type 0} (f g : ℕ → Reading E (List A)) → ((i : ℕ) → Keeps Same (f i) (g i)) → (n from : ℕ) → Keeps Same (each f from n) (each g from n)
-unfolding each
-each_keeps f g p zero from = kept _ []
-each_keeps f g p (suc n) from =
-    same_then (f from) (g from) _ _ (p from) (λ first. same_then (each f (from + 1) n) (each g (from + 1) n) _ _ (each_keeps f g p n (from + 1)) (λ others. kept _ (first ++ others)))
-
-part_keeps : {A : Type 0} (R : A → A → Type 0) (reading other : Reading ReadError A) → Keeps R reading other → Keeps R (part reading) (part other)
-unfolding Keeps part
-part_keeps R (fault e) other p = tt
-part_keeps R (done value) (done same) p = p
-part_keeps R (done value) (fault e) p = absurd p
-part_keeps R (done value) (visit cost rest) p = absurd p
-part_keeps R (visit cost rest) (done same) p = absurd p
-part_keeps R (visit cost rest) (fault e) p = absurd p
-part_keeps R (visit cost rest) (visit same more) p = (p.0, part_keeps R rest more p.1)
+use Rattle.rpc_view.proofs.Keeping.{Keeps, keeps_then, Same, same_then, kept, each_keeps, part_keeps, raised}
 
 -- ---- trees
 
@@ -304,16 +257,16 @@ module _ (sections : Sections) (whole : ℕ → Tree) (p : (n : ℕ) → Cut (se
   unfolding disembargoed_in
   disembargoed_whole loopback = of_both (target_in (sections.child 0)) (target_in (whole 0)) _ _ (target_whole (sections.child 0) (whole 0) (p 0)) (λ target. given _)
 
-module _ (tree other : Tree) (c : Cut tree other) where
+module _ (edition : Edition) (tree other : Tree) (c : Cut tree other) where
   bootstrap_whole : Whole (bootstrap_in tree) (bootstrap_in other)
   unfolding bootstrap_in
   bootstrap_whole = of_struct tree other _ c (λ bootstrap whole p. given _)
 
-  call_whole : Whole (call_in tree) (call_in other)
+  call_whole : Whole (call_in edition tree) (call_in edition other)
   unfolding call_in unless_refused
   call_whole = of_struct tree other _ c (λ call whole p. search (choice, refused, called_whole, p) depth 7)
 
-  return_whole : Whole (return_in tree) (return_in other)
+  return_whole : Whole (return_in edition tree) (return_in edition other)
   unfolding return_in unless_refused
   return_whole = of_struct tree other _ c (λ answer whole p. search (choice, refused, returned_whole, p) depth 7)
 
@@ -333,51 +286,32 @@ module _ (tree other : Tree) (c : Cut tree other) where
   unfolding disembargo_in
   disembargo_whole = of_struct tree other _ c (λ disembargo whole p. search (choice, refused, disembargoed_whole, p))
 
-  body_whole : (tag : ℕ) → Whole (body_in tag tree) (body_in tag other)
+  body_whole : (tag : ℕ) → Whole (body_in edition tag tree) (body_in edition tag other)
   unfolding body_in
   body_whole tag = search (choice, given, refused, call_whole, return_whole, finish_whole, resolve_whole, release_whole, bootstrap_whole, disembargo_whole) depth 12
 
-message_whole : (tree other : Tree) → Cut tree other → Whole (message_in tree) (message_in other)
+message_whole : (edition : Edition) (tree other : Tree) → Cut tree other → Whole (message_in edition tree) (message_in edition other)
 unfolding message_in
-message_whole tree other c = of_struct tree other _ c (λ message whole p. body_whole (message.child 0) (whole 0) (p 0) (message_tag message))
+message_whole edition tree other c = of_struct tree other _ c (λ message whole p. body_whole edition (message.child 0) (whole 0) (p 0) (message_tag message))
 
 -- ---- what is answered
 
-err_ok : {A : Type 0} (e : ViewError) (value : A) → ◌≡◌ {A = Result A ViewError} (Err e) (Ok value) → ⊥
-err_ok e value h = cc
-
-raised : {A : Type 0} (reading other : Reading ViewError A) (words more : ℕ) (value : A) → Whole reading other → words ≤ more → (run reading words).0 ≡ Ok value → (run other more).0 ≡ Ok value
-unfolding Keeps pay_for
-raised (fault e) other words more value p le h = absurd (err_ok e value h)
-raised (done found) (done same) words more value p le h = rw (← p) h
-raised (done found) (fault e) words more value p le h = absurd p
-raised (done found) (visit cost rest) words more value p le h = absurd p
-raised (visit cost rest) (done same) words more value p le h = absurd p
-raised (visit cost rest) (fault e) words more value p le h = absurd p
-raised (visit cost rest) (visit same others) words more value p le h =
-    elim (cases_lt words cost) [
-      | inl few ↦ absurd (err_ok (errors.Read reads.TooMuch) value (rw (lt-ltb words cost few) at h))
-      | inr enough ↦
-          let there : same ≤ more = omega (arith, p.0, enough, le) in
-          rw (le-ltb more same there) (raised rest others (words - cost) (more - same) value p.1 (omega (arith, p.0, enough, le)) (rw (le-ltb words cost enough) at h))
-    ]
-
 -- within higher limits it is the same message
-pub stays : (segments : List (List ℕ)) (limits higher : Limits) (message : RpcMessage) → limits.words ≤ higher.words → limits.depth ≤ higher.depth → message_of segments limits ≡ Ok message → message_of segments higher ≡ Ok message
+pub stays : (edition : Edition) (segments : List (List ℕ)) (limits higher : Limits) (message : RpcMessage) → limits.words ≤ higher.words → limits.depth ≤ higher.depth → message_of edition segments limits ≡ Ok message → message_of edition segments higher ≡ Ok message
 unfolding message_of
-stays segments limits higher message words depth h =
-    raised (message_in (root_tree limits.depth segments)) (message_in (root_tree higher.depth segments)) limits.words higher.words message
-    (message_whole (root_tree limits.depth segments) (root_tree higher.depth segments) (cut_root limits.depth higher.depth depth segments)) words h
+stays edition segments limits higher message words depth h =
+    let p = raised Same (message_in edition (root_tree limits.depth segments)) (message_in edition (root_tree higher.depth segments)) limits.words higher.words message (message_whole edition (root_tree limits.depth segments) (root_tree higher.depth segments) (cut_root limits.depth higher.depth depth segments)) words h in
+    rw p.2 p.1
 
-pub stays_in_frame : (read : Result (List (List ℕ)) FrameError) (limits higher : Limits) (message : RpcMessage) → limits.words ≤ higher.words → limits.depth ≤ higher.depth → message_in_frame read limits ≡ Ok message → message_in_frame read higher ≡ Ok message
-stays_in_frame (Ok segments) limits higher message words depth h = stays segments limits higher message words depth h
-stays_in_frame (Err e) limits higher message words depth h = h
+pub stays_in_frame : (edition : Edition) (read : Result (List (List ℕ)) FrameError) (limits higher : Limits) (message : RpcMessage) → limits.words ≤ higher.words → limits.depth ≤ higher.depth → message_in_frame edition read limits ≡ Ok message → message_in_frame edition read higher ≡ Ok message
+stays_in_frame edition (Ok segments) limits higher message words depth h = stays edition segments limits higher message words depth h
+stays_in_frame edition (Err e) limits higher message words depth h = h
 
 ok_is : (message other : RpcMessage) → ◌≡◌ {A = Result RpcMessage ViewError} (Ok message) (Ok other) → message ≡ other
 ok_is message other h = cc
 
 -- within any limits it is one message
-pub is_one : (read : Result (List (List ℕ)) FrameError) (limits others : Limits) (message other : RpcMessage) → message_in_frame read limits ≡ Ok message → message_in_frame read others ≡ Ok other → message ≡ other
-is_one read limits others message other h k =
+pub is_one : (edition : Edition) (read : Result (List (List ℕ)) FrameError) (limits others : Limits) (message other : RpcMessage) → message_in_frame edition read limits ≡ Ok message → message_in_frame edition read others ≡ Ok other → message ≡ other
+is_one edition read limits others message other h k =
     let both : Limits = record { words = limits.words + others.words; depth = limits.depth + others.depth } in
-    ok_is message other (sym (stays_in_frame read limits both message (omega arith) (omega arith) h) ∙ stays_in_frame read others both other (omega arith) (omega arith) k)
+    ok_is message other (sym (stays_in_frame edition read limits both message (omega arith) (omega arith) h) ∙ stays_in_frame edition read others both other (omega arith) (omega arith) k)

@@ -2,6 +2,8 @@ pub mod Running
 pub mod Parts
 pub mod Loops
 pub mod Prices
+pub mod Keeping
+pub mod Editions
 pub mod Spelled
 pub mod Judged
 pub mod Memory

@@ -13,6 +13,7 @@ use Rattle.cap_reader.specs.Reading.{Reading, done, fault, visit, and_then, pay_
 use Rattle.cap_reader.specs.Reading as trees
 use Rattle.cap_reader.specs.Fields.{fields_in}
 use Rattle.cap_reader.proofs.Memory.{structures_want_none}
+use Rattle.rpc_view.specs.declared.edition.Edition.{Edition}
 use Rattle.rpc_view.specs.declared.message.RpcMessage.{RpcMessage}
 use Rattle.rpc_view.specs.declared.view_error.ViewError.{ViewError}
 use Rattle.rpc_view.specs.declared.view_error.ViewError.TheVariants as errors
@@ -311,16 +312,16 @@ disembargoed_whole : (disembargo : Sections) (loopback : _) → SoundSections di
 unfolding disembargoed_in
 disembargoed_whole disembargo loopback p = of_both (target_in (disembargo.child 0)) _ (target_whole (disembargo.child 0) (p 0)) (λ target. given _)
 
-module _ (tree : Tree) (s : Sound tree) where
+module _ (edition : Edition) (tree : Tree) (s : Sound tree) where
   bootstrap_whole : Whole (bootstrap_in tree)
   unfolding bootstrap_in
   bootstrap_whole = of_struct tree _ s (λ bootstrap p. given _)
 
-  call_whole : Whole (call_in tree)
+  call_whole : Whole (call_in edition tree)
   unfolding call_in unless_refused
   call_whole = of_struct tree _ s (λ call p. search (choice, refused, called_whole, p) depth 7)
 
-  return_whole : Whole (return_in tree)
+  return_whole : Whole (return_in edition tree)
   unfolding return_in unless_refused
   return_whole = of_struct tree _ s (λ answer p. search (choice, refused, returned_whole, p) depth 7)
 
@@ -340,13 +341,13 @@ module _ (tree : Tree) (s : Sound tree) where
   unfolding disembargo_in
   disembargo_whole = of_struct tree _ s (λ disembargo p. search (choice, refused, disembargoed_whole, p))
 
-  body_whole : (tag : ℕ) → Whole (body_in tag tree)
+  body_whole : (tag : ℕ) → Whole (body_in edition tag tree)
   unfolding body_in
   body_whole tag = search (choice, given, refused, call_whole, return_whole, finish_whole, resolve_whole, release_whole, bootstrap_whole, disembargo_whole) depth 12
 
-message_whole : (tree : Tree) → Sound tree → Whole (message_in tree)
+message_whole : (edition : Edition) (tree : Tree) → Sound tree → Whole (message_in edition tree)
 unfolding message_in
-message_whole tree s = of_struct tree _ s (λ message p. body_whole (message.child 0) (p 0) (message_tag message))
+message_whole edition tree s = of_struct tree _ s (λ message p. body_whole edition (message.child 0) (p 0) (message_tag message))
 
 -- ---- what is answered
 
@@ -364,13 +365,13 @@ ran_fine (visit cost rest) words p =
       | inr enough ↦ rw (le-ltb words cost enough) (ran_fine rest (words - cost) p)
     ]
 
-message_fine : (segments : List (List ℕ)) (limits : Limits) → Fine (message_of segments limits)
+message_fine : (edition : Edition) (segments : List (List ℕ)) (limits : Limits) → Fine (message_of edition segments limits)
 unfolding message_of
-message_fine segments limits = ran_fine (message_in (root_tree limits.depth segments)) limits.words (message_whole (root_tree limits.depth segments) (sound_root limits.depth segments))
+message_fine edition segments limits = ran_fine (message_in edition (root_tree limits.depth segments)) limits.words (message_whole edition (root_tree limits.depth segments) (sound_root limits.depth segments))
 
 -- no answer to a frame is a pointer's fault that is out of memory
-pub of_message : (segments : List (List ℕ)) (limits : Limits) (r : Result RpcMessage ViewError) → GivesInMemory (λ message. message) r (message_of segments limits) → r ≢ Err (errors.Read reads.OutOfMemory)
-of_message segments limits r p e =
-    let P : Result RpcMessage ViewError → Type 0 = λ answer. GivesInMemory (λ message. message) answer (message_of segments limits) in
+pub of_message : (edition : Edition) (segments : List (List ℕ)) (limits : Limits) (r : Result RpcMessage ViewError) → GivesInMemory (λ message. message) r (message_of edition segments limits) → r ≢ Err (errors.Read reads.OutOfMemory)
+of_message edition segments limits r p e =
+    let P : Result RpcMessage ViewError → Type 0 = λ answer. GivesInMemory (λ message. message) answer (message_of edition segments limits) in
     let Q : Result RpcMessage ViewError → Type 0 = λ answer. Fine answer in
-    subst Q (subst P e p) (message_fine segments limits)
+    subst Q (subst P e p) (message_fine edition segments limits)

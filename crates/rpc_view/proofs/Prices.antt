@@ -7,6 +7,7 @@ use Rattle.cap_reader.specs.declared.read_error.ReadError.TheVariants.{TooMuch}
 use Rattle.cap_reader.specs.Tree.{root_tree}
 use Rattle.cap_reader.specs.Reading.{Reading, price, ending}
 use Rattle.cap_reader.proofs.Prices.{affordable, too_dear, ends_so}
+use Rattle.rpc_view.specs.declared.edition.Edition.{Edition}
 use Rattle.rpc_view.specs.declared.message.RpcMessage.{RpcMessage}
 use Rattle.rpc_view.specs.declared.view_error.ViewError.{ViewError}
 use Rattle.rpc_view.specs.declared.view_error.ViewError.TheVariants as errors
@@ -27,9 +28,9 @@ answers_so : {A : Type 0} (r : Result A ViewError) (left : ℕ) (ran : Result A 
 answers_so (Ok x) left ran p = rw p refl
 answers_so (Err e) left ran p = fails_so e left ran p
 
-pub is_message : (segments : List (List ℕ)) (limits : Limits) (left : ℕ) (r : Result RpcMessage ViewError) → RunsInMemory (λ found. found) r left (run (message_in (root_tree limits.depth segments)) limits.words) → GivesInMemory (λ message. message) r (message_of segments limits)
+pub is_message : (edition : Edition) (segments : List (List ℕ)) (limits : Limits) (left : ℕ) (r : Result RpcMessage ViewError) → RunsInMemory (λ found. found) r left (run (message_in edition (root_tree limits.depth segments)) limits.words) → GivesInMemory (λ message. message) r (message_of edition segments limits)
 unfolding message_of
-is_message segments limits left r p = answers_so r left (run (message_in (root_tree limits.depth segments)) limits.words) p
+is_message edition segments limits left r p = answers_so r left (run (message_in edition (root_tree limits.depth segments)) limits.words) p
 
 -- ---- the price
 
@@ -54,20 +55,20 @@ is_priced {A} reading value words e =
           }
     ]
 
-pub has_price : (segments : List (List ℕ)) (limits : Limits) (r : Result RpcMessage ViewError) → GivesInMemory (λ message. message) r (message_of segments limits) → IfOk r (λ message. (cost : ℕ) × (cost ≤ limits.words) × HasPrice segments limits.depth message cost)
+pub has_price : (edition : Edition) (segments : List (List ℕ)) (limits : Limits) (r : Result RpcMessage ViewError) → GivesInMemory (λ message. message) r (message_of edition segments limits) → IfOk r (λ message. (cost : ℕ) × (cost ≤ limits.words) × HasPrice edition segments limits.depth message cost)
 unfolding message_of
-has_price segments limits (Ok message) e =
-    let reading = message_in (root_tree limits.depth segments) in
+has_price edition segments limits (Ok message) e =
+    let reading = message_in edition (root_tree limits.depth segments) in
     let p = is_priced reading message limits.words e in (
       price reading,
       p.enough_words,
       record { enough = p.enough; too_few = p.too_few },
     )
-has_price segments limits (Err e) h = tt
+has_price edition segments limits (Err e) h = tt
 
 -- more words never change a message
-pub with_more : (segments : List (List ℕ)) (depth least words : ℕ) (message : RpcMessage) → message_of segments (record { words = least; depth = depth }) ≡ Ok message → least ≤ words → message_of segments (record { words = words; depth = depth }) ≡ Ok message
+pub with_more : (edition : Edition) (segments : List (List ℕ)) (depth least words : ℕ) (message : RpcMessage) → message_of edition segments (record { words = least; depth = depth }) ≡ Ok message → least ≤ words → message_of edition segments (record { words = words; depth = depth }) ≡ Ok message
 unfolding message_of
-with_more segments depth least words message e more =
-    let p = is_priced (message_in (root_tree depth segments)) message least e in
+with_more edition segments depth least words message e more =
+    let p = is_priced (message_in edition (root_tree depth segments)) message least e in
     p.enough words (omega (arith, p.enough_words))

@@ -5,12 +5,15 @@ use Rattle.cap_reader.specs.Pointers.{pointer_of, start_from, extent, pointee_of
 use Rattle.cap_reader.specs.Tree.{structure_at, elements_behind, list_there, tree_behind}
 use Rattle.cap_reader.specs.Reading.{pay_for, and_then, each}
 use Rattle.cap_reader.specs.Fields.{fields_in}
+use Rattle.rpc_view.specs.declared.edition.Edition.{Edition}
+use Rattle.rpc_view.specs.declared.edition.Edition.TheVariants.{First, Later}
 use Rattle.rpc_view.specs.declared.message.RpcMessage.{RpcMessage}
 use Rattle.rpc_view.specs.declared.message.Loopback.TheVariants.{Sender, Receiver}
 use Rattle.rpc_view.specs.Reading.{part}
 use Rattle.rpc_view.specs.Message.{message_of, message_in, body_in, bootstrap_in, unless_refused, call_in, called_in, return_in, returned_in, outcome_in, finish_in, resolve_in, release_in, disembargo_in, disembargoed_in, target_in, promised_in, operations_in, payload_in, descriptors_in, descriptor_in, described_in}
 use Rattle.rpc_view.specs.Spelling.{Spells, bootstrap, call, import_call, yourself_call, exception, canceled, elsewhere, taken, results, finish, resolve, broken, release, disembargo, abort}
 use Rattle.rpc_view.proofs.Prices.{with_more}
+use Rattle.rpc_view.proofs.Editions.{reads_more}
 
 -- ---- numbers in their parts of a word
 
@@ -176,7 +179,7 @@ yourself_question n m lt = omega arith
 
 -- ---- with just the words that it costs
 
-at_price : (words : List ℕ) (message : RpcMessage) (cost least depth : ℕ) → Spells words message cost least → least ≤ depth → message_of (words ∷ []) (record { words = cost; depth = depth }) ≡ Ok message
+at_price : (words : List ℕ) (message : RpcMessage) (cost least depth : ℕ) → Spells words message cost least → least ≤ depth → message_of First (words ∷ []) (record { words = cost; depth = depth }) ≡ Ok message
 unfolding message_of message_in body_in bootstrap_in unless_refused call_in called_in return_in returned_in outcome_in finish_in resolve_in release_in disembargo_in disembargoed_in target_in promised_in operations_in payload_in descriptors_in descriptor_in described_in part each fields_in pay_for and_then structure_at elements_behind list_there tree_behind extent pointee_of pointee_behind pointer_of start_from
 at_price words message cost least depth (bootstrap {question} fits) deep =
     let d : depth ≡ suc (suc (depth - 2)) = omega arith in
@@ -242,7 +245,12 @@ at_price words message cost least depth abort deep =
     let d : depth ≡ suc (depth - 1) = omega arith in
     rw d refl
 
-pub spelled_again : (segments : List (List ℕ)) (limits : Limits) (words : List ℕ) (message : RpcMessage) (cost depth : ℕ) → Spells words message cost depth → segments ≡ words ∷ [] → cost ≤ limits.words → depth ≤ limits.depth → message_of segments limits ≡ Ok message
-spelled_again segments limits words message cost depth spells same enough deep =
-    let least : message_of segments (record { words = cost; depth = limits.depth }) ≡ Ok message = rw same (at_price words message cost depth limits.depth spells deep) in
-    with_more segments limits.depth cost limits.words message least enough
+-- the later edition reads it too
+by_edition : (edition : Edition) (segments : List (List ℕ)) (limits : Limits) (message : RpcMessage) → message_of First segments limits ≡ Ok message → message_of edition segments limits ≡ Ok message
+by_edition First segments limits message h = h
+by_edition Later segments limits message h = (reads_more segments limits message h).0
+
+pub spelled_again : (edition : Edition) (segments : List (List ℕ)) (limits : Limits) (words : List ℕ) (message : RpcMessage) (cost depth : ℕ) → Spells words message cost depth → segments ≡ words ∷ [] → cost ≤ limits.words → depth ≤ limits.depth → message_of edition segments limits ≡ Ok message
+spelled_again edition segments limits words message cost depth spells same enough deep =
+    let least : message_of First segments (record { words = cost; depth = limits.depth }) ≡ Ok message = rw same (at_price words message cost depth limits.depth spells deep) in
+    by_edition edition segments limits message (with_more First segments limits.depth cost limits.words message least enough)

@@ -47,9 +47,10 @@ call_send_results_to call = u16_in 6 call.word
 abbrev pub call_interface : Sections → ℕ
 call_interface call = u64_in 8 call.word
 
--- a bit that later editions use, and that this profile leaves out; by default not set, as earlier editions send it
-abbrev pub call_later : Sections → Bool
-call_later call = bit_in 130 call.word
+-- onlyPromisePipeline, of the later edition: "If true, the sender only plans to use this call to make pipelined calls";
+-- by default not set, as the first edition sends it
+abbrev pub call_only_promise_pipeline : Sections → Bool
+call_only_promise_pipeline call = bit_in 130 call.word
 
 -- target: "The object that should receive this call"
 abbrev pub call_target : Sections → Tree
@@ -71,9 +72,10 @@ return_answer answer = u32_in 0 answer.word
 abbrev pub return_release_param_caps : Sections → Bool
 return_release_param_caps answer = bit_or_true 32 answer.word
 
--- a bit that later editions use, and that this profile leaves out; by default not set, as earlier editions send it
-abbrev pub return_later : Sections → Bool
-return_later answer = bit_in 33 answer.word
+-- noFinishNeeded, of the later edition: "If true, the sender does not need the receiver to send a `Finish` message; its
+-- answer table entry has already been cleaned up"; by default not set, as the first edition sends it
+abbrev pub return_no_finish_needed : Sections → Bool
+return_no_finish_needed answer = bit_in 33 answer.word
 
 -- "union": 0 results, 1 exception, 2 canceled, 3 resultsSentElsewhere, 4 takeFromOtherQuestion, 5 of a third party; by
 -- default results, so that a call that answers nothing needs no more than its number

@@ -1,7 +1,8 @@
 -- The message of a tree, by the layouts of rpc.capnp. Each tag, and the data of a body, is judged where it is read: a
 -- number that this profile doesn't list first, then what belongs to another level, then unimplemented, which only
--- Message's tag says, then what later editions use. The data of a body is judged whole before its pointers are
--- followed; pointers that a union doesn't select are unread.
+-- Message's tag says, then, where a message is read by the first edition, a field that only the later one has. Nothing
+-- else depends on the edition. The data of a body is judged whole before its pointers are followed; pointers that a
+-- union doesn't select are unread.
 use Rattle.std.specs.Prelude.{◌≡◌, ℕ, ◌<◌, ◌≤◌, ◌==◌, Bool, false, ◌||◌, List, [], ◌∷◌, Result, Ok, Err, nat_lt, if◌then◌else◌}
 use Rattle.cap_frame.specs.declared.frame_error.FrameError.{FrameError}
 use Rattle.cap_frame.specs.Segments.{segments_of}
@@ -10,6 +11,8 @@ use Rattle.cap_reader.specs.declared.read_error.ReadError.TheVariants.{TooMuch}
 use Rattle.cap_reader.specs.Tree.{Tree, root_tree}
 use Rattle.cap_reader.specs.Reading.{Reading, done, fault, ◌>>=◌, Sections, Elements, each}
 use Rattle.cap_reader.specs.Fields.{fields_in}
+use Rattle.rpc_view.specs.declared.edition.Edition.{Edition}
+use Rattle.rpc_view.specs.declared.edition.Edition.TheVariants.{First, Later}
 use Rattle.rpc_view.specs.declared.message.Target.{Target}
 use Rattle.rpc_view.specs.declared.message.Target.TheVariants as targets
 use Rattle.rpc_view.specs.declared.message.Descriptor.{Descriptor}
@@ -26,7 +29,7 @@ use Rattle.rpc_view.specs.declared.view_error.Outside.TheVariants.{Level, Unimpl
 use Rattle.rpc_view.specs.declared.view_error.ViewError.{ViewError}
 use Rattle.rpc_view.specs.declared.view_error.ViewError.TheVariants as errors
 use Rattle.rpc_view.specs.Reading.{part, struct_in, list_in, run}
-use Rattle.rpc_view.specs.Layouts.{message_tag, message_body, bootstrap_question, call_question, call_method, call_send_results_to, call_interface, call_later, call_target, call_params, return_answer, return_release_param_caps, return_later, return_tag, return_take_from_other_question, return_results, finish_question, finish_release_result_caps, resolve_promise, resolve_tag, resolve_cap, release_id, release_count, disembargo_number, disembargo_tag, disembargo_target, target_tag, target_imported, target_promised, promised_question, promised_transform, operation_tag, operation_field, payload_content, payload_cap_table, descriptor_tag, descriptor_number, descriptor_answer}
+use Rattle.rpc_view.specs.Layouts.{message_tag, message_body, bootstrap_question, call_question, call_method, call_send_results_to, call_interface, call_only_promise_pipeline, call_target, call_params, return_answer, return_release_param_caps, return_no_finish_needed, return_tag, return_take_from_other_question, return_results, finish_question, finish_release_result_caps, resolve_promise, resolve_tag, resolve_cap, release_id, release_count, disembargo_number, disembargo_tag, disembargo_target, target_tag, target_imported, target_promised, promised_question, promised_transform, operation_tag, operation_field, payload_content, payload_cap_table, descriptor_tag, descriptor_number, descriptor_answer}
 
 -- ---- results of questions
 
@@ -111,19 +114,25 @@ called_in call = do
   params ← payload_in (call_params call)
   done (messages.Call (call_question call) target (call_interface call) (call_method call) params (call_send_results_to call == 1))
 
--- why the data of a Call is refused, by whom its results are wanted: 0 the caller, 1 yourself, 2 a third party
-abbrev pub call_refusals : Sections → List (Bool × ViewError)
-call_refusals call =
+-- a field of the later edition is set, and the message is read by the first one
+abbrev pub is_beyond : Edition → Bool → Bool
+is_beyond First field = field
+is_beyond Later field = false
+
+-- why the data of a Call is refused, by whom its results are wanted: 0 the caller, 1 yourself, 2 a third party. Nothing
+-- depends on onlyPromisePipeline where it is read
+abbrev pub call_refusals : Edition → Sections → List (Bool × ViewError)
+call_refusals edition call =
     (nat_lt 2 (call_send_results_to call), errors.BadTag)
     ∷ (call_send_results_to call == 2, errors.Outside Level)
-    ∷ (call_later call, errors.Outside LaterField)
+    ∷ (is_beyond edition (call_only_promise_pipeline call), errors.Outside LaterField)
     ∷ []
 
 -- Call
-unfoldable pub call_in : Tree → Reading ViewError RpcMessage
-call_in tree = do
+unfoldable pub call_in : Edition → Tree → Reading ViewError RpcMessage
+call_in edition tree = do
   call ← struct_in tree
-  unless_refused (call_refusals call) (called_in call)
+  unless_refused (call_refusals edition call) (called_in call)
 
 -- what a Return says of its call: 0 results, 1 exception, 2 canceled, 3 resultsSentElsewhere, 4 takeFromOtherQuestion
 unfoldable pub outcome_in : Sections → Reading ViewError Outcome
@@ -135,25 +144,25 @@ outcome_in answer =
     else (if return_tag answer == 4 then done (outcomes.TakeFrom (return_take_from_other_question answer))
     else fault errors.BadTag))))
 
--- what the pointer of a Return holds; a Finish follows it, since a Return that says otherwise is refused
+-- what the pointer of a Return holds, and whether a Finish is needed behind it
 unfoldable pub returned_in : Sections → Reading ViewError RpcMessage
 returned_in answer = do
   outcome ← outcome_in answer
-  done (messages.Return (return_answer answer) (return_release_param_caps answer) outcome false)
+  done (messages.Return (return_answer answer) (return_release_param_caps answer) outcome (return_no_finish_needed answer))
 
 -- why the data of a Return is refused, by its tag: 5 is of a third party
-abbrev pub return_refusals : Sections → List (Bool × ViewError)
-return_refusals answer =
+abbrev pub return_refusals : Edition → Sections → List (Bool × ViewError)
+return_refusals edition answer =
     (nat_lt 5 (return_tag answer), errors.BadTag)
     ∷ (return_tag answer == 5, errors.Outside Level)
-    ∷ (return_later answer, errors.Outside LaterField)
+    ∷ (is_beyond edition (return_no_finish_needed answer), errors.Outside LaterField)
     ∷ []
 
 -- Return
-unfoldable pub return_in : Tree → Reading ViewError RpcMessage
-return_in tree = do
+unfoldable pub return_in : Edition → Tree → Reading ViewError RpcMessage
+return_in edition tree = do
   answer ← struct_in tree
-  unless_refused (return_refusals answer) (returned_in answer)
+  unless_refused (return_refusals edition answer) (returned_in answer)
 
 -- Finish
 unfoldable pub finish_in : Tree → Reading ViewError RpcMessage
@@ -192,12 +201,12 @@ disembargo_in tree = do
 
 -- The body behind Message's tag. An abort's isn't read. 7 obsoleteSave, 9 obsoleteDelete, 10 provide, 11 accept and 12
 -- join are of other levels; by this project's choice the list of tags ends at 13.
-unfoldable pub body_in : ℕ → Tree → Reading ViewError RpcMessage
-body_in tag body =
+unfoldable pub body_in : Edition → ℕ → Tree → Reading ViewError RpcMessage
+body_in edition tag body =
     if tag == 0 then fault (errors.Outside Unimplemented)
     else (if tag == 1 then done messages.Abort
-    else (if tag == 2 then call_in body
-    else (if tag == 3 then return_in body
+    else (if tag == 2 then call_in edition body
+    else (if tag == 3 then return_in edition body
     else (if tag == 4 then finish_in body
     else (if tag == 5 then resolve_in body
     else (if tag == 6 then release_in body
@@ -207,39 +216,51 @@ body_in tag body =
     else fault errors.BadTag)))))))))
 
 -- Message, a union by its tag
-unfoldable pub message_in : Tree → Reading ViewError RpcMessage
-message_in tree = do
+unfoldable pub message_in : Edition → Tree → Reading ViewError RpcMessage
+message_in edition tree = do
   message ← struct_in tree
-  body_in (message_tag message) (message_body message)
+  body_in edition (message_tag message) (message_body message)
 
 -- "The first word of the first segment of the message is always a pointer pointing to the message's root struct."
-unfoldable pub message_of : List (List ℕ) → Limits → Result RpcMessage ViewError
-message_of segments limits = (run (message_in (root_tree limits.depth segments)) limits.words).0
+unfoldable pub message_of : Edition → List (List ℕ) → Limits → Result RpcMessage ViewError
+message_of edition segments limits = (run (message_in edition (root_tree limits.depth segments)) limits.words).0
 
 -- the message of a frame, or why there is no frame
-abbrev pub message_in_frame : Result (List (List ℕ)) FrameError → Limits → Result RpcMessage ViewError
-message_in_frame (Ok segments) limits = message_of segments limits
-message_in_frame (Err e) limits = Err (errors.Frame e)
+abbrev pub message_in_frame : Edition → Result (List (List ℕ)) FrameError → Limits → Result RpcMessage ViewError
+message_in_frame edition (Ok segments) limits = message_of edition segments limits
+message_in_frame edition (Err e) limits = Err (errors.Frame e)
 
 -- the message of a frame's bytes
-abbrev pub message_of_bytes : List ℕ → Limits → Result RpcMessage ViewError
-message_of_bytes bytes limits = message_in_frame (segments_of bytes) limits
+abbrev pub message_of_bytes : Edition → List ℕ → Limits → Result RpcMessage ViewError
+message_of_bytes edition bytes limits = message_in_frame edition (segments_of bytes) limits
 
 -- ---- a law: a message has a price
 
 -- With as many words as its price, or more, a frame reads as the message; with fewer its visits cost too much.
-pub record HasPrice (segments : List (List ℕ)) (depth : ℕ) (message : RpcMessage) (cost : ℕ) : Type 0 where
-  pub enough : (words : ℕ) → cost ≤ words → message_of segments (record { words = words; depth = depth }) ≡ Ok message
-  pub too_few : (words : ℕ) → words < cost → message_of segments (record { words = words; depth = depth }) ≡ Err (errors.Read TooMuch)
+pub record HasPrice (edition : Edition) (segments : List (List ℕ)) (depth : ℕ) (message : RpcMessage) (cost : ℕ) : Type 0 where
+  pub enough : (words : ℕ) → cost ≤ words → message_of edition segments (record { words = words; depth = depth }) ≡ Ok message
+  pub too_few : (words : ℕ) → words < cost → message_of edition segments (record { words = words; depth = depth }) ≡ Err (errors.Read TooMuch)
 
 -- ---- a law: messages don't depend on limits
 
 -- What the bytes read as within two limits, if both are messages, is one message.
-abbrev pub GiveOneMessage : List ℕ → Type 0
-GiveOneMessage bytes =
-    (limits others : Limits) (message other : RpcMessage) → message_of_bytes bytes limits ≡ Ok message → message_of_bytes bytes others ≡ Ok other → message ≡ other
+abbrev pub GiveOneMessage : Edition → List ℕ → Type 0
+GiveOneMessage edition bytes =
+    (limits others : Limits) (message other : RpcMessage) → message_of_bytes edition bytes limits ≡ Ok message → message_of_bytes edition bytes others ≡ Ok other → message ≡ other
 
 -- What is a message within limits is the same one within all that are no lower.
-abbrev pub KeepMessage : List ℕ → Type 0
-KeepMessage bytes =
-    (limits others : Limits) (message : RpcMessage) → limits.words ≤ others.words → limits.depth ≤ others.depth → message_of_bytes bytes limits ≡ Ok message → message_of_bytes bytes others ≡ Ok message
+abbrev pub KeepMessage : Edition → List ℕ → Type 0
+KeepMessage edition bytes =
+    (limits others : Limits) (message : RpcMessage) → limits.words ≤ others.words → limits.depth ≤ others.depth → message_of_bytes edition bytes limits ≡ Ok message → message_of_bytes edition bytes others ≡ Ok message
+
+-- ---- a law: the later edition reads more
+
+-- a Return that says that no Finish is needed
+abbrev pub is_light : RpcMessage → Bool
+is_light (messages.Return answer release outcome light) = light
+is_light _ = false
+
+-- What the first edition reads the later one reads as the same message, and no Finish is left out behind it.
+abbrev pub ReadsMore : List ℕ → Type 0
+ReadsMore bytes =
+    (limits : Limits) (message : RpcMessage) → message_of_bytes First bytes limits ≡ Ok message → (message_of_bytes Later bytes limits ≡ Ok message) × (is_light message ≡ false)

@@ -1,14 +1,16 @@
 //! The bodies of messages. The data of each is judged whole before its pointers are followed.
 
+ghost use Rattle.std.specs.Prelude.{◌≡◌};
 ghost use Rattle.rpc_view.specs.Reading.{run};
 ghost use Rattle.rpc_view.specs.Glue.{RunsInMemory, sections_of};
-ghost use Rattle.rpc_view.specs.Message.{bootstrap_in, called_in, call_in, outcome_in, returned_in, return_in, finish_in, resolve_in, release_in, disembargoed_in, disembargo_in};
+ghost use Rattle.rpc_view.specs.Message.{bootstrap_in, called_in, is_beyond, call_in, outcome_in, returned_in, return_in, finish_in, resolve_in, release_in, disembargoed_in, disembargo_in};
 
+use crate::edition::Edition;
 use crate::layouts::{
-    BOOTSTRAP_QUESTION, CALL_INTERFACE, CALL_LATER, CALL_METHOD, CALL_PARAMS, CALL_QUESTION,
-    CALL_SEND_RESULTS_TO, CALL_TARGET, DISEMBARGO_NUMBER, DISEMBARGO_TAG, DISEMBARGO_TARGET,
-    FINISH_QUESTION, FINISH_RELEASE_RESULT_CAPS, MESSAGE_BODY, RELEASE_COUNT, RELEASE_ID,
-    RESOLVE_CAP, RESOLVE_PROMISE, RESOLVE_TAG, RETURN_ANSWER, RETURN_LATER,
+    BOOTSTRAP_QUESTION, CALL_INTERFACE, CALL_METHOD, CALL_ONLY_PROMISE_PIPELINE, CALL_PARAMS,
+    CALL_QUESTION, CALL_SEND_RESULTS_TO, CALL_TARGET, DISEMBARGO_NUMBER, DISEMBARGO_TAG,
+    DISEMBARGO_TARGET, FINISH_QUESTION, FINISH_RELEASE_RESULT_CAPS, MESSAGE_BODY, RELEASE_COUNT,
+    RELEASE_ID, RESOLVE_CAP, RESOLVE_PROMISE, RESOLVE_TAG, RETURN_ANSWER, RETURN_NO_FINISH_NEEDED,
     RETURN_RELEASE_PARAM_CAPS, RETURN_RESULTS, RETURN_TAG, RETURN_TAKE_FROM_OTHER_QUESTION,
 };
 use crate::message::{Loopback, Outcome, Resolution, RpcMessage};
@@ -60,6 +62,16 @@ fn read_call_parts(
     })
 }
 
+/// Whether a field of the later edition is set in a message that is read by the first one.
+fn is_beyond(edition: Edition, field: bool) -> bool
+    ensures { result ≡ is_beyond edition field }
+{
+    match edition {
+        Edition::First => field,
+        Edition::Later => false,
+    }
+}
+
 /// The Call behind a Message's pointer.
 #[tactic(auto, using(crate::proofs::Running::run_then), unfolding(crate::specs::Message::call_in, crate::specs::Message::unless_refused, cap_reader::specs::Reading::pay_for, cap_reader::specs::Reading::and_then))]
 pub fn call(
@@ -67,9 +79,10 @@ pub fn call(
     frame: &Frame,
     message: &Option<StructAt>,
     limits: &mut Limits,
+    edition: Edition,
 ) -> Result<RpcMessage, ViewError>
     ensures { RunsInMemory (λ found. found) result limits.new.words
-        (run (call_in ((sections_of frame.now message.now).child 0)) limits.old.words) }
+        (run (call_in edition ((sections_of frame.now message.now).child 0)) limits.old.words) }
 {
     let call = struct_in(frame, message, MESSAGE_BODY, limits)?;
     let send_results_to = u16_of(frame, &call, CALL_SEND_RESULTS_TO);
@@ -79,7 +92,7 @@ pub fn call(
     if send_results_to == 2 {
         return Err(ViewError::Outside(Outside::Level));
     }
-    if bit_of(frame, &call, CALL_LATER) {
+    if is_beyond(edition, bit_of(frame, &call, CALL_ONLY_PROMISE_PIPELINE)) {
         return Err(ViewError::Outside(Outside::LaterField));
     }
     read_call_parts(alloc, frame, &call, limits)
@@ -125,7 +138,7 @@ fn read_return_parts(
         answer: u32_of(frame, answer, RETURN_ANSWER),
         release_param_caps: !bit_of(frame, answer, RETURN_RELEASE_PARAM_CAPS),
         outcome,
-        light: false,
+        light: bit_of(frame, answer, RETURN_NO_FINISH_NEEDED),
     })
 }
 
@@ -136,9 +149,10 @@ pub fn answer(
     frame: &Frame,
     message: &Option<StructAt>,
     limits: &mut Limits,
+    edition: Edition,
 ) -> Result<RpcMessage, ViewError>
     ensures { RunsInMemory (λ found. found) result limits.new.words
-        (run (return_in ((sections_of frame.now message.now).child 0)) limits.old.words) }
+        (run (return_in edition ((sections_of frame.now message.now).child 0)) limits.old.words) }
 {
     let answer = struct_in(frame, message, MESSAGE_BODY, limits)?;
     let tag = u16_of(frame, &answer, RETURN_TAG);
@@ -148,7 +162,7 @@ pub fn answer(
     if tag == 5 {
         return Err(ViewError::Outside(Outside::Level));
     }
-    if bit_of(frame, &answer, RETURN_LATER) {
+    if is_beyond(edition, bit_of(frame, &answer, RETURN_NO_FINISH_NEEDED)) {
         return Err(ViewError::Outside(Outside::LaterField));
     }
     read_return_parts(alloc, frame, &answer, limits)

@@ -24,8 +24,8 @@ pub const CALL_SEND_RESULTS_TO: u32 = 6;
 /// `Call.interfaceId`.
 pub const CALL_INTERFACE: u32 = 8;
 
-/// A bit of `Call` that later editions use; by default not set, as earlier editions send it.
-pub const CALL_LATER: u32 = 130;
+/// `Call.onlyPromisePipeline`, of the later edition; by default not set, as the first one sends it.
+pub const CALL_ONLY_PROMISE_PIPELINE: u32 = 130;
 
 /// `Call.target`.
 pub const CALL_TARGET: u16 = 0;
@@ -40,8 +40,8 @@ pub const RETURN_ANSWER: u32 = 0;
 /// to clear it is told by errors soon.
 pub const RETURN_RELEASE_PARAM_CAPS: u32 = 32;
 
-/// A bit of `Return` that later editions use; by default not set, as earlier editions send it.
-pub const RETURN_LATER: u32 = 33;
+/// `Return.noFinishNeeded`, of the later edition; by default not set, as the first one sends it.
+pub const RETURN_NO_FINISH_NEEDED: u32 = 33;
 
 /// `Return`'s union, by default `results`.
 pub const RETURN_TAG: u32 = 6;

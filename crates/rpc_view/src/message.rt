@@ -137,7 +137,7 @@ pub enum RpcMessage {
         release_param_caps: bool,
         /// The union of results and what may stand in their place.
         outcome: Outcome,
-        /// `noFinishNeeded`: no Finish follows this Return. For now false of all that is read.
+        /// `noFinishNeeded`: whether the number may be opened again without a Finish. By the first edition it never is.
         light: bool,
     },
     /// Says that a question's answer isn't needed any more.

@@ -14,6 +14,7 @@ ghost use Rattle.rpc_view.specs.declared.message.RpcMessage.{RpcMessage};
 ghost use Rattle.rpc_view.specs.declared.view_error.ViewError.TheVariants.{Read, Frame as NoFrame};
 
 use crate::bodies::{answer, bootstrap, call, disembargo, finish, release, resolve};
+use crate::edition::Edition;
 use crate::layouts::MESSAGE_TAG;
 use crate::message::RpcMessage;
 use crate::structs::{root_struct, u16_of};
@@ -30,16 +31,17 @@ fn body(
     frame: &Frame,
     message: &Option<StructAt>,
     limits: &mut Limits,
+    edition: Edition,
 ) -> Result<RpcMessage, ViewError>
     ensures { RunsInMemory (λ found. found) result limits.new.words
-        (run (body_in (message_tag (sections_of frame.now message.now))
+        (run (body_in edition (message_tag (sections_of frame.now message.now))
         (message_body (sections_of frame.now message.now))) limits.old.words) }
 {
     match u16_of(frame, message, MESSAGE_TAG) {
         0 => Err(ViewError::Outside(Outside::Unimplemented)),
         1 => Ok(RpcMessage::Abort),
-        2 => call(alloc, frame, message, limits),
-        3 => answer(alloc, frame, message, limits),
+        2 => call(alloc, frame, message, limits, edition),
+        3 => answer(alloc, frame, message, limits, edition),
         4 => finish(frame, message, limits),
         5 => resolve(alloc, frame, message, limits),
         6 => release(frame, message, limits),
@@ -52,26 +54,36 @@ fn body(
 
 /// The message at the root pointer of a frame.
 #[tactic(auto, using(crate::proofs::Running::run_then), unfolding(crate::specs::Message::message_in, cap_reader::specs::Reading::pay_for, cap_reader::specs::Reading::and_then))]
-fn message(alloc: Global, frame: &Frame, limits: &mut Limits) -> Result<RpcMessage, ViewError>
+fn message(
+    alloc: Global,
+    frame: &Frame,
+    limits: &mut Limits,
+    edition: Edition,
+) -> Result<RpcMessage, ViewError>
     ensures { RunsInMemory (λ found. found) result limits.new.words
-        (run (message_in (root_tree limits.old.depth frame.now)) limits.old.words) }
+        (run (message_in edition (root_tree limits.old.depth frame.now)) limits.old.words) }
 {
     let message = root_struct(frame, limits)?;
-    body(alloc, frame, &message, limits)
+    body(alloc, frame, &message, limits, edition)
 }
 
-/// The message of a frame, within limits: as rpc.capnp lays its structs out. A null root pointer reads as a Message of
-/// defaults.
+/// The message of a frame, within limits: as rpc.capnp lays its structs out in this edition. A null root pointer reads
+/// as a Message of defaults.
 ///
 /// Errors: `Read` where a pointer can't be followed within the limits, `BadTag` for a tag that this profile doesn't
-/// list, `Outside` for what is listed and outside of this profile, `OutOfMemory`. The first one in the order of reading
-/// is answered: the Message and its tag; then the data of the body, judged whole, where of several faults the one is
-/// answered that comes first in the order `BadTag`, `Level`, `LaterField`; then what its pointers hold, a
-/// capability table before the content, and each entry of a table, and each operation of a transform, with what it
-/// holds before the next one.
-pub fn read_message(alloc: Global, frame: &Frame, limits: Limits) -> Result<RpcMessage, ViewError>
+/// list, `Outside` for what is listed and outside of this profile or of the edition, `OutOfMemory`. The first one in the
+/// order of reading is answered: the Message and its tag; then the data of the body, judged whole, where of several
+/// faults the one is answered that comes first in the order `BadTag`, `Level`, `LaterField`; then what its pointers
+/// hold, a capability table before the content, and each entry of a table, and each operation of a transform, with what
+/// it holds before the next one.
+pub fn read_message(
+    alloc: Global,
+    frame: &Frame,
+    limits: Limits,
+    edition: Edition,
+) -> Result<RpcMessage, ViewError>
     // Which message, or which fault.
-    ensures exact { GivesInMemory (λ message. message) result (message_of frame.now limits) }
+    ensures exact { GivesInMemory (λ message. message) result (message_of edition frame.now limits) }
     // A message that is spelled in one of the forms of Spells is read.
     ensures spelled { (words : List ℕ) (message : RpcMessage) (cost depth : ℕ)
         → Spells words message cost depth → frame.now ≡ words ∷ [] → cost ≤ limits.words
@@ -79,18 +91,23 @@ pub fn read_message(alloc: Global, frame: &Frame, limits: Limits) -> Result<RpcM
     // More words never change a message, and with fewer than it costs it isn't read.
     ensures priced { IfOk result
         (λ message. (cost : ℕ) × (cost ≤ limits.words)
-        × HasPrice frame.now limits.depth message cost) }
+        × HasPrice edition frame.now limits.depth message cost) }
     // Running out of memory is `OutOfMemory` alone, and never a pointer's fault.
     ensures memory { result ≢ Err (Read OutOfMemory) }
 {
     let mut limits = limits;
-    message(alloc, frame, &mut limits)
+    message(alloc, frame, &mut limits, edition)
 }
 
 /// The message of a frame's bytes, within limits: [`read_message`] after the frame was read, whose fault is `Frame`.
-pub fn read_bytes(alloc: Global, bytes: Bytes, limits: Limits) -> Result<RpcMessage, ViewError>
+pub fn read_bytes(
+    alloc: Global,
+    bytes: Bytes,
+    limits: Limits,
+    edition: Edition,
+) -> Result<RpcMessage, ViewError>
     // Which message, or which fault.
-    ensures exact { GivesInMemory (λ message. message) result (message_of_bytes bytes limits) }
+    ensures exact { GivesInMemory (λ message. message) result (message_of_bytes edition bytes limits) }
     // Bytes that aren't a frame are refused by the fault of the frame, and never because memory ran out.
     ensures frame { (fault : FrameError) → segments_of bytes ≡ Err fault
         → result ≡ Err (NoFrame fault) }
@@ -98,5 +115,5 @@ pub fn read_bytes(alloc: Global, bytes: Bytes, limits: Limits) -> Result<RpcMess
     ensures memory { result ≢ Err (Read OutOfMemory) }
 {
     let frame = Frame::read(bytes)?;
-    read_message(alloc, &frame, limits)
+    read_message(alloc, &frame, limits, edition)
 }

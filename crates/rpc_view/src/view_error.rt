@@ -16,7 +16,8 @@ pub enum Outside {
     Level,
     /// The message `unimplemented`.
     Unimplemented,
-    /// A bit that later editions of rpc.capnp use for what changes the life of a number.
+    /// A field of the later edition of rpc.capnp that changes the life of a number, in a message that is read by the
+    /// first one.
     LaterField,
 }
 

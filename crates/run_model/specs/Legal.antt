@@ -123,6 +123,32 @@ abbrev pub hands : Name → Name → Step → Bool
 hands c d (AnswerBy v x y) = is_same_call x c && is_same_call y d
 hands c d _ = false
 
+-- a step of the vat sends the call on
+abbrev pub sends_on : Name → ℕ → Step → Bool
+sends_on c v (Send w connection (Call d target interface method caps)) = (w == v) && is_same_call d c
+sends_on c v _ = false
+
+-- (rpc.capnp, Return.takeFromOtherQuestion)
+-- a step passes the call back: the Return takes the call's own results, since the call led back over the connection by which
+-- it came and was sent on there
+abbrev pub passes_back : Name → Step → Bool
+passes_back c (Send v connection (Taken d by)) = is_same_call d c && is_same_call by c
+passes_back c _ = false
+
+-- a vat, whichever it is, passed the call back on one of its connections
+abbrev pub is_passed_back : Name → PastSteps → Bool
+is_passed_back c before = list_any (passes_back c) before
+
+-- the cap is a field of a call that was passed back
+abbrev pub is_passed_field : Cap → PastSteps → Bool
+is_passed_field (FieldOf c path) before = is_passed_back c before
+is_passed_field _ before = false
+
+-- a cap leads on to another: by 1 or more turns; a field of a call that was passed back leads on to itself too, since it
+-- comes back to where it stands for itself
+abbrev pub LeadsOn : PastSteps → Cap → Cap → Type 0
+LeadsOn before a b = LeadsByTurns before a b ⊎ ((a ≡ b) × IsTrue (is_passed_field a before))
+
 -- what a vat may send
 abbrev pub MaySend : PastSteps → ℕ → Message → Type 0
 -- a Bootstrap: it is the vat's own call, and new
@@ -130,13 +156,14 @@ MaySend before v (Boot c) = (c.maker ≡ v) × IsNew before c
 -- a Call: it is at the vat, its goal leads to the target, and interface and method are those with which it came there
 MaySend before v (Call c target interface method caps) =
     IsSomeAnd (at_vat before c v) (λ asked. Leads before asked.goal target × (interface ≡ asked.interface) × (method ≡ asked.method))
--- a Return with results: the call was answered, and its field leads by 1 or more turns to the cap given at each path
+-- a Return with results: the call was answered or passed back, and its field leads on to the cap given at each path
 MaySend before v (Return c results caps) =
-    IsTrue (list_any (answers_call c) before) × AllByRecursion (λ result. LeadsByTurns before (FieldOf c result.0) result.1) results
--- a Resolve: the promise leads by 1 or more turns to the cap
-MaySend before v (Resolve promise cap) = LeadsByTurns before promise cap
--- a Return that takes the results of another call: the call was answered by that one
-MaySend before v (Taken c by) = IsTrue (list_any (hands c by) before)
+    IsTrue (list_any (answers_call c) before || is_passed_back c before) × AllByRecursion (λ result. LeadsOn before (FieldOf c result.0) result.1) results
+-- a Resolve: the promise leads on to the cap
+MaySend before v (Resolve promise cap) = LeadsOn before promise cap
+-- a Return that takes the results of a call: the one that it returns was answered by that one, or is that one and the vat
+-- sent it on
+MaySend before v (Taken c by) = IsTrue (list_any (hands c by) before || (is_same_call c by && list_any (sends_on c v) before))
 -- nothing is asked of the others
 MaySend before v (Late c) = ⊤
 MaySend before v (Failed c) = ⊤

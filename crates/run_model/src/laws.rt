@@ -1,13 +1,13 @@
 //! Laws of runs, which hold of every run and not of one call. Each speaks of the steps before a point, the newest first.
 
-ghost use Rattle.std.specs.Prelude.{◌≡◌, ◌≢◌, ◌↔◌, ◌≤◌, ◌++◌, ◌∷◌, [], ◌⊎◌, ℕ, List, Option, Some, None, IsTrue, IsFalse, IsSome, IsSomeAnd};
+ghost use Rattle.std.specs.Prelude.{◌≡◌, ◌≢◌, ◌↔◌, ◌≤◌, ◌++◌, ◌∷◌, [], ◌⊎◌, ◌&&◌, ◌||◌, ℕ, List, Option, Some, None, IsTrue, IsFalse, IsSome, IsSomeAnd};
 ghost use Rattle.std.specs.List.{list_any, AllByRecursion};
 ghost use Rattle.run_model.specs.Types.{Name, Cap, Object, FieldOf, Message, Boot, Call, Return, Taken, Resolve, Step, Send, Receive};
-ghost use Rattle.run_model.specs.Steps.{PastSteps, OneOf, EachStep, last_step_answer, count_steps};
+ghost use Rattle.run_model.specs.Steps.{PastSteps, is_same_call, OneOf, EachStep, last_step_answer, count_steps};
 ghost use Rattle.run_model.specs.Leads.{Turns, Leads, LeadsByTurns};
 ghost use Rattle.run_model.specs.Has.{Brings, Has};
 ghost use Rattle.run_model.specs.Places.{Asked, at_vat};
-ghost use Rattle.run_model.specs.Legal.{IsLegal, IsLegalRun, begins_call, ends, answers_call, hands, arrives, answers_or_faults, delivers_call};
+ghost use Rattle.run_model.specs.Legal.{IsLegal, IsLegalRun, begins_call, ends, answers_call, hands, is_passed_back, LeadsOn, arrives, answers_or_faults, delivers_call};
 ghost use Rattle.run_model.specs.Links.{IsLinked, IsLinkedRun};
 ghost use Rattle.run_model.specs.UnderWay.{IsUnderWay, IsSomewhere};
 ghost use Rattle.run_model.specs.Right.{request_in_make, ReachesObject, IsOrdered};
@@ -81,27 +81,27 @@ pub fn what_is_received_was_sent()
         × (before ≡ later ++ Send w connection m ∷ earlier) }
 {}
 
-/// Where each step is legal, what a received message says holds: the call of a Return with results was answered, its field
-/// leads by 1 or more turns to what the Return gives at each path, and a promise leads so to what a Resolve says. The call of
-/// a Return that takes another call's results was answered by that one (`taken`), so each of its fields turns to the other's
-/// at the same path (`fields`).
+/// Where each step is legal, what a received message says holds: the call of a Return with results was answered or passed
+/// back, its field leads on to what the Return gives at each path, and a promise leads on to what a Resolve says. The call of
+/// a Return that takes a call's results was answered by that one, or is that one and was passed back (`taken`). Where a call
+/// was answered by another, each of its fields turns to the other's at the same path (`fields`).
 pub fn what_is_received_is_led_to()
     ensures results { (before : PastSteps) → EachStep IsLegal before
         → (v connection : ℕ) (c : Name) (results : List (List ℕ × Cap)) (caps bound : List Cap)
         → IsLinked before (Receive v connection (Return c results caps) bound)
-        → AllByRecursion (λ result. LeadsByTurns before (FieldOf c result.0) result.1) results }
+        → AllByRecursion (λ result. LeadsOn before (FieldOf c result.0) result.1) results }
     ensures answered { (before : PastSteps) → EachStep IsLegal before
         → (v connection : ℕ) (c : Name) (results : List (List ℕ × Cap)) (caps bound : List Cap)
         → IsLinked before (Receive v connection (Return c results caps) bound)
-        → IsTrue (list_any (answers_call c) before) }
+        → IsTrue (list_any (answers_call c) before || is_passed_back c before) }
     ensures resolved { (before : PastSteps) → EachStep IsLegal before
         → (v connection : ℕ) (promise cap : Cap) (bound : List Cap)
         → IsLinked before (Receive v connection (Resolve promise cap) bound)
-        → LeadsByTurns before promise cap }
+        → LeadsOn before promise cap }
     ensures taken { (before : PastSteps) → EachStep IsLegal before
         → (v connection : ℕ) (c by : Name) (bound : List Cap)
         → IsLinked before (Receive v connection (Taken c by) bound)
-        → IsTrue (list_any (hands c by) before) }
+        → IsTrue (list_any (hands c by) before || (is_same_call c by && is_passed_back c before)) }
     ensures fields { (before : PastSteps) (c by : Name) (path : List ℕ)
         → IsTrue (list_any (hands c by) before)
         → Turns before (FieldOf c path) (FieldOf by path) }

@@ -11,7 +11,7 @@
 //! [`StepNumbers`] counts the steps of each vat, for the crates above (`specs/StepNumbers.antt`, which is no part of the
 //! meaning).
 //! What holds of all runs by these definitions is promised by the functions of `src/laws.rt`, which do nothing.
-//! `proofs/OneTailCall.antt` is an example of a run.
+//! `proofs/OneTailCall.antt` and `proofs/OneCallPassedBack.antt` are examples of runs.
 #![tactic(auto)]
 
 mod cap;

@@ -42,7 +42,8 @@ pub enum Message {
     /// A Return without results: an exception, or canceled.
     Failed(Name),
     /// A Return that takes its results from another question (rpc.capnp, `Return.takeFromOtherQuestion`) and wasn't late when
-    /// it was sent: the results of the first call are those of the second.
+    /// it was sent: the results of the first call are those of the second. Where both are one call, it is passed back: it was
+    /// sent on over the connection by which it came.
     Taken(Name, Name),
     /// A Return, late or not, which says that the results were sent elsewhere (rpc.capnp, `Return.resultsSentElsewhere`).
     Elsewhere(Name),

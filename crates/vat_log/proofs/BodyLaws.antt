@@ -1,5 +1,7 @@
 -- The fields of each kind of record are spelled as they are read, and read as they are spelled.
-use Rattle.std.proofs.Common.{◌≡◌, ℕ, ◌+◌, ◌^◌, ◌<◌, ◌≤◌, List, ◌++◌, length, All, Result, Ok, refl, ap, subst, arith}
+use Rattle.std.proofs.Common.{◌≡◌, ℕ, ◌+◌, ◌^◌, ◌<◌, ◌≤◌, List, [], ◌∷◌, ◌++◌, length, All, Result, Ok, refl, ap, subst, ◌∙◌, arith}
+use Rattle.std.specs.Int.{w16, w32}
+use Rattle.std.specs.List.{flat_map}
 use Rattle.vat_log.specs.declared.body.Body.{Body}
 use Rattle.vat_log.specs.declared.body.Body.TheVariants as body
 use Rattle.vat_log.specs.declared.error.LogError.{LogError}
@@ -7,10 +9,11 @@ use Rattle.vat_log.specs.declared.kind.RecordKind.{RecordKind}
 use Rattle.vat_log.specs.declared.kind.RecordKind.TheVariants.{Host, Vow, Fulfil, Break, Make, Field, Deliver, Answer, Fault, Send, Receive, AnswerBy}
 use Rattle.vat_log.specs.declared.passage.Passage.{Passage}
 use Rattle.vat_log.specs.declared.version.LogVersion.{LogVersion}
+use Rattle.vat_log.specs.declared.version.LogVersion.TheVariants.{One, Two, Three}
 use Rattle.vat_log.specs.Fits.{count_reach, IsCounted, IsWide, IsListed, Fits}
 use Rattle.vat_log.specs.Log.{written_version}
 use Rattle.vat_log.specs.Reading.{◌>>=◌, passage_at, host_at, vow_at, fulfil_at, break_at, make_at, field_at, deliver_at, answer_at, fault_at, send_at, receive_at, answer_by_at, fields_at}
-use Rattle.vat_log.specs.Spelling.{passage_bytes, kind_in, fields_bytes}
+use Rattle.vat_log.specs.Spelling.{count_width, kind_byte, passage_bytes, kind_in, fields_bytes, record_bytes}
 use Rattle.vat_log.proofs.Spans.{IsBytes, ok_is, Spans, Spans-join, Spans-first, Spans-second, IsField, then_takes}
 use Rattle.vat_log.proofs.FieldLaws.{IsNumber, IsList, IsFrame, u16_field, u32_field, u64_field, nonzero_field, path_field, references_field, results_field, frame_field}
 
@@ -20,20 +23,54 @@ pub record FitsWide (version : LogVersion) (said : Body) : Type 0 where
   pub wide : IsWide said
   pub listed : IsListed version said
 
--- the version that is written spells each count within the limit
-pub listed_as_written : (said : Body) → IsCounted said → IsListed written_version said
-listed_as_written (body.Host reference object) h = tt
-listed_as_written (body.Vow reference) h = tt
-listed_as_written (body.Fulfil reference to) h = tt
-listed_as_written (body.Break reference) h = tt
-listed_as_written (body.Make call reference interface method) h = tt
-listed_as_written (body.Field reference call path) h = omega (arith, h)
-listed_as_written (body.Deliver call object) h = tt
-listed_as_written (body.Answer call results) h = (omega (arith, h.0), λ k d lt. omega (arith, h.1 k d lt))
-listed_as_written (body.Fault call) h = tt
-listed_as_written (body.Send connection call references frame) h = omega (arith, h.0)
-listed_as_written (body.Receive connection call references frame) h = omega (arith, h.0)
-listed_as_written (body.AnswerBy call by) h = tt
+-- ---- versions whose counts have 32 bits
+
+not_16 : {A : Type 0} → w16 ≡ w32 → A
+not_16 e = absurd (cc e)
+
+reaches : (version : LogVersion) → count_width version ≡ w32 → count_reach version ≡ 2 ^ 32
+reaches One wide = not_16 wide
+reaches Two wide = refl
+reaches Three wide = refl
+
+-- such a version spells each count within the limit
+pub listed_as_written : (version : LogVersion) → count_width version ≡ w32 → (said : Body) → IsCounted said → IsListed version said
+listed_as_written version wide (body.Host reference object) h = tt
+listed_as_written version wide (body.Vow reference) h = tt
+listed_as_written version wide (body.Fulfil reference to) h = tt
+listed_as_written version wide (body.Break reference) h = tt
+listed_as_written version wide (body.Make call reference interface method) h = tt
+listed_as_written version wide (body.Field reference call path) h = omega (arith, h, reaches version wide)
+listed_as_written version wide (body.Deliver call object) h = tt
+listed_as_written version wide (body.Answer call results) h = (omega (arith, h.0, reaches version wide), λ k d lt. omega (arith, h.1 k d lt, reaches version wide))
+listed_as_written version wide (body.Fault call) h = tt
+listed_as_written version wide (body.Send connection call references frame) h = omega (arith, h.0, reaches version wide)
+listed_as_written version wide (body.Receive connection call references frame) h = omega (arith, h.0, reaches version wide)
+listed_as_written version wide (body.AnswerBy call by) h = tt
+
+same_fields : (said : Body) → fields_bytes Three said ≡ fields_bytes written_version said
+same_fields (body.Host reference object) = refl
+same_fields (body.Vow reference) = refl
+same_fields (body.Fulfil reference to) = refl
+same_fields (body.Break reference) = refl
+same_fields (body.Make call reference interface method) = refl
+same_fields (body.Field reference call path) = refl
+same_fields (body.Deliver call object) = refl
+same_fields (body.Answer call results) = refl
+same_fields (body.Fault call) = refl
+same_fields (body.Send connection call references frame) = refl
+same_fields (body.Receive connection call references frame) = refl
+same_fields (body.AnswerBy call by) = refl
+
+same_records : (said : List Body) → flat_map (record_bytes Three) said ≡ flat_map (record_bytes written_version) said
+same_records [] = refl
+same_records (x ∷ xs) = ap (λ (fields : List ℕ). kind_byte (kind_in x) ∷ fields ++ flat_map (record_bytes Three) xs) (same_fields x) ∙ ap (λ (rest : List ℕ). record_bytes written_version x ++ rest) (same_records xs)
+
+-- such versions spell records alike
+pub records_alike : (version : LogVersion) → count_width version ≡ w32 → (said : List Body) → flat_map (record_bytes version) said ≡ flat_map (record_bytes written_version) said
+records_alike One wide said = not_16 wide
+records_alike Two wide said = refl
+records_alike Three wide said = same_records said
 
 -- ---- fields that follow one another
 

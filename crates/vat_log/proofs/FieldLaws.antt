@@ -8,7 +8,7 @@ use Rattle.std.proofs.lemmas.List.Elements.{All-from_recursion, recursion_from_A
 use Rattle.vat_log.specs.declared.error.LogError.{LogError}
 use Rattle.vat_log.specs.declared.error.LogError.TheVariants.{Short, ZeroNumber, TooLong}
 use Rattle.vat_log.specs.declared.version.LogVersion.{LogVersion}
-use Rattle.vat_log.specs.declared.version.LogVersion.TheVariants.{One, Two}
+use Rattle.vat_log.specs.declared.version.LogVersion.TheVariants.{One, Two, Three}
 use Rattle.vat_log.specs.Fits.{count_limit, count_reach, frame_limit}
 use Rattle.vat_log.specs.Reading.{◌>>=◌, number_at, nonzero_at, count_at, many_at, list_at, path_at, answered_at, frame_at}
 use Rattle.vat_log.specs.Spelling.{number_bytes, count_width, counted_list, path_bytes, answered_bytes, references_bytes, frame_bytes}
@@ -62,6 +62,7 @@ IsCount version n = (n ≤ count_limit) × (n < count_reach version)
 wide_count : (version : LogVersion) → IsWidth (count_width version) (count_reach version)
 wide_count One = wide16
 wide_count Two = wide32
+wide_count Three = wide32
 
 wide_count_field : (version : LogVersion) (bytes : List ℕ) → IsField ℕ bytes (number_at (count_width version) bytes) (number_bytes (count_width version)) (λ n. n < count_reach version)
 wide_count_field version bytes = number_field (count_width version) (count_reach version) (wide_count version) bytes

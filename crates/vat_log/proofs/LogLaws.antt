@@ -15,7 +15,7 @@ use Rattle.vat_log.specs.declared.error.LogError.TheVariants.{BadMagic, TooLong}
 use Rattle.vat_log.specs.declared.kind.RecordKind.{RecordKind}
 use Rattle.vat_log.specs.declared.kind.RecordKind.TheVariants.{Host, Vow, Fulfil, Break, Make, Field, Deliver, Answer, Fault, Send, Receive, AnswerBy}
 use Rattle.vat_log.specs.declared.version.LogVersion.{LogVersion}
-use Rattle.vat_log.specs.declared.version.LogVersion.TheVariants.{One, Two}
+use Rattle.vat_log.specs.declared.version.LogVersion.TheVariants.{One, Two, Three}
 use Rattle.vat_log.specs.Fits.{LogFits}
 use Rattle.vat_log.specs.Log.{Log}
 use Rattle.vat_log.specs.Reading.{◌>>=◌, number_at, fields_at, kind_with, known_kind, kind_at, records_at, version_at, log_within}
@@ -145,11 +145,16 @@ Begins bytes version = starts_with eqb bytes (log_magic version) ≡ true
 version_was : (bytes : List ℕ) (version : LogVersion) → version_at bytes ≡ Ok version → Begins bytes version
 unfolding version_at
 version_was bytes version e =
-    elim (chosen (starts_with eqb bytes (log_magic One)) (Ok One) (cond (starts_with eqb bytes (log_magic Two)) (Ok Two) (Err BadMagic)) (Ok version) e) [
+    let third : Result LogVersion LogError = cond (starts_with eqb bytes (log_magic Three)) (Ok Three) (Err BadMagic) in
+    let second : Result LogVersion LogError = cond (starts_with eqb bytes (log_magic Two)) (Ok Two) third in
+    elim (chosen (starts_with eqb bytes (log_magic One)) (Ok One) second (Ok version) e) [
       | inl p ↦ subst (Begins bytes) (ok_is One version p.1) p.0
-      | inr p ↦ elim (chosen (starts_with eqb bytes (log_magic Two)) (Ok Two) (Err BadMagic) (Ok version) p.1) [
+      | inr p ↦ elim (chosen (starts_with eqb bytes (log_magic Two)) (Ok Two) third (Ok version) p.1) [
         | inl q ↦ subst (Begins bytes) (ok_is Two version q.1) q.0
-        | inr q ↦ absurd (cc q.1)
+        | inr q ↦ elim (chosen (starts_with eqb bytes (log_magic Three)) (Ok Three) (Err BadMagic) (Ok version) q.1) [
+          | inl r ↦ subst (Begins bytes) (ok_is Three version r.1) r.0
+          | inr r ↦ absurd (cc r.1)
+        ]
       ]
     ]
 
@@ -158,6 +163,7 @@ version_was bytes version e =
 magic_long : (version : LogVersion) → length (log_magic version) ≡ 8
 magic_long One = refl
 magic_long Two = refl
+magic_long Three = refl
 
 begins : (bytes : List ℕ) (version : LogVersion) → Begins bytes version → Spans bytes 0 (log_magic version) 8
 begins bytes version e =
@@ -169,14 +175,21 @@ begins bytes version e =
 begins_again : (bytes : List ℕ) (version : LogVersion) (after : ℕ) → Spans bytes 0 (log_magic version) after → Begins bytes version
 begins_again bytes version after p = (starts_is Decides-eqb bytes (log_magic version) (starts_with eqb bytes (log_magic version)) refl).1 (drop after bytes) p.parts
 
--- bytes that begin with version 2's magic don't begin with version 1's
-not_one : (bytes rest : List ℕ) → bytes ≡ log_magic Two ++ rest → starts_with eqb bytes (log_magic One) ≡ false
-not_one bytes rest e = rw e refl
+-- bytes that begin with a magic don't begin with one of those before it
+two_not_one : (bytes rest : List ℕ) → bytes ≡ log_magic Two ++ rest → starts_with eqb bytes (log_magic One) ≡ false
+two_not_one bytes rest e = rw e refl
+
+three_not_one : (bytes rest : List ℕ) → bytes ≡ log_magic Three ++ rest → starts_with eqb bytes (log_magic One) ≡ false
+three_not_one bytes rest e = rw e refl
+
+three_not_two : (bytes rest : List ℕ) → bytes ≡ log_magic Three ++ rest → starts_with eqb bytes (log_magic Two) ≡ false
+three_not_two bytes rest e = rw e refl
 
 version_again : (bytes : List ℕ) (version : LogVersion) (after : ℕ) → Spans bytes 0 (log_magic version) after → version_at bytes ≡ Ok version
 unfolding version_at
 version_again bytes One after p = rw (begins_again bytes One after p) refl
-version_again bytes Two after p = rw (not_one bytes (drop after bytes) p.parts, begins_again bytes Two after p) refl
+version_again bytes Two after p = rw (two_not_one bytes (drop after bytes) p.parts, begins_again bytes Two after p) refl
+version_again bytes Three after p = rw (three_not_one bytes (drop after bytes) p.parts, three_not_two bytes (drop after bytes) p.parts, begins_again bytes Three after p) refl
 
 whole : (bytes text : List ℕ) → Spans bytes 0 text (length bytes) → bytes ≡ text
 whole bytes text p = p.parts ∙ ap (λ rest. text ++ rest) (drop_all (length bytes) bytes (omega arith)) ∙ append-nil text

@@ -6,7 +6,7 @@ use Rattle.vat_log.specs.declared.body.Body.TheVariants.{Host, Vow, Fulfil, Brea
 use Rattle.vat_log.specs.declared.error.LogError.{LogError}
 use Rattle.vat_log.specs.declared.error.LogError.TheVariants.{ZeroNumber, TooLong, OutOfMemory}
 use Rattle.vat_log.specs.declared.version.LogVersion.{LogVersion}
-use Rattle.vat_log.specs.declared.version.LogVersion.TheVariants.{One, Two}
+use Rattle.vat_log.specs.declared.version.LogVersion.TheVariants.{One, Two, Three}
 use Rattle.vat_log.specs.Log.{Log}
 
 -- how many references, results or path elements a list may have
@@ -17,6 +17,7 @@ count_limit = 1048576
 abbrev pub count_reach : LogVersion → ℕ
 count_reach One = 2 ^ 16
 count_reach Two = 2 ^ 32
+count_reach Three = 2 ^ 32
 
 -- how many bytes a frame may have
 abbrev pub frame_limit : ℕ

@@ -11,7 +11,7 @@ use Rattle.vat_log.specs.declared.kind.RecordKind.{RecordKind}
 use Rattle.vat_log.specs.declared.kind.RecordKind.TheVariants.{Host, Vow, Fulfil, Break, Make, Field, Deliver, Answer, Fault, Send, Receive, AnswerBy}
 use Rattle.vat_log.specs.declared.passage.Passage.{Passage}
 use Rattle.vat_log.specs.declared.version.LogVersion.{LogVersion}
-use Rattle.vat_log.specs.declared.version.LogVersion.TheVariants.{One, Two}
+use Rattle.vat_log.specs.declared.version.LogVersion.TheVariants.{One, Two, Three}
 use Rattle.vat_log.specs.Fits.{count_limit, frame_limit, record_limit}
 use Rattle.vat_log.specs.Log.{Log}
 use Rattle.vat_log.specs.Spelling.{log_magic, count_width}
@@ -221,6 +221,7 @@ unfoldable pub version_at : List ℕ → Result LogVersion LogError
 version_at bytes =
     if starts_with nat_eq bytes (log_magic One) then Ok One
     else if starts_with nat_eq bytes (log_magic Two) then Ok Two
+    else if starts_with nat_eq bytes (log_magic Three) then Ok Three
     else Err BadMagic
 
 -- The log that these bytes spell, of so many records at most, or the first fault.

@@ -7,18 +7,20 @@ use Rattle.vat_log.specs.declared.body.Body.TheVariants as body
 use Rattle.vat_log.specs.declared.kind.RecordKind.{RecordKind}
 use Rattle.vat_log.specs.declared.kind.RecordKind.TheVariants.{Host, Vow, Fulfil, Break, Make, Field, Deliver, Answer, Fault, Send, Receive, AnswerBy}
 use Rattle.vat_log.specs.declared.version.LogVersion.{LogVersion}
-use Rattle.vat_log.specs.declared.version.LogVersion.TheVariants.{One, Two}
+use Rattle.vat_log.specs.declared.version.LogVersion.TheVariants.{One, Two, Three}
 use Rattle.vat_log.specs.Log.{Log}
 
--- the bytes that begin a log of this version: VATLOG01 or VATLOG02
+-- the bytes that begin a log of this version: VATLOG01, VATLOG02 or VATLOG03
 abbrev pub log_magic : LogVersion → List ℕ
 log_magic One = 86 ∷ 65 ∷ 84 ∷ 76 ∷ 79 ∷ 71 ∷ 48 ∷ 49 ∷ []
 log_magic Two = 86 ∷ 65 ∷ 84 ∷ 76 ∷ 79 ∷ 71 ∷ 48 ∷ 50 ∷ []
+log_magic Three = 86 ∷ 65 ∷ 84 ∷ 76 ∷ 79 ∷ 71 ∷ 48 ∷ 51 ∷ []
 
 -- how wide a count is
 abbrev pub count_width : LogVersion → Width
 count_width One = w16
 count_width Two = w32
+count_width Three = w32
 
 -- the byte that begins a record of this kind
 abbrev pub kind_byte : RecordKind → ℕ

@@ -83,7 +83,7 @@ fn wide_count_at(version: LogVersion, bytes: &[u8], at: usize) -> Result<(u32, u
             let (count, after) = u16_at(bytes, at)?;
             Ok((count as u32, after))
         }
-        LogVersion::Two => u32_at(bytes, at),
+        LogVersion::Two | LogVersion::Three => u32_at(bytes, at),
     }
 }
 

@@ -3,8 +3,10 @@
 //! It stands on `bytes`, from which frames are cut without copying, and on `cap_frame` for its paths. How a log is
 //! spelled is said in `specs/Spelling.antt`, how bytes are read and which fault is first in `specs/Reading.antt`, what
 //! a log can hold in `specs/Fits.antt`. [`parse_log`] and [`write_log`] answer exactly what these say, and a [`VatLog`]
-//! is what its bytes spell. Both versions are read, version 2 is written, and [`migrate`] makes it of a version 1 log.
-//! A [`LogWriter`] is for a runtime of one thread, which writes its log record by record.
+//! is what its bytes spell. All three versions are read. Version 2 is written, or version 3 where a runtime speaks the
+//! later edition of rpc.capnp ([`write_later_log`], [`LogWriter::later`]). [`migrate`] makes a version 2 log of one of
+//! version 1, and [`raise`] a version 3 log of any. A [`LogWriter`] is for a runtime of one thread, which writes its log
+//! record by record.
 #![tactic(auto)]
 
 mod body;
@@ -17,6 +19,7 @@ mod log;
 mod passage;
 mod reading;
 mod record;
+mod storing;
 mod version;
 mod writer;
 mod writing;
@@ -24,6 +27,7 @@ mod writing;
 pub use body::{Body, References, ResultReferences};
 pub use error::LogError;
 pub use laws::one_spelling;
-pub use log::{VatLog, migrate, parse_log, write_lent_log, write_log};
+pub use log::{VatLog, migrate, parse_log, raise};
 pub use record::Record;
+pub use storing::{write_later_log, write_lent_later_log, write_lent_log, write_log};
 pub use writer::LogWriter;

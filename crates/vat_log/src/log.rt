@@ -1,20 +1,22 @@
 //! Logs.
 
-ghost use Rattle.std.specs.Prelude.{◌≡◌, ◌<◌, ◌≤◌, ◌^◌, Ok, true, false, nat_eq, length, map, slice_get, All, Err, IfErr, IfOk};
+ghost use Rattle.std.specs.Prelude.{◌≡◌, ◌<◌, ◌≤◌, ◌^◌, Ok, true, false, nat_eq, length, slice_get, All, Err, IfErr, IfOk};
 ghost use Rattle.std.specs.List.{starts_with};
 ghost use Rattle.std.specs.Option.{option_copied};
+ghost use Rattle.std.specs.Int.{w32};
 ghost use Rattle.vat_log.specs.Reading.{GivesInMemory, records_at, version_at, log_within, log_of};
-ghost use Rattle.vat_log.specs.Fits.{record_limit, Fits, IsWide, LogFits, stored_log};
+ghost use Rattle.vat_log.specs.Fits.{record_limit, Fits, IsWide, LogFits};
 ghost use Rattle.vat_log.specs.Ends.{AreEnds};
-ghost use Rattle.vat_log.specs.Log.{Log, version_number, written_version};
-ghost use Rattle.vat_log.specs.Migrated.{migrated};
-ghost use Rattle.vat_log.specs.Spelling.{log_magic, log_bytes};
+ghost use Rattle.vat_log.specs.Log.{Log, version_number, later_version};
+ghost use Rattle.vat_log.specs.Migrated.{migrated, raised};
+ghost use Rattle.vat_log.specs.Spelling.{log_magic, count_width, log_bytes};
 
 use crate::error::LogError;
 use crate::fields::u32_at;
 use crate::kind::read_kind;
 use crate::limits::MAX_RECORDS;
 use crate::record::Record;
+use crate::storing::{lend, log_with_lent};
 use crate::version::{LogVersion, read_version};
 use crate::writing::written_log;
 use bytes::Bytes;
@@ -46,7 +48,7 @@ impl Model for VatLog {
 impl VatLog {
     ghost use Rattle.vat_log.specs.Parsed.{IsParsed};
 
-    /// The version of the format in which the log stands: 1 or 2.
+    /// The version of the format in which the log stands: 1, 2 or 3.
     pub fn version(&self) -> u32
         ensures value { result ≡ version_number self.now.version }
     {
@@ -130,8 +132,8 @@ fn parts_of(
     Ok((version, vat, records))
 }
 
-/// The log that these bytes spell: the magic `VATLOG01` or `VATLOG02`, then the vat's number of 4 bytes, then the records one after
-/// another (docs/FORMATS.md).
+/// The log that these bytes spell: the magic `VATLOG01`, `VATLOG02` or `VATLOG03`, then the vat's number of 4 bytes, then
+/// the records one after another (docs/FORMATS.md).
 ///
 /// # Errors
 ///
@@ -172,36 +174,49 @@ fn cut_frames(records: &mut Vec<Record>, bytes: &Bytes, ends: &[usize]) -> Resul
     Ok(())
 }
 
-/// The one spelling, in version 2, of the log with this vat and these records, whose frames are taken out of it, so that
-/// no frame is kept twice. The records say the same as before, also where memory is refused.
-fn spelled(alloc: Global, vat: u32, records: &mut Vec<Record>) -> Result<Bytes, AllocError>
+/// The one spelling, in this version, of the log with this vat and these records, whose frames are taken out of it, so
+/// that no frame is kept twice. The records say the same as before, also where memory is refused.
+fn spelled(
+    alloc: Global,
+    version: LogVersion,
+    vat: u32,
+    records: &mut Vec<Record>,
+) -> Result<Bytes, AllocError>
+    requires { count_width version ≡ w32 }
     ensures same { records.new.items ≡ records.old.items }
     ensures spelled { IfOk result (λ bytes.
         bytes ≡ log_bytes (record {
-          version = written_version;
+          version = version;
           vat = vat;
           records = records.old.items;
         })) }
     ensures fit { IfOk result (λ bytes. All Fits records.old.items) }
     ensures wide { IfOk result (λ bytes. All IsWide records.old.items) }
 {
-    let written = written_log(alloc, vat, records)?;
+    let written = written_log(alloc, version, vat, records)?;
     cut_frames(records, &written.bytes, &written.ends)?;
     Ok(written.bytes)
 }
 
-/// The version 2 log of this vat with these records, which are handed back where memory is refused.
-pub(crate) fn log_with(alloc: Global, vat: u32, records: Vec<Record>) -> Result<VatLog, Vec<Record>>
-    requires { length records.items ≤ record_limit }
+/// The log of this vat with these records, in a version whose counts have 32 bits. The records are handed back where
+/// memory is refused.
+pub(crate) fn log_with(
+    alloc: Global,
+    version: LogVersion,
+    vat: u32,
+    records: Vec<Record>,
+) -> Result<VatLog, Vec<Record>>
+    requires counts { count_width version ≡ w32 }
+    requires few { length records.items ≤ record_limit }
     ensures ok { IfOk result (λ log. log
-        ≡ record { version = written_version; vat = vat; records = records.items }) }
+        ≡ record { version = version; vat = vat; records = records.items }) }
     ensures err { IfErr result (λ refused. refused.items ≡ records.items) }
 {
     let mut records = records;
-    match spelled(alloc, vat, &mut records) {
+    match spelled(alloc, version, vat, &mut records) {
         Ok(bytes) => Ok(VatLog {
             bytes,
-            version: LogVersion::Two,
+            version,
             vat,
             records,
         }),
@@ -209,99 +224,42 @@ pub(crate) fn log_with(alloc: Global, vat: u32, records: Vec<Record>) -> Result<
     }
 }
 
-/// Lends each of these.
-fn lend(alloc: Global, records: &[Record]) -> Result<Vec<&Record>, AllocError>
-    ensures { IfOk result (λ lent. map (λ entry. entry.now) lent.items ≡ records.now) }
-{
-    let mut lent = Vec::with_capacity(alloc, records.len())?;
-    for entry in records {
-        lent.push(entry)?;
-    }
-    Ok(lent)
-}
-
-/// A second list of the records that are lent.
-fn copied_records(alloc: Global, records: &[&Record]) -> Result<Vec<Record>, AllocError>
-    ensures { IfOk result (λ copied. copied.items ≡ map (λ entry. entry.now) records.now) }
-{
-    let mut copied = Vec::with_capacity(alloc, records.len())?;
-    for entry in records {
-        copied.push(entry.copy()?)?;
-    }
-    Ok(copied)
-}
-
-/// The version 2 log of this vat with the records that are lent. The only error is that memory ran out.
-fn log_with_lent(alloc: Global, vat: u32, records: &[&Record]) -> Result<VatLog, LogError>
-    requires { length records.now ≤ record_limit }
-    ensures ok { IfOk result (λ log.
-        log ≡ record {
-          version = written_version;
-          vat = vat;
-          records = map (λ entry. entry.now) records.now;
-        }) }
+/// The log with the same vat and records, in a version whose counts have 32 bits. The only error is that memory ran out.
+fn in_version(alloc: Global, version: LogVersion, log: &VatLog) -> Result<VatLog, LogError>
+    requires { count_width version ≡ w32 }
+    ensures ok { IfOk result (λ made. made ≡ record log.now { version = version }) }
     ensures err { IfErr result (λ e. e ≡ LogError.OutOfMemory) }
 {
-    let copies = copied_records(alloc, records)?;
-    log_with(alloc, vat, copies).map_err(|_| LogError::OutOfMemory)
+    let lent = lend(alloc, &log.records)?;
+    log_with_lent(alloc, version, log.vat, &lent)
 }
 
-/// The version 2 log of this vat with these records, in their order.
-///
-/// # Errors
-///
-/// `TooLong` where there are more than 1,048,576 records; or `OutOfMemory`, where a growth was refused.
-#[tactic(auto, unfolding(crate::specs::Fits::record_limit))]
-pub fn write_log(alloc: Global, vat: u32, records: &[Record]) -> Result<VatLog, LogError>
-    // Which log, or that there are too many records.
-    ensures exact { GivesInMemory (λ log. log) result
-        (stored_log (record { version = written_version; vat = vat; records = records.now })) }
-    // Too many records are refused as such before memory is asked for.
-    ensures too_many { record_limit < length records.now
-        → IfErr result (λ e. e ≡ LogError.TooLong) }
-{
-    if records.len() > MAX_RECORDS {
-        return Err(LogError::TooLong);
-    }
-    let lent = lend(alloc, records)?;
-    log_with_lent(alloc, vat, &lent)
-}
-
-/// The same as [`write_log`], where the records lie apart from one another.
-///
-/// # Errors
-///
-/// `TooLong` where there are more than 1,048,576 records; or `OutOfMemory`, where a growth was refused.
-#[tactic(auto, unfolding(crate::specs::Fits::record_limit))]
-pub fn write_lent_log(alloc: Global, vat: u32, records: &[&Record]) -> Result<VatLog, LogError>
-    // Which log, or that there are too many records.
-    ensures exact { GivesInMemory (λ log. log) result
-        (stored_log (record {
-          version = written_version;
-          vat = vat;
-          records = map (λ entry. entry.now) records.now;
-        })) }
-    // Too many records are refused as such before memory is asked for.
-    ensures too_many { record_limit < length records.now
-        → IfErr result (λ e. e ≡ LogError.TooLong) }
-{
-    if MAX_RECORDS < records.len() {
-        return Err(LogError::TooLong);
-    }
-    log_with_lent(alloc, vat, records)
-}
-
-/// The version 2 log with the same vat and records. Of a version 2 log it has the same bytes.
+/// The log with the same vat and records in a version of today: in version 2 where it is of version 1. It is judged as
+/// before, so a log of version 2 or 3 stays as it is.
 ///
 /// # Errors
 ///
 /// `OutOfMemory` alone.
 pub fn migrate(alloc: Global, log: &VatLog) -> Result<VatLog, LogError>
     ensures ok { IfOk result (λ made. made ≡ migrated log.now) }
-    // A log of that version stays as it is, and so do its bytes.
-    ensures same { log.now.version ≡ written_version → IfOk result (λ made. made ≡ log.now) }
+    // A log of version 2 or 3 stays as it is, and so do its bytes.
+    ensures same { 2 ≤ version_number log.now.version → IfOk result (λ made. made ≡ log.now) }
     ensures err { IfErr result (λ e. e ≡ LogError.OutOfMemory) }
 {
-    let lent = lend(alloc, &log.records)?;
-    log_with_lent(alloc, log.vat, &lent)
+    in_version(alloc, log.version.migrated(), log)
+}
+
+/// The version 3 log with the same vat and records: for the log of a runtime that spoke the later edition of rpc.capnp,
+/// where it was written in version 1 or 2 (docs/FORMATS.md). More may be good of it than of the log before.
+///
+/// # Errors
+///
+/// `OutOfMemory` alone.
+pub fn raise(alloc: Global, log: &VatLog) -> Result<VatLog, LogError>
+    ensures ok { IfOk result (λ made. made ≡ raised log.now) }
+    // A log of version 3 stays as it is, and so do its bytes.
+    ensures same { log.now.version ≡ later_version → IfOk result (λ made. made ≡ log.now) }
+    ensures err { IfErr result (λ e. e ≡ LogError.OutOfMemory) }
+{
+    in_version(alloc, LogVersion::Three, log)
 }

@@ -1,8 +1,11 @@
 //! The versions of the format.
 
 ghost use Rattle.std.specs.Prelude.{◌≡◌, ◌<◌, ◌≤◌, ◌^◌, length, All, IfOk};
+ghost use Rattle.std.specs.Int.{w32};
 ghost use Rattle.vat_log.specs.Log.{version_number};
+ghost use Rattle.vat_log.specs.Migrated.{migrated_version};
 ghost use Rattle.vat_log.specs.Reading.{version_at};
+ghost use Rattle.vat_log.specs.Spelling.{count_width};
 
 use crate::error::LogError;
 
@@ -13,6 +16,9 @@ pub(crate) enum LogVersion {
     One,
     /// `VATLOG02`, with counts of 32 bits.
     Two,
+    /// `VATLOG03`, of a runtime that speaks the later edition of rpc.capnp. What stands behind the magic is spelled as in
+    /// version 2.
+    Three,
 }
 
 impl LogVersion {
@@ -23,6 +29,18 @@ impl LogVersion {
         match self {
             LogVersion::One => 1,
             LogVersion::Two => 2,
+            LogVersion::Three => 3,
+        }
+    }
+
+    /// The version to which a log of this one is migrated. Its counts have 32 bits.
+    pub(crate) fn migrated(self) -> LogVersion
+        ensures value { result ≡ migrated_version self }
+        ensures wide { count_width result ≡ w32 }
+    {
+        match self {
+            LogVersion::One | LogVersion::Two => LogVersion::Two,
+            LogVersion::Three => LogVersion::Three,
         }
     }
 }
@@ -39,6 +57,9 @@ pub(crate) fn read_version(bytes: &[u8]) -> Result<LogVersion, LogError>
     }
     if bytes.starts_with(b"VATLOG02") {
         return Ok(LogVersion::Two);
+    }
+    if bytes.starts_with(b"VATLOG03") {
+        return Ok(LogVersion::Three);
     }
     Err(LogError::BadMagic)
 }

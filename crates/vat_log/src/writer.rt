@@ -1,44 +1,69 @@
 //! Writing a log record by record.
 
+ghost use Rattle.std.specs.Int.{w32};
 ghost use Rattle.std.specs.Prelude.{◌≡◌, ◌≤◌, ◌<◌, [], ◌∷◌, ◌++◌, length, OnOk, IfOk, IfErr};
 ghost use Rattle.vat_log.specs.Fits.{record_limit, NotPushed};
-ghost use Rattle.vat_log.specs.Log.{written_version};
+ghost use Rattle.vat_log.specs.Log.{written_version, later_version};
+ghost use Rattle.vat_log.specs.Spelling.{count_width};
 
 use crate::error::LogError;
 use crate::limits::MAX_RECORDS;
 use crate::log::{VatLog, log_with};
 use crate::record::Record;
+use crate::version::LogVersion;
 use std::alloc::Global;
 use std::marker::Model;
 
-/// A log of version 2 that one thread writes, record by record. To a contract it is the log with the records pushed so far.
+/// A log of version 2 or 3 that one thread writes, record by record. To a contract it is the log with the records pushed so
+/// far.
 #[derive(Debug, Drop)]
 pub struct LogWriter {
+    version: LogVersion,
     vat: u32,
     records: Vec<Record>,
 }
 
 impl Model for LogWriter {
-    ghost use Rattle.std.specs.Prelude.{◌≤◌, length};
+    ghost use Rattle.std.specs.Int.{w32};
+    ghost use Rattle.std.specs.Prelude.{◌≡◌, ◌≤◌, length};
     ghost use Rattle.vat_log.specs.Fits.{record_limit};
-    ghost use Rattle.vat_log.specs.Log.{Log, written_version};
+    ghost use Rattle.vat_log.specs.Log.{Log};
+    ghost use Rattle.vat_log.specs.Spelling.{count_width};
 
     ghost Value = { Log };
 
-    ghost view = { λ writer. record { version = written_version; vat = writer.vat; records = writer.records.items } };
+    ghost view = { λ writer. record { version = writer.version; vat = writer.vat; records = writer.records.items } };
 
-    ghost invariant = { λ writer. length writer.records.items ≤ record_limit };
+    ghost invariant = { λ writer. (length writer.records.items ≤ record_limit)
+        × (count_width writer.version ≡ w32) };
 }
 
 impl LogWriter {
-    /// A log of this vat, without records. It takes no memory.
-    pub fn new(alloc: Global, vat: u32) -> LogWriter
-        ensures { result ≡ record { version = written_version; vat = vat; records = [] } }
+    /// A log of this vat, without records, in a version whose counts have 32 bits.
+    fn begun(alloc: Global, version: LogVersion, vat: u32) -> LogWriter
+        requires { count_width version ≡ w32 }
+        ensures { result ≡ record { version = version; vat = vat; records = [] } }
     {
         LogWriter {
+            version,
             vat,
             records: Vec::new(alloc),
         }
+    }
+
+    /// A log of version 2 and of this vat, without records. It takes no memory.
+    pub fn new(alloc: Global, vat: u32) -> LogWriter
+        ensures { result ≡ record { version = written_version; vat = vat; records = [] } }
+    {
+        LogWriter::begun(alloc, LogVersion::Two, vat)
+    }
+
+    /// A log of version 3 and of this vat, without records: for a runtime that speaks the later edition of rpc.capnp
+    /// (docs/FORMATS.md). It takes no memory.
+    pub fn later(alloc: Global, vat: u32) -> LogWriter
+        ensures { result ≡ record { version = later_version; vat = vat; records = [] } }
+    {
+        LogWriter::begun(alloc, LogVersion::Three, vat)
     }
 
     /// Puts a record behind the others. A record that is refused is handed back, and the writer is as it was.
@@ -78,10 +103,21 @@ impl LogWriter {
         ensures err { IfErr result (λ refused.
             (refused.0 ≡ LogError.OutOfMemory) × (refused.1 ≡ self)) }
     {
-        let LogWriter { vat, records } = self;
-        match log_with(*records.allocator(), vat, records) {
+        let LogWriter {
+            version,
+            vat,
+            records,
+        } = self;
+        match log_with(*records.allocator(), version, vat, records) {
             Ok(log) => Ok(log),
-            Err(records) => Err((LogError::OutOfMemory, LogWriter { vat, records })),
+            Err(records) => {
+                let writer = LogWriter {
+                    version,
+                    vat,
+                    records,
+                };
+                Err((LogError::OutOfMemory, writer))
+            }
         }
     }
 }

@@ -1,14 +1,15 @@
-//! Writing records.
+//! Writing records. Versions 2 and 3 spell a record alike.
 
 ghost use Rattle.std.specs.Prelude.{◌≡◌, ◌<◌, ◌≤◌, ◌^◌, ◌++◌, length, All, OnOk, IfOk};
 ghost use Rattle.std.specs.Int.{w16, w32, w64};
 ghost use Rattle.vat_log.specs.Fits.{count_limit, frame_limit, Fits, IsWide};
 ghost use Rattle.vat_log.specs.Ends.{AreEnds};
 ghost use Rattle.vat_log.specs.Log.{written_version};
-ghost use Rattle.vat_log.specs.Spelling.{count_width, number_bytes, references_bytes, path_bytes, answered_bytes, counted_list, passage_bytes, kind_byte, kind_in, fields_bytes, record_bytes, log_bytes};
+ghost use Rattle.vat_log.specs.Spelling.{log_magic, count_width, number_bytes, references_bytes, path_bytes, answered_bytes, counted_list, passage_bytes, kind_byte, kind_in, fields_bytes, record_bytes, log_bytes};
 
 use crate::body::{Body, References, ResultReferences};
 use crate::record::Record;
+use crate::version::LogVersion;
 use bytes::Bytes;
 use cap_frame::Path;
 use std::alloc::{AllocError, Global};
@@ -240,15 +241,28 @@ pub(crate) struct LogBytes {
     pub(crate) ends: Vec<usize>,
 }
 
-/// The one spelling, in version 2, of the log with this vat and these records.
+/// The magic, which says the version.
+fn put_magic(out: &mut Vec<u8>, version: LogVersion) -> Result<(), AllocError>
+    ensures { OnOk result (out.new.items ≡ out.old.items ++ log_magic version) }
+{
+    match version {
+        LogVersion::One => out.extend_from_slice(b"VATLOG01"),
+        LogVersion::Two => out.extend_from_slice(b"VATLOG02"),
+        LogVersion::Three => out.extend_from_slice(b"VATLOG03"),
+    }
+}
+
+/// The one spelling, in a version whose counts have 32 bits, of the log with this vat and these records.
 pub(crate) fn written_log(
     alloc: Global,
+    version: LogVersion,
     vat: u32,
     records: &[Record],
 ) -> Result<LogBytes, AllocError>
+    requires { count_width version ≡ w32 }
     ensures spelled { IfOk result (λ written.
         written.bytes ≡ log_bytes (record {
-          version = written_version;
+          version = version;
           vat = vat;
           records = records.now;
         })) }
@@ -260,7 +274,7 @@ pub(crate) fn written_log(
 {
     let mut ends = Vec::with_capacity(alloc, records.len())?;
     let mut out = Vec::new(alloc);
-    out.extend_from_slice(b"VATLOG02")?;
+    put_magic(&mut out, version)?;
     put_u32(&mut out, vat)?;
     for entry in records {
         put_body(&mut out, entry.body())?;

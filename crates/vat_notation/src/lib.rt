@@ -16,7 +16,7 @@ mod words;
 
 pub use fault::Fault;
 pub use message::bytes_of;
-pub use record::Places;
+pub use record::{Places, Version};
 pub use script::{Files, Script};
 pub use vat::{Vat, add_records, log_and_places_of, log_of};
 pub use words::words_of;

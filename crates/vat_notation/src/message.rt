@@ -5,9 +5,10 @@
 //! `disembargo N senderLoopback TARGET`, or `receiverLoopback` · `abort` · `hex DIGITS..`, the bytes themselves. TARGET is
 //! `import N` or `answer N PATH`, behind which `method N` may stand in a call. CAP is an entry of the capability table,
 //! `none`, `senderHosted N`, `senderPromise N`, `receiverHosted N` or `receiverAnswer N PATH`, with `@PATH` at its end where
-//! the content has it. `yourself` at the end of a call is its sendResultsTo, in the place of caller. `keep` behind `ret qN`
-//! is releaseParamCaps false, behind `fin qN` releaseResultCaps false. Each call has interface 0x1234, and method 2 where
-//! it says no other.
+//! the content has it. `yourself` at the end of a call is its sendResultsTo, in the place of caller, and `pipeline` behind
+//! that its onlyPromisePipeline. `keep` behind `ret qN` is releaseParamCaps false, behind `fin qN` releaseResultCaps false;
+//! `light` behind `ret qN`, or behind its `keep`, is noFinishNeeded. Each call has interface 0x1234, and method 2 where it
+//! says no other.
 
 use crate::fault::Fault;
 use crate::segment::Segment;
@@ -189,6 +190,7 @@ fn put_call(alloc: Global, segment: &mut Segment, words: &mut Words<'_>) {
     segment.put(call.wrapping_add(1), 0, INTERFACE);
     put_target(alloc, segment, call.wrapping_add(3), words);
     segment.put(call, 32, method_of(words) as u64);
+    segment.put(call.wrapping_add(2), 2, words.takes_last("pipeline") as u64);
     segment.put(call, 48, words.takes_last("yourself") as u64);
     put_payload(alloc, segment, call.wrapping_add(4), words);
 }
@@ -214,6 +216,7 @@ fn put_return(alloc: Global, segment: &mut Segment, words: &mut Words<'_>) {
     let returned = body(segment, 3, 2, 1);
     segment.put(returned, 0, words.lettered('q'));
     segment.put(returned, 32, words.takes("keep") as u64);
+    segment.put(returned, 33, words.takes("light") as u64);
     put_ending(alloc, segment, returned, words);
 }
 

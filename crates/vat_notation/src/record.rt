@@ -51,7 +51,16 @@ pub enum Version {
     One,
     /// `VATLOG02`, with counts of 32 bits.
     Two,
+    /// `VATLOG03`, with counts of 32 bits too.
+    Three,
 }
+
+/// Their numbers, as words.
+pub const VERSIONS: [(&str, Version); 3] = [
+    ("1", Version::One),
+    ("2", Version::Two),
+    ("3", Version::Three),
+];
 
 /// The bytes of a log. The first fault is noted, and told at the end.
 #[derive(Drop)]
@@ -77,6 +86,7 @@ impl Log {
         let magic = match version {
             Version::One => "VATLOG01",
             Version::Two => "VATLOG02",
+            Version::Three => "VATLOG03",
         };
         log.put(magic.as_bytes());
         log.put(&vat.to_le_bytes());
@@ -107,7 +117,7 @@ impl Log {
     fn put_count(&mut self, count: usize) {
         match (self.version, u16::try_from(count), u32::try_from(count)) {
             (Version::One, Ok(count), _) => self.put_u16(count),
-            (Version::Two, _, Ok(count)) => self.put_u32(count),
+            (Version::Two | Version::Three, _, Ok(count)) => self.put_u32(count),
             _ => self.fault = Some(Fault::Unread),
         }
     }

@@ -5,17 +5,20 @@
 //! | `# ..`, or empty | skipped |
 //! | `vat V: RECORD; RECORD` | what vat V recorded, in the notation of `record.rt`; an indented line goes on |
 //! | `link C V V` | connection C joins two vats |
+//! | `version N` | the logs of the vats that follow are of version N, and else of version 1 |
+//! | `new conversation` | the vats and the links above are forgotten |
 //! | `with CHANGE` | a change for the next run alone |
 //! | `$ WORDS` | the program is run with these words; the lines that must come follow, up to `status N` |
 //!
 //! The log of vat V has the name `vatV`, and the case of all logs and links the name `case`. A CHANGE is one of these:
 //! `vat V record I is RECORD` · `vat V new record I is RECORD` · `vat V record I twice` · `vat V record I left out` ·
-//! `vat V record I moved to J` · `vat V cut to N records` · `vat V cut to N bytes` · `vat V version 2`, whose log is else
-//! of version 1 · `order V V ..`, which the case names · `case TEXT`, the case file itself · `frames MESSAGE; MESSAGE`, a file of that name · `file NAME DIGITS..`, a file's bytes.
+//! `vat V record I moved to J` · `vat V cut to N records` · `vat V cut to N bytes` · `vat V version N` ·
+//! `order V V ..`, which the case names · `case TEXT`, the case file itself · `frames MESSAGE; MESSAGE`, a file of that name · `file NAME DIGITS..`, a file's bytes.
 
 use crate::fault::Fault;
 use crate::message::{bytes_of, frame_of};
-use crate::vat::{Vat, add_records, log_of};
+use crate::record::Version;
+use crate::vat::{Vat, add_records, log_of, version_in};
 use crate::words::{beside, words_of};
 use bytes::Bytes;
 use std::alloc::{AllocError, Global};
@@ -57,15 +60,19 @@ enum Statement {
     Link,
     With,
     Run,
+    Version,
+    New,
 }
 
 /// Their first words; a line that goes on begins with a blank.
-const STATEMENTS: [(&str, Statement); 5] = [
+const STATEMENTS: [(&str, Statement); 7] = [
     ("vat", Statement::Vat),
     ("", Statement::GoOn),
     ("link", Statement::Link),
     ("with", Statement::With),
     ("$", Statement::Run),
+    ("version", Statement::Version),
+    ("new", Statement::New),
 ];
 
 /// A file that a change gives.
@@ -88,6 +95,7 @@ const GIVEN: [(&str, Given); 4] = [
 /// A conversation, as far as it is read, and what is asked of it.
 #[derive(Drop)]
 pub struct Script<'a> {
+    version: Version,
     vats: Vec<Vat<'a>>,
     links: Vec<&'a str>,
     changes: Vec<&'a str>,
@@ -101,6 +109,7 @@ impl<'a> Script<'a> {
     /// An empty conversation.
     pub fn new(alloc: Global) -> Script<'a> {
         Script {
+            version: Version::One,
             vats: Vec::new(alloc),
             links: Vec::new(alloc),
             changes: Vec::new(alloc),
@@ -121,6 +130,7 @@ impl<'a> Script<'a> {
         let (number, records) = text.split_once(":").ok_or(Fault::Unread)?;
         let mut vat = Vat {
             number,
+            version: self.version,
             records: Vec::new(alloc),
         };
         add_records(&mut vat.records, records)?;
@@ -133,6 +143,16 @@ impl<'a> Script<'a> {
         add_records(&mut vat.records, line)
     }
 
+    /// Begins anew, behind `new`: without vats and links.
+    fn begin_anew(&mut self, rest: &str) -> Result<(), Fault> {
+        if rest != "conversation" {
+            return Err(Fault::Unread);
+        }
+        self.vats.clear();
+        self.links.clear();
+        Ok(())
+    }
+
     /// Takes a statement, by its first word.
     fn take_words(&mut self, alloc: Global, line: &'a str) -> Result<(), Fault> {
         let (first, rest) = line.split_once(" ").ok_or(Fault::Unread)?;
@@ -141,6 +161,11 @@ impl<'a> Script<'a> {
             Statement::GoOn => self.go_on(rest),
             Statement::Link => Ok(self.links.push(rest)?),
             Statement::With => Ok(self.changes.push(rest)?),
+            Statement::New => self.begin_anew(rest),
+            Statement::Version => {
+                self.version = version_in(rest)?;
+                Ok(())
+            }
             Statement::Run => {
                 self.asked = Some(rest);
                 Ok(())

@@ -1,14 +1,15 @@
 //! What one vat recorded, and what is changed in it.
 
 use crate::fault::Fault;
-use crate::record::{Log, Places, Version};
-use crate::words::{Words, words_of};
+use crate::record::{Log, Places, VERSIONS, Version};
+use crate::words::{Words, beside, words_of};
 use std::alloc::Global;
 
-/// One vat's number and its records, one text each.
+/// One vat's number, the version of its log, and its records, one text each.
 #[derive(Drop)]
 pub struct Vat<'a> {
     pub number: &'a str,
+    pub version: Version,
     pub records: Vec<&'a str>,
 }
 
@@ -21,6 +22,11 @@ pub fn add_records<'a>(records: &mut Vec<&'a str>, line: &'a str) -> Result<(), 
         }
     }
     Ok(())
+}
+
+/// The version of this number.
+pub fn version_in(number: &str) -> Result<Version, Fault> {
+    beside(&VERSIONS, number).ok_or(Fault::Unread)
 }
 
 /// The records of a vat with the changes that name it, the version of its log, and how many bytes of it are left.
@@ -91,10 +97,12 @@ impl<'a> Recorded<'a> {
         }
     }
 
-    /// `version 2`, behind its first word.
+    /// `version N`, behind its first word.
     fn change_version(&mut self, words: &mut Words<'_>) {
-        words.expect("2");
-        self.version = Version::Two;
+        match version_in(words.word()) {
+            Ok(version) => self.version = version,
+            Err(fault) => words.note(fault),
+        }
     }
 
     /// Makes one change in the records; `becomes` is the record behind ` is `, if there is one.
@@ -139,7 +147,7 @@ fn make_change<'a>(
 /// The records of a vat with the changes that name it.
 fn changed<'a>(alloc: Global, vat: &Vat<'a>, changes: &[&'a str]) -> Result<Recorded<'a>, Fault> {
     let mut recorded = Recorded {
-        version: Version::One,
+        version: vat.version,
         records: Vec::from_slice(alloc, &vat.records)?,
         len: usize::MAX,
     };
@@ -182,5 +190,5 @@ pub fn log_of(alloc: Global, vat: &Vat<'_>, changes: &[&str]) -> Result<Vec<u8>,
 
 /// The log of a vat, and where its fields and records begin.
 pub fn log_and_places_of(alloc: Global, vat: &Vat<'_>) -> Result<(Vec<u8>, Places), Fault> {
-    write_vat(alloc, Version::One, vat.number, &vat.records)
+    write_vat(alloc, vat.version, vat.number, &vat.records)
 }

@@ -7,7 +7,7 @@ use Rattle.std.proofs.lemmas.List.{reverse-append, reverse-reverse, length-rever
 use Rattle.std.proofs.lemmas.List.Elements.{filter_map-append}
 use Rattle.std.proofs.lemmas.Option.{slice_get_within, get_or_from_slice_get}
 use Rattle.vat_log.specs.declared.body.Body.{Body}
-use Rattle.vat_rules.specs.Types.{DecodedRecord}
+use Rattle.vat_rules.specs.Types.{Edition, DecodedRecord}
 use Rattle.vat_rules.specs.declared.outcome.Outcome.TheVariants.{Good, Broken}
 use Rattle.vat_rules.specs.declared.rule.Rule.{Rule}
 use Rattle.vat_view.specs.Past.{Past}
@@ -16,11 +16,11 @@ use Rattle.vat_rules.specs.LogFacts.{Sight, Entry, Told}
 use Rattle.vat_rules.specs.Events.{Reader, event_of, event_or_none, events_before, past_at}
 use Rattle.vat_rules.specs.Telling.{seen_of, entry_of, entries_back, is_delivery}
 use Rattle.vat_rules.specs.Glue.Facts.{seen_back, entries_with}
-use Rattle.vat_rules.specs.Judged.{IsGood, BreaksFirst}
+use Rattle.vat_rules.specs.Judged.{IsGoodBy, BreaksFirst}
 use Rattle.vat_rules.specs.First.{IsGoodAt, AllGood, IsFirst}
 
 -- what a log tells, by its parts
-abbrev told : List Entry → ℕ → Told
+abbrev pub told : List Entry → ℕ → Told
 told entries delivered = record { entries = entries; delivered = delivered }
 
 -- the records before the next
@@ -85,16 +85,16 @@ read_at : (P : Body → Type 0) (log : List Body) (at : ℕ) (b : Body) → slic
 read_at P log at b here p = rw here p
 
 -- the first bad record
-pub is_first-Broken : (read : Reader) (log : List Body) (at : ℕ) (b : Body) (e : DecodedRecord) (past : Past) (rule : Rule) → slice_get log at ≡ Some b → event_of read b ≡ Ok e →
-    past ≡ past_at read log at → BreaksFirst rules past e rule → ((j : ℕ) → j < at → IsGoodAt read log j) → IsFirst read log (Broken at rule)
-is_first-Broken read log at b e past rule here is before breaks good =
-    (good, (e, read_at (λ b. event_of read b ≡ Ok e) log at b here is, subst (λ p. BreaksFirst rules p e rule) before breaks))
+pub is_first-Broken : (edition : Edition) (read : Reader) (log : List Body) (at : ℕ) (b : Body) (e : DecodedRecord) (past : Past) (rule : Rule) → slice_get log at ≡ Some b → event_of read b ≡ Ok e →
+    past ≡ past_at read log at → BreaksFirst edition rules past e rule → ((j : ℕ) → j < at → IsGoodAt edition read log j) → IsFirst edition read log (Broken at rule)
+is_first-Broken edition read log at b e past rule here is before breaks good =
+    (good, (e, read_at (λ b. event_of read b ≡ Ok e) log at b here is, subst (λ p. BreaksFirst edition rules p e rule) before breaks))
 
 -- one good record more
-pub good-more : (read : Reader) (log : List Body) (at : ℕ) (b : Body) (e : DecodedRecord) (past : Past) → slice_get log at ≡ Some b → event_of read b ≡ Ok e →
-    past ≡ past_at read log at → IsGood past e → ((j : ℕ) → j < at → IsGoodAt read log j) → (j : ℕ) → j < at + 1 → IsGoodAt read log j
-good-more read log at b e past here is before is_good good =
-    below_more _ at good (e, read_at (λ b. event_of read b ≡ Ok e) log at b here is, subst (λ p. IsGood p e) before is_good)
+pub good-more : (edition : Edition) (read : Reader) (log : List Body) (at : ℕ) (b : Body) (e : DecodedRecord) (past : Past) → slice_get log at ≡ Some b → event_of read b ≡ Ok e →
+    past ≡ past_at read log at → IsGoodBy edition past e → ((j : ℕ) → j < at → IsGoodAt edition read log j) → (j : ℕ) → j < at + 1 → IsGoodAt edition read log j
+good-more edition read log at b e past here is before is_good good =
+    below_more _ at good (e, read_at (λ b. event_of read b ≡ Ok e) log at b here is, subst (λ p. IsGoodBy edition p e) before is_good)
 
 -- a story is what its events tell
 same_story : (past : Past) (events : List DecodedRecord) (seen : List Sight) → past ≡ reverse events → seen ≡ reverse (seen_back past) →
@@ -106,7 +106,7 @@ same_story past events seen is seen_is =
     ∙ ap (λ es. told (reverse (entries_back (reverse events))) (count_by is_delivery es)) (reverse-reverse events)
 
 -- all records are good
-pub is_first-Good : (read : Reader) (log : List Body) (past : Past) (seen : List Sight) (story : Told) → AllGood read log (length log) →
+pub is_first-Good : (edition : Edition) (read : Reader) (log : List Body) (past : Past) (seen : List Sight) (story : Told) → AllGood edition read log (length log) →
     past ≡ past_at read log (length log) → seen ≡ reverse (seen_back past) → story ≡ told (entries_with (reverse past) seen) (count_by is_delivery (reverse past)) →
-    IsFirst read log (Good story)
-is_first-Good read log past seen story good whole seen_is is = (good, is ∙ same_story past (events_before read log (length log)) seen whole seen_is)
+    IsFirst edition read log (Good story)
+is_first-Good edition read log past seen story good whole seen_is is = (good, is ∙ same_story past (events_before read log (length log)) seen whole seen_is)

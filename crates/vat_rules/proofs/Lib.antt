@@ -4,3 +4,4 @@ pub mod Firsts
 pub mod Unique
 pub mod Once
 pub mod Entries
+pub mod Editions

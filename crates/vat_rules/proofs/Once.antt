@@ -5,11 +5,11 @@ use Rattle.std.specs.List.{list_all}
 use Rattle.std.specs.Option.{option_or}
 use Rattle.std.proofs.lemmas.Bool.{cases_Bool, and_parts, or_left, or_right, not-true, false≢true, eqb-true}
 use Rattle.vat_rules.specs.declared.rule.Rule.TheVariants as rule
-use Rattle.vat_rules.specs.Types.{Bootstrap, Call, Return, Outcome, Results, Exception, Canceled, Elsewhere, TakeFrom, Resolve, DecodedRecord, Fulfil, Break, Make, Deliver, Answer, AnswerBy, Fault, Wire, View, Object, Promise, FieldOf, Import}
+use Rattle.vat_rules.specs.Types.{Later, Bootstrap, Call, Return, Outcome, Results, Exception, Canceled, Elsewhere, TakeFrom, Resolve, DecodedRecord, Fulfil, Break, Make, Deliver, Answer, AnswerBy, Fault, Wire, View, Object, Promise, FieldOf, Import}
 use Rattle.vat_rules.specs.Judged.{IsGood}
 use Rattle.vat_rules.specs.OfCalls.{distinct_paths}
 use Rattle.vat_rules.specs.OfPromises.{IsUnkept, is_unresolved}
-use Rattle.vat_rules.proofs.Judging.{good_notes}
+use Rattle.vat_rules.proofs.Judging.{good_sound}
 use Rattle.vat_view.specs.declared.asked.Asked.{Asked}
 use Rattle.vat_view.specs.declared.record.table_key.TableKey.{TableKey}
 use Rattle.vat_view.specs.Past.{Past, point, id, is, names, same_id, last_answer, last_where, last_since, Each}
@@ -28,7 +28,7 @@ use Rattle.vat_view.proofs.Unresolved.{resolve_turns_once}
 
 -- ---- tests that a record has passed
 
-passed_or : (test : Past → DecodedRecord → Bool) (before : Past) (e : DecodedRecord) → has_passed test (e ∷ before) ≡ true → (test before e ≡ true) ⊎ (has_passed test before ≡ true)
+pub passed_or : (test : Past → DecodedRecord → Bool) (before : Past) (e : DecodedRecord) → has_passed test (e ∷ before) ≡ true → (test before e ≡ true) ⊎ (has_passed test before ≡ true)
 passed_or test before e h = elim (cases_Bool (test before e)) [
   | inl now ↦ inl now
   | inr apart ↦ inr (sym (ap (λ b. is_some (if b then Some (point before e) else last_where test before)) apart) ∙ h)
@@ -37,13 +37,13 @@ passed_or test before e h = elim (cases_Bool (test before e)) [
 passed_old : (test : Past → DecodedRecord → Bool) (before : Past) (e : DecodedRecord) → test before e ≡ false → has_passed test (e ∷ before) ≡ has_passed test before
 passed_old test before e apart = ap (λ b. is_some (if b then Some (point before e) else last_where test before)) apart
 
-passed_later : (test : Past → DecodedRecord → Bool) (before : Past) (e : DecodedRecord) → has_passed test before ≡ true → has_passed test (e ∷ before) ≡ true
+pub passed_later : (test : Past → DecodedRecord → Bool) (before : Past) (e : DecodedRecord) → has_passed test before ≡ true → has_passed test (e ∷ before) ≡ true
 passed_later test before e h = elim (cases_Bool (test before e)) [
   | inl now ↦ ap (λ b. is_some (if b then Some (point before e) else last_where test before)) now
   | inr apart ↦ passed_old test before e apart ∙ h
 ]
 
-passed_now : (test : Past → DecodedRecord → Bool) (before : Past) (e : DecodedRecord) → test before e ≡ true → has_passed test (e ∷ before) ≡ true
+pub passed_now : (test : Past → DecodedRecord → Bool) (before : Past) (e : DecodedRecord) → test before e ≡ true → has_passed test (e ∷ before) ≡ true
 passed_now test before e now = ap (λ b. is_some (if b then Some (point before e) else last_where test before)) now
 
 both : (a b : Bool) → (a ≡ true → b ≡ true → ⊥) → a ≡ true → b ≡ false
@@ -52,21 +52,12 @@ both a b never h = elim (cases_Bool b) [
   | inr g ↦ g
 ]
 
-clash : {b : Bool} → b ≡ true → b ≡ false → ⊥
+pub clash : {b : Bool} → b ≡ true → b ≡ false → ⊥
 clash h g = false≢true (sym g ∙ h)
 
 sound : (past : Past) → Each IsGood past → Each IsSound past
 sound [] good = tt
-sound (e ∷ before) good = (
-  record {
-    refers = good.0 rule.Ref;
-    uses_questions = good.0 rule.QUse;
-    uses_numbers = good.0 rule.XUse;
-    gives_back_held = good.0 rule.Count;
-    notes_each = good_notes before e good.0;
-  },
-  sound before good.1,
-)
+sound (e ∷ before) good = (good_sound Later before e good.0, sound before good.1)
 
 -- good records use questions as they should
 pub each_uses_questions : (past : Past) → Each IsGood past → Each UsesQuestions past

@@ -8,11 +8,14 @@ use Rattle.rpc_view.specs.declared.view_error.ViewError.{ViewError}
 use Rattle.rpc_view.specs.declared.view_error.ViewError.TheVariants as errors
 use Rattle.rpc_view.specs.Message.{message_of_bytes}
 use Rattle.vat_log.specs.Log.{Log}
+use Rattle.vat_log.specs.declared.version.LogVersion.{LogVersion}
+use Rattle.vat_log.specs.declared.version.LogVersion.TheVariants.{One, Two, Three}
 use Rattle.vat_rules.specs.declared.outcome.Outcome.{Outcome}
 use Rattle.vat_rules.specs.declared.outcome.Why.{Why}
 use Rattle.vat_rules.specs.declared.outcome.Why.TheVariants as why
 use Rattle.vat_rules.specs.Events.{Reader}
 use Rattle.vat_rules.specs.First.{IsFirst}
+use Rattle.vat_rules.specs.Types.{Edition, First, Later}
 
 -- what a message has that is outside of level 1
 abbrev pub why_outside : Outside → Why
@@ -30,9 +33,23 @@ abbrev pub read_as : Result RpcMessage ViewError → Result RpcMessage Why
 read_as (Ok m) = Ok m
 read_as (Err e) = Err (why_of e)
 
--- frames are read within the limits
+-- frames are read within the limits by an edition
+abbrev pub reads_by : Edition → Limits → Reader
+reads_by edition limits bytes = read_as (message_of_bytes edition bytes limits)
+
+-- frames are read by the later edition, which reads what the first one does
 abbrev pub reads_within : Limits → Reader
-reads_within limits bytes = read_as (message_of_bytes bytes limits)
+reads_within limits bytes = reads_by Later limits bytes
+
+-- the edition of rpc.capnp that a version's runtime speaks
+abbrev pub edition_of_version : LogVersion → Edition
+edition_of_version One = First
+edition_of_version Two = First
+edition_of_version Three = Later
+
+-- the edition by which a log is judged
+abbrev pub edition_of : Log → Edition
+edition_of log = edition_of_version log.version
 
 -- what an audit carries: the log, the limits within which it read frames, and the outcome
 pub record Found : Type 0 where
@@ -42,4 +59,4 @@ pub record Found : Type 0 where
 
 -- the outcome is what the rules say of the log
 abbrev pub IsTrueOf : Log → Limits → Outcome → Type 0
-IsTrueOf log limits outcome = IsFirst (reads_within limits) log.records outcome
+IsTrueOf log limits outcome = IsFirst (edition_of log) (reads_by (edition_of log) limits) log.records outcome

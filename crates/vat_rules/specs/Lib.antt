@@ -12,4 +12,5 @@ pub mod Judged
 pub mod Telling
 pub mod First
 pub mod Audit
+pub mod Editions
 pub mod Glue

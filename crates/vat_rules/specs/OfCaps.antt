@@ -1,11 +1,11 @@
 -- The rules on capability tables: what is given away is what is noted, and what comes in is noted.
-use Rattle.std.specs.Prelude.{◌≡◌, ℕ, Bool, true, false, Option, Some, None, IsTrue, slice_get, option_and_then}
+use Rattle.std.specs.Prelude.{◌≡◌, ℕ, [], Bool, true, false, Option, Some, None, IsTrue, slice_get, option_and_then}
 use Rattle.std.specs.List.{AllByRecursion}
-use Rattle.vat_rules.specs.Types.{Descriptor, NoCap, SenderHosted, DecodedRecord, Wire, View, Object, Import}
+use Rattle.vat_rules.specs.Types.{Descriptor, NoCap, SenderHosted, Return, DecodedRecord, Wire, View, Object, Import}
 use Rattle.vat_view.specs.Past.{Past, record_at}
 use Rattle.vat_view.specs.Questions.{is_late}
 use Rattle.vat_view.specs.Lives.{descriptors, KeepsKinds}
-use Rattle.vat_view.specs.Views.{placed_references, view_of_reference, view_of_descriptor}
+use Rattle.vat_view.specs.Views.{references, placed_references, view_of_reference, view_of_descriptor}
 use Rattle.vat_view.specs.Bindings.{NotesEach}
 use Rattle.vat_rules.specs.Ways.{LeadsTo, EndsIn}
 
@@ -47,13 +47,20 @@ NotesView before e (r, place) =
     LeadsTo before (view_of_reference before r) (view_of_descriptor before e place)
     × (is_hosted (slice_get (descriptors e) place) ≡ true → EndsIn before (view_of_reference before r) (λ end. IsTrue (is_hosted_end before end)))
 
--- (rpc.capnp, CapDescriptor; that references are noted is this project's own)
+-- a record is a Return that says that no Finish is needed
+abbrev pub is_light_return : DecodedRecord → Bool
+is_light_return (Wire sent k call references (Return q release outcome light)) = light
+is_light_return _ = false
+
+-- (rpc.capnp, CapDescriptor and Return.noFinishNeeded; that references are noted is this project's own)
 -- DESC: SEND: one reference is noted for each descriptor that isn't none, and it leads to what the descriptor stands
--- for, a senderHosted's to an own object or an import that came so. SEND and RECV: a number in life keeps its kind, and
--- isn't introduced after its Resolve. A late Return notes no reference, and nothing more is asked of it
+-- for, a senderHosted's to an own object or an import that came so; a Return that says that no Finish is needed has no
+-- such descriptor. SEND and RECV: a number in life keeps its kind, and isn't introduced after its Resolve. A late Return
+-- notes no reference, and nothing more is asked of it
 pub record Describes (before : Past) (e : DecodedRecord) : Type 0 where
   pub noted_each : is_sent e ≡ true → NotesEach before e
   pub leads : is_sent e ≡ true → is_late before e ≡ false → AllByRecursion (NotesView before e) (placed_references e)
+  pub light : is_sent e ≡ true → is_late before e ≡ false → is_light_return e ≡ true → references e ≡ []
   pub kinds : is_late before e ≡ false → KeepsKinds before e
 
 -- (this project's own: what came in has references)

@@ -1,7 +1,7 @@
 -- The rule on Returns: what is sent back is what came back.
-use Rattle.std.specs.Prelude.{◌≡◌, ℕ, List, true, false, Option, Some, IsTrue, IsFalse, IsSomeAnd, slice_get, ⊤}
+use Rattle.std.specs.Prelude.{◌≡◌, ◌⊎◌, ℕ, List, true, false, Option, Some, IsTrue, IsFalse, IsSomeAnd, slice_get, ⊤}
 use Rattle.std.specs.List.{AllByRecursion}
-use Rattle.vat_rules.specs.Types.{Results, Canceled, Elsewhere, TakeFrom, Return, DecodedRecord, Wire, FieldOf}
+use Rattle.vat_rules.specs.Types.{Edition, First, Later, Results, Canceled, Elsewhere, TakeFrom, Return, DecodedRecord, Wire, FieldOf}
 use Rattle.vat_view.specs.Past.{Past, id}
 use Rattle.vat_view.specs.Questions.{is_finished, is_late, is_tail, opening, call_at, call_of}
 use Rattle.vat_view.specs.Lives.{descriptors}
@@ -20,24 +20,26 @@ abbrev pub ReturnsFields : Past → DecodedRecord → List (List ℕ × ℕ) →
 ReturnsFields before e fields call = IsTrue (is_known call before) × AllByRecursion (ReturnsField before e call) fields
 
 -- (rpc.capnp, Return.takeFromOtherQuestion)
--- a call was answered by another, which is the one whose results are taken
-abbrev pub ReturnsTaken : Past → Option ℕ → ℕ → Type 0
-ReturnsTaken before from call = IsSomeAnd (answered_by call before) (λ by. from ≡ Some by)
+-- a call was answered by another, which is the one whose results are taken. In a log of the later edition a call's own
+-- results may be taken too: it led back over the connection by which it came, and was sent on there
+abbrev pub ReturnsTaken : Edition → Past → Option ℕ → ℕ → Type 0
+ReturnsTaken First before from call = IsSomeAnd (answered_by call before) (λ by. from ≡ Some by)
+ReturnsTaken Later before from call = IsSomeAnd (answered_by call before) (λ by. from ≡ Some by) ⊎ (from ≡ Some call)
 
 -- (rpc.capnp, Return.results, canceled, resultsSentElsewhere and takeFromOtherQuestion)
 -- RESULT: SEND Return that isn't late: with results, its question wasn't asked with sendResultsTo yourself, the call's
 -- results are known, and at each path whose capability index is a descriptor that isn't none, the known result leads to
 -- what that descriptor stands for. With resultsSentElsewhere, its question was asked so. With takeFromOtherQuestion, the
--- call was answered by the one for which the question that it names stands. Late or not, with canceled, a Finish was
--- received
-abbrev pub ReturnsKnown : Past → DecodedRecord → Type 0
-ReturnsKnown before (Wire true k c rs (Return q release (Results payload) light)) =
+-- call was answered by the one for which the question that it names stands, or, in a log of the later edition, the
+-- question stands for the call itself. Late or not, with canceled, a Finish was received
+abbrev pub ReturnsKnown : Edition → Past → DecodedRecord → Type 0
+ReturnsKnown edition before (Wire true k c rs (Return q release (Results payload) light)) =
     let e = Wire true k c rs (Return q release (Results payload) light) in
     is_late before e ≡ false → IsFalse (is_tail (opening (id k false q) before)) × IsSomeAnd (call_at (opening (id k false q) before)) (ReturnsFields before e payload.fields)
-ReturnsKnown before (Wire true k c rs (Return q release Elsewhere light)) =
+ReturnsKnown edition before (Wire true k c rs (Return q release Elsewhere light)) =
     is_late before (Wire true k c rs (Return q release Elsewhere light)) ≡ false → IsTrue (is_tail (opening (id k false q) before))
-ReturnsKnown before (Wire true k c rs (Return q release (TakeFrom n) light)) =
+ReturnsKnown edition before (Wire true k c rs (Return q release (TakeFrom n) light)) =
     is_late before (Wire true k c rs (Return q release (TakeFrom n) light)) ≡ false →
-    IsSomeAnd (call_at (opening (id k false q) before)) (ReturnsTaken before (call_of (id k true n) before))
-ReturnsKnown before (Wire true k c rs (Return q release Canceled light)) = IsTrue (is_finished (id k false q) before)
-ReturnsKnown before _ = ⊤
+    IsSomeAnd (call_at (opening (id k false q) before)) (ReturnsTaken edition before (call_of (id k true n) before))
+ReturnsKnown edition before (Wire true k c rs (Return q release Canceled light)) = IsTrue (is_finished (id k false q) before)
+ReturnsKnown edition before _ = ⊤

@@ -1,6 +1,6 @@
 -- The rules, each by its name, in the order in which they are tried.
 use Rattle.std.specs.Prelude.{List, [], ◌∷◌}
-use Rattle.vat_rules.specs.Types.{DecodedRecord}
+use Rattle.vat_rules.specs.Types.{Edition, DecodedRecord}
 use Rattle.vat_view.specs.Past.{Past}
 use Rattle.vat_view.specs.Lives.{GivesBackHeld}
 use Rattle.vat_view.specs.Uses.{OpensFree, UsesQuestions, UsesNumbers}
@@ -13,23 +13,24 @@ use Rattle.vat_rules.specs.OfResults.{ReturnsKnown}
 use Rattle.vat_rules.specs.OfPromises.{KeepsVow, ResolvesPromise}
 use Rattle.vat_rules.specs.OfConnections.{IsOpen, KeepsEmbargo}
 
--- what each rule says
-abbrev pub Meets : Rule → Past → DecodedRecord → Type 0
-Meets rule.Closed = IsOpen
-Meets rule.Ref = Refers
-Meets rule.Vow = KeepsVow
-Meets rule.Here = IsHere
-Meets rule.QNew = OpensFree
-Meets rule.QUse = UsesQuestions
-Meets rule.XUse = UsesNumbers
-Meets rule.Goal = GoesToGoal
-Meets rule.Answer = MayAnswer
-Meets rule.Desc = Describes
-Meets rule.Count = GivesBackHeld
-Meets rule.Result = ReturnsKnown
-Meets rule.Resolve = ResolvesPromise
-Meets rule.RecvRef = BindsEach
-Meets rule.Emb = KeepsEmbargo
+-- what each rule says. Three of them let more pass in a log of the later edition; what they let pass in one of the first
+-- edition passes there too
+abbrev pub Meets : Edition → Rule → Past → DecodedRecord → Type 0
+Meets edition rule.Closed = IsOpen edition
+Meets edition rule.Ref = Refers
+Meets edition rule.Vow = KeepsVow
+Meets edition rule.Here = IsHere
+Meets edition rule.QNew = OpensFree
+Meets edition rule.QUse = UsesQuestions
+Meets edition rule.XUse = UsesNumbers
+Meets edition rule.Goal = GoesToGoal
+Meets edition rule.Answer = MayAnswer
+Meets edition rule.Desc = Describes
+Meets edition rule.Count = GivesBackHeld
+Meets edition rule.Result = ReturnsKnown edition
+Meets edition rule.Resolve = ResolvesPromise
+Meets edition rule.RecvRef = BindsEach
+Meets edition rule.Emb = KeepsEmbargo edition
 
 -- the order in which they are tried
 abbrev pub rules : List Rule

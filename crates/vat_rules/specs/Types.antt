@@ -1,4 +1,6 @@
 -- The types of records, messages and views, passed on from one place. A view's `Field` is here `FieldOf`.
+pub use Rattle.rpc_view.specs.declared.edition.Edition.{Edition}
+pub use Rattle.rpc_view.specs.declared.edition.Edition.TheVariants.{First, Later}
 pub use Rattle.rpc_view.specs.declared.message.Descriptor.{Descriptor}
 pub use Rattle.rpc_view.specs.declared.message.Descriptor.TheVariants.{NoCap, SenderHosted, SenderPromise, ReceiverHosted, ReceiverAnswer}
 pub use Rattle.rpc_view.specs.declared.message.Outcome.{Outcome}

@@ -2,12 +2,13 @@
 
 ghost use Rattle.std.specs.Prelude.{◌≡◌, ◌∷◌, [], ◌++◌, IfOk, OnOk, MatchOption, count_by, length, reverse};
 ghost use Rattle.std.specs.Arc.{arc_value};
+ghost use Rattle.vat_view.specs.Sound.{IsSound};
 ghost use Rattle.vat_rules.specs.Rules.{rules};
-ghost use Rattle.vat_rules.specs.Judged.{IsGood, BreaksFirst};
+ghost use Rattle.vat_rules.specs.Judged.{IsGoodBy, BreaksFirst};
 ghost use Rattle.vat_rules.specs.Telling.{seen_of, is_delivery};
 ghost use Rattle.vat_rules.specs.Events.{past_at};
 ghost use Rattle.vat_rules.specs.First.{AllGood};
-ghost use Rattle.vat_rules.specs.Audit.{IsTrueOf, reads_within};
+ghost use Rattle.vat_rules.specs.Audit.{IsTrueOf, reads_by, edition_of};
 ghost use Rattle.vat_rules.specs.Glue.Facts.{standing_of, seen_back, entries_with};
 
 use crate::decode::event_of;
@@ -19,7 +20,7 @@ use crate::finding::VatFinding;
 use crate::judge::rule_broken;
 use crate::outcome::Outcome;
 use crate::rule::Rule;
-use rpc_view::Limits;
+use rpc_view::{Edition, Limits};
 use std::alloc::{AllocError, Global};
 use std::sync::Arc;
 use vat_log::VatLog;
@@ -54,7 +55,7 @@ fn apply_good(
     standing: Meanings,
     event: DecodedRecord,
 ) -> Result<(), AllocError>
-    requires good { IsGood state.old event }
+    requires sound { IsSound state.old event }
     requires standing { standing ≡ standing_of state.old event }
     requires as_many { length state.old ≡ length seen.old.items }
     ensures state { OnOk result (state.new ≡ event ∷ state.old) }
@@ -69,22 +70,23 @@ fn apply_good(
     Ok(())
 }
 
-/// Judges a record by those before it, and applies it where it is good: then what its numbers stand for is put behind
+/// Judges a record by an edition and by those before it, and applies it where it is good: then what its numbers stand for is put behind
 /// what was seen before.
 fn judge_next(
     alloc: Global,
+    edition: Edition,
     state: &mut VatState,
     seen: &mut Vec<RecordFacts>,
     event: DecodedRecord,
 ) -> Result<Option<Rule>, AllocError>
     requires { length state.old ≡ length seen.old.items }
     ensures { IfOk result (λ r. MatchOption r
-        (IsGood state.old event × (state.new ≡ event ∷ state.old)
+        (IsGoodBy edition state.old event × (state.new ≡ event ∷ state.old)
         × (seen.new.items ≡ seen.old.items ++ seen_of state.old event ∷ []))
-        (λ rule. BreaksFirst rules state.old event rule)) }
+        (λ rule. BreaksFirst edition rules state.old event rule)) }
 {
     let standing = standing_of(alloc, state, &event)?;
-    match rule_broken(alloc, state, &event, &standing)? {
+    match rule_broken(alloc, edition, state, &event, &standing)? {
         Some(rule) => Ok(Some(rule)),
         None => {
             apply_good(alloc, state, seen, standing, event)?;
@@ -106,7 +108,20 @@ fn story_of(state: VatState, seen: Vec<RecordFacts>) -> Story
     Story::new(events, seen, delivered)
 }
 
-/// Judges the records of a log in turn, to the first that is outside or breaks a rule, and applies those before it.
+/// The edition of rpc.capnp by which a log is judged: its version says it.
+#[tactic(auto, using(crate::proofs::Editions::later_if, crate::proofs::Editions::first_if))]
+pub fn edition_of(log: &VatLog) -> Edition
+    ensures { result ≡ edition_of log.now }
+{
+    if log.version() == 3 {
+        Edition::Later
+    } else {
+        Edition::First
+    }
+}
+
+/// Judges the records of a log in turn by the log's edition, to the first that is outside or breaks a rule, and applies
+/// those before it.
 fn judge_each(
     alloc: Global,
     log: &VatLog,
@@ -117,20 +132,23 @@ fn judge_each(
     requires applied { state.old ≡ [] }
     requires seen { seen.old.items ≡ [] }
     ensures { IfOk result (λ o. MatchOption o
-        (AllGood (reads_within limits) log.now.records (length log.now.records)
-        × (state.new ≡ past_at (reads_within limits) log.now.records (length log.now.records))
+        (AllGood (edition_of log.now) (reads_by (edition_of log.now) limits)
+        log.now.records (length log.now.records)
+        × (state.new ≡ past_at (reads_by (edition_of log.now) limits)
+        log.now.records (length log.now.records))
         × (seen.new.items ≡ reverse (seen_back state.new)))
         (λ outcome. IsTrueOf log.now limits outcome)) }
 {
+    let edition = edition_of(log);
     for at in 0..log.len() {
         let Some(stored) = log.get(at) else {
             unreachable!()
         };
-        let event = match event_of(alloc, stored.body(), limits)? {
+        let event = match event_of(alloc, stored.body(), limits, edition)? {
             Ok(event) => event,
             Err(why) => return Ok(Some(Outcome::Outside { at: at as u64, why })),
         };
-        match judge_next(alloc, state, seen, event)? {
+        match judge_next(alloc, edition, state, seen, event)? {
             Some(rule) => {
                 let at = at as u64;
                 return Ok(Some(Outcome::Broken { at, rule }));
@@ -153,7 +171,8 @@ fn outcome_of(alloc: Global, log: &VatLog, limits: Limits) -> Result<Outcome, Al
     }
 }
 
-/// The audit of a log, each of whose frames is read within the limits: the first record that is outside of what is
+/// The audit of a log, each of whose frames is read within the limits: by the edition of rpc.capnp that the log's version
+/// says, the first record that is outside of what is
 /// audited or breaks a rule, with the reason or the first rule that it breaks, or what the log tells. The rules are
 /// those of rpc.capnp's comments and of how a log is kept (docs/RULES.md).
 ///

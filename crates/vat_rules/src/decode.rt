@@ -3,11 +3,11 @@
 ghost use Rattle.std.specs.Prelude.{◌≡◌, false, Ok, IfOk};
 ghost use Rattle.vat_rules.specs.Events.{Reader, with_message, event_of};
 ghost use Rattle.vat_rules.specs.Glue.Facts.{has_frame};
-ghost use Rattle.vat_rules.specs.Audit.{why_outside, reads_within};
+ghost use Rattle.vat_rules.specs.Audit.{why_outside, reads_by};
 
 use crate::outcome::Why;
 use bytes::Bytes;
-use rpc_view::{Limits, Outside, RpcMessage, ViewError, read_bytes};
+use rpc_view::{Edition, Limits, Outside, RpcMessage, ViewError, read_bytes};
 use std::alloc::{AllocError, Global};
 use vat_log::{Body, References};
 use vat_view::DecodedRecord;
@@ -23,15 +23,16 @@ fn why_outside(reason: Outside) -> Why
     }
 }
 
-/// The message of a frame, or why its record is outside.
+/// The message of a frame by an edition, or why its record is outside.
 fn message_of(
     alloc: Global,
     frame: &Bytes,
     limits: Limits,
+    edition: Edition,
 ) -> Result<Result<RpcMessage, Why>, AllocError>
-    ensures { IfOk result (λ r. r ≡ reads_within limits frame.now) }
+    ensures { IfOk result (λ r. r ≡ reads_by edition limits frame.now) }
 {
-    match read_bytes(alloc, frame.clone()?, limits) {
+    match read_bytes(alloc, frame.clone()?, limits, edition) {
         Ok(message) => Ok(Ok(message)),
         Err(ViewError::OutOfMemory) => Err(AllocError),
         Err(ViewError::Outside(reason)) => Ok(Err(why_outside(reason))),
@@ -106,13 +107,14 @@ fn own_event(body: &Body) -> Result<DecodedRecord, AllocError>
     })
 }
 
-/// A stored record as it is judged, with its message read, or why it is outside.
+/// A stored record as it is judged, with its message read by an edition, or why it is outside.
 pub(crate) fn event_of(
     alloc: Global,
     body: &Body,
     limits: Limits,
+    edition: Edition,
 ) -> Result<Result<DecodedRecord, Why>, AllocError>
-    ensures { IfOk result (λ r. r ≡ event_of (reads_within limits) body.now) }
+    ensures { IfOk result (λ r. r ≡ event_of (reads_by edition limits) body.now) }
 {
     match body {
         Body::Send {
@@ -121,7 +123,7 @@ pub(crate) fn event_of(
             references,
             frame,
         } => {
-            let message = message_of(alloc, frame, limits)?;
+            let message = message_of(alloc, frame, limits, edition)?;
             wire(true, *connection, *call, references, message)
         }
         Body::Receive {
@@ -130,7 +132,7 @@ pub(crate) fn event_of(
             references,
             frame,
         } => {
-            let message = message_of(alloc, frame, limits)?;
+            let message = message_of(alloc, frame, limits, edition)?;
             wire(false, *connection, *call, references, message)
         }
         _ => Ok(Ok(own_event(body)?)),

@@ -2,7 +2,7 @@
 
 ghost use Rattle.std.specs.Prelude.{◌≡◌, IfOk, MatchOption};
 ghost use Rattle.vat_rules.specs.Rules.{rules};
-ghost use Rattle.vat_rules.specs.Judged.{IsGood, BreaksFirst};
+ghost use Rattle.vat_rules.specs.Judged.{IsGoodBy, BreaksFirst};
 ghost use Rattle.vat_rules.specs.Glue.Facts.{standing_of};
 
 use crate::facts::meanings::Meanings;
@@ -12,23 +12,25 @@ use crate::of_connections::{is_open, keeps_embargo};
 use crate::of_promises::{keeps_vow, resolves_promise};
 use crate::of_results::returns_known;
 use crate::rule::Rule;
+use rpc_view::Edition;
 use std::alloc::{AllocError, Global};
 use vat_view::{DecodedRecord, VatState};
 
-/// The first rule that a record breaks, if it breaks one, by the state of the records before it and by what its numbers
-/// stand for.
+/// The first rule of an edition that a record breaks, if it breaks one, by the state of the records before it and by what
+/// its numbers stand for.
 pub(crate) fn rule_broken(
     alloc: Global,
+    edition: Edition,
     state: &VatState,
     event: &DecodedRecord,
     standing: &Meanings,
 ) -> Result<Option<Rule>, AllocError>
     requires { standing.now ≡ standing_of state.now event.now }
     ensures { IfOk result (λ r.
-        MatchOption r (IsGood state.now event.now)
-        (λ rule. BreaksFirst rules state.now event.now rule)) }
+        MatchOption r (IsGoodBy edition state.now event.now)
+        (λ rule. BreaksFirst edition rules state.now event.now rule)) }
 {
-    if !is_open(state, event) {
+    if !is_open(edition, state, event) {
         return Ok(Some(Rule::Closed));
     }
     if !state.refers(event)? {
@@ -61,7 +63,7 @@ pub(crate) fn rule_broken(
     if !state.gives_back_held(event)? {
         return Ok(Some(Rule::Count));
     }
-    if !returns_known(state, event, standing)? {
+    if !returns_known(edition, state, event, standing)? {
         return Ok(Some(Rule::Result));
     }
     if !resolves_promise(state, event, standing) {
@@ -70,7 +72,7 @@ pub(crate) fn rule_broken(
     if !binds_each(state, event) {
         return Ok(Some(Rule::RecvRef));
     }
-    if !keeps_embargo(state, event, standing.target.as_ref()) {
+    if !keeps_embargo(edition, state, event, standing.target.as_ref()) {
         return Ok(Some(Rule::Emb));
     }
     Ok(None)

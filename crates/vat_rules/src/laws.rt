@@ -8,6 +8,10 @@ ghost use Rattle.vat_rules.specs.Types.{DecodedRecord, View};
 ghost use Rattle.vat_view.specs.Walks.{TurnsOnce, Leads};
 ghost use Rattle.vat_view.specs.Laws.{EachAfter, count_since};
 ghost use Rattle.vat_rules.specs.Judged.{IsGood};
+ghost use Rattle.cap_reader.specs.declared.limits.Limits.{Limits};
+ghost use Rattle.vat_log.specs.Log.{Log};
+ghost use Rattle.vat_rules.specs.LogFacts.{Told};
+ghost use Rattle.vat_rules.specs.Editions.{KeepsMore, IsGoodByLater, HasNoLightReturns};
 
 /// A good record behind good ones turns only views that stay: a promise is kept or broken once, an import is resolved
 /// once, and a call is answered once, by this vat or by the one that it was sent to. So in a good log what a view once
@@ -28,4 +32,21 @@ pub fn good_openings_are_closed_once()
         → count_since (opens q) (returns q) past ≤ 1 }
     ensures one_finish { (past : Past) → Each IsGood past → (q : TableKey)
         → count_since (opens q) (finishes q) past ≤ 1 }
+{}
+
+/// The later edition of rpc.capnp lets more pass: a record that is good by the first one is good by it.
+pub fn later_edition_keeps_more()
+    ensures { (before : Past) (e : DecodedRecord) → KeepsMore before e }
+{}
+
+/// A log that is good by its own edition is good by the later one, with the same records, and tells the same. So whoever
+/// stands on good logs needs to know of one edition alone, also where their editions differ.
+pub fn good_logs_are_good()
+    ensures { (log : Log) (limits : Limits) (story : Told) → IsGoodByLater log limits story }
+{}
+
+/// In a log of version 1 or 2 no Return says that no Finish is needed: a question's number is free there when the question
+/// is over, and not before.
+pub fn earlier_logs_have_no_light_returns()
+    ensures { (log : Log) (limits : Limits) → HasNoLightReturns log limits }
 {}

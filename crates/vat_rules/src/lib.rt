@@ -6,7 +6,9 @@
 //! numbers asks for them itself; `specs/Rules.antt` lists
 //! them in their order. The outcome of a log is said in `specs/First.antt` and `specs/Audit.antt`, and [`audit_vat`]
 //! answers just that. Laws of good logs: each record turns only views that stay ([`good_records_turn_once`]), and each
-//! opening of a question has at most one Return and one Finish ([`good_openings_are_closed_once`]).
+//! opening of a question has at most one Return and one Finish ([`good_openings_are_closed_once`]). A log is read and
+//! judged by the edition of rpc.capnp that its version says ([`edition_of`]), and one that is good by it is good by the
+//! later edition, and tells the same ([`good_logs_are_good`]).
 #![tactic(auto)]
 
 mod audit;
@@ -24,10 +26,13 @@ mod of_results;
 mod outcome;
 mod rule;
 
-pub use audit::audit_vat;
+pub use audit::{audit_vat, edition_of};
 pub use facts::compact::RecordFacts;
 pub use facts::story::Story;
 pub use finding::VatFinding;
-pub use laws::{good_openings_are_closed_once, good_records_turn_once};
+pub use laws::{
+    earlier_logs_have_no_light_returns, good_logs_are_good, good_openings_are_closed_once,
+    good_records_turn_once, later_edition_keeps_more,
+};
 pub use outcome::{Outcome, Why};
 pub use rule::Rule;

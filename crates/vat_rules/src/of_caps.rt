@@ -6,14 +6,14 @@ ghost use Rattle.std.specs.Option.{option_copied};
 ghost use Rattle.vat_view.specs.Questions.{is_late};
 ghost use Rattle.vat_view.specs.Lives.{descriptors};
 ghost use Rattle.vat_view.specs.Borrowed.{as_view};
-ghost use Rattle.vat_view.specs.Views.{places, placed_references, view_of_reference, view_of_descriptor, views_of_descriptors};
+ghost use Rattle.vat_view.specs.Views.{places, references, placed_references, view_of_reference, view_of_descriptor, views_of_descriptors};
 ghost use Rattle.vat_rules.specs.Ways.{EndsIn};
-ghost use Rattle.vat_rules.specs.OfCaps.{is_sent, is_received, is_cap_at, is_hosted, came_hosted, is_hosted_end, NotesView, Describes, BindsEach};
+ghost use Rattle.vat_rules.specs.OfCaps.{is_sent, is_received, is_light_return, is_cap_at, is_hosted, came_hosted, is_hosted_end, NotesView, Describes, BindsEach};
 ghost use Rattle.vat_rules.specs.Glue.Facts.{view_at, standing_of};
 
 use crate::facts::meanings::Meanings;
 use crate::leads::leads_to;
-use rpc_view::Descriptor;
+use rpc_view::{Descriptor, RpcMessage};
 use std::alloc::{AllocError, Global};
 use vat_view::{BorrowedView, DecodedRecord, VatState, View, ends_are_one};
 
@@ -29,6 +29,20 @@ fn is_received(event: &DecodedRecord) -> bool
     ensures { result ≡ is_received event.now }
 {
     matches!(event, DecodedRecord::Wire { sent: false, .. })
+}
+
+/// Whether a record notes no reference if it is a Return that says that no Finish is needed.
+fn is_light_without_caps(event: &DecodedRecord) -> bool
+    ensures { Decides result (is_light_return event.now ≡ true → references event.now ≡ []) }
+{
+    match event {
+        DecodedRecord::Wire {
+            references,
+            message: RpcMessage::Return { light: true, .. },
+            ..
+        } => references.as_slice().is_empty(),
+        _ => true,
+    }
 }
 
 /// Whether there is a descriptor and it isn't none.
@@ -212,7 +226,8 @@ fn notes_each_view(
 }
 
 /// Whether a sent record notes one reference for each descriptor that isn't none, each leading to what that stands
-/// for, and a record introduces numbers by the kind of their lives.
+/// for, and none where it is a Return that says that no Finish is needed; and a record introduces numbers by the kind of
+/// their lives.
 pub(crate) fn describes(
     alloc: Global,
     state: &VatState,
@@ -231,6 +246,9 @@ pub(crate) fn describes(
     }
     if standing.late {
         return Ok(true);
+    }
+    if sent && !is_light_without_caps(event) {
+        return Ok(false);
     }
     if sent && !notes_each_view(alloc, state, event, standing.caps.as_slice())? {
         return Ok(false);

@@ -1,28 +1,46 @@
 //! The rules on a connection as a whole: when it has ended, and when an embargo may be asked for and lifted.
 
-ghost use Rattle.std.specs.Prelude.{◌≡◌, true, false, not, is_some, Decides, IsTrue, IsSomeAnd};
+ghost use Rattle.std.specs.Prelude.{◌≡◌, ℕ, List, true, false, not, is_some, Decides, IsTrue, IsSomeAnd};
 ghost use Rattle.std.specs.Option.{option_copied};
 ghost use Rattle.vat_view.specs.Past.{id};
 ghost use Rattle.vat_view.specs.Views.{view_of_target};
 ghost use Rattle.vat_view.specs.Loopbacks.{loopback_of, embargoed_view, IsHeldUp};
 ghost use Rattle.vat_view.specs.Connections.{LeadsOver, LeadsElsewhere};
+ghost use Rattle.vat_rules.specs.Types.{Wire, Abort};
 ghost use Rattle.vat_rules.specs.Ways.{LeadsTo};
 ghost use Rattle.vat_rules.specs.OfConnections.{IsOpen, KeepsEmbargo};
 
 use crate::leads::leads_to;
-use rpc_view::{Loopback, RpcMessage};
+use rpc_view::{Edition, Loopback, RpcMessage};
 use vat_view::{DecodedRecord, TableKey, VatState, View};
 
-/// Whether a record sends nothing on a connection that was aborted.
-pub(crate) fn is_open(state: &VatState, event: &DecodedRecord) -> bool
-    ensures { Decides result (IsOpen state.now event.now) }
+/// Whether an abort may be sent on a connection: none was sent or received there, or, by the later edition, none was sent.
+fn may_abort(edition: Edition, state: &VatState, connection: u32) -> bool
+    ensures { (call : ℕ) (references : List ℕ) → Decides result
+        (IsOpen edition state.now (Wire true connection call references Abort)) }
+{
+    match edition {
+        Edition::First => !state.is_aborted(connection),
+        Edition::Later => !state.is_aborted_here(connection),
+    }
+}
+
+/// Whether a record sends nothing on a connection that was aborted; by the later edition, nothing but the one abort that
+/// answers another.
+#[tactic(auto, using(crate::proofs::Editions::open_otherwise))]
+pub(crate) fn is_open(edition: Edition, state: &VatState, event: &DecodedRecord) -> bool
+    ensures { Decides result (IsOpen edition state.now event.now) }
 {
     match event {
         DecodedRecord::Wire {
             sent: true,
             connection,
+            message,
             ..
-        } => !state.is_aborted(*connection),
+        } => match message {
+            RpcMessage::Abort => may_abort(edition, state, *connection),
+            _ => !state.is_aborted(*connection),
+        },
         _ => true,
     }
 }
@@ -50,17 +68,24 @@ fn theirs(connection: u32, number: u32) -> TableKey
 }
 
 /// Whether a sent senderLoopback has a number that isn't outstanding, and a target that leads elsewhere than over its
-/// connection.
-fn asks_echo(state: &VatState, connection: u32, number: u32, target: Option<&View>) -> bool
+/// connection, as the edition has it.
+fn asks_echo(
+    edition: Edition,
+    state: &VatState,
+    connection: u32,
+    number: u32,
+    target: Option<&View>,
+) -> bool
     ensures { Decides result
         (IsTrue (not (is_some (loopback_of (id connection true number) state.now)))
-        × IsSomeAnd (option_copied target.entry) (λ v. LeadsElsewhere state.now v connection)) }
+        × IsSomeAnd (option_copied target.entry)
+        (λ v. LeadsElsewhere edition state.now v connection)) }
 {
     if state.awaits_echo(ours(connection, number)) {
         return false;
     }
     match target {
-        Some(target) => state.leads_elsewhere(target, connection),
+        Some(target) => state.leads_elsewhere(target, connection, edition),
         None => false,
     }
 }
@@ -91,10 +116,15 @@ fn may_echo(state: &VatState, connection: u32, number: u32, target: Option<&View
     leads_to(state, state.embargoed_view(loopback), target) && !state.is_held_up(loopback)
 }
 
-/// Whether a Disembargo asks for an echo, or echoes, as it may.
-pub(crate) fn keeps_embargo(state: &VatState, event: &DecodedRecord, target: Option<&View>) -> bool
+/// Whether a Disembargo asks for an echo, or echoes, as it may by an edition.
+pub(crate) fn keeps_embargo(
+    edition: Edition,
+    state: &VatState,
+    event: &DecodedRecord,
+    target: Option<&View>,
+) -> bool
     requires { option_copied target ≡ view_of_target state.now event.now }
-    ensures { Decides result (KeepsEmbargo state.now event.now) }
+    ensures { Decides result (KeepsEmbargo edition state.now event.now) }
 {
     let DecodedRecord::Wire {
         sent,
@@ -110,7 +140,7 @@ pub(crate) fn keeps_embargo(state: &VatState, event: &DecodedRecord, target: Opt
         return true;
     };
     match (loopback, *sent) {
-        (Loopback::Sender, true) => asks_echo(state, *connection, *number, target),
+        (Loopback::Sender, true) => asks_echo(edition, state, *connection, *number, target),
         (Loopback::Sender, false) => is_asked_echo(state, *connection, *number, target),
         (Loopback::Receiver, true) => may_echo(state, *connection, *number, target),
         (Loopback::Receiver, false) => state.awaits_echo(ours(*connection, *number)),

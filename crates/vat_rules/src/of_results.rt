@@ -1,9 +1,10 @@
 //! The rule on Returns: what is sent back is what came back.
 
-ghost use Rattle.std.specs.Prelude.{◌≡◌, Decides, IfOk, IsFalse, IsSomeAnd};
+ghost use Rattle.std.specs.Prelude.{◌≡◌, Some, Decides, IfOk, IsFalse, IsSomeAnd};
 ghost use Rattle.std.specs.List.{AllByRecursion};
 ghost use Rattle.vat_view.specs.Questions.{is_tail, opening, call_at, call_of};
 ghost use Rattle.vat_view.specs.Views.{views_of_descriptors};
+ghost use Rattle.vat_view.specs.Calls.{answered_by};
 ghost use Rattle.vat_rules.specs.OfResults.{ReturnsField, ReturnsFields, ReturnsTaken, ReturnsKnown};
 ghost use Rattle.vat_rules.specs.Glue.Facts.{standing_of};
 
@@ -11,7 +12,7 @@ use crate::facts::meanings::Meanings;
 use crate::leads::leads_on_to;
 use crate::of_caps::{is_cap_at, view_at};
 use cap_frame::Path;
-use rpc_view::{Outcome, RpcMessage};
+use rpc_view::{Edition, Outcome, RpcMessage};
 use std::alloc::AllocError;
 use vat_view::{DecodedRecord, Number, TableKey, VatState, View};
 
@@ -95,9 +96,9 @@ fn returns_results(
     }
 }
 
-/// Whether a call was answered by another, which is the one whose results are taken.
-fn returns_taken(state: &VatState, from: Option<u64>, call: u64) -> bool
-    ensures { Decides result (ReturnsTaken state.now from call) }
+/// Whether a call was answered by another, which is this one.
+fn is_answered_by(state: &VatState, from: Option<u64>, call: u64) -> bool
+    ensures { Decides result (IsSomeAnd (answered_by call state.now) (λ by. from ≡ Some by)) }
 {
     match (from, state.answered_by(call)) {
         (Some(from), Some(by)) => from == by,
@@ -105,26 +106,39 @@ fn returns_taken(state: &VatState, from: Option<u64>, call: u64) -> bool
     }
 }
 
-/// Whether the call of a question was answered by the one for which the question stands whose results are taken.
-fn takes_answer(state: &VatState, question: TableKey, taken: TableKey) -> bool
-    ensures { Decides result (IsSomeAnd
-        (call_at (opening question state.now)) (ReturnsTaken state.now (call_of taken state.now))) }
+/// Whether a call was answered by another, which is the one whose results are taken; by the later edition, the call's
+/// own may be taken too.
+fn returns_taken(edition: Edition, state: &VatState, from: Option<u64>, call: u64) -> bool
+    ensures { Decides result (ReturnsTaken edition state.now from call) }
+{
+    match edition {
+        Edition::First => is_answered_by(state, from, call),
+        Edition::Later => is_answered_by(state, from, call) || from == Some(call),
+    }
+}
+
+/// Whether the call of a question was answered by the one for which the question stands whose results are taken, or, by
+/// the later edition, that question stands for the call itself.
+fn takes_answer(edition: Edition, state: &VatState, question: TableKey, taken: TableKey) -> bool
+    ensures { Decides result (IsSomeAnd (call_at (opening question state.now))
+        (ReturnsTaken edition state.now (call_of taken state.now))) }
 {
     match state.opening_call(question) {
-        Some(call) => returns_taken(state, state.call_of(taken), call),
+        Some(call) => returns_taken(edition, state, state.call_of(taken), call),
         None => false,
     }
 }
 
 /// Whether a sent Return that isn't late gives results that are known, and at each path what they lead to, or says truly
-/// where else they went or from where they are taken; and one that is canceled comes after a Finish.
+/// where else they went or from where they may be taken by an edition; and one that is canceled comes after a Finish.
 pub(crate) fn returns_known(
+    edition: Edition,
     state: &VatState,
     event: &DecodedRecord,
     standing: &Meanings,
 ) -> Result<bool, AllocError>
     requires { standing.now ≡ standing_of state.now event.now }
-    ensures { IfOk result (λ b. Decides b (ReturnsKnown state.now event.now)) }
+    ensures { IfOk result (λ b. Decides b (ReturnsKnown edition state.now event.now)) }
 {
     let DecodedRecord::Wire {
         sent: true,
@@ -150,7 +164,7 @@ pub(crate) fn returns_known(
         Outcome::Elsewhere => Ok(state.is_tail(question)),
         Outcome::TakeFrom(number) => {
             let taken = Number::Question(*number).on(*connection);
-            Ok(takes_answer(state, question, taken))
+            Ok(takes_answer(edition, state, question, taken))
         }
         Outcome::Exception => Ok(true),
     }

@@ -56,6 +56,8 @@ fn put_made(text: &mut String, made: &[u8]) -> Result<(), AllocError> {
         let len = made.len();
         let what = if made.starts_with(b"VATLOG02") {
             "a log"
+        } else if made.starts_with(b"VATLOG03") {
+            "a log of version 3"
         } else {
             "no order and no log"
         };
@@ -86,7 +88,7 @@ fn text_of(alloc: Global, told: &Told) -> Result<String, Fault> {
     Ok(text)
 }
 
-/// What the run that a conversation asks for prints, with `made V V ..` behind it where it wrote an order, or `made a log of N bytes`, and its status as
+/// What the run that a conversation asks for prints, with `made V V ..` behind it where it wrote an order, or `made a log of N bytes`, of version 2 or, where it says so, 3, and its status as
 /// a last line.
 pub fn answer<R: Threads + Wait + Sync>(
     rt: &R,

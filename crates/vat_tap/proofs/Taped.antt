@@ -5,7 +5,8 @@ use Rattle.std.specs.List.Sorted.{IsStrictlyIncreasing}
 use Rattle.std.specs.Prelude.{slice_get}
 use Rattle.std.proofs.lemmas.List.{length-map, get_or-map, map-append, get_or_append_left, get_or-append-add}
 use Rattle.std.proofs.lemmas.List.Sums.{sum_by-cons}
-use Rattle.vat_log.specs.Log.{Log, written_version}
+use Rattle.vat_log.specs.declared.version.LogVersion.{LogVersion}
+use Rattle.vat_log.specs.Log.{Log}
 use Rattle.vat_tap.specs.Tickets.{Ticketed, LaneView, IsTaped, tickets_of, times, once_below}
 use Rattle.vat_tap.specs.Glue.Taps.{in_ticket_order}
 use Rattle.vat_tap.proofs.Moves.{times_append, times_has, once_is_below}
@@ -40,10 +41,10 @@ one_most n ticket = small (ltb ticket n)
     small true = omega arith
     small false = omega arith
 
-pub taped : (number : ℕ) (lanes : List LaneView) (log : Log) → log ≡ record { version = written_version; vat = number; records = in_ticket_order (flat_map (λ lane. lane.recorded) lanes) }
+pub taped : (version : LogVersion) (number : ℕ) (lanes : List LaneView) (log : Log) → log ≡ record { version = version; vat = number; records = in_ticket_order (flat_map (λ lane. lane.recorded) lanes) }
     → ((ticket : ℕ) → sum_by (λ lane. times ticket (tickets_of lane.recorded)) lanes ≡ once_below (sum_by (λ lane. length lane.recorded) lanes) ticket)
-    → All (λ lane. IsStrictlyIncreasing (tickets_of lane.recorded)) lanes → IsTaped number lanes log
-taped number lanes log is once rising =
+    → All (λ lane. IsStrictlyIncreasing (tickets_of lane.recorded)) lanes → IsTaped version number lanes log
+taped version number lanes log is once rising =
     let items = flat_map (λ (lane : LaneView). lane.recorded) lanes in
     let records = map (λ (item : Ticketed). item.1) items in
     let n = sum_by (λ (lane : LaneView). length lane.recorded) lanes in

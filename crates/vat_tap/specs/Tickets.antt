@@ -8,7 +8,8 @@ use denote.RawPtr.{Ptr}
 use Rattle.atomic_table.specs.Seated.{TableId}
 use Rattle.rtrb.specs.Shared.{Names}
 use Rattle.vat_log.specs.declared.body.Body.{Body}
-use Rattle.vat_log.specs.Log.{Log, written_version}
+use Rattle.vat_log.specs.declared.version.LogVersion.{LogVersion}
+use Rattle.vat_log.specs.Log.{Log}
 
 -- how often a ticket is among these
 abbrev pub times : ℕ → List ℕ → ℕ
@@ -42,8 +43,10 @@ pub record LaneView : Type 0 where
   pub ring : Ring
   pub recorded : List Ticketed
 
--- a tap: its vat, its ticket word, the ring of each lane, and what it took from each, in the order in which it did
+-- a tap: the version of its log, its vat, its ticket word, the ring of each lane, and what it took from each, in the order
+-- in which it did
 pub record TapView : Type 0 where
+  pub version : LogVersion
   pub vat : ℕ
   pub word : TableId
   pub rings : List Ring
@@ -60,7 +63,8 @@ pub record IsLaneOf (tap : TapView) (lane : LaneView) : Type 0 where
   pub ring : slice_get tap.rings lane.number ≡ Some lane.ring
 
 -- the tap and its lanes as they were opened
-pub record IsOpened (number lanes ring : ℕ) (tap : TapView) (opened : List LaneView) : Type 0 where
+pub record IsOpened (format : LogVersion) (number lanes ring : ℕ) (tap : TapView) (opened : List LaneView) : Type 0 where
+  pub version : tap.version ≡ format
   pub vat : tap.vat ≡ number
   pub rings : length tap.rings ≡ lanes
   pub count : length opened ≡ lanes
@@ -71,11 +75,11 @@ pub record IsOpened (number lanes ring : ℕ) (tap : TapView) (opened : List Lan
   pub intakes : length tap.taken ≡ lanes
   pub nothing : All (λ taken. taken ≡ []) tap.taken
 
--- The log is of the version that is written, and of the vat of this number. Of as many tickets as it has records, counted
--- from 0, each was given once in all lanes together, and no other was. The record of each stands in the log at its ticket.
--- Each lane's tickets rise in the order in which it recorded.
-pub record IsTaped (number : ℕ) (lanes : List LaneView) (log : Log) : Type 0 where
-  pub version : log.version ≡ written_version
+-- The log is of this version, and of the vat of this number. Of as many tickets as it has records, counted from 0, each
+-- was given once in all lanes together, and no other was. The record of each stands in the log at its ticket. Each lane's
+-- tickets rise in the order in which it recorded.
+pub record IsTaped (format : LogVersion) (number : ℕ) (lanes : List LaneView) (log : Log) : Type 0 where
+  pub version : log.version ≡ format
   pub vat : log.vat ≡ number
   pub once : (ticket : ℕ) → sum_by (λ lane. times ticket (tickets_of lane.recorded)) lanes ≡ once_below (length log.records) ticket
   pub placed : All (λ lane. All (λ item. slice_get log.records item.0 ≡ Some item.1) lane.recorded) lanes
@@ -94,6 +98,7 @@ pub record SameLane (old new : LaneView) : Type 0 where
 
 -- the same tap, whatever it took
 pub record SameTap (old new : TapView) : Type 0 where
+  pub version : new.version ≡ old.version
   pub vat : new.vat ≡ old.vat
   pub word : new.word ≡ old.word
   pub rings : new.rings ≡ old.rings

@@ -4,8 +4,8 @@ ghost use Rattle.std.specs.Prelude.{◌≡◌, ◌≢◌, ℕ, ◌+◌, ◌≤�
 ghost use Rattle.std.specs.List.{flat_map, sum_by};
 ghost use Rattle.std.specs.List.Sorted.{IsStrictlyIncreasing};
 ghost use Rattle.std.specs.Arc.{arc_value};
-ghost use Rattle.vat_log.specs.Log.{written_version};
-ghost use Rattle.vat_tap.specs.Glue.Taps.{ring_of, HaveRings, AreTaken, IsTap, in_ticket_order};
+ghost use Rattle.vat_log.specs.Log.{written_version, later_version};
+ghost use Rattle.vat_tap.specs.Glue.Taps.{version_by, ring_of, HaveRings, AreTaken, IsTap, in_ticket_order};
 ghost use Rattle.vat_tap.specs.Tickets.{IsLaneOf, AreDifferent, IsOpened, IsTaped, SameTap, TakesOn, TakesAtMost, tickets_of, share_of, times, once_below};
 
 use crate::by_ticket::{in_order, lend};
@@ -18,7 +18,7 @@ use rtrb::RingBuffer;
 use std::alloc::{AllocError, Global};
 use std::marker::Model;
 use std::sync::Arc;
-use vat_log::{LogError, VatLog, write_lent_log};
+use vat_log::{LogError, Record, VatLog, write_lent_later_log, write_lent_log};
 
 /// How many records a log can have.
 const MOST: u64 = 1_048_576;
@@ -26,6 +26,8 @@ const MOST: u64 = 1_048_576;
 /// A log that is recorded by the lanes of several threads.
 #[derive(Drop)]
 pub struct Tap {
+    /// Whether the log is of version 3, and else of version 2.
+    later: bool,
     vat: u32,
     word: Arc<TicketWord>,
     seat: Seat<(), SeatKnowledge>,
@@ -36,11 +38,12 @@ impl Model for Tap {
     ghost use Rattle.std.specs.Prelude.{map, length};
     ghost use Rattle.std.specs.Arc.{arc_value};
     ghost use Rattle.vat_tap.specs.Tickets.{TapView};
-    ghost use Rattle.vat_tap.specs.Glue.Taps.{ring_of, IsTap};
+    ghost use Rattle.vat_tap.specs.Glue.Taps.{version_by, ring_of, IsTap};
 
     ghost Value = { TapView };
 
     ghost view = { λ tap. record {
+      version = version_by tap.later;
       vat = tap.vat;
       word = tap.seat.table_id;
       rings = map (λ intake. ring_of intake.ring) tap.intakes.items;
@@ -53,7 +56,8 @@ impl Model for Tap {
 
 impl Tap {
     /// A log of this vat that so many lanes record, 1 to 64, each through a ring of so many records, 1 to 65,536. A lane's
-    /// share is as many records as it may record in all: 1,048,576 divided by the number of lanes, rounded down.
+    /// share is as many records as it may record in all: 1,048,576 divided by the number of lanes, rounded down. The log is
+    /// of version 2.
     ///
     /// # Errors
     ///
@@ -66,7 +70,44 @@ impl Tap {
     ) -> Result<(Tap, Vec<Lane>), AllocError>
         requires lanes { (1 ≤ lanes) × (lanes ≤ 64) }
         requires ring { (1 ≤ ring) × (ring ≤ 65536) }
-        ensures { IfOk result (λ opened. IsOpened vat lanes ring opened.0 opened.1.items) }
+        ensures { IfOk result (λ opened.
+            IsOpened written_version vat lanes ring opened.0 opened.1.items) }
+    {
+        Tap::opened(alloc, false, vat, lanes, ring)
+    }
+
+    /// The same as [`Tap::open`], for a runtime that speaks the later edition of rpc.capnp: the log is of version 3
+    /// (docs/FORMATS.md).
+    ///
+    /// # Errors
+    ///
+    /// A growth of memory was refused.
+    pub fn open_later(
+        alloc: Global,
+        vat: u32,
+        lanes: usize,
+        ring: usize,
+    ) -> Result<(Tap, Vec<Lane>), AllocError>
+        requires lanes { (1 ≤ lanes) × (lanes ≤ 64) }
+        requires ring { (1 ≤ ring) × (ring ≤ 65536) }
+        ensures { IfOk result (λ opened.
+            IsOpened later_version vat lanes ring opened.0 opened.1.items) }
+    {
+        Tap::opened(alloc, true, vat, lanes, ring)
+    }
+
+    /// A log of this vat, of version 3 or 2, and the lanes that record it.
+    fn opened(
+        alloc: Global,
+        later: bool,
+        vat: u32,
+        lanes: usize,
+        ring: usize,
+    ) -> Result<(Tap, Vec<Lane>), AllocError>
+        requires lanes { (1 ≤ lanes) × (lanes ≤ 64) }
+        requires ring { (1 ≤ ring) × (ring ≤ 65536) }
+        ensures { IfOk result (λ opened.
+            IsOpened (version_by later) vat lanes ring opened.0 opened.1.items) }
     {
         let share = MOST / lanes as u64;
         let (table, first) = TicketWord::of_words(alloc, &[0; WORDS], &share)?;
@@ -91,6 +132,7 @@ impl Tap {
             })?;
         }
         let tap = Tap {
+            later,
             vat,
             word,
             seat,
@@ -128,7 +170,8 @@ impl Tap {
         requires different { AreDifferent lanes.items }
         // With all lanes, what was recorded.
         ensures ok { IfOk result (λ log.
-            (length lanes.items ≡ length self.rings) × IsTaped self.vat lanes.items log) }
+            (length lanes.items ≡ length self.rings)
+            × IsTaped self.version self.vat lanes.items log) }
         // Without, they are missing, and the tap is as it was.
         ensures missing { length lanes.items ≢ length self.rings
             → IfErr result (λ refused. (refused.0 ≡ CloseError.Missing) × (refused.1 ≡ self)) }
@@ -145,12 +188,14 @@ impl Tap {
         }
         match taken_log(
             *tap.intakes.allocator(),
+            tap.later,
             tap.vat,
             &mut tap.intakes,
             &mut lanes,
         ) {
             Ok(log) => {
                 let Tap {
+                    later: _,
                     vat: _,
                     word,
                     seat,
@@ -200,11 +245,31 @@ fn gather(intakes: &mut Vec<Intake>, lanes: &mut Vec<Lane>) -> Result<(), AllocE
     Ok(())
 }
 
-/// The log of what these lanes recorded.
-fn log_of(alloc: Global, vat: u32, intakes: &[Intake], lanes: &[Lane]) -> Result<VatLog, LogError>
+/// The log of this vat with these records, of version 3 or 2.
+fn stored(alloc: Global, later: bool, vat: u32, records: &[&Record]) -> Result<VatLog, LogError>
+    ensures { IfOk result (λ log. log ≡ record {
+      version = version_by later;
+      vat = vat;
+      records = map (λ entry. entry.now) records.now;
+    }) }
+{
+    if later {
+        return write_lent_later_log(alloc, vat, records);
+    }
+    write_lent_log(alloc, vat, records)
+}
+
+/// The log of what these lanes recorded, of version 3 or 2.
+fn log_of(
+    alloc: Global,
+    later: bool,
+    vat: u32,
+    intakes: &[Intake],
+    lanes: &[Lane],
+) -> Result<VatLog, LogError>
     requires { AreTaken (map (λ intake. intake.taken.items) intakes.now) lanes.now }
     ensures log { IfOk result (λ log. log ≡ record {
-      version = written_version;
+      version = version_by later;
       vat = vat;
       records = in_ticket_order (flat_map (λ lane. lane.recorded) lanes.now);
     }) }
@@ -216,12 +281,13 @@ fn log_of(alloc: Global, vat: u32, intakes: &[Intake], lanes: &[Lane]) -> Result
         lend(&mut all, intakes[lane.number].taken.as_slice())?;
     }
     let records = in_order(alloc, all.as_slice())?;
-    write_lent_log(alloc, vat, records.as_slice())
+    stored(alloc, later, vat, records.as_slice())
 }
 
 /// Takes all that the lanes recorded, and makes the log of it.
 fn taken_log(
     alloc: Global,
+    later: bool,
     vat: u32,
     intakes: &mut Vec<Intake>,
     lanes: &mut Vec<Lane>,
@@ -235,7 +301,7 @@ fn taken_log(
     ensures longer { TakesOn (map (λ intake. intake.taken.items) intakes.old.items)
         (map (λ intake. intake.taken.items) intakes.new.items) }
     ensures log { IfOk result (λ log. log ≡ record {
-      version = written_version;
+      version = version_by later;
       vat = vat;
       records = in_ticket_order (flat_map (λ lane. lane.recorded) lanes.old.items);
     }) }
@@ -243,7 +309,7 @@ fn taken_log(
         All (λ lane. IsStrictlyIncreasing (tickets_of lane.recorded)) lanes.old.items) }
 {
     gather(intakes, lanes)?;
-    log_of(alloc, vat, intakes, lanes)
+    log_of(alloc, later, vat, intakes, lanes)
 }
 
 /// Takes what is found in the rings now, and answers how many records that is.

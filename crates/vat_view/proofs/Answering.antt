@@ -10,7 +10,7 @@ use Rattle.vat_view.specs.declared.tables.references.BoundReferences.{BoundRefer
 use Rattle.vat_view.specs.declared.tables.calls.Calls.{Calls}
 use Rattle.vat_view.specs.Types.{Descriptor, Target, Imported, Promised, TakeFrom, Return, Finish, DecodedRecord, Wire, View, FieldOf, TableKey}
 use Rattle.vat_view.specs.Past.{Past, Point, point, id, same_id, last_since, Each}
-use Rattle.vat_view.specs.Questions.{opens, returns, finishes, releases, takes_results, opening, return_of, is_opened, is_returned, is_finished, is_released, is_tail, is_taken, is_free, is_unfinished, is_unreturned, is_late, closes, call_at, call_of}
+use Rattle.vat_view.specs.Questions.{opens, returns, finishes, releases, takes_results, opening, return_of, is_opened, is_returned, is_returned_lightly, is_finished, is_released, is_tail, is_taken, is_free, is_unfinished, is_unreturned, is_late, closes, call_at, call_of}
 use Rattle.vat_view.specs.Lives.{introductions_at, gives_back, held, GivesBackHeld, descriptors}
 use Rattle.vat_view.specs.Views.{view_of_reference, target_view, target_of, view_of_target, descriptor_view, view_of_descriptor, views_of_descriptors}
 use Rattle.vat_view.specs.Calls.{call_taken_from}
@@ -35,7 +35,8 @@ if_ok (Err e) f p = p
 
 -- ---- questions
 
-free_at : (q : TableKey) (past : Past) (o : Option Point) → free_in (option_map (known_from q past) o) ≡ (not (is_some o) || (is_returned q past && is_finished q past))
+free_at : (q : TableKey) (past : Past) (o : Option Point) → free_in (option_map (known_from q past) o)
+    ≡ ((not (is_some o) || (is_returned q past && is_finished q past)) || is_returned_lightly q past)
 free_at q past (Some p) = refl
 free_at q past None = refl
 

@@ -6,8 +6,8 @@ use Rattle.std.proofs.lemmas.List.{reverse-append}
 use Rattle.vat_view.specs.declared.tables.connections.Connections.{Connections}
 use Rattle.vat_view.specs.Types.{Bootstrap, Call, DecodedRecord, Wire}
 use Rattle.vat_view.specs.Past.{Past, Point, point, is}
-use Rattle.vat_view.specs.Connections.{aborted_by, aborts, asks}
-use Rattle.vat_view.specs.Glue.ConnectionTables.{call_sent_on, on_for, asked_at, aborted_at, AreConnected}
+use Rattle.vat_view.specs.Connections.{aborted_by, aborts, abort_sent_on, asks}
+use Rattle.vat_view.specs.Glue.ConnectionTables.{call_sent_on, on_for, asked_at, aborted_at, aborted_here_at, AreConnected}
 
 -- ---- one record
 
@@ -23,28 +23,44 @@ passed_either false p o = refl
 -- ---- tables
 
 -- a table that says the same
-pub connected_same : (past : Past) (table other : Connections) → ((c : ℕ) → asked_at other c ≡ asked_at table c) → ((k : ℕ) → aborted_at other k ≡ aborted_at table k) →
-    AreConnected past table → AreConnected past other
-connected_same past table other asked aborted kept = record { asked = λ c. asked c ∙ kept.asked c; aborted = λ k. aborted k ∙ kept.aborted k }
+pub record SaysSame (table other : Connections) : Type 0 where
+  pub asked : (c : ℕ) → asked_at other c ≡ asked_at table c
+  pub aborted : (k : ℕ) → aborted_at other k ≡ aborted_at table k
+  pub aborted_here : (k : ℕ) → aborted_here_at other k ≡ aborted_here_at table k
 
-pub connected_more : (before : Past) (e : DecodedRecord) (table other : Connections) → ((c : ℕ) → asked_at other c ≡ option_or (on_for c (call_sent_on e)) (asked_at table c)) →
-    ((k : ℕ) → aborted_at other k ≡ (is k (aborted_by e) || aborted_at table k)) → AreConnected before table → AreConnected (e ∷ before) other
-connected_more before e table other asked aborted kept = record {
-  asked = λ c. asked c ∙ ap₂ (λ x y. option_or x y) (asking_known c e) (kept.asked c);
-  aborted = λ k. aborted k ∙ ap (λ b. aborts k e || b) (kept.aborted k) ∙ passed_either (aborts k e) (point before e) _;
+pub connected_same : (past : Past) (table other : Connections) → SaysSame table other → AreConnected past table → AreConnected past other
+connected_same past table other same kept = record {
+  asked = λ c. same.asked c ∙ kept.asked c;
+  aborted = λ k. same.aborted k ∙ kept.aborted k;
+  aborted_here = λ k. same.aborted_here k ∙ kept.aborted_here k;
+}
+
+-- a table that says what a record adds
+pub record SaysMore (e : DecodedRecord) (table other : Connections) : Type 0 where
+  pub asked : (c : ℕ) → asked_at other c ≡ option_or (on_for c (call_sent_on e)) (asked_at table c)
+  pub aborted : (k : ℕ) → aborted_at other k ≡ (is k (aborted_by e) || aborted_at table k)
+  pub aborted_here : (k : ℕ) → aborted_here_at other k ≡ (is k (abort_sent_on e) || aborted_here_at table k)
+
+pub connected_more : (before : Past) (e : DecodedRecord) (table other : Connections) → SaysMore e table other → AreConnected before table → AreConnected (e ∷ before) other
+connected_more before e table other more kept = record {
+  asked = λ c. more.asked c ∙ ap₂ (λ x y. option_or x y) (asking_known c e) (kept.asked c);
+  aborted = λ k. more.aborted k ∙ ap (λ b. aborts k e || b) (kept.aborted k) ∙ passed_either (aborts k e) (point before e) _;
+  aborted_here = λ k. more.aborted_here k ∙ ap (λ b. is k (abort_sent_on e) || b) (kept.aborted_here k) ∙ passed_either (is k (abort_sent_on e)) (point before e) _;
 }
 
 -- ---- the state, whose records stand with the oldest first
 
-pub connected_refused : (items other : List DecodedRecord) (table room : Connections) → other ≡ items → ((c : ℕ) → asked_at room c ≡ asked_at table c) →
-    ((k : ℕ) → aborted_at room k ≡ aborted_at table k) → AreConnected (reverse items) table → AreConnected (reverse other) room
-connected_refused items other table room same asked aborted kept =
-    connected_same (reverse other) table room asked aborted (subst (λ l. AreConnected (reverse l) table) (sym same) kept)
+pub connected_refused : (items other : List DecodedRecord) (table room : Connections) → other ≡ items → SaysSame table room → AreConnected (reverse items) table →
+    AreConnected (reverse other) room
+connected_refused items other table room same says kept =
+    connected_same (reverse other) table room says (subst (λ l. AreConnected (reverse l) table) (sym same) kept)
 
 pub connected_applied : (items other pushed : List DecodedRecord) (e : DecodedRecord) (table room more : Connections) → other ≡ items → pushed ≡ other ++ e ∷ [] →
-    ((c : ℕ) → asked_at room c ≡ asked_at table c) → ((k : ℕ) → aborted_at room k ≡ aborted_at table k) →
-    ((c : ℕ) → asked_at more c ≡ option_or (on_for c (call_sent_on e)) (asked_at room c)) → ((k : ℕ) → aborted_at more k ≡ (is k (aborted_by e) || aborted_at room k)) →
-    AreConnected (reverse items) table → AreConnected (reverse pushed) more
-connected_applied items other pushed e table room more same is_pushed asked aborted more_asked more_aborted kept =
+    SaysSame table room → SaysMore e room more → AreConnected (reverse items) table → AreConnected (reverse pushed) more
+connected_applied items other pushed e table room more same is_pushed says adds kept =
     subst (λ l. AreConnected l more) (sym (ap (λ l. reverse l) (is_pushed ∙ ap (λ l. l ++ e ∷ []) same) ∙ reverse-append items (e ∷ [])))
-    (connected_more (reverse items) e room more more_asked more_aborted (connected_same (reverse items) table room asked aborted kept))
+    (connected_more (reverse items) e room more adds (connected_same (reverse items) table room says kept))
+
+-- the table as it was
+pub says_itself : (table : Connections) → SaysSame table table
+says_itself table = record { asked = λ c. refl; aborted = λ k. refl; aborted_here = λ k. refl }

@@ -5,7 +5,7 @@ use Rattle.std.proofs.lemmas.Bool.{and_parts, false≢true}
 use Rattle.vat_view.specs.declared.tables.question.Question.{Question}
 use Rattle.vat_view.specs.Types.{Return, Finish, DecodedRecord, Wire, TableKey}
 use Rattle.vat_view.specs.Past.{Past, Point, id}
-use Rattle.vat_view.specs.Questions.{asks_elsewhere, noted_call, opening, return_of, is_opened, is_returned, is_finished, is_released, is_taken, is_unfinished, is_late, closes}
+use Rattle.vat_view.specs.Questions.{asks_elsewhere, noted_call, opening, return_of, is_opened, is_returned, is_returned_lightly, is_finished, is_released, is_taken, is_unfinished, is_late, closes}
 use Rattle.vat_view.specs.Lives.{introductions, introductions_at}
 use Rattle.vat_view.specs.Uses.{UsesQuestions}
 use Rattle.vat_view.specs.Glue.Tables.{question_known, results_released_in, params_introduced_in, results_introduced_in, late_by, given_back_by}
@@ -16,6 +16,7 @@ known_from q past p = record {
   call = noted_call p.event;
   tail = asks_elsewhere p.event;
   returned = is_returned q past;
+  returned_lightly = is_returned_lightly q past;
   finished = is_finished q past;
   released = is_released q past;
   taken = is_taken q past;

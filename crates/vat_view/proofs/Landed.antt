@@ -9,7 +9,7 @@ use Rattle.std.proofs.lemmas.Option.{slice_get_past}
 use Rattle.std.proofs.lemmas.Bool.{and_parts, or_left, or_right, or_parts, cases_Bool, not-true, eqb-true, eq-eqb, ne_eqb, both_ways}
 use Rattle.vat_view.specs.Types.{Descriptor, NoCap, SenderHosted, SenderPromise, ReceiverHosted, ReceiverAnswer, RpcMessage, Outcome, Return, Resolve, Results, Exception, Canceled, Elsewhere, TakeFrom, DecodedRecord, Fulfil, Break, Answer, AnswerBy, Fault, Wire, View, Object, Promise, FieldOf, Import}
 use Rattle.vat_view.specs.Past.{Past, Point, id, point, is, record_index, last_answer, last_where, Each}
-use Rattle.vat_view.specs.Questions.{is_late, is_free, call_at, call_of, opening}
+use Rattle.vat_view.specs.Questions.{is_late, is_over, call_at, call_of, opening}
 use Rattle.vat_view.specs.Calls.{call_taken_from}
 use Rattle.vat_view.specs.Lives.{Birth, birth, descriptors, descriptors_of}
 use Rattle.vat_view.specs.Views.{view_of_reference, view_of_descriptor, binds, descriptor_view, described_at, placed_references, places, places_from, references}
@@ -507,7 +507,7 @@ abbrev IsOfCall : Past → View → View → Type 0
 IsOfCall past v w = (call by : ℕ) × (path : List ℕ) × (v ≡ FieldOf call path) × (w ≡ FieldOf by path) × (is_bound_call past by ≡ true)
 
 -- the call by whose results a record answers another is bound
-call_of_opened : (free : Bool) (o : Option ℕ) (by : ℕ) → (if free then None else o) ≡ Some by → is by o ≡ true
+call_of_opened : (over : Bool) (o : Option ℕ) (by : ℕ) → (if over then None else o) ≡ Some by → is by o ≡ true
 call_of_opened true o by h = absurd (none_some h)
 call_of_opened false (Some c) by h = eq-eqb c by (some_same h)
 call_of_opened false None by h = absurd (none_some h)
@@ -521,7 +521,7 @@ taken_bound before (AnswerBy c d) sound refers by h =
     subst (λ x. is_bound_call before x ≡ true) (some_same h) (and_parts (is_bound_call before d) true (and_parts (is_bound_call before c) (is_bound_call before d && true) refers.bound_call).1).0
 taken_bound before (Wire false k c rs (Return q release (TakeFrom n) light)) sound refers by h =
     opening_bound before sound (id k false n) by
-    (call_of_opened (is_free (id k false n) before) (call_at (opening (id k false n) before)) by
+    (call_of_opened (is_over (id k false n) before) (call_at (opening (id k false n) before)) by
     (not_late (is_late before (Wire false k c rs (Return q release (TakeFrom n) light))) (call_of (id k false n) before) by h))
 taken_bound before _ sound refers by h = absurd (none_some h)
 

@@ -1,16 +1,16 @@
 -- What the code's walks to views of a kind answer.
 use Rattle.std.proofs.Common.{◌≡◌, ◌↔◌, refl, sym, ◌∙◌, ap, subst, ℕ, List, Bool, Option, Some, None, IsTrue}
-use Rattle.std.specs.Prelude.{Decides, ◌||◌, slice_get, option_and_then, reverse}
+use Rattle.std.specs.Prelude.{Decides, slice_get, option_and_then, reverse}
 use Rattle.std.proofs.lemmas.Bool.{false≢true, eqb-true, eq-eqb}
 use Rattle.std.proofs.lemmas.List.{reverse-reverse}
 use Rattle.vat_view.specs.declared.tables.connections.Connections.{Connections}
 use Rattle.vat_view.specs.declared.walks.reachable.Sought.TheVariants.{Over, Elsewhere}
-use Rattle.vat_view.specs.Types.{DecodedRecord, View, Object, Promise, FieldOf, Import}
+use Rattle.vat_view.specs.Types.{Edition, First, Later, DecodedRecord, View, Object, Promise, FieldOf, Import}
 use Rattle.vat_view.specs.Past.{Past, is}
 use Rattle.vat_view.specs.Walks.{Next, next, Leads}
-use Rattle.vat_view.specs.Connections.{connection_of, reached_over, is_own, is_another}
+use Rattle.vat_view.specs.Connections.{connection_of, reached_over, is_elsewhere}
 use Rattle.vat_view.specs.Glue.TurnTables.{turned_to}
-use Rattle.vat_view.specs.Glue.ConnectionTables.{AreConnected, over_by, sought_by, ReachesOne}
+use Rattle.vat_view.specs.Glue.ConnectionTables.{AreConnected, over_by, is_elsewhere_by, sought_by, ReachesOne}
 use Rattle.vat_view.proofs.Walking.{none_some, some_same, step, reached_same, leads_reach, reached_leads}
 use Rattle.vat_view.proofs.Settled.{record_there}
 
@@ -51,6 +51,10 @@ module _ (items given : List DecodedRecord) (past : Past) (table : Connections) 
   pub over_decides : (k : ℕ) (v : View) → Decides (sought_by given table (Over k) v) (reached_over past v ≡ Some k)
   over_decides k v = subst (λ o. Decides (is k o) (reached_over past v ≡ Some k)) (sym (over_so v)) (is_decides k (reached_over past v))
 
-  pub elsewhere_decides : (k : ℕ) (v : View) → Decides (sought_by given table (Elsewhere k) v) (IsTrue (is_own v || is_another k (reached_over past v)))
-  elsewhere_decides k v =
-      subst (λ o. Decides (is_own v || is_another k o) (IsTrue (is_own v || is_another k (reached_over past v)))) (sym (over_so v)) ((λ h. h), λ h. h)
+  elsewhere_is : (edition : Edition) (k : ℕ) (v : View) → is_elsewhere_by edition k v (reached_over past v) ≡ is_elsewhere edition k past v
+  elsewhere_is First k v = refl
+  elsewhere_is Later k v = refl
+
+  pub elsewhere_decides : (edition : Edition) (k : ℕ) (v : View) → Decides (sought_by given table (Elsewhere k edition) v) (IsTrue (is_elsewhere edition k past v))
+  elsewhere_decides edition k v =
+      subst (λ b. Decides b (IsTrue (is_elsewhere edition k past v))) (sym (ap (λ o. is_elsewhere_by edition k v o) (over_so v) ∙ elsewhere_is edition k v)) ((λ h. h), λ h. h)

@@ -6,10 +6,10 @@ use Rattle.vat_view.specs.declared.tables.questions.Questions.{Questions}
 use Rattle.vat_view.specs.declared.tables.exports_imports.ExportsImports.{ExportsImports}
 use Rattle.vat_view.specs.Types.{Results, Exception, Canceled, Elsewhere, TakeFrom, Bootstrap, Call, Return, Finish, Release, DecodedRecord, Wire, TableKey}
 use Rattle.vat_view.specs.Past.{Past, Point, point, id, same_id, names, last_answer, last_since}
-use Rattle.vat_view.specs.Questions.{question_opened, asks_elsewhere, noted_call, opens, releases, takes_results, opening, return_of, finish_of, is_returned, is_finished, is_released, is_taken, closes}
+use Rattle.vat_view.specs.Questions.{question_opened, asks_elsewhere, noted_call, opens, returns_lightly, releases, takes_results, opening, return_of, finish_of, is_returned, is_returned_lightly, is_finished, is_released, is_taken, closes}
 use Rattle.vat_view.specs.Lives.{begins, introductions, introductions_at, introduces, gives_back, introduced_count, released_count, held, is_in_life, GivesBackHeld}
 use Rattle.vat_view.specs.Uses.{UsesQuestions}
-use Rattle.vat_view.specs.Glue.Tables.{question_at, question_known, count_at, origin_at, origin_of, origins, raised_origin, count_released, given_back_by, just_opened, with_return, with_finish, with_release, with_taken, changed_if, noted_by, IsPut, IsSameQuestions, IsTabled}
+use Rattle.vat_view.specs.Glue.Tables.{question_at, question_known, count_at, origin_at, origin_of, origins, raised_origin, count_released, given_back_by, just_opened, with_return, with_light_return, with_finish, with_release, with_taken, changed_if, noted_by, IsPut, IsSameQuestions, IsTabled}
 use Rattle.vat_view.specs.declared.record.origin.Origin.{Origin}
 use Rattle.vat_view.proofs.Beginning.{counted_origins, born_step}
 use Rattle.std.proofs.lemmas.Bool.{ltb-true}
@@ -23,6 +23,7 @@ known_open q before b p = record {
   call = noted_call p.event;
   tail = asks_elsewhere p.event;
   returned = is_some (if b then None else return_of q before);
+  returned_lightly = is_some (if b then None else last_since (opens q) (returns_lightly q) before);
   finished = is_some (if b then None else finish_of q before);
   released = is_some (if b then None else last_since (opens q) (releases q) before);
   taken = is_some (if b then None else last_since (opens q) (takes_results q) before);
@@ -36,11 +37,14 @@ opens_step : (q : TableKey) (before : Past) (e : DecodedRecord) (b : Bool) →
 opens_step q before e true = refl
 opens_step q before e false = refl
 
-abbrev pub known_return : TableKey → Past → DecodedRecord → Bool → Bool → Point → Question
-known_return q before e b c p = record {
+-- what is known behind a Return, where b, l and c say whether it returns this question, whether lightly, and whether it
+-- takes its results
+abbrev pub known_return : TableKey → Past → DecodedRecord → Bool → Bool → Bool → Point → Question
+known_return q before e b l c p = record {
   call = noted_call p.event;
   tail = asks_elsewhere p.event;
   returned = is_some (if b then Some (point before e) else return_of q before);
+  returned_lightly = is_some (if l then Some (point before e) else last_since (opens q) (returns_lightly q) before);
   finished = is_finished q before;
   released = is_released q before;
   taken = is_some (if c then Some (point before e) else last_since (opens q) (takes_results q) before);
@@ -48,21 +52,34 @@ known_return q before e b c p = record {
   brought = introductions_at (if b then Some (point before e) else return_of q before);
 }
 
-returns_step : (q : TableKey) (before : Past) (e : DecodedRecord) (b c : Bool) (o : Option Point) →
-    option_map (known_return q before e b c) o ≡ changed_if c with_taken (changed_if b (with_return (introductions before e)) (option_map (known_from q before) o))
-returns_step q before e true true (Some p) = refl
-returns_step q before e true true None = refl
-returns_step q before e true false (Some p) = refl
-returns_step q before e true false None = refl
-returns_step q before e false true (Some p) = refl
-returns_step q before e false true None = refl
-returns_step q before e false false o = refl
+never_changed : (b l c : Bool) (ids : List TableKey) → None ≡ changed_if c with_taken (changed_if l with_light_return (changed_if b (with_return ids) None))
+never_changed true true true ids = refl
+never_changed true true false ids = refl
+never_changed true false true ids = refl
+never_changed true false false ids = refl
+never_changed false true true ids = refl
+never_changed false true false ids = refl
+never_changed false false true ids = refl
+never_changed false false false ids = refl
+
+returns_step : (q : TableKey) (before : Past) (e : DecodedRecord) (b l c : Bool) (o : Option Point) → option_map (known_return q before e b l c) o
+    ≡ changed_if c with_taken (changed_if l with_light_return (changed_if b (with_return (introductions before e)) (option_map (known_from q before) o)))
+returns_step q before e b l c None = never_changed b l c (introductions before e)
+returns_step q before e true true true (Some p) = refl
+returns_step q before e true true false (Some p) = refl
+returns_step q before e true false true (Some p) = refl
+returns_step q before e true false false (Some p) = refl
+returns_step q before e false true true (Some p) = refl
+returns_step q before e false true false (Some p) = refl
+returns_step q before e false false true (Some p) = refl
+returns_step q before e false false false (Some p) = refl
 
 abbrev pub known_finish : TableKey → Past → DecodedRecord → Bool → Bool → Point → Question
 known_finish q before e b c p = record {
   call = noted_call p.event;
   tail = asks_elsewhere p.event;
   returned = is_returned q before;
+  returned_lightly = is_returned_lightly q before;
   finished = is_some (if b then Some (point before e) else finish_of q before);
   released = is_some (if c then Some (point before e) else last_since (opens q) (releases q) before);
   taken = is_taken q before;
@@ -85,16 +102,26 @@ pub known_step : (q : TableKey) (before : Past) (e : DecodedRecord) → question
     ≡ noted_by e (introductions before e) q (if names q (question_opened e) then Some (just_opened (noted_call e) (asks_elsewhere e) (introductions before e)) else question_known q before)
 known_step q before (Wire s k c rs (Bootstrap n)) = opens_step q before (Wire s k c rs (Bootstrap n)) (same_id q (id k s n))
 known_step q before (Wire s k c rs (Call n t f m p yourself)) = opens_step q before (Wire s k c rs (Call n t f m p yourself)) (same_id q (id k s n))
-known_step q before (Wire s k c rs (Return n release (Results payload) light)) =
-    returns_step q before (Wire s k c rs (Return n release (Results payload) light)) (same_id q (id k (not s) n)) false (opening q before)
-known_step q before (Wire s k c rs (Return n release Exception light)) =
-    returns_step q before (Wire s k c rs (Return n release Exception light)) (same_id q (id k (not s) n)) false (opening q before)
-known_step q before (Wire s k c rs (Return n release Canceled light)) =
-    returns_step q before (Wire s k c rs (Return n release Canceled light)) (same_id q (id k (not s) n)) false (opening q before)
-known_step q before (Wire s k c rs (Return n release Elsewhere light)) =
-    returns_step q before (Wire s k c rs (Return n release Elsewhere light)) (same_id q (id k (not s) n)) false (opening q before)
-known_step q before (Wire s k c rs (Return n release (TakeFrom m) light)) =
-    returns_step q before (Wire s k c rs (Return n release (TakeFrom m) light)) (same_id q (id k (not s) n)) (same_id q (id k s m)) (opening q before)
+known_step q before (Wire s k c rs (Return n release (Results payload) true)) =
+    returns_step q before (Wire s k c rs (Return n release (Results payload) true)) (same_id q (id k (not s) n)) (same_id q (id k (not s) n)) false (opening q before)
+known_step q before (Wire s k c rs (Return n release (Results payload) false)) =
+    returns_step q before (Wire s k c rs (Return n release (Results payload) false)) (same_id q (id k (not s) n)) false false (opening q before)
+known_step q before (Wire s k c rs (Return n release Exception true)) =
+    returns_step q before (Wire s k c rs (Return n release Exception true)) (same_id q (id k (not s) n)) (same_id q (id k (not s) n)) false (opening q before)
+known_step q before (Wire s k c rs (Return n release Exception false)) =
+    returns_step q before (Wire s k c rs (Return n release Exception false)) (same_id q (id k (not s) n)) false false (opening q before)
+known_step q before (Wire s k c rs (Return n release Canceled true)) =
+    returns_step q before (Wire s k c rs (Return n release Canceled true)) (same_id q (id k (not s) n)) (same_id q (id k (not s) n)) false (opening q before)
+known_step q before (Wire s k c rs (Return n release Canceled false)) =
+    returns_step q before (Wire s k c rs (Return n release Canceled false)) (same_id q (id k (not s) n)) false false (opening q before)
+known_step q before (Wire s k c rs (Return n release Elsewhere true)) =
+    returns_step q before (Wire s k c rs (Return n release Elsewhere true)) (same_id q (id k (not s) n)) (same_id q (id k (not s) n)) false (opening q before)
+known_step q before (Wire s k c rs (Return n release Elsewhere false)) =
+    returns_step q before (Wire s k c rs (Return n release Elsewhere false)) (same_id q (id k (not s) n)) false false (opening q before)
+known_step q before (Wire s k c rs (Return n release (TakeFrom m) true)) =
+    returns_step q before (Wire s k c rs (Return n release (TakeFrom m) true)) (same_id q (id k (not s) n)) (same_id q (id k (not s) n)) (same_id q (id k s m)) (opening q before)
+known_step q before (Wire s k c rs (Return n release (TakeFrom m) false)) =
+    returns_step q before (Wire s k c rs (Return n release (TakeFrom m) false)) (same_id q (id k (not s) n)) false (same_id q (id k s m)) (opening q before)
 known_step q before (Wire s k c rs (Finish n true)) =
     finishes_step q before (Wire s k c rs (Finish n true)) (same_id q (id k s n)) (same_id q (id k s n)) (opening q before)
 known_step q before (Wire s k c rs (Finish n false)) = finishes_step q before (Wire s k c rs (Finish n false)) (same_id q (id k s n)) false (opening q before)

@@ -1,7 +1,7 @@
 -- The connections over which views are reached, and those that were aborted (rpc.capnp, the comments of Disembargo and
 -- of Message.abort).
 use Rattle.std.specs.Prelude.{◌≡◌, ℕ, ◌==◌, Bool, true, false, not, ◌||◌, Option, Some, None, if◌then◌else◌, option_and_then, IsTrue}
-use Rattle.vat_view.specs.Types.{Bootstrap, Call, Abort, DecodedRecord, Wire, View, Object, Promise, FieldOf, Import}
+use Rattle.vat_view.specs.Types.{Edition, First, Later, Bootstrap, Call, Abort, DecodedRecord, Wire, View, Object, Promise, FieldOf, Import}
 use Rattle.vat_view.specs.Past.{Past, is, last_answer, record_at}
 use Rattle.vat_view.specs.Calls.{has_passed}
 use Rattle.vat_view.specs.Walks.{Leads}
@@ -20,6 +20,15 @@ aborts connection e = is connection (aborted_by e)
 -- a connection was aborted, from either end
 abbrev pub is_aborted : ℕ → Past → Bool
 is_aborted connection past = has_passed (λ before e. aborts connection e) past
+
+-- the connection on which a record sends an abort
+abbrev pub abort_sent_on : DecodedRecord → Option ℕ
+abort_sent_on (Wire true k call references Abort) = Some k
+abort_sent_on _ = None
+
+-- this vat has sent an abort on a connection
+abbrev pub is_aborted_here : ℕ → Past → Bool
+is_aborted_here connection past = has_passed (λ before e. is connection (abort_sent_on e)) past
 
 -- (rpc.capnp, Disembargo: the message bounces along the path that calls to the promise took, and comes back to the vat
 -- that sent it)
@@ -60,6 +69,12 @@ is_another k None = false
 abbrev pub LeadsOver : Past → View → ℕ → Type 0
 LeadsOver past from k = (v : View) × Leads past from v × (reached_over past v ≡ Some k)
 
--- a view leads, by 0 or more turns, to an own object or promise, or to one that is reached over another connection
-abbrev pub LeadsElsewhere : Past → View → ℕ → Type 0
-LeadsElsewhere past from k = (v : View) × Leads past from v × IsTrue (is_own v || is_another k (reached_over past v))
+-- a view is elsewhere than over this connection: an own object or promise, or reached over another. In a log of the later
+-- edition it only isn't reached over this one, so that the field of a call that was never asked is elsewhere too
+abbrev pub is_elsewhere : Edition → ℕ → Past → View → Bool
+is_elsewhere First k past v = is_own v || is_another k (reached_over past v)
+is_elsewhere Later k past v = not (is k (reached_over past v))
+
+-- a view leads, by 0 or more turns, to one that is elsewhere
+abbrev pub LeadsElsewhere : Edition → Past → View → ℕ → Type 0
+LeadsElsewhere edition past from k = (v : View) × Leads past from v × IsTrue (is_elsewhere edition k past v)

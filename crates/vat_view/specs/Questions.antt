@@ -15,6 +15,12 @@ abbrev pub question_returned : DecodedRecord → Option TableKey
 question_returned (Wire sent k call references (Return q release outcome light)) = Some (id k (not sent) q)
 question_returned _ = None
 
+-- (rpc.capnp, Return.noFinishNeeded)
+-- the question that a record returns lightly: by a Return that says that no Finish is needed
+abbrev pub question_returned_lightly : DecodedRecord → Option TableKey
+question_returned_lightly (Wire sent k call references (Return q release outcome true)) = Some (id k (not sent) q)
+question_returned_lightly _ = None
+
 -- the question that a record finishes: a Finish goes the way of the one who asks
 abbrev pub question_finished : DecodedRecord → Option TableKey
 question_finished (Wire sent k call references (Finish q release)) = Some (id k sent q)
@@ -32,6 +38,10 @@ opens q before e = names q (question_opened e)
 -- a record returns this question
 abbrev pub returns : TableKey → Past → DecodedRecord → Bool
 returns q before e = names q (question_returned e)
+
+-- a record returns this question lightly
+abbrev pub returns_lightly : TableKey → Past → DecodedRecord → Bool
+returns_lightly q before e = names q (question_returned_lightly e)
 
 -- a record finishes this question
 abbrev pub finishes : TableKey → Past → DecodedRecord → Bool
@@ -65,6 +75,10 @@ is_returned q past = is_some (return_of q past)
 abbrev pub is_finished : TableKey → Past → Bool
 is_finished q past = is_some (finish_of q past)
 
+-- a Return that says that no Finish is needed has passed since the last opening
+abbrev pub is_returned_lightly : TableKey → Past → Bool
+is_returned_lightly q past = is_some (last_since (opens q) (returns_lightly q) past)
+
 -- its Finish with releaseResultCaps true has passed since the last opening
 abbrev pub is_released : TableKey → Past → Bool
 is_released q past = is_some (last_since (opens q) (releases q) past)
@@ -93,9 +107,13 @@ takes_results q before e = names q (question_taken e)
 abbrev pub is_taken : TableKey → Past → Bool
 is_taken q past = is_some (last_since (opens q) (takes_results q) past)
 
--- a question is free when never opened, or when both Return and Finish have passed since the last opening
+-- a question is over when never opened, or when both Return and Finish have passed since the last opening
+abbrev pub is_over : TableKey → Past → Bool
+is_over q past = not (is_opened q past) || (is_returned q past && is_finished q past)
+
+-- its number is free, to be opened, when it is over, and behind a Return that says that no Finish is needed
 abbrev pub is_free : TableKey → Past → Bool
-is_free q past = not (is_opened q past) || (is_returned q past && is_finished q past)
+is_free q past = is_over q past || is_returned_lightly q past
 
 -- a question is opened and no Finish has passed
 abbrev pub is_unfinished : TableKey → Past → Bool
@@ -114,9 +132,9 @@ noted_call _ = 0
 abbrev pub call_at : Option Point → Option ℕ
 call_at p = option_map (λ p. noted_call p.event) p
 
--- a question that isn't free stands for the call of its last opening
+-- a question that isn't over stands for the call of its last opening
 abbrev pub call_of : TableKey → Past → Option ℕ
-call_of q past = if is_free q past then None else call_at (opening q past)
+call_of q past = if is_over q past then None else call_at (opening q past)
 
 -- a Return is late where a Finish with releaseResultCaps true passed before it, for the same opening of its question
 abbrev pub is_late : Past → DecodedRecord → Bool

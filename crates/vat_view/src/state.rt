@@ -11,7 +11,7 @@ ghost use Rattle.vat_view.specs.Uses.{UsesQuestions, UsesNumbers};
 ghost use Rattle.vat_view.specs.Views.{view_of_reference, view_of_target, views_of_descriptors};
 ghost use Rattle.vat_view.specs.Walks.{next, stays, Leads, LeadsByTurns, IsEnd};
 ghost use Rattle.vat_view.specs.Bindings.{Refers, NotesEach, is_bound, is_bound_call};
-ghost use Rattle.vat_view.specs.Connections.{is_aborted, LeadsOver, LeadsElsewhere};
+ghost use Rattle.vat_view.specs.Connections.{is_aborted, is_aborted_here, LeadsOver, LeadsElsewhere};
 ghost use Rattle.vat_view.specs.Calls.{request_of, goal_of, is_at_vat, is_served, is_settled, is_known, answered_by};
 ghost use Rattle.vat_view.specs.Borrowed.{as_view};
 ghost use Rattle.vat_view.specs.Loopbacks.{loopback_of, embargoed_view, IsHeldUp};
@@ -42,7 +42,7 @@ use crate::walks::shortcuts::{
     WayOn, shorten, shorten_calls, view_of_number, way_after, way_from, way_from_reference,
 };
 use cap_frame::Path;
-use rpc_view::{Loopback, Outcome, RpcMessage, Target};
+use rpc_view::{Edition, Loopback, Outcome, RpcMessage, Target};
 use std::alloc::{AllocError, Global};
 use std::fmt::{self, Debug, Formatter, Write};
 use std::marker::Model;
@@ -132,7 +132,8 @@ impl VatState {
     }
 
     /// What a number of a connection stands for: an export or import in life for the view with which its life began, a
-    /// question or answer that isn't free for the field of its call at the path, which counts for these two alone.
+    /// question or answer that isn't over for the field of its call at the path, which counts for these two alone. It is
+    /// over when both its Return and its Finish have passed.
     ///
     /// # Errors
     ///
@@ -460,8 +461,9 @@ impl VatState {
 
 /// What can be asked before a record is applied.
 impl VatState {
-    /// Whether a question is free: it was never opened, or both its Return and its Finish have passed since its last
-    /// opening (rpc.capnp, `Call.questionId`).
+    /// Whether a question's number is free, to be opened: it was never opened, or since its last opening both its Return
+    /// and its Finish have passed, or a Return that says that no Finish is needed (rpc.capnp, `Call.questionId` and
+    /// `Return.noFinishNeeded`).
     pub(crate) fn is_free(&self, question: TableKey) -> bool
         ensures { result ≡ is_free question self.now }
     {
@@ -505,15 +507,16 @@ impl VatState {
         table_answers::is_taken(&self.questions, question)
     }
 
-    /// The call for which a question stands: that of its last opening, if the question isn't free. A Return that takes
-    /// the results of another question names that question's call so (rpc.capnp, `Return.takeFromOtherQuestion`).
+    /// The call for which a question stands: that of its last opening, until both Return and Finish have passed, also
+    /// where a Return said that no Finish is needed. A Return that takes the results of another question names that
+    /// question's call so (rpc.capnp, `Return.takeFromOtherQuestion`).
     pub fn call_of(&self, question: TableKey) -> Option<u64>
         ensures { result ≡ call_of question self.now }
     {
         meaning::call_of(&self.questions, question)
     }
 
-    /// The call of a question's last opening, free or not, if it was ever opened.
+    /// The call of a question's last opening, over or not, if it was ever opened.
     pub fn opening_call(&self, question: TableKey) -> Option<u64>
         ensures { result ≡ call_at (opening question self.now) }
     {
@@ -706,6 +709,14 @@ impl VatState {
         self.connections.is_aborted(connection)
     }
 
+    /// Whether this vat sent an abort on a connection. One that answers a received abort is in order in a log of the later
+    /// edition, and a second one never is (rpc.capnp, `Message.abort`).
+    pub fn is_aborted_here(&self, connection: u32) -> bool
+        ensures { result ≡ is_aborted_here connection self.now }
+    {
+        self.connections.is_aborted_here(connection)
+    }
+
     /// Whether a view leads, by 0 or more turns, to one that is reached over this connection: an import that came in
     /// over it, or a field of a call that this vat asked on it. It takes no memory.
     pub fn leads_over(&self, from: &View, connection: u32) -> bool
@@ -723,13 +734,15 @@ impl VatState {
         )
     }
 
-    /// Whether a view leads, by 0 or more turns, to an own object or promise, or to one that is reached over another
-    /// connection than this. It takes no memory.
-    pub fn leads_elsewhere(&self, from: &View, connection: u32) -> bool
-        ensures { Decides result (LeadsElsewhere self.now from.now connection) }
+    /// Whether a view leads, by 0 or more turns, to one that is elsewhere than over this connection: to an own object or
+    /// promise, or to one that is reached over another connection. In a log of the later edition every view is elsewhere
+    /// that isn't reached over this connection, so the field of a call that was never asked is too (rpc.capnp, the
+    /// comments of `Disembargo`). It takes no memory.
+    pub fn leads_elsewhere(&self, from: &View, connection: u32, edition: Edition) -> bool
+        ensures { Decides result (LeadsElsewhere edition self.now from.now connection) }
     {
         let events = self.events.as_slice();
-        let sought = Sought::Elsewhere(connection);
+        let sought = Sought::Elsewhere(connection, edition);
         leads_to(
             events,
             &self.turns,

@@ -3,8 +3,9 @@
 //! their run, and `vataudit order CASE --out FILE` makes an order of their records. `vataudit vat FILE` prints one line for the
 //! log of one vat, `vataudit records FILE` a line for each record of a log, `vataudit frame HEX` the message of a frame, and
 //! `vataudit frames FILE` that of each frame of a file; `vataudit migrate FILE --out FILE` writes a log in version 2.
-//! Beside the lines it notes on standard error what people need of a no, of a record that isn't judged and of a file that is
-//! bad or can't be read; `--quiet` before the command leaves notes out.
+//! Beside the lines it notes on standard error what leads people to the cause of a no, of a record that isn't judged, of an
+//! input that is bad or can't be read and of a write that fails; `--quiet` before the command, or as the last word, leaves
+//! notes out. `vataudit --version` prints the version, and the kit by which it was proved.
 //!
 //! It stands on `command_line`, which reads the words, and on `command_run`, which runs the command that they spell
 //! and says in its specs/Runs.antt what a run prints. Here are the files: those that are read are a `Source` of
@@ -19,17 +20,18 @@ mod file;
 mod new_file;
 
 use clap::error::ErrorKind;
-use command_line::command_of;
+use command_line::{VERSION, command_of};
 use command_run::{FAILED, NotedSource, run_on, run_with_notes};
 use file::{Folder, RememberingFolder};
 use new_file::NewFile;
 use report_lines::Fault;
+use std::fmt::{Display, Formatter};
 use std::io::Write;
 use std::process::ExitCode;
 use std::rt::Files;
 use std::sync::Wait;
 use std::thread::Threads;
-use std::{env, fs, io};
+use std::{env, fmt, fs, io};
 
 /// Prints that memory ran out, and gives the exit status: that of a failed write where the line can't be written.
 fn out_of_memory(rt: &impl Print) -> u8
@@ -61,10 +63,54 @@ fn hold_standard_places<R: Files>(rt: &R) -> [io::Result<R::File>; 3] {
     [fs::open(rt, "/"), fs::open(rt, "/"), fs::open(rt, "/")]
 }
 
-/// Takes away `--quiet`, where it stands before the command, and says whether it did.
+/// The kit by which the program is proved.
+const KIT: &str = "rattle-kit-13b logic dac8208d650f15bf";
+
+/// What `--version` prints: the version of the program, and the kit by which it was proved.
+#[derive(Clone, Copy)]
+struct ProvedVersion;
+
+impl Display for ProvedVersion {
+    fn fmt<W: fmt::Write>(&self, f: &mut Formatter<W>) -> fmt::Result {
+        write!(f, "vataudit {VERSION}, proved with {KIT}")
+    }
+}
+
+/// Whether the words ask for the version alone.
+fn asks_version(words: &[String]) -> bool {
+    match words {
+        [_, word] => word.as_str() == "--version",
+        _ => false,
+    }
+}
+
+/// Prints the version, and gives the exit status.
+fn say_version<W: Write>(out: &mut W) -> u8 {
+    if out.writeln(ProvedVersion).is_err() || out.flush().is_err() {
+        return FAILED;
+    }
+    0
+}
+
+/// Whether `--quiet` is the last word and nothing else than that: not the name that `--out` asks for, and behind no `--`.
+fn ends_quiet(words: &[String]) -> bool {
+    let [_, .., before, last] = words else {
+        return false;
+    };
+    if last.as_str() != "--quiet" || before.as_str() == "--out" {
+        return false;
+    }
+    words.iter().all(|word| word.as_str() != "--")
+}
+
+/// Takes away `--quiet`, where it stands before the command or is the last word, and says whether it did.
 fn take_quiet(words: &mut Vec<String>) -> bool {
     if words.len() > 1 && words[1].as_str() == "--quiet" {
         let _ = words.remove(1);
+        return true;
+    }
+    if ends_quiet(words) {
+        let _ = words.pop();
         return true;
     }
     false
@@ -78,6 +124,9 @@ fn start<
     N: Write + Drop,
 >(rt: &R, out: &mut W, notes: N, words: &mut Vec<String>) -> u8 {
     let alloc = rt.alloc();
+    if asks_version(words) {
+        return say_version(out);
+    }
     let is_quiet = take_quiet(words);
     let command = match command_of(alloc, words) {
         Ok(command) => command,

@@ -5,7 +5,7 @@ use bytes::Bytes;
 use std::alloc::Global;
 use std::sync::Arc;
 use vat_log::{VatLog, parse_log};
-use vat_notation::{Vat, add_records, log_of};
+use vat_notation::{Vat, Version, add_records, log_of};
 
 /// The bytes of the log of a vat that recorded this, with what is changed, in the notation of the conversations.
 fn bytes_of_changed(
@@ -16,6 +16,7 @@ fn bytes_of_changed(
 ) -> Result<Bytes, Refused> {
     let mut vat = Vat {
         number,
+        version: Version::One,
         records: Vec::new(alloc),
     };
     add_records(&mut vat.records, records)?;
@@ -30,6 +31,12 @@ pub fn bytes_of_log(alloc: Global, number: &str, records: &str) -> Result<Bytes,
 /// The bytes of that log in version 2.
 pub fn bytes_of_new_log(alloc: Global, number: &str, records: &str) -> Result<Bytes, Refused> {
     let change = format!(in alloc; "vat {number} version 2")?;
+    bytes_of_changed(alloc, number, records, &[change.as_str()])
+}
+
+/// The bytes of that log in version 3.
+pub fn bytes_of_later_log(alloc: Global, number: &str, records: &str) -> Result<Bytes, Refused> {
+    let change = format!(in alloc; "vat {number} version 3")?;
     bytes_of_changed(alloc, number, records, &[change.as_str()])
 }
 

@@ -17,6 +17,6 @@ pub use conversation::{
     Conversation, EMBARGOED_CALLS, LATE_RETURN, LINK, PIPELINED_CALL, REINTRODUCED_EXPORT,
     RELAYED_CALL, RELEASED_PROMISE, REUSED_QUESTION, case_of,
 };
-pub use given::{bytes_of_log, bytes_of_new_log, changed_log, log};
+pub use given::{bytes_of_later_log, bytes_of_log, bytes_of_new_log, changed_log, log};
 pub use naming::{early_delivery, run_of};
 pub use refused::Refused;

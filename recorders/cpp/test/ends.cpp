@@ -1,4 +1,4 @@
-// Programs that end before their recorders do: `ends FOLDER HOW` writes FOLDER/HOW.vat1.log and FOLDER/HOW.vat2.log,
+// Programs that end before their recorders do: `ends FOLDER HOW` writes FOLDER/HOW-VERSION.vat1.log and the one of vat 2,
 // and ends as HOW says. Each log has to be good then, with as many records as the program says there are: it adds
 // a line `LOG RECORDS` for each to FOLDER/ended.
 
@@ -10,8 +10,6 @@
 #include <unistd.h>
 
 namespace {
-
-using capnp::rpc::twoparty::Side;
 
 // Its method `nothing` does what the program gave it.
 class EndingObject: public CounterObject {
@@ -104,7 +102,7 @@ const std::map<std::string, void (*)(Ending&)> ends = {
 int main(int count, char** words) {
   if (count != 3 || ends.count(words[2]) == 0) return 2;
   auto io = kj::setupAsyncIo();
-  World world(io, std::string(words[1]) + "/" + words[2]);
+  World world(io, std::string(words[1]) + "/" + words[2] + "-" + capnpVersion());
   Ending two(world);
   ends.at(words[2])(two);
   return 0;

@@ -1,5 +1,4 @@
-// Vats whose runtime has a planted fault: `faults FOLDER NAME` writes FOLDER/NAME.vatN.log. Without a name it writes
-// all. What the audit has to say of each stands in expected.txt, with the reason.
+// Vats whose runtime has a planted fault. What the audit has to say of each log stands in expected.txt, with the reason.
 //
 // The fault sits between capnp's RpcSystem and the recorder's network, so RpcSystem and fault together are the
 // runtime that is recorded: a message is changed, held back, doubled or left out before it is handed over, or is
@@ -10,7 +9,6 @@
 
 namespace {
 
-using capnp::rpc::twoparty::Side;
 namespace rpc = capnp::rpc;
 using Base = capnp::TwoPartyVatNetworkBase;
 
@@ -25,6 +23,9 @@ struct Fault {
   virtual bool holds(rpc::Message::Reader) { return false; }
   // Whether a message stays in a queue for good once it was looked at.
   virtual bool keeps(rpc::Message::Reader) { return false; }
+  // Whether a message waits in a queue, once it was looked at, until the next that doesn't wait and all that this one
+  // brings about are done.
+  virtual bool delays(rpc::Message::Reader) { return false; }
   // Changes in memory what the runtime makes of a message, after it was recorded.
   virtual void understands(rpc::Message::Reader) {}
   // What vat 2 reads in the place of this stream.
@@ -42,12 +43,25 @@ public:
   }
   kj::Promise<kj::Maybe<kj::Own<capnp::IncomingRpcMessage>>> receiveIncomingMessage() override {
     using Received = kj::Maybe<kj::Own<capnp::IncomingRpcMessage>>;
+    if (isNextDone) {
+      return kj::evalLast([]() { return kj::evalLast([]() {}); }).then([this]() {
+        auto message = kj::mv(delayed.front());
+        delayed.pop_front();
+        isNextDone = !delayed.empty();
+        return Received(kj::mv(message));
+      });
+    }
     return inner->receiveIncomingMessage().then([this](Received&& message) -> kj::Promise<Received> {
       KJ_IF_MAYBE(read, message) {
         if (fault.keeps((*read)->getBody().getAs<rpc::Message>())) {
           kept.push_back(kj::mv(*read));
           return receiveIncomingMessage();
         }
+        if (fault.delays((*read)->getBody().getAs<rpc::Message>())) {
+          delayed.push_back(kj::mv(*read));
+          return receiveIncomingMessage();
+        }
+        isNextDone = !delayed.empty();
         return Received(kj::Own<capnp::IncomingRpcMessage>(kj::heap<Incoming>(fault, kj::mv(*read))));
       } else {
         return Received(nullptr);
@@ -61,6 +75,8 @@ private:
   Fault& fault;
   kj::Maybe<kj::Own<capnp::OutgoingRpcMessage>> held;
   std::vector<kj::Own<capnp::IncomingRpcMessage>> kept;
+  std::deque<kj::Own<capnp::IncomingRpcMessage>> delayed;
+  bool isNextDone = false;
 
   struct Outgoing final: capnp::OutgoingRpcMessage {
     Outgoing(FaultyConnection& line, kj::Own<capnp::OutgoingRpcMessage> inner): line(line), inner(kj::mv(inner)) {}
@@ -228,6 +244,15 @@ struct EchoOvertakes: Fault {
   bool keeps(rpc::Message::Reader message) override { return isCallOf(message, NEXT); }
 };
 
+// A call that comes back to vat 1 waits in a queue there, with the Return that takes its results, and the echo goes
+// round both.
+struct ReflectionOvertaken: Fault {
+  bool delays(rpc::Message::Reader message) override {
+    return (message.isCall() && message.getCall().getSendResultsTo().isYourself()) ||
+        (message.isReturn() && message.getReturn().isTakeFromOtherQuestion());
+  }
+};
+
 // Vat 2 returns the results of one call as those of another, which is still at work.
 struct WrongQuestion: Fault {
   bool sends(rpc::Message::Builder message, Base::Connection&) override {
@@ -354,6 +379,16 @@ void liftEmbargoAfterCall(Two& two) {
   two.settle();
 }
 
+void overtakeReflection(Two& two) {
+  two.hold(two.counter, two.firsts(10));
+  auto held = two.counter.heldRequest().send();
+  Counter::Client counter = held.getCounter();
+  auto early = counter.sameRequest().send();
+  two.wait(held);
+  auto late = counter.sameRequest().send();
+  two.settle();
+}
+
 void liftEmbargo(Two& two) {
   two.hold(two.counter, two.firsts(10));
   Counter::Client promise = two.later(two.counter);
@@ -404,6 +439,7 @@ const Conversations faults = {
   { "fault_echo_overtakes", inSecond<EchoOvertakes>(liftEmbargoAfterCall) },
   { "fault_wrong_question", inSecond<WrongQuestion>(callWhileWaiting) },
   { "fault_wrong_result", wrongResult },
+  { "fault_reflection_overtaken", inFirst<ReflectionOvertaken>(overtakeReflection) },
   { "fault_reordered", inFirst<Reordered>(callTwice) },
   { "fault_changed", inSecond<Changed>(callMarked) },
 };
@@ -411,5 +447,5 @@ const Conversations faults = {
 }  // namespace
 
 int main(int count, char** words) {
-  return writeLogs("faults", faults, count, words);
+  return writeLogs("faults", faults, {}, count, words);
 }

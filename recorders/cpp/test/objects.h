@@ -46,7 +46,11 @@ protected:
     return KJ_EXCEPTION(FAILED, "as asked for");
   }
   kj::Promise<void> never(NeverContext context) override {
+#if CAPNP_VERSION < 1000000
     context.allowCancellation();
+#else
+    (void)context;
+#endif
     return kj::Promise<void>(kj::NEVER_DONE);
   }
   kj::Promise<void> hold(HoldContext context) override {
@@ -99,6 +103,25 @@ protected:
     return kj::READY_NOW;
   }
 
+  kj::Promise<void> none(NoneContext) override { return kj::READY_NOW; }
+  kj::Promise<void> named(NamedContext context) override {
+    auto paf = kj::newPromiseAndFulfiller<Counter::Client>();
+    fulfiller = kj::mv(paf.fulfiller);
+    Counter::Client promise = recorder.promise(kj::mv(paf.promise));
+    capnp::PipelineBuilder<Counter::NamedResults> pipeline;
+    pipeline.setCounter(promise);
+    context.setPipeline(pipeline.build());
+    context.getResults().setCounter(promise);
+    return kj::evalLast([]() {});
+  }
+  kj::Promise<void> wait(WaitContext context) override {
+    auto paf = kj::newPromiseAndFulfiller<Counter::Client>();
+    fulfiller = kj::mv(paf.fulfiller);
+    return paf.promise.then([context](Counter::Client&& counter) mutable {
+      context.getResults().setCounter(kj::mv(counter));
+    });
+  }
+
 private:
   vataudit::Recorder& recorder;
   uint32_t value;
@@ -134,4 +157,14 @@ inline capnp::Request<Counter::SettleParams, Counter::SettleResults> settleAs(Co
   auto request = at.settleRequest();
   request.setHow(how);
   return request;
+}
+
+// A call of `nothing` without even a struct of parameters.
+inline capnp::Request<capnp::AnyPointer, capnp::AnyPointer> nothingAtAll(Counter::Client counter) {
+  capnp::Capability::Client client = counter;
+#if CAPNP_VERSION >= 1000000
+  return client.typelessRequest(capnp::typeId<Counter>(), 11, nullptr, {});
+#else
+  return client.typelessRequest(capnp::typeId<Counter>(), 11, nullptr);
+#endif
 }

@@ -1,21 +1,30 @@
-// Conversations, each of two or three vats in one process: `scenarios FOLDER NAME` writes FOLDER/NAME.vatN.log.
-// Without a name it writes all. What the audit has to say of each log stands in expected.txt, with the reason.
+// Conversations, each of two or three vats, in one process or with vat 2 in another one (world.h). What the audit has to
+// say of each log stands in expected.txt, with the reason.
 
 #include "world.h"
 
 namespace {
 
-using capnp::rpc::twoparty::Side;
+// Vat 1 asks vat 2, over connection 0. What vat 2 sends may be held up on the line.
+struct Two: World {
+  explicit Two(World& world): World(world) {}
 
-// Vat 1 asks vat 2, over connection 0.
-struct Two: TwoVats {
-  explicit Two(World& world): TwoVats(world) {}
-
-  Counter::Client served = seconds();
-  kj::Own<vataudit::TwoPartyClient> server =
-      kj::heap<vataudit::TwoPartyClient>(second, *pipe.ends[1], 0, served, Side::SERVER);
-  kj::Own<vataudit::TwoPartyClient> client = kj::heap<vataudit::TwoPartyClient>(first, *pipe.ends[0], 0);
+  vataudit::Recorder first { log(1).c_str(), 1 };
+  kj::TwoWayPipe pipe = io.provider->newTwoWayPipe();
+  std::unique_ptr<Served> here = peer.empty() ? std::make_unique<Served>(log(2), *pipe.ends[1]) : nullptr;
+  std::unique_ptr<Elsewhere> elsewhere = peer.empty() ? nullptr : std::make_unique<Elsewhere>(*this);
+  GatedStream line { peer.empty() ? *pipe.ends[0] : *elsewhere->stream };
+  kj::Own<vataudit::TwoPartyClient> client = kj::heap<vataudit::TwoPartyClient>(first, line, 0);
   Counter::Client counter = client->bootstrap().castAs<Counter>();
+
+  // An object of vat 1, and one of vat 2.
+  Counter::Client firsts(uint32_t value) { return first.host<CounterObject>(first, value); }
+  Counter::Client seconds() { return here->recorder.host<CounterObject>(here->recorder); }
+
+  void settle() {
+    World::settle();
+    if (elsewhere) elsewhere->settle();
+  }
 };
 
 void ping(World& world) {
@@ -201,7 +210,24 @@ void overtaking(World& world) {
   KJ_ASSERT(two.wait(late).getValue() == 12);
 }
 
-// As embargo, but a call waits at vat 2 for the promise, and was canceled by then. C++ delivers it all the same.
+// The same with calls whose results are capabilities: from 1.0 on only such a call is sent back as a tail call. The call
+// of its result goes the same way.
+void reflected(World& world) {
+  Two two(world);
+  two.hold(two.counter, two.firsts(10));
+  auto held = two.counter.heldRequest().send();
+  Counter::Client counter = held.getCounter();
+  auto early = counter.sameRequest().send();
+  auto onEarly = nextBy(early.getCounter(), 1).send();
+  two.wait(held);
+  auto late = nextBy(counter, 1).send();
+  KJ_ASSERT(two.wait(onEarly).getValue() + two.wait(late).getValue() == 23);
+  KJ_ASSERT(two.next(two.wait(early).getCounter(), 1) == 13);
+  two.settle();
+}
+
+// As embargo, but a call waits at vat 2 for the promise, and was canceled by then. Before 1.0 C++ delivers it all the
+// same.
 void canceledInQueue(World& world) {
   Two two(world);
   two.hold(two.counter, two.firsts(10));
@@ -209,7 +235,7 @@ void canceledInQueue(World& world) {
   { auto canceled = nextBy(promise, 1).send(); }
   two.settle();
   two.settlePromise(two.counter, 2);
-  KJ_ASSERT(two.next(promise, 1) == 12);
+  KJ_ASSERT(two.next(promise, 1) == (two.dropsCanceled ? 11u : 12u));
 }
 
 // The caller drops a call that was delivered, and then one with a call that waits for its result.
@@ -273,17 +299,16 @@ void empty(World& world) {
   auto same = mine.sameRequest().send();
   KJ_ASSERT(two.next(same.getCounter(), 1) == 11);
   two.wait(mine.nothingRequest().send());
-  auto null = capnp::Capability::Client(two.counter).typelessRequest(capnp::typeId<Counter>(), 11, nullptr);
-  auto other = capnp::Capability::Client(two.counter).typelessRequest(capnp::typeId<Counter>(), 11, nullptr);
+  auto null = nothingAtAll(two.counter);
+  auto other = nothingAtAll(two.counter);
   auto one = null.send();
   two.wait(other.send());
   two.wait(one);
 }
 
 // A peer that isn't recorded ends the connection, and vat 1 answers its abort.
-void endedByPeer(World& world, bool isAnswerRecorded) {
+void abort(World& world) {
   vataudit::Recorder first(world.log(1).c_str(), 1);
-  if (!isAnswerRecorded) first.leaveOutAbortsInAnswer();
   kj::TwoWayPipe pipe = world.io.provider->newTwoWayPipe();
   vataudit::TwoPartyClient client(first, *pipe.ends[0], 0);
   auto counter = client.bootstrap().castAs<Counter>();
@@ -293,10 +318,6 @@ void endedByPeer(World& world, bool isAnswerRecorded) {
   world.wait(capnp::writeMessage(*pipe.ends[1], message));
   world.settle();
 }
-
-void abort(World& world) { endedByPeer(world, true); }
-
-void abortLeftOut(World& world) { endedByPeer(world, false); }
 
 // The peer is gone without a word: no abort comes, so the abort that vat 2 sends is the first.
 void gone(World& world) {
@@ -315,7 +336,8 @@ void twoConnections(World& world) {
   vataudit::Recorder third(world.log(3).c_str(), 3);
   kj::TwoWayPipe pipe = two.io.provider->newTwoWayPipe();
   vataudit::TwoPartyClient server(third, *pipe.ends[1], 1, third.host<CounterObject>(third, 30), Side::SERVER);
-  vataudit::TwoPartyClient client(two.first, *pipe.ends[0], 1);
+  GatedStream line(*pipe.ends[0]);
+  vataudit::TwoPartyClient client(two.first, line, 1);
   Counter::Client other = client.bootstrap().castAs<Counter>();
   auto request = two.counter.callRequest();
   request.setBack(other);
@@ -423,7 +445,7 @@ void queued(World& world) {
   KJ_ASSERT(two.wait(five).getValue() == 108);
 }
 
-// A call that was canceled while it waited for a promise of vat 2 is delivered all the same.
+// A call that was canceled while it waited for a promise of vat 2 is delivered all the same before 1.0.
 void canceledWaiting(World& world) {
   Two two(world);
   Counter::Client promise = two.later(two.counter);
@@ -431,7 +453,7 @@ void canceledWaiting(World& world) {
   two.settle();
   two.settlePromise(two.counter, 0);
   two.settle();
-  KJ_ASSERT(two.next(promise, 1) == 1002);
+  KJ_ASSERT(two.next(promise, 1) == (two.dropsCanceled ? 1001u : 1002u));
 }
 
 // A server with two clients at once, the one of which gives it an object that the other calls; then both go.
@@ -555,7 +577,7 @@ void messageStreams(World& world) {
 // What a client says of its queue, beside one that isn't recorded; and the trace that goes along with an exception.
 void queue(World& world) {
   Two two(world);
-  two.server->setTraceEncoder([](const kj::Exception&) { return kj::str("a trace"); });
+  two.here->end.setTraceEncoder([](const kj::Exception&) { return kj::str("a trace"); });
   kj::TwoWayPipe pipe = world.io.provider->newTwoWayPipe();
   capnp::TwoPartyClient unrecorded(*pipe.ends[0]);
   Counter::Client other = unrecorded.bootstrap().castAs<Counter>();
@@ -573,6 +595,142 @@ void queue(World& world) {
   KJ_ASSERT(trace == "a trace");
 }
 
+// Each call behind the first takes the number of the one before, if vat 2's Returns say that no Finish is needed.
+void lightReopened(World& world) {
+  Two two(world);
+  two.settle();
+  for (uint32_t by = 1; by < 4; by++) two.next(two.counter, by);
+  auto one = nextBy(two.counter, 1).send();
+  auto other = nextBy(two.counter, 1).send();
+  KJ_ASSERT(two.wait(other).getValue() == 8);
+  KJ_ASSERT(two.wait(one).getValue() == 7);
+  two.wait(two.counter.makeRequest().send());
+  KJ_ASSERT(two.next(two.counter, 1) == 9);
+}
+
+// Results without a capability are under way, while vat 1 calls what they should bring, gives that away, and drops
+// another such call.
+void lightCrossed(World& world) {
+  Two two(world);
+  two.settle();
+  two.line.close();
+  auto none = two.counter.noneRequest().send();
+  auto dropped = kj::heap(two.counter.noneRequest().send());
+  two.settle();
+  auto onResult = nextBy(none.getCounter(), 1).send();
+  auto given = holdOf(two.counter, none.getCounter()).send();
+  dropped = nullptr;
+  two.settle();
+  two.line.open();
+  KJ_ASSERT(two.fails(onResult));
+  two.wait(given);
+  two.wait(none);
+  KJ_ASSERT(two.next(two.counter, 1) == 1);
+  KJ_ASSERT(two.next(two.counter, 1) == 2);
+}
+
+// Vat 1 promises a capability, and vat 2 calls it. Meanwhile it becomes the result of a call whose Return is under way
+// and brings no capability. So vat 2's call goes to that question behind the Return.
+void lightNamed(World& world) {
+  Two two(world);
+  auto paf = kj::newPromiseAndFulfiller<Counter::Client>();
+  Counter::Client promise = two.first.promise(kj::mv(paf.promise));
+  two.settle();
+  two.line.close();
+  auto none = two.counter.noneRequest().send();
+  auto request = two.counter.callRequest();
+  request.setBack(promise);
+  auto call = request.send();
+  two.settle();
+  paf.fulfiller->fulfill(none.getCounter());
+  two.settle();
+  two.line.open();
+  KJ_ASSERT(two.fails(call));
+  two.settle();
+  KJ_ASSERT(two.next(two.counter, 1) == 1);
+}
+
+// Vat 2 gives vat 1's promise back. Meanwhile it became the result of a call that vat 2 still works on, and vat 1 gives
+// what came back away again.
+void openProxy(World& world) {
+  Two two(world);
+  auto paf = kj::newPromiseAndFulfiller<Counter::Client>();
+  Counter::Client promise = two.first.promise(kj::mv(paf.promise));
+  two.hold(two.counter, promise);
+  two.settle();
+  two.line.close();
+  auto pending = two.counter.waitRequest().send();
+  auto held = two.counter.heldRequest().send();
+  two.settle();
+  paf.fulfiller->fulfill(pending.getCounter());
+  two.settle();
+  two.line.open();
+  two.pass(two.counter, two.wait(held).getCounter());
+  two.settlePromise(two.counter, 0);
+  two.wait(pending);
+  two.settle();
+}
+
+// A method names its result beforehand, a promise. It is settled while the Return is under way, and then a call of the
+// result comes in.
+void named(World& world) {
+  Two two(world);
+  two.settle();
+  two.line.close();
+  auto named = two.counter.namedRequest().send();
+  two.settle();
+  auto settled = settleAs(two.counter, 0).send();
+  two.settle();
+  auto onResult = nextBy(named.getCounter(), 1).send();
+  two.settle();
+  two.line.open();
+  KJ_ASSERT(two.wait(onResult).getValue() == 1001);
+  two.settle();
+}
+
+#if CAPNP_VERSION >= 1000000
+// A call of which only the result is wanted, and a call of that.
+void forPipeline(World& world) {
+  Two two(world);
+  two.settle();
+  for (uint32_t by = 1; by < 3; by++) {
+    auto same = two.counter.sameRequest().sendForPipeline();
+    KJ_ASSERT(two.next(same.getCounter(), 1) == by);
+  }
+  two.settle();
+}
+
+// The same, with an object of vat 1 that comes back as the result: the call of it goes through vat 2.
+void forPipelineGiven(World& world) {
+  Two two(world);
+  two.settle();
+  auto request = two.counter.callRequest();
+  request.setBack(two.firsts(10));
+  auto pipeline = request.sendForPipeline();
+  KJ_ASSERT(two.next(pipeline.getBack(), 1) == 16);
+  two.settle();
+}
+#endif
+
+// Vat 1 gives vat 2 the result of a call of its own object that is still at work, and gets it back. What it called of
+// that in between comes back first, and waits for the object.
+void pendingLoopback(World& world) {
+  Two two(world);
+  Counter::Client mine = two.firsts(10);
+  auto pending = mine.waitRequest().send();
+  two.hold(two.counter, pending.getCounter());
+  auto held = two.counter.heldRequest().send();
+  Counter::Client counter = held.getCounter();
+  auto early = nextBy(counter, 1).send();
+  two.wait(held);
+  auto late = nextBy(counter, 1).send();
+  two.settle();
+  two.settlePromise(mine, 0);
+  KJ_ASSERT(two.wait(early).getValue() == 1001);
+  KJ_ASSERT(two.wait(late).getValue() == 1002);
+  two.settle();
+}
+
 // Calls of a streaming method, whose results nobody sees, and one behind them.
 void streaming(World& world) {
   Two two(world);
@@ -582,6 +740,19 @@ void streaming(World& world) {
     two.wait(request.send());
   }
   KJ_ASSERT(two.next(two.counter, 1) == 7);
+}
+
+// The same through vat 2, and none waits for the one before.
+void stream(World& world) {
+  Three three(world);
+  std::vector<kj::Promise<void>> sent;
+  for (uint32_t by = 1; by < 31; by++) {
+    auto request = three.counter.pushRequest();
+    request.setBy(by);
+    sent.push_back(request.send());
+  }
+  KJ_ASSERT(three.next(three.counter, 1) == 466);
+  for (auto& one: sent) three.wait(kj::mv(one));
 }
 
 // An object calls itself through `thisCap()`: it gives the result away before it is there, and that of a method that
@@ -621,25 +792,34 @@ void refused(World& world) {
                                          "the log is /dev/full");
 }
 
-const Conversations scenarios = {
+// Those in which vat 2 may be another process.
+const Conversations ofTwo = {
   { "ping", ping }, { "pipeline", pipeline }, { "callback", callback }, { "promised", promised },
-  { "broken_promise", brokenPromise }, { "own_promise", ownPromise }, { "relay", relay },
-  { "relayed_promise", relayedPromise }, { "relayed_failure", relayedFailure }, { "failure", failure },
-  { "embargo", embargo }, { "overtaking", overtaking }, { "canceled_in_queue", canceledInQueue },
-  { "cancel", cancel }, { "early_finish", earlyFinish },
-  { "lists", lists }, { "empty", empty }, { "abort", abort }, { "abort_left_out", abortLeftOut },
+  { "broken_promise", brokenPromise }, { "own_promise", ownPromise }, { "failure", failure },
+  { "embargo", embargo }, { "overtaking", overtaking }, { "reflected", reflected }, { "canceled_in_queue", canceledInQueue },
+  { "cancel", cancel }, { "early_finish", earlyFinish }, { "lists", lists }, { "empty", empty },
   { "promise_twice", promiseTwice }, { "promise_of_promise", promiseOfPromise },
-  { "number_taken_over", numberTakenOver }, { "gone", gone }, { "two_connections", twoConnections },
-  { "refused", refused }, { "handed_on", handedOn }, { "handed_on_early", handedOnEarly },
-  { "handed_back", handedBack },
-  { "queued", queued }, { "canceled_waiting", canceledWaiting }, { "server", server },
-  { "streaming", streaming }, { "null_promise", nullPromise }, { "this_cap", thisCap }, { "taken", taken },
+  { "number_taken_over", numberTakenOver }, { "handed_back", handedBack }, { "queued", queued },
+  { "canceled_waiting", canceledWaiting }, { "streaming", streaming }, { "null_promise", nullPromise },
+  { "this_cap", thisCap }, { "light_reopened", lightReopened }, { "light_crossed", lightCrossed },
+  { "light_named", lightNamed }, { "pending_loopback", pendingLoopback }, { "named", named }, { "open_proxy", openProxy },
+#if CAPNP_VERSION >= 1000000
+  { "for_pipeline", forPipeline }, { "for_pipeline_given", forPipelineGiven },
+#endif
+};
+
+const Conversations others = {
+  { "relay", relay }, { "relayed_promise", relayedPromise }, { "relayed_failure", relayedFailure },
+  { "abort", abort }, { "gone", gone }, { "two_connections", twoConnections }, { "refused", refused },
+  { "handed_on", handedOn }, { "handed_on_early", handedOnEarly }, { "server", server }, { "taken", taken },
   { "accepted", accepted }, { "listened", listened }, { "descriptors", descriptors },
-  { "message_streams", messageStreams }, { "queue", queue },
+  { "message_streams", messageStreams }, { "queue", queue }, { "stream", stream },
 };
 
 }  // namespace
 
 int main(int count, char** words) {
-  return writeLogs("scenarios", scenarios, count, words);
+  Conversations all = ofTwo;
+  all.insert(others.begin(), others.end());
+  return writeLogs("scenarios", all, ofTwo, count, words);
 }

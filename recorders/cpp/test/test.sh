@@ -7,7 +7,8 @@
 #                            or the `vataudit` on the PATH
 #     test.sh --unproved     builds the program without a proof, by `rt try`, and runs that
 #
-# What was printed stays in logs/printed/COMMAND.
+# It runs with the capnp that the system has. Where CAPNP_1_1 names a folder in which another one is installed, it runs
+# with that too, and with client and server of different ones. What was printed stays in logs/printed/COMMAND.
 set -euo pipefail
 here="$(cd "$(dirname "$0")" && pwd)"
 root="$(cd "$here/../../.." && pwd)"
@@ -32,30 +33,91 @@ elif [ ! -x "$program" ]; then
   stop "nothing tested: no program $program, and none on the PATH (README.md says how to build it; or test.sh --unproved)"
 fi
 
-make --quiet
+# The folders of the capnps; the system's own is in none. Each has a version, as 1.1.0, and a short one, as 1.1.
+folders=("")
+if [ -n "${CAPNP_1_1:-}" ]; then
+  [ -x "$CAPNP_1_1/bin/capnp" ] || stop "nothing tested: no capnp is installed in $CAPNP_1_1, as CAPNP_1_1 says"
+  folders+=("$(cd "$CAPNP_1_1" && pwd)")
+fi
+versions=()
+for folder in "${folders[@]}"; do
+  version="$("${folder:+$folder/bin/}capnp" --version)"
+  versions+=("${version##* }")
+done
+short() { echo "${1%.*}"; }
+if [ "${#versions[@]}" = 2 ] && [ "$(short "${versions[0]}")" = "$(short "${versions[1]}")" ]; then
+  stop "nothing tested: the system's capnp and the one in $CAPNP_1_1 are of one version"
+fi
+
 rm -rf logs
 mkdir logs
-if make --quiet final > logs/final 2>&1; then differ "host took a class that is final"; fi
-grep -q "error: .*so FooImpl can't be .final." logs/final || differ "host doesn't say that a class can't be final"
 : > logs/said
-for suite in scenarios faults; do
-  "./$suite" logs 2>> logs/said || { cat logs/said; differ "$suite ended with $?"; }
+for at in "${!folders[@]}"; do
+  folder="${folders[$at]}"
+  version="${versions[$at]}"
+  build="build/$version"
+  with=(${folder:+"PREFIX=$folder"})
+  make --quiet "${with[@]}"
+  if make --quiet "${with[@]}" final > logs/final 2>&1; then differ "host took a class that is final"; fi
+  grep -q "error: .*so FooImpl can't be .final." logs/final || differ "host doesn't say that a class can't be final"
+  : > logs/said.here
+  for suite in scenarios faults; do
+    "$build/$suite" logs 2>> logs/said.here || { cat logs/said.here; differ "$suite of $version ended with $?"; }
+  done
+  # How a program ends, and with which status.
+  for ending in throws=134 exits=3 killed=137 keeps=137 fills=0; do
+    status=0
+    { "$build/ends" logs "${ending%=*}" 2>&1 | cat >> logs/said.here; } 2> /dev/null || status=$?
+    [ "$status" -eq "${ending#*=}" ] || { cat logs/said.here; differ "ends ${ending%=*} of $version ended with $status"; }
+  done
+  # What the recorders said; a file has room for as many records as the version's messages leave.
+  grep vataudit: logs/said.here | sed "s|$here/||; s|-$(short "$version")\.vat|.vat|" > logs/refused || true
+  diff refused.txt <(sed '/fills/s/record [0-9]*/record */' logs/refused) ||
+    differ "the recorders said something else than refused.txt has"
+  cat logs/said.here >> logs/said
+  # The demo, built in a copy of its sources.
+  mkdir -p "$build/cpp/demo"
+  cp -u ../demo/{Makefile,*.cpp,*.capnp,record.diff} "$build/cpp/demo"
+  cp -ru ../vataudit "$build/cpp"
+  PATH="${folder:+$folder/bin:}$PATH" PKG_CONFIG_PATH="${folder:+$folder/lib/pkgconfig:}${PKG_CONFIG_PATH:-}" \
+    make --quiet -C "$build/cpp/demo" recorded >> logs/said 2>&1 ||
+    { cat logs/said; differ "the demo wasn't built with $version"; }
 done
-# How a program ends, and with which status.
-for ending in throws=134 exits=3 killed=137 keeps=137 fills=0; do
-  status=0
-  { ./ends logs "${ending%=*}" 2>&1 | cat >> logs/said; } 2> /dev/null || status=$?
-  [ "$status" -eq "${ending#*=}" ] || { cat logs/said; differ "ends ${ending%=*} ended with $status"; }
+
+# Each client with each server of the demo, and of the conversations of two vats.
+ran=()
+run_demo() {
+  local client="$here/build/$1/cpp/demo/recorded/client" server="$here/build/$2/cpp/demo/recorded/server" folder
+  folder="$(mktemp -d)"
+  ( cd "$folder"
+    "$server" unix:socket &
+    while [ ! -S socket ]; do sleep 0.1; done
+    sleep 0.5
+    "$client" unix:socket
+    wait $! ) >> logs/said 2>&1 || { cat logs/said; differ "the demo ended with $?"; }
+  mv "$folder/client.log" "logs/demo-$3.vat1.log"
+  mv "$folder/server.log" "logs/demo-$3.vat2.log"
+  rm -rf "$folder"
+}
+for client in "${versions[@]}"; do
+  for server in "${versions[@]}"; do
+    if [ "$client" = "$server" ]; then
+      name="$(short "$client")"
+      says="capnp $client"
+    else
+      name="$(short "$client")-$(short "$server")"
+      says="a client of $client and a server of $server"
+      "build/$client/scenarios" logs --peer "build/$server/scenarios" "$(short "$server")" 2>> logs/said ||
+        { cat logs/said; differ "scenarios with $says ended with $?"; }
+    fi
+    run_demo "$client" "$server" "$name"
+    ran+=("$(ls logs | grep -c "^[a-z_]*-$name\.vat1\.log") with $says")
+  done
 done
-make --quiet -C ../demo record >> logs/said 2>&1 || { cat logs/said; differ "the demo ended with $?"; }
-mv ../demo/client.log logs/demo.vat1.log
-mv ../demo/server.log logs/demo.vat2.log
-grep vataudit: logs/said | sed "s|$here/||" > logs/refused || true
-diff refused.txt logs/refused || differ "the recorders said something else than refused.txt has"
 # A log of a recorder that stopped has another name. What is in it is audited like the others.
 for log in logs/*.stopped; do
   [ ! -e "${log%.stopped}" ] || differ "$log stands beside ${log%.stopped}"
-  grep -q "the log is $log\$" logs/refused || differ "$log is there, and no recorder stopped"
+  grep -q "the log is .*$log\$" logs/said || differ "$log is there, and no recorder stopped"
   mv "$log" "${log%.stopped}"
 done
 
@@ -67,7 +129,7 @@ for log in logs/*.vat1.log; do
   [ -e "logs/$name.vat2.log" ] && logs="$logs, \"$name.vat2.log\""
   if [ -e "logs/$name.vat3.log" ]; then
     logs="$logs, \"$name.vat3.log\""
-    if [ "$name" = two_connections ]; then links="$links, [1, 1, 3]"; else links="$links, [1, 2, 3]"; fi
+    if [ "${name%%-*}" = two_connections ]; then links="$links, [1, 1, 3]"; else links="$links, [1, 2, 3]"; fi
   fi
   echo "{\"logs\": [$logs], \"links\": [$links]}" > "logs/$name.case"
 done
@@ -82,7 +144,7 @@ print_all() {
     print_unproved "$command" "$kind" "$@"
   else
     (cd logs && for file in *."$kind"; do
-      "$program" "$command" "$file" "$@" > "printed/$command/${file%."$kind"}" || true
+      "$program" "$command" "$file" "$@" > "printed/$command/${file%."$kind"}" 2> /dev/null || true
     done)
   fi
 }
@@ -101,13 +163,25 @@ print_unproved() {
       file != "" { print > file }'
 }
 
-# What expected.txt has for a name; one line for all orders that it doesn't name.
+# What expected.txt has for NAME-VERSIONS.KIND: expected NAME-VERSIONS KIND. A line for these versions goes first.
+# Of all orders that it doesn't name there is one line.
 expected() {
-  local line
-  line="$(awk -F ' [|] ' -v name="$1" '$1 == name { print $2 }' expected.txt)"
-  if [ -z "$line" ] && [ "${1%.order}" != "$1" ]; then line="$(expected '*.order')"; fi
+  local name="${1%%-*}.$2" client="${1#*-}" server conditions=() condition line
+  server="${client##*-}"
+  client="${client%-*}"
+  [ "${client%%.*}" = 0 ] || [ "${server%%.*}" = 0 ] || conditions+=(", both 1.x")
+  [ "${server%%.*}" = 0 ] || conditions+=(", server 1.x")
+  [ "${client%%.*}" = 0 ] || conditions+=(", client 1.x")
+  for condition in "${conditions[@]}" ""; do
+    line="$(awk -F ' [|] ' -v name="$name$condition" '$1 == name { print $2 }' expected.txt)"
+    [ -z "$line" ] || break
+  done
+  if [ -z "$line" ] && [ "$2" = order ]; then line="$(awk -F ' [|] ' '$1 == "*.order" { print $2 }' expected.txt)"; fi
+  # The records of the edges are those with the oldest capnp.
+  if [ "$2" = graph ] && [ "$client" != 0.9 -o "$server" != 0.9 ]; then line="${line//record +([0-9])/record \*}"; fi
   echo "$line"
 }
+shopt -s extglob
 # compare NAME PRINTED WANTED: a * in what is wanted stands for a number.
 tested=0
 compare() {
@@ -130,9 +204,16 @@ added_up() {
 }
 
 print_all vat log
+oldest="$(short "${versions[0]}")"
+[ "$(cat "logs/printed/vat/ping-$oldest.vat1")" != "bad log BadMagic" ] ||
+  stop "nothing tested: the program $program reads no logs of version 3"
 print_all order case --out made
-for name in $(ls logs/printed/vat); do compare "$name.log" "$(cat "logs/printed/vat/$name")" "$(expected "$name.log")"; done
-for name in $(ls logs/printed/order); do compare "$name.order" "$(cat "logs/printed/order/$name")" "$(expected "$name.order")"; done
+for name in $(ls logs/printed/vat); do
+  compare "$name.log" "$(cat "logs/printed/vat/$name")" "$(expected "${name%.vat?}" "vat${name##*.vat}.log")"
+done
+for name in $(ls logs/printed/order); do
+  compare "$name.order" "$(cat "logs/printed/order/$name")" "$(expected "$name" order)"
+done
 # Of a program that ended each record is there that was made until then.
 while read -r log records; do
   line="$(cat "logs/printed/vat/$(basename "$log" .log)")"
@@ -144,32 +225,36 @@ cases="$(ls logs/*.case | wc -l)"
 
 # `check`, `graph` and `run` audit whole conversations. Of one that isn't good all three print one line.
 audited="the program has no check, so no conversation was audited whole"
-if [ -n "$unproved" ] || [ -n "$(cd logs && "$program" check ping.case 2> /dev/null || true)" ]; then
+if [ -n "$unproved" ] || [ -n "$(cd logs && "$program" check "ping-$oldest.case" 2> /dev/null || true)" ]; then
   for command in check graph run; do print_all "$command" case; done
   for name in $(ls logs/printed/check); do
     line="$(cat "logs/printed/check/$name")"
-    wanted="$(expected "$name.check")"
+    wanted="$(expected "$name" check)"
     compare "$name.check" "$line" "$wanted"
     case "$wanted" in
       yes*)
-        compare "$name.graph" "$(joined "logs/printed/graph/$name")" "$(expected "$name.graph")"
+        compare "$name.graph" "$(joined "logs/printed/graph/$name")" "$(expected "$name" graph)"
         compare "$name.run" "$(added_up "$name")" "$line" ;;
       *)
         compare "$name.graph" "$(cat "logs/printed/graph/$name")" "$wanted"
         compare "$name.run" "$(cat "logs/printed/run/$name")" "$wanted" ;;
     esac
   done
-  diff callback.run logs/printed/run/callback || differ "callback.run has other steps"
+  if [ "$oldest" = 0.9 ]; then diff callback.run logs/printed/run/callback-0.9 || differ "callback.run has other steps"; fi
   [ "$tested" -eq $((count + 4 * cases)) ] || differ "$tested answers for $count logs and $cases conversations"
   audited="each audited whole"
 fi
 
 # Nothing stands in expected.txt that wasn't printed.
-for name in $(awk -F ' [|] ' '/^[a-z].* [|] / { print $1 }' expected.txt); do
+while read -r name; do
   case "$name" in
-    *.log) [ -e "logs/$name" ] ;;
-    *) [ -e "logs/${name%.*}.case" ] ;;
+    *", "*) [ "${#versions[@]}" -lt 2 ] || ls "logs/${name%%.*}-"* > /dev/null 2>&1 ;;
+    *.log) ls "logs/${name%%.*}-"*".${name#*.}" > /dev/null 2>&1 ;;
+    *) ls "logs/${name%%.*}-"*.case > /dev/null 2>&1 ;;
   esac || differ "expected.txt has $name, which isn't there"
-done
+done < <(awk -F ' [|] ' '/^[a-z].* [|] / { print $1 }' expected.txt)
 
+printf '%s\n' "${ran[@]}" | sed 's/^/conversations: /'
+[ "${#versions[@]}" -gt 1 ] ||
+  echo "NOT run: capnp 1.1, and client and server of different versions; CAPNP_1_1 has to name the folder where it is installed"
 echo "recorder: $count logs of $cases conversations, $audited: all as expected"

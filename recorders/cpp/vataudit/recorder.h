@@ -1,7 +1,7 @@
 // Records what a vat of Cap'n Proto's C++ runtime does, for `vataudit` to audit.
 //
-// One header, C++14 or later, for capnp 0.9 (Debian's libcapnp-dev 0.9.2). Nothing else is linked. The log is
-// docs/FORMATS.md's; docs/RECORDING.md says which record stands where, and why. RECV, SEND, FULFIL and so on are
+// One header, C++14 or later, for capnp 0.9 to 1.1. Nothing else is linked. The log is of version 3 of
+// docs/FORMATS.md; docs/RECORDING.md says which record stands where, and why. RECV, SEND, FULFIL and so on are
 // the records' names there; Call, Return and so on are messages of rpc.capnp.
 //
 // How a program is recorded:
@@ -28,11 +28,11 @@
 //
 // What it can't do:
 // - EzRpcClient and EzRpcServer let no recorder in.
+// - An object that overrides `shortenPath` goes out as a promise, which the audit refuses (DESC).
 // - A bootstrap object that is made anew for each client (BootstrapFactory) has to be given by `asBootstrap`.
 // - Where a method names its results beforehand by `setPipeline`, no record says so before they are there. A call that
 //   goes on to such a result before is told `no .. rule GOAL`. A method that ends by `tailCall` is recorded, by
-//   ANSWERBY. The runtime's own tail calls, back over the connection by which a call came, are told
-//   `no .. rule RESULT`.
+//   ANSWERBY.
 // - Where a call waits in a queue of the runtime for a promise and then goes out, or is delivered, as a copy, its
 //   MAKE is found by interface, method and parameters, the oldest first. If the runtime exchanged two such calls
 //   that are alike in all of this, the log couldn't tell. All other calls are found by where their parameters lie.
@@ -106,11 +106,6 @@ public:
   // Writes the records that are kept.
   void flush();
 
-  // The runtime answers a received abort with an abort of its own, which the audit's rule CLOSED refuses, though
-  // rpc.capnp binds the sender of the first abort alone. From now on such an answer is left out of the log: the one
-  // thing that a recorder leaves out, and only if you ask for it. A server whose clients come and go does.
-  void leaveOutAbortsInAnswer();
-
   // Whether it still records, and how many records there are. Why it stopped: empty if it didn't.
   bool isRecording() const;
   uint64_t records() const;
@@ -130,13 +125,23 @@ using capnp::AnyPointer;
 using capnp::AnyStruct;
 using capnp::ClientHook;
 
-// The bytes of a log of version 2, little-endian, as docs/FORMATS.md has them. What is written ends with a whole record, also where
-// a write fails.
+// From 1.0 on a call comes with hints. They go along with it untouched: a hook of the recorder is a template over
+// what comes besides.
+#if CAPNP_VERSION >= 1000000
+template <template <typename...> class Hook>
+using OfVersion = Hook<ClientHook::CallHints>;
+#else
+template <template <typename...> class Hook>
+using OfVersion = Hook<>;
+#endif
+
+// The bytes of a log of version 3, little-endian, as docs/FORMATS.md has them. Of whichever capnp: a vat of 0.9 too
+// receives light Returns, from a peer of 1.x. What is written ends with a whole record, also where a write fails.
 class Log {
 public:
   Log(const char* path, uint32_t vat): file(open(path, O_WRONLY | O_CREAT | O_TRUNC | O_CLOEXEC, 0666)) {
     if (isOpen()) place(path);
-    add("VATLOG02", 8);
+    add("VATLOG03", 8);
     number<uint32_t>(vat);
   }
   ~Log() { close(); }
@@ -609,7 +614,6 @@ public:
   // The runtime's hooks of objects. An entry goes with its object, for addresses are used again.
   std::unordered_map<const ClientHook*, Reference> hosted;
   Outgoing* unsent = nullptr;       // the messages that are being made, the latest first
-  bool hasNoAbortsInAnswer = false;
 
   // A call was made, and is neither sent nor delivered. Those that are gone are dropped now and then.
   void wait(const std::shared_ptr<Call>& call) {
@@ -704,16 +708,17 @@ using SharedVat = std::shared_ptr<Vat>;
 
 // A capability that the program holds: the runtime's hook and its reference. The runtime itself never gets one, so
 // that it does what it would do unrecorded.
-class Handle final: public ClientHook, public kj::Refcounted {
+template <typename... Hints>
+class HandleWith final: public ClientHook, public kj::Refcounted {
 public:
-  Handle(SharedVat vat, Reference reference, kj::Own<ClientHook> inner)
+  HandleWith(SharedVat vat, Reference reference, kj::Own<ClientHook> inner)
       : vat(kj::mv(vat)), reference(kj::mv(reference)), inner(kj::mv(inner)) {}
 
   capnp::Request<AnyPointer, AnyPointer> newCall(
-      uint64_t interfaceId, uint16_t methodId, kj::Maybe<capnp::MessageSize> sizeHint) override;
-  VoidPromiseAndPipeline call(uint64_t interfaceId, uint16_t methodId,
-                              kj::Own<capnp::CallContextHook>&& context) override {
-    return inner->call(interfaceId, methodId, kj::mv(context));
+      uint64_t interfaceId, uint16_t methodId, kj::Maybe<capnp::MessageSize> sizeHint, Hints... hints) override;
+  VoidPromiseAndPipeline call(uint64_t interfaceId, uint16_t methodId, kj::Own<capnp::CallContextHook>&& context,
+                              Hints... hints) override {
+    return inner->call(interfaceId, methodId, kj::mv(context), hints...);
   }
   kj::Maybe<ClientHook&> getResolved() override {
     ClientHook* hook = inner.get();
@@ -734,6 +739,7 @@ public:
   Reference reference;
   kj::Own<ClientHook> inner;
 };
+using Handle = OfVersion<HandleWith>;
 
 // The reference of a capability that the program gives away. A broken one gets a VOW and a BREAK, since it goes out
 // as senderHosted and no object stands behind it. So does a null one: in content it is a null pointer and never comes
@@ -916,7 +922,7 @@ public:
   capnp::RemotePromise<AnyPointer> send() override {
     if (!begin()) return inner->send();
     auto promise = whileSending([&] { return inner->send(); });
-    auto pipeline = kj::refcounted<Pipeline>(vat, call, capnp::PipelineHook::from(kj::mv(promise)));
+    auto pipeline = recorded(kj::mv(promise));
     auto results = promise.then([vat = vat, call = call](capnp::Response<AnyPointer>&& response) {
       const Call* answered = call.get();
       while (answered->answeredBy != nullptr) answered = answered->answeredBy.get();
@@ -925,13 +931,21 @@ public:
       reader = hook->table.imbue(reader);
       return capnp::Response<AnyPointer>(reader, kj::mv(hook));
     });
-    return capnp::RemotePromise<AnyPointer>(kj::mv(results), AnyPointer::Pipeline(kj::mv(pipeline)));
+    return capnp::RemotePromise<AnyPointer>(kj::mv(results), kj::mv(pipeline));
   }
 
   kj::Promise<void> sendStreaming() override {
     if (!begin()) return inner->sendStreaming();
     return whileSending([&] { return inner->sendStreaming(); });
   }
+
+#if CAPNP_VERSION >= 1000000
+  // No Return is asked for: the call's results may be named, and never come.
+  AnyPointer::Pipeline sendForPipeline() override {
+    if (!begin()) return inner->sendForPipeline();
+    return recorded(whileSending([&] { return inner->sendForPipeline(); }));
+  }
+#endif
 
   // The runtime never sees this request, only the one inside.
   const void* getBrand() override { return nullptr; }
@@ -969,11 +983,19 @@ public:
   AnyPointer::Builder builder;
   WriteTable table;
   kj::Own<capnp::RequestHook> inner;
+
+private:
+  // The pipeline of this call, in which each result that is named gets its FIELD.
+  AnyPointer::Pipeline recorded(AnyPointer::Pipeline&& pipeline) {
+    return AnyPointer::Pipeline(
+        kj::refcounted<Pipeline>(vat, call, capnp::PipelineHook::from(kj::mv(pipeline))));
+  }
 };
 
-inline capnp::Request<AnyPointer, AnyPointer> Handle::newCall(
-    uint64_t interfaceId, uint16_t methodId, kj::Maybe<capnp::MessageSize> sizeHint) {
-  if (!vat->isRecording()) return inner->newCall(interfaceId, methodId, sizeHint);
+template <typename... Hints>
+capnp::Request<AnyPointer, AnyPointer> HandleWith<Hints...>::newCall(
+    uint64_t interfaceId, uint16_t methodId, kj::Maybe<capnp::MessageSize> sizeHint, Hints... hints) {
+  if (!vat->isRecording()) return inner->newCall(interfaceId, methodId, sizeHint, hints...);
   auto call = vat->newCall(interfaceId, methodId);
   // What became an object of this vat, or waits for one, is called directly, as ClientHook::getResolved allows: the
   // runtime would only copy the parameters once more, and DELIVER finds its call by where they lie.
@@ -982,7 +1004,7 @@ inline capnp::Request<AnyPointer, AnyPointer> Handle::newCall(
   call->hasContent = isHere && vat->hosted.count(&end) == 0;
   auto request = [&] {
     Meanwhile meanwhile(vat->building, call);
-    return (isHere ? end : *inner).newCall(interfaceId, methodId, sizeHint);
+    return (isHere ? end : *inner).newCall(interfaceId, methodId, sizeHint, hints...);
   }();
   auto hook = kj::heap<Request>(vat, reference, kj::mv(call), kj::mv(request));
   auto params = hook->params();
@@ -1012,17 +1034,18 @@ template struct Opened<HookOfServer, &capnp::Capability::Server::thisHook>;
 
 // What stands in that place: `thisCap()` then gives the recorded client of the object. As the runtime's pointer there
 // it holds nothing: the runtime's hook owns the object, and the object this.
-class Self final: public ClientHook {
+template <typename... Hints>
+class SelfWith final: public ClientHook {
 public:
-  Self(SharedVat vat, Reference reference): vat(kj::mv(vat)), reference(kj::mv(reference)) {}
+  SelfWith(SharedVat vat, Reference reference): vat(kj::mv(vat)), reference(kj::mv(reference)) {}
 
   capnp::Request<AnyPointer, AnyPointer> newCall(
-      uint64_t interfaceId, uint16_t methodId, kj::Maybe<capnp::MessageSize> sizeHint) override {
-    return addRef()->newCall(interfaceId, methodId, sizeHint);
+      uint64_t interfaceId, uint16_t methodId, kj::Maybe<capnp::MessageSize> sizeHint, Hints... hints) override {
+    return addRef()->newCall(interfaceId, methodId, sizeHint, hints...);
   }
-  VoidPromiseAndPipeline call(uint64_t interfaceId, uint16_t methodId,
-                              kj::Own<capnp::CallContextHook>&& context) override {
-    return inner->call(interfaceId, methodId, kj::mv(context));
+  VoidPromiseAndPipeline call(uint64_t interfaceId, uint16_t methodId, kj::Own<capnp::CallContextHook>&& context,
+                              Hints... hints) override {
+    return inner->call(interfaceId, methodId, kj::mv(context), hints...);
   }
   kj::Maybe<ClientHook&> getResolved() override { return *inner; }
   kj::Maybe<kj::Promise<kj::Own<ClientHook>>> whenMoreResolved() override { return inner->whenMoreResolved(); }
@@ -1035,6 +1058,22 @@ public:
 private:
   SharedVat vat;
   Reference reference;
+};
+using Self = OfVersion<SelfWith>;
+
+// Results that the program names beforehand, as the runtime gets them: from 1.0 on it looks whether these are the very
+// hooks that come with the results.
+class Unwrapping final: public capnp::PipelineHook, public kj::Refcounted {
+public:
+  explicit Unwrapping(kj::Own<capnp::PipelineHook> inner): inner(kj::mv(inner)) {}
+
+  kj::Own<capnp::PipelineHook> addRef() override { return kj::addRef(*this); }
+  kj::Own<ClientHook> getPipelinedCap(kj::ArrayPtr<const capnp::PipelineOp> ops) override {
+    return unwrapped(inner->getPipelinedCap(ops));
+  }
+
+private:
+  kj::Own<capnp::PipelineHook> inner;
 };
 
 // What the program sees of a call that it serves: parameters and results whose capabilities are known by reference.
@@ -1055,8 +1094,12 @@ public:
   capnp::ClientHook::VoidPromiseAndPipeline directTailCall(kj::Own<capnp::RequestHook>&& request) override {
     return handOn(kj::mv(request), [&](auto&& to) { return inner->directTailCall(kj::mv(to)); });
   }
+#if CAPNP_VERSION < 1000000
   void allowCancellation() override { inner->allowCancellation(); }
-  void setPipeline(kj::Own<capnp::PipelineHook>&& pipeline) override { inner->setPipeline(kj::mv(pipeline)); }
+#endif
+  void setPipeline(kj::Own<capnp::PipelineHook>&& pipeline) override {
+    inner->setPipeline(kj::refcounted<Unwrapping>(kj::mv(pipeline)));
+  }
   kj::Promise<AnyPointer::Pipeline> onTailCall() override { return inner->onTailCall(); }
   kj::Own<capnp::CallContextHook> addRef() override { return kj::addRef(*this); }
 
@@ -1122,7 +1165,8 @@ public:
             vat->fault(*call);
             kj::throwRecoverableException(kj::mv(exception));
           });
-      return { promise.attach(kj::mv(seen)), result.isStreaming };
+      result.promise = promise.attach(kj::mv(seen));
+      return result;
     } catch (...) {
       vat->fault(*call);
       throw;
@@ -1157,10 +1201,12 @@ private:
 
 namespace rpc = capnp::rpc;
 
-// A question that was asked, at the asking or the answering end.
+// A question that was asked, at the asking or the answering end. Its number may be opened again behind a Return that
+// says so, without a Finish; and one that was sent by `sendForPipeline` mostly gets no Return.
 struct Question {
   std::shared_ptr<Call> call;
-  bool isBootstrap = false, isReturned = false, isLate = false;
+  bool isBootstrap = false, isReturned = false;
+  bool isFinished = false, isLate = false;  // a Return that is still to come is late: its capabilities are given back
   std::vector<uint32_t> broughtByCall, broughtByReturn;  // the sender's numbers in their capability tables
 };
 
@@ -1209,9 +1255,6 @@ public:
       case rpc::Message::RELEASE:
         giveBack(imports, message.getRelease().getId(), message.getRelease().getReferenceCount());
         break;
-      case rpc::Message::ABORT:
-        if (isAborted && vat->hasNoAbortsInAnswer) return;
-        break;
       default:
         break;
     }
@@ -1244,9 +1287,6 @@ public:
       case rpc::Message::RELEASE:
         giveBack(exports, message.getRelease().getId(), message.getRelease().getReferenceCount());
         break;
-      case rpc::Message::ABORT:
-        isAborted = true;
-        break;
       default:
         break;
     }
@@ -1262,7 +1302,6 @@ private:
   uint32_t connection;
   Questions asked, answering;
   Numbers imports, exports;
-  bool isAborted = false;  // by the peer
 
   static Question question(std::shared_ptr<Call> call, bool isBootstrap) {
     Question question;
@@ -1303,7 +1342,7 @@ private:
     }
     answered.isReturned = true;
     if (message.getReleaseParamCaps()) giveBack(imports, answered.broughtByCall);
-    if (answered.isLate) answering.erase(found);
+    if (answered.isFinished) answering.erase(found);
     return true;
   }
 
@@ -1403,7 +1442,7 @@ private:
     }
     answered.isReturned = true;
     if (message.getReleaseParamCaps()) giveBack(exports, answered.broughtByCall);
-    if (answered.isLate) asked.erase(found);
+    if (answered.isFinished) asked.erase(found);
   }
 
   void receivedResolve(rpc::Resolve::Reader message, std::vector<Reference>& references) {
@@ -1474,7 +1513,7 @@ private:
     for (uint32_t id: ids) giveBack(numbers, id, 1);
   }
 
-  // After a Finish with releaseResultCaps the Return that is still to come is late.
+  // After a Finish with releaseResultCaps the Return that may still come is late.
   static void finish(Questions& questions, Numbers& numbers, rpc::Finish::Reader message) {
     auto found = questions.find(message.getQuestionId());
     if (found == questions.end()) return;
@@ -1482,6 +1521,7 @@ private:
       if (message.getReleaseResultCaps()) giveBack(numbers, found->second.broughtByReturn);
       questions.erase(found);
     } else {
+      found->second.isFinished = true;
       found->second.isLate = message.getReleaseResultCaps();
     }
   }
@@ -1531,6 +1571,7 @@ private:
   std::shared_ptr<Call> call;      // the call whose request the program writes right here
   std::shared_ptr<Call> passedOn;
   Outgoing* before = nullptr;
+  friend class vataudit::Network;
 
   void leave() {
     for (Outgoing** at = &end->vat->unsent; *at != nullptr; at = &(*at)->before) {
@@ -1620,12 +1661,11 @@ public:
   Network(Recorder& recorder, kj::AsyncIoStream& stream, uint32_t connection, Side side,
           capnp::ReaderOptions options = capnp::ReaderOptions(),
           const kj::MonotonicClock& clock = kj::systemCoarseMonotonicClock())
-      : Network(recorder, kj::heap<capnp::AsyncIoMessageStream>(stream), connection, 0, side, options, clock) {}
+      : Network(recorder, messages(stream), connection, 0, side, options, clock) {}
   Network(Recorder& recorder, kj::AsyncCapabilityStream& stream, uint32_t connection, uint maxFdsPerMessage, Side side,
           capnp::ReaderOptions options = capnp::ReaderOptions(),
           const kj::MonotonicClock& clock = kj::systemCoarseMonotonicClock())
-      : Network(recorder, kj::heap<capnp::AsyncCapabilityMessageStream>(stream), connection, maxFdsPerMessage, side,
-                options, clock) {}
+      : Network(recorder, messages(stream), connection, maxFdsPerMessage, side, options, clock) {}
   Network(Recorder& recorder, capnp::MessageStream& stream, uint32_t connection, Side side,
           capnp::ReaderOptions options = capnp::ReaderOptions(),
           const kj::MonotonicClock& clock = kj::systemCoarseMonotonicClock())
@@ -1669,7 +1709,7 @@ public:
   Side getSide() { return side; }
 
   // Of the messages that wait to be written: their bytes, their number, and how long the one that is being written
-  // has waited.
+  // has waited. From 1.0 on those that are being written are none of them.
   size_t getCurrentQueueSize() { return queueSize; }
   size_t getCurrentQueueCount() { return queueCount; }
   kj::Duration getOutgoingMessageWaitTime() {
@@ -1718,6 +1758,9 @@ private:
   kj::ForkedPromise<void> disconnected = nullptr;
   size_t queueSize = 0, queueCount = 0;
   kj::TimePoint writtenSince;
+#if CAPNP_VERSION >= 1000000
+  kj::Vector<kj::Own<inside::Outgoing>> queue;  // what was sent in this turn of the loop
+#endif
   Disposer disposer;
   friend class inside::Outgoing;
 
@@ -1731,6 +1774,21 @@ private:
     disconnected = paf.promise.fork();
     disposer.fulfiller = kj::mv(paf.fulfiller);
   }
+
+  // The messages of a stream of bytes, read as the runtime's own network reads them.
+#if CAPNP_VERSION >= 1000000
+  template <typename Stream>
+  static kj::Own<capnp::MessageStream> messages(Stream& stream) {
+    return kj::heap<capnp::BufferedMessageStream>(stream, capnp::IncomingRpcMessage::getShortLivedCallback());
+  }
+#else
+  static kj::Own<capnp::MessageStream> messages(kj::AsyncIoStream& stream) {
+    return kj::heap<capnp::AsyncIoMessageStream>(stream);
+  }
+  static kj::Own<capnp::MessageStream> messages(kj::AsyncCapabilityStream& stream) {
+    return kj::heap<capnp::AsyncCapabilityMessageStream>(stream);
+  }
+#endif
 
   kj::Own<capnp::TwoPartyVatNetworkBase::Connection> asConnection() {
     ++disposer.count;
@@ -1780,22 +1838,16 @@ private:
   }
 
   // Nobody looks at failed writes, so they fail the reads.
-  void write(kj::Own<inside::Outgoing> keep, capnp::MallocMessageBuilder& message, kj::ArrayPtr<const int> fds) {
-    size_t size = keep->sizeInWords() * sizeof(capnp::word);
-    queueSize += size, queueCount++;
-    auto leaveQueue = kj::defer([this, size]() { queueSize -= size, queueCount--; });
-    auto now = clock.now();
-    previousWrite = KJ_ASSERT_NONNULL(previousWrite, "already shut down").then([this, &message, fds, now]() {
-      return kj::evalNow([&]() {
-        writtenSince = now;
-        return stream->writeMessage(fds, message);
-      }).catch_([this](kj::Exception&& exception) {
-        readCancelReason = kj::cp(exception);
-        if (!readCanceler.isEmpty()) readCanceler.cancel(kj::cp(exception));
-        kj::throwRecoverableException(kj::mv(exception));
-      });
-    }).attach(kj::mv(keep), kj::mv(leaveQueue)).eagerlyEvaluate(nullptr);
+  void failReads(kj::Exception&& exception) {
+    readCancelReason = kj::cp(exception);
+    if (!readCanceler.isEmpty()) readCanceler.cancel(kj::cp(exception));
+    kj::throwRecoverableException(kj::mv(exception));
   }
+
+  void write(kj::Own<inside::Outgoing> message);
+#if CAPNP_VERSION >= 1000000
+  kj::Promise<void> writeFrom(kj::ArrayPtr<kj::Own<inside::Outgoing>> messages);
+#endif
 };
 
 inline void inside::Outgoing::setFds(kj::Array<int> given) {
@@ -1809,8 +1861,62 @@ inline void inside::Outgoing::send() {
              "Trying to send Cap'n Proto message larger than our single-message size limit.") { return; }
   record();
   leave();
-  network.write(kj::addRef(*this), message, fds);
+  network.write(kj::addRef(*this));
 }
+
+#if CAPNP_VERSION >= 1000000
+
+// What is sent in one turn of the loop is written at once, at the end of the turn.
+inline void Network::write(kj::Own<inside::Outgoing> message) {
+  auto now = clock.now();
+  if (queueCount == 0) writtenSince = now;
+  auto& before = KJ_ASSERT_NONNULL(previousWrite, "already shut down");
+  queueSize += message->sizeInWords() * sizeof(capnp::word);
+  queue.add(kj::addRef(*message));
+  if (queueCount++ > 0) return;
+  previousWrite = before.then([this, now]() {
+    return kj::evalLast([this, now]() -> kj::Promise<void> {
+      writtenSince = now;
+      auto messages = kj::mv(queue);
+      queueSize = queueCount = 0;
+      auto written = writeFrom(messages);
+      return written.attach(kj::mv(messages));
+    }).catch_([this](kj::Exception&& exception) { failReads(kj::mv(exception)); });
+  }).attach(kj::mv(message)).eagerlyEvaluate(nullptr);
+}
+
+// Messages without descriptors go together, each with descriptors alone.
+inline kj::Promise<void> Network::writeFrom(kj::ArrayPtr<kj::Own<inside::Outgoing>> messages) {
+  kj::Vector<kj::ArrayPtr<const kj::ArrayPtr<const capnp::word>>> plain(messages.size());
+  for (auto& message: messages) {
+    if (message->fds.size() > 0) break;
+    plain.add(message->message.getSegmentsForOutput());
+  }
+  auto written = plain.empty()
+      ? stream->writeMessage(messages[0]->fds, messages[0]->message.getSegmentsForOutput())
+      : stream->writeMessages(plain.asPtr());
+  auto rest = messages.slice(kj::max(plain.size(), size_t(1)), messages.size());
+  written = written.attach(kj::mv(plain));
+  return rest.size() == 0 ? kj::mv(written) : written.then([this, rest]() { return writeFrom(rest); });
+}
+
+#else
+
+inline void Network::write(kj::Own<inside::Outgoing> message) {
+  auto& outgoing = *message;
+  size_t size = outgoing.sizeInWords() * sizeof(capnp::word);
+  queueSize += size, queueCount++;
+  auto leaveQueue = kj::defer([this, size]() { queueSize -= size, queueCount--; });
+  auto now = clock.now();
+  previousWrite = KJ_ASSERT_NONNULL(previousWrite, "already shut down").then([this, &outgoing, now]() {
+    return kj::evalNow([&]() {
+      writtenSince = now;
+      return stream->writeMessage(outgoing.fds, outgoing.message);
+    }).catch_([this](kj::Exception&& exception) { failReads(kj::mv(exception)); });
+  }).attach(kj::mv(message), kj::mv(leaveQueue)).eagerlyEvaluate(nullptr);
+}
+
+#endif
 
 // In the place of capnp::TwoPartyClient.
 class TwoPartyClient {
@@ -1845,8 +1951,10 @@ private:
 // In the place of capnp::TwoPartyServer. The connections get the numbers that you say.
 class TwoPartyServer final: private kj::TaskSet::ErrorHandler {
 public:
-  TwoPartyServer(Recorder& recorder, capnp::Capability::Client bootstrap)
-      : recorder(recorder), bootstrap(kj::mv(bootstrap)), tasks(*this) {}
+  // `encodeTrace` says what goes to the clients beside an exception.
+  TwoPartyServer(Recorder& recorder, capnp::Capability::Client bootstrap,
+                 kj::Maybe<kj::Function<kj::String(const kj::Exception&)>> encodeTrace = nullptr)
+      : recorder(recorder), bootstrap(kj::mv(bootstrap)), encodeTrace(kj::mv(encodeTrace)), tasks(*this) {}
 
   void accept(kj::Own<kj::AsyncIoStream>&& stream, uint32_t connection) {
     auto served = accept(*stream, connection);
@@ -1859,12 +1967,11 @@ public:
 
   // Serves a stream that stays yours, until the client is gone or you drop the promise.
   kj::Promise<void> accept(kj::AsyncIoStream& stream, uint32_t connection) KJ_WARN_UNUSED_RESULT {
-    return served(kj::heap<Accepted>(bootstrap, recorder, stream, connection, Network::Side::SERVER));
+    return served(kj::heap<Accepted>(*this, stream, connection, Network::Side::SERVER));
   }
   kj::Promise<void> accept(kj::AsyncCapabilityStream& stream, uint32_t connection, uint maxFdsPerMessage)
       KJ_WARN_UNUSED_RESULT {
-    return served(
-        kj::heap<Accepted>(bootstrap, recorder, stream, connection, maxFdsPerMessage, Network::Side::SERVER));
+    return served(kj::heap<Accepted>(*this, stream, connection, maxFdsPerMessage, Network::Side::SERVER));
   }
 
   // Serves each client that comes, under the numbers `first`, `first` + 1 and so on.
@@ -1886,14 +1993,19 @@ public:
 private:
   struct Accepted {
     template <typename... Connection>
-    explicit Accepted(capnp::Capability::Client bootstrap, Connection&&... connection)
-        : network(kj::fwd<Connection>(connection)...), system(network.serve(kj::mv(bootstrap))) {}
+    explicit Accepted(TwoPartyServer& server, Connection&&... connection)
+        : network(server.recorder, kj::fwd<Connection>(connection)...), system(network.serve(server.bootstrap)) {
+      KJ_IF_MAYBE(encode, server.encodeTrace) {
+        system.setTraceEncoder([encode](const kj::Exception& exception) { return (*encode)(exception); });
+      }
+    }
     Network network;
     Network::RpcSystem system;
   };
 
   Recorder& recorder;
   capnp::Capability::Client bootstrap;
+  kj::Maybe<kj::Function<kj::String(const kj::Exception&)>> encodeTrace;
   kj::TaskSet tasks;
 
   static kj::Promise<void> served(kj::Own<Accepted>&& accepted) {
@@ -1910,7 +2022,6 @@ inline Recorder::Recorder(const char* path, uint32_t vat): vat(std::make_shared<
 inline Recorder::~Recorder() { vat->end(); }
 inline void Recorder::flush() { vat->flush(); }
 inline void Recorder::bufferRecords(size_t bytes) { vat->bufferRecords(bytes); }
-inline void Recorder::leaveOutAbortsInAnswer() { vat->hasNoAbortsInAnswer = true; }
 inline bool Recorder::isRecording() const { return vat->isRecording(); }
 inline uint64_t Recorder::records() const { return vat->records(); }
 inline std::string Recorder::whyStopped() const { return vat->whyStopped(); }

@@ -11,14 +11,15 @@ ghost use Rattle.command_run.specs.FrameFiles.{piece_len, piece_line, piece_stat
 use crate::answering::{put, say};
 use crate::commands::hex_frame::answer_of_bytes;
 use crate::commands::next_frame::cut_piece;
-use cause_notes::Heard;
 use crate::output::Output;
 use bytes::Bytes;
 use case_files::Source;
+use cause_notes::Heard;
 use report_lines::{Answer, Fault};
+use rpc_view::Edition;
 use std::alloc::{AllocError, Global};
 
-/// Cuts the first piece off the bytes, and answers it as a frame of its own.
+/// Cuts the first piece off the bytes, and answers it as a frame of its own, by the first edition.
 fn next_answer(alloc: Global, bytes: &mut Bytes) -> Result<Answer, AllocError>
     ensures line { IfOk result
         (λ answer. line (answer_text answer) ≡ piece_line (take (piece_len bytes.old) bytes.old)) }
@@ -28,7 +29,7 @@ fn next_answer(alloc: Global, bytes: &mut Bytes) -> Result<Answer, AllocError>
     ensures shorter { bytes.old ≢ [] → OnOk result (length bytes.new < length bytes.old) }
 {
     let piece = cut_piece(bytes)?;
-    answer_of_bytes(alloc, piece)
+    answer_of_bytes(alloc, piece, Edition::First)
 }
 
 /// Says the answer to each frame of a file.

@@ -11,12 +11,14 @@ ghost use Rattle.command_run.specs.Runs.{Adds, Wrote};
 
 use crate::answering::say;
 use crate::commands::hex_frame::answer_of_bytes;
-use cause_notes::Heard;
 use crate::output::Output;
 use case_files::Source;
+use cause_notes::Heard;
 use report_lines::{Answer, Fault, NumberedRecord};
+use rpc_view::Edition;
 use std::alloc::{AllocError, Global};
 use vat_log::{Body, Record, VatLog, parse_log};
+use vat_rules::edition_of;
 
 /// Which records of a log are asked for.
 #[derive(Clone, Copy, Debug)]
@@ -27,20 +29,21 @@ pub struct RecordRange {
     pub count: Option<u64>,
 }
 
-/// A record to be shown with its number, its frame read as `frame` reads it.
+/// A record to be shown with its number, its frame read by an edition as `frame` reads it.
 pub fn numbered<'a>(
     alloc: Global,
     at: usize,
     event: &'a Record,
+    edition: Edition,
 ) -> Result<NumberedRecord<'a>, AllocError>
     ensures { IfOk result
         (λ shown. line (record_text shown.at shown.body.now shown.message)
-        ≡ record_line at event.now) }
+        ≡ record_line edition at event.now) }
 {
     let body = event.body();
     let message = match body {
         Body::Send { frame, .. } | Body::Receive { frame, .. } => {
-            Some(answer_of_bytes(alloc, frame.clone()?)?)
+            Some(answer_of_bytes(alloc, frame.clone()?, edition)?)
         }
         _ => None,
     };
@@ -69,7 +72,7 @@ fn end_of(first: usize, count: Option<u64>, len: usize) -> usize
     }
 }
 
-/// Says the records of a log that are asked for.
+/// Says the records of a log that are asked for, their frames read by the log's edition.
 fn say_log<O: Output>(
     alloc: Global,
     log: &VatLog,
@@ -78,9 +81,10 @@ fn say_log<O: Output>(
     out: &mut O,
 ) -> Result<u8, O::Error>
     requires { O.can_write out.old }
-    ensures { Prints (AnswersListing range.from range.count log.now.records)
+    ensures { Prints (AnswersListing range.from range.count log.now)
         (Wrote O.contents O.is_finished) out.old out.new result }
 {
+    let edition = edition_of(log);
     let first = range.from.unwrap_or(0) as usize;
     let end = end_of(first, range.count, log.len());
     let mut at = first;
@@ -88,7 +92,7 @@ fn say_log<O: Output>(
         let Some(event) = log.get(at) else {
             unreachable!()
         };
-        let Ok(shown) = numbered(alloc, at, event) else {
+        let Ok(shown) = numbered(alloc, at, event, edition) else {
             return say(Answer::Fault(Fault::OutOfMemory), heard, out);
         };
         put_numbered(shown, out)?;

@@ -1,20 +1,21 @@
-//! A log in version 2: its bytes go to a file, and then it is said.
+//! A log in another version: its bytes go to a file, and then it is said.
 
-ghost use Rattle.std.specs.Prelude.{◌≡◌, None, option_map};
+ghost use Rattle.std.specs.Prelude.{◌≡◌, None, IfOk, IfErr, option_map};
 ghost use Rattle.case_files.specs.CaseReading.{Read};
 ghost use Rattle.report_lines.specs.Lines.{answer_status, answer_text, line};
 ghost use Rattle.command_run.specs.CommandAnswers.{AnswersMigration};
 ghost use Rattle.command_run.specs.Glue.{IsMade, Migrates};
+ghost use Rattle.command_run.specs.MigrationAnswers.{made_of};
 ghost use Rattle.command_run.specs.Runs.{Writes, Wrote};
 
 use crate::answering::{save, say};
-use cause_notes::Heard;
 use crate::output::{Failed, Output};
 use bytes::Bytes;
 use case_files::Source;
+use cause_notes::Heard;
 use report_lines::{Answer, Fault};
 use std::alloc::Global;
-use vat_log::{migrate, parse_log};
+use vat_log::{LogError, VatLog, migrate, parse_log, raise};
 
 /// What answers a log that is to be migrated.
 #[derive(Drop)]
@@ -24,14 +25,31 @@ struct MigrationAnswer {
     bytes: Option<Bytes>,
 }
 
-/// The version 2 log of the log that a source has under a name, or its first fault.
-fn migration<S: Source>(alloc: Global, source: &mut S, name: &str) -> Result<MigrationAnswer, Fault>
+/// The log that is made of one: of version 3 where the later edition is asked for, or else one that is judged alike.
+fn made_of(alloc: Global, old: &VatLog, later: bool) -> Result<VatLog, LogError>
+    ensures ok { IfOk result (λ made. made ≡ made_of later old.now) }
+    ensures err { IfErr result (λ e. e ≡ LogError.OutOfMemory) }
+{
+    if later {
+        raise(alloc, old)
+    } else {
+        migrate(alloc, old)
+    }
+}
+
+/// What is made of the log that a source has under a name, or the log's first fault.
+fn migration<S: Source>(
+    alloc: Global,
+    source: &mut S,
+    name: &str,
+    later: bool,
+) -> Result<MigrationAnswer, Fault>
     ensures { (read : Read) × S.read_gives source.old name.now read source.new
-        × Migrates read result }
+        × Migrates later read result }
 {
     let bytes = source.read(name)?;
     let old = parse_log(alloc, bytes)?;
-    let log = migrate(alloc, &old)?;
+    let log = made_of(alloc, &old, later)?;
     let bytes = log.bytes().clone()?;
     Ok(MigrationAnswer {
         answer: Answer::Migrated(log),
@@ -39,13 +57,18 @@ fn migration<S: Source>(alloc: Global, source: &mut S, name: &str) -> Result<Mig
     })
 }
 
-/// The answer to the log that a source has under a name: the version 2 log, or its first fault.
-fn migration_answer<S: Source>(alloc: Global, source: &mut S, name: &str) -> MigrationAnswer
+/// The answer to the log that a source has under a name: the log that is made of it, or its first fault.
+fn migration_answer<S: Source>(
+    alloc: Global,
+    source: &mut S,
+    name: &str,
+    later: bool,
+) -> MigrationAnswer
     ensures { (read : Read) × S.read_gives source.old name.now read source.new
-        × AnswersMigration read (line (answer_text result.answer)) (answer_status result.answer)
+        × AnswersMigration later read (line (answer_text result.answer)) (answer_status result.answer)
         (option_map (λ bytes. bytes) result.bytes) }
 {
-    match migration(alloc, source, name) {
+    match migration(alloc, source, name, later) {
         Ok(made) => made,
         Err(fault) => MigrationAnswer {
             answer: Answer::Fault(fault),
@@ -76,8 +99,9 @@ fn say_made<O: Output, F: Output>(
     }
 }
 
-/// Makes the version 2 log of the log that a source has under a name: writes it to `file`, and then says how many records
-/// it has; or says the log's first fault.
+/// Makes another log of the one that a source has under a name, with the same vat and records: in version 3 where the later
+/// edition is asked for, or else in version 2 where the log is of version 1, and as it is where it isn't. Writes it to
+/// `file`, and then says how many records it has; or says the log's first fault.
 ///
 /// # Errors
 ///
@@ -85,6 +109,7 @@ fn say_made<O: Output, F: Output>(
 pub fn say_migrated<S: Source, O: Output, F: Output>(
     alloc: Global,
     name: &str,
+    later: bool,
     source: &mut S,
     heard: &mut Heard,
     out: &mut O,
@@ -93,9 +118,9 @@ pub fn say_migrated<S: Source, O: Output, F: Output>(
     requires out { O.can_write out.old }
     requires file { F.can_write file.old }
     ensures { (read : Read) × S.read_gives source.old name.now read source.new
-        × Writes (AnswersMigration read) (Wrote O.contents O.is_finished)
+        × Writes (AnswersMigration later read) (Wrote O.contents O.is_finished)
         (Wrote F.contents F.is_finished) out.old out.new file.old file.new result }
 {
-    let made = migration_answer(alloc, source, name);
+    let made = migration_answer(alloc, source, name, later);
     say_made(made, heard, out, file)
 }

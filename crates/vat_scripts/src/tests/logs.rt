@@ -1,4 +1,4 @@
-//! Logs: their bytes by the notation, what is read of them, and the bytes of version 2 that are written of them.
+//! Logs: their bytes by the notation, what is read of them, and the bytes of versions 2 and 3 that are written of them.
 
 use super::given::bytes_of_digits;
 use bytes::Bytes;
@@ -6,8 +6,11 @@ use cap_frame::Path;
 use std::alloc::Global;
 use std::fmt::Write;
 use std::process::Abort;
-use vat_log::{Body, LogError, Record, References, VatLog, migrate, parse_log, write_log};
-use worked_cases::{Refused, ask_again, bytes_of_log, bytes_of_new_log, is_so};
+use vat_log::{
+    Body, LogError, LogWriter, Record, References, VatLog, migrate, parse_log, raise,
+    write_later_log, write_log,
+};
+use worked_cases::{Refused, ask_again, bytes_of_later_log, bytes_of_log, bytes_of_new_log, is_so};
 
 /// Records in the notation, as the bytes of vat 3's log in hexadecimal, and as they are read.
 const RECORDS: [(&str, &str, &str); 9] = [
@@ -181,13 +184,7 @@ pub(super) fn copied(body: &Body) -> Result<Body, Refused> {
 
 /// The log of the same vat with a second record for each.
 fn written_again(alloc: Global, log: &VatLog) -> Result<VatLog, Refused> {
-    let mut records = Vec::new(alloc);
-    for index in 0..log.len() {
-        let record = log.get(index).ok_or("a record")?;
-        let body = copied(record.body())?;
-        records.push(Record::new(body)?)?;
-    }
-    Ok(write_log(alloc, log.vat(), &records)?)
+    Ok(write_log(alloc, log.vat(), &records_again(alloc, log)?)?)
 }
 
 /// Whether a log has this version and these bytes.
@@ -201,6 +198,13 @@ fn is_new_log_of(alloc: Global, log: &VatLog, bytes: &[u8]) -> Result<bool, Refu
     Ok(is_log_of(log, 2, bytes) && is_log_of(&same, 2, bytes))
 }
 
+/// Whether a log of version 3 has these bytes, and stays so where it is migrated or raised.
+fn is_later_log_of(alloc: Global, log: &VatLog, bytes: &[u8]) -> Result<bool, Refused> {
+    let migrated = migrate(alloc, log)?;
+    let raised = raise(alloc, log)?;
+    Ok(is_log_of(log, 3, bytes) && is_log_of(&migrated, 3, bytes) && is_log_of(&raised, 3, bytes))
+}
+
 /// Whether a log of version 1 has these bytes, and its records written again, and it migrated, have those of version 2.
 fn has_bytes(alloc: Global, log: &VatLog, old: &[u8], new: &[u8]) -> Result<bool, Refused> {
     let written = written_again(alloc, log)?;
@@ -212,17 +216,51 @@ fn has_bytes(alloc: Global, log: &VatLog, old: &[u8], new: &[u8]) -> Result<bool
     )
 }
 
+/// The second list of a log's records.
+fn records_again(alloc: Global, log: &VatLog) -> Result<Vec<Record>, Refused> {
+    let mut records = Vec::new(alloc);
+    for index in 0..log.len() {
+        let record = log.get(index).ok_or("a record")?;
+        let body = copied(record.body())?;
+        records.push(Record::new(body)?)?;
+    }
+    Ok(records)
+}
+
+/// Whether a log's records written again in version 3, all at once and one by one, and it and its version 2 raised, have
+/// these bytes.
+fn rises_to(alloc: Global, log: &VatLog, later: &[u8]) -> Result<bool, Refused> {
+    let written = write_later_log(alloc, log.vat(), &records_again(alloc, log)?)?;
+    let mut writer = LogWriter::later(alloc, log.vat());
+    for record in records_again(alloc, log)? {
+        writer.push(record)?;
+    }
+    let pushed = writer.finish()?;
+    let raised = raise(alloc, log)?;
+    let twice = raise(alloc, &migrate(alloc, log)?)?;
+    Ok(
+        is_later_log_of(alloc, &written, later)?
+            && is_log_of(&pushed, 3, later)
+            && is_log_of(&raised, 3, later)
+            && is_log_of(&twice, 3, later),
+    )
+}
+
 /// The log of a vat that recorded these records.
 pub(super) fn log_of_records(alloc: Global, vat: &str, records: &str) -> Result<VatLog, Refused> {
     Ok(parse_log(alloc, bytes_of_log(alloc, vat, records)?)?)
 }
 
-/// Whether records are spelled so in version 1, and written and migrated in version 2.
+/// Whether records are spelled so in version 1, written and migrated in version 2, and written and raised in version 3.
 fn is_spelled(alloc: Global, vat: &str, records: &str, digits: &str) -> Result<bool, Refused> {
     let bytes = bytes_of_digits(alloc, digits)?;
     let log = log_of_records(alloc, vat, records)?;
     let new = bytes_of_new_log(alloc, vat, records)?;
-    has_bytes(alloc, &log, bytes.as_slice(), new.as_slice())
+    let later = bytes_of_later_log(alloc, vat, records)?;
+    Ok(
+        has_bytes(alloc, &log, bytes.as_slice(), new.as_slice())?
+            && rises_to(alloc, &log, later.as_slice())?,
+    )
 }
 
 /// Whether a log is shown so, and has no more records than that.

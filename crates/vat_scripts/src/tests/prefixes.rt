@@ -8,7 +8,7 @@ use std::alloc::Global;
 use std::io;
 use std::sync::Wait;
 use std::thread::Threads;
-use vat_notation::{Places, Vat, add_records, log_and_places_of};
+use vat_notation::{Places, Vat, Version, add_records, log_and_places_of};
 use worked_cases::{
     Conversation, EMBARGOED_CALLS, LATE_RETURN, PIPELINED_CALL, REINTRODUCED_EXPORT, RELAYED_CALL,
     RELEASED_PROMISE, REUSED_QUESTION, Refused, is_so,
@@ -39,6 +39,7 @@ struct Whole<'a> {
 fn whole_log<'a>(alloc: Global, number: &'a str, records: &'a str) -> Result<Whole<'a>, Refused> {
     let mut vat = Vat {
         number,
+        version: Version::One,
         records: Vec::new(alloc),
     };
     add_records(&mut vat.records, records)?;

@@ -383,7 +383,7 @@ fn a_failed_note_changes_nothing(rt: HostRuntime) {
 }
 
 /// Words, and what they spell, or the kind of `clap`'s error.
-const WORDS: [(&[&str], Result<Command<'static>, ErrorKind>); 13] = [
+const WORDS: [(&[&str], Result<Command<'static>, ErrorKind>); 19] = [
     (&["vataudit", "vat", "-"], Ok(Command::Vat { file: "-" })),
     (
         &["vataudit", "check", "a"],
@@ -436,12 +436,50 @@ const WORDS: [(&[&str], Result<Command<'static>, ErrorKind>); 13] = [
         &["vataudit", "migrate", "--out", "b", "a"],
         Ok(Command::Migrate {
             file: "a",
+            later: false,
             out: "b",
         }),
     ),
     (
         &["vataudit", "migrate", "a"],
         Err(ErrorKind::MissingRequiredArgument),
+    ),
+    (
+        &["vataudit", "migrate", "a", "--later", "--out", "b"],
+        Ok(Command::Migrate {
+            file: "a",
+            later: true,
+            out: "b",
+        }),
+    ),
+    (
+        &["vataudit", "migrate", "--later", "a"],
+        Err(ErrorKind::MissingRequiredArgument),
+    ),
+    (
+        &["vataudit", "frame", "a"],
+        Ok(Command::Frame {
+            hex: "a",
+            later: false,
+        }),
+    ),
+    (
+        &["vataudit", "frame", "--later", "a"],
+        Ok(Command::Frame {
+            hex: "a",
+            later: true,
+        }),
+    ),
+    (
+        &["vataudit", "frame", "a", "--later"],
+        Ok(Command::Frame {
+            hex: "a",
+            later: true,
+        }),
+    ),
+    (
+        &["vataudit", "frame", "--later", "a", "--later"],
+        Err(ErrorKind::ArgumentConflict),
     ),
 ];
 

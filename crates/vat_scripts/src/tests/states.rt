@@ -3,7 +3,7 @@
 use bytes::Bytes;
 use cap_frame::Path;
 use cap_reader::Limits;
-use rpc_view::{RpcMessage, read_bytes};
+use rpc_view::{Edition, RpcMessage, read_bytes};
 use std::alloc::Global;
 use std::fmt::Write;
 use std::process::Abort;
@@ -102,39 +102,39 @@ const NEXT: [(&str, &str, &str); 8] = [
     ),
 ];
 
-/// Records; whether call 1's whole result then leads over connections 0 and 1, and elsewhere than over each; and which
-/// of these two were aborted.
+/// Records; whether call 1's whole result then leads over connections 0 and 1, and elsewhere than over each, by the first
+/// edition and by the later one; and which of these two were aborted, and by this vat.
 const OVER: [(&str, &str); 5] = [
     // It goes on nowhere, and no question asks for it.
     (
         "",
-        "over false false; elsewhere false false; aborted false false",
+        "over false false; elsewhere false false, later true true; aborted false false, here false false",
     ),
     // It is the vat's own object.
     (
         "HOST r1 7; R0 c1 boot q0; ANSWER c1 r1@[]; R0 abort",
-        "over false false; elsewhere true true; aborted true false",
+        "over false false; elsewhere true true, later true true; aborted true false, here false false",
     ),
     // The vat asked for it on connection 0, and was given what came in there.
     (
         "S0 c1 boot q0; R0 r1 ret q0 senderHosted 0@[]; S1 abort",
-        "over true false; elsewhere false true; aborted false true",
+        "over true false; elsewhere false true, later false true; aborted false true, here false true",
     ),
     // It was asked of the vat on connection 1, and is what came in on connection 0.
     (
         "R1 c1 boot q0; S0 c2 boot q0; R0 r1 ret q0 senderHosted 0@[]; ANSWER c1 r1@[]",
-        "over true false; elsewhere false true; aborted false false",
+        "over true false; elsewhere false true, later true true; aborted false false, here false false",
     ),
     // It goes in a circle, by the result of call 2, for which the vat asked on connection 0.
     (
         "R0 c1 boot q0; S0 c2 boot q0; FIELD r1 c2 []; ANSWER c1 r1@[]; R0 r2 ret q0 receiverAnswer 0 []@[]",
-        "over true false; elsewhere false true; aborted false false",
+        "over true false; elsewhere false true, later true true; aborted false false, here false false",
     ),
 ];
 
-/// The message of a frame.
+/// The message of a frame, by the later edition.
 fn message(alloc: Global, frame: &Bytes) -> Result<RpcMessage, Refused> {
-    Ok(read_bytes(alloc, frame.clone()?, Limits::default())?)
+    Ok(read_bytes(alloc, frame.clone()?, Limits::default(), Edition::Later)?)
 }
 
 /// A record whose frame passed.
@@ -492,15 +492,26 @@ fn records_that_come_next(rt: HostRuntime) {
     }
 }
 
+/// Whether a view leads elsewhere than over connection 0, and than over connection 1, by an edition.
+fn put_elsewhere(
+    out: &mut String,
+    state: &VatState,
+    from: &View,
+    edition: Edition,
+) -> Result<(), Refused> {
+    let first = state.leads_elsewhere(from, 0, edition);
+    let second = state.leads_elsewhere(from, 1, edition);
+    Ok(write!(out, "{first} {second}")?)
+}
+
 /// Whether a view leads over connections 0 and 1, and elsewhere than over each.
 fn put_leads(out: &mut String, state: &VatState, from: &View) -> Result<(), Refused> {
     let over = (state.leads_over(from, 0), state.leads_over(from, 1));
-    let elsewhere = (
-        state.leads_elsewhere(from, 0),
-        state.leads_elsewhere(from, 1),
-    );
-    write!(out, "over {} {}; ", over.0, over.1)?;
-    write!(out, "elsewhere {} {}; ", elsewhere.0, elsewhere.1)?;
+    write!(out, "over {} {}; elsewhere ", over.0, over.1)?;
+    put_elsewhere(out, state, from, Edition::First)?;
+    out.push_str(", later ")?;
+    put_elsewhere(out, state, from, Edition::Later)?;
+    out.push_str("; ")?;
     Ok(())
 }
 
@@ -508,7 +519,9 @@ fn put_leads(out: &mut String, state: &VatState, from: &View) -> Result<(), Refu
 fn put_connections(out: &mut String, state: &VatState, from: &View) -> Result<(), Refused> {
     put_leads(out, state, from)?;
     let aborted = (state.is_aborted(0), state.is_aborted(1));
-    write!(out, "aborted {} {}", aborted.0, aborted.1)?;
+    let here = (state.is_aborted_here(0), state.is_aborted_here(1));
+    write!(out, "aborted {} {}, ", aborted.0, aborted.1)?;
+    write!(out, "here {} {}", here.0, here.1)?;
     Ok(())
 }
 

@@ -1,6 +1,6 @@
 -- For the code's contracts, and no part of the meaning: what a lane and a tap keep true of their fields, and records put in the
 -- order of their tickets.
-use Rattle.std.specs.Prelude.{◌≡◌, ℕ, ◌+◌, ◌*◌, ◌<◌, ◌≤◌, All, Some, slice_get, slice_index_or, List, [], ◌++◌, length, map}
+use Rattle.std.specs.Prelude.{◌≡◌, ℕ, ◌+◌, ◌*◌, ◌<◌, ◌≤◌, Bool, true, false, All, Some, slice_get, slice_index_or, List, [], ◌++◌, length, map}
 use Rattle.std.specs.List.{fold, slice_set}
 use Rattle.std.specs.List.Sorted.{IsStrictlyIncreasing}
 use Rattle.std.specs.declared.alloc.Global.{Global}
@@ -10,9 +10,16 @@ use Rattle.rtrb.specs.Ring.{sent, producer_capacity, consumer_capacity}
 use Rattle.rtrb.specs.declared.producer.Producer.{Producer}
 use Rattle.rtrb.specs.declared.consumer.Consumer.{Consumer}
 use Rattle.vat_log.specs.declared.body.Body.{Body}
+use Rattle.vat_log.specs.declared.version.LogVersion.{LogVersion}
+use Rattle.vat_log.specs.Log.{written_version, later_version}
 use Rattle.vat_tap.specs.declared.ticket_word.SeatKnowledge.{SeatKnowledge}
 use Rattle.vat_tap.specs.Glue.Rule.{view}
 use Rattle.vat_tap.specs.Tickets.{Ticketed, Ring, LaneView, tickets_of, share_of}
+
+-- the version of the log that a tap writes, by whether its runtime speaks the later edition of rpc.capnp
+abbrev pub version_by : Bool → LogVersion
+version_by true = later_version
+version_by false = written_version
 
 module _ {P : Type 0} where
   abbrev pub ring_of : Consumer Ticketed Global P → Ring

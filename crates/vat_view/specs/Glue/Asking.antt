@@ -1,5 +1,5 @@
 -- For the code's contracts, and no part of the meaning: what the tables answer.
-use Rattle.std.specs.Prelude.{ℕ, ◌+◌, ◌&&◌, Bool, true, false, not, Option, Some, None, if◌then◌else◌, option_map, option_and_then, unwrap_or, count_by}
+use Rattle.std.specs.Prelude.{ℕ, ◌+◌, ◌&&◌, ◌||◌, Bool, true, false, not, Option, Some, None, if◌then◌else◌, option_map, option_and_then, unwrap_or, count_by}
 use Rattle.std.specs.BTreeMap.{get}
 use Rattle.std.specs.Option.{option_or}
 use Rattle.vat_view.specs.declared.tables.question.Question.{Question}
@@ -12,7 +12,7 @@ use Rattle.vat_view.specs.Glue.Tables.{id_cmp, number_by, call_by, late_by, coun
 
 -- what a question's entry says of it
 abbrev pub free_in : Option Question → Bool
-free_in (Some known) = known.returned && known.finished
+free_in (Some known) = (known.returned && known.finished) || known.returned_lightly
 free_in None = true
 
 abbrev pub unfinished_in : Option Question → Bool

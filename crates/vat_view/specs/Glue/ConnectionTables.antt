@@ -1,14 +1,14 @@
 -- For the code's contracts, and no part of the meaning: the table of connections, and walks to views of a kind.
-use Rattle.std.specs.Prelude.{◌≡◌, ℕ, ◌==◌, List, Bool, true, false, ◌||◌, Option, Some, None, if◌then◌else◌, option_and_then, unwrap_or, is_some, slice_get, IsTrue}
+use Rattle.std.specs.Prelude.{◌≡◌, ℕ, ◌==◌, List, Bool, true, false, not, ◌||◌, Option, Some, None, if◌then◌else◌, option_and_then, unwrap_or, is_some, slice_get, IsTrue}
 use Rattle.std.specs.Ordering.{nat_cmp}
-use Rattle.std.specs.BTreeMap.{get}
+use Rattle.std.specs.BTreeMap.{BTreeMap, get}
 use Rattle.rising_table.specs.Entries.{entry_at}
 use Rattle.vat_view.specs.declared.tables.connections.Connections.{Connections}
 use Rattle.vat_view.specs.declared.walks.reachable.Sought.{Sought}
 use Rattle.vat_view.specs.declared.walks.reachable.Sought.TheVariants.{Over, Elsewhere}
-use Rattle.vat_view.specs.Types.{Bootstrap, Call, DecodedRecord, Wire, View, FieldOf, Import}
+use Rattle.vat_view.specs.Types.{Edition, First, Later, Bootstrap, Call, DecodedRecord, Wire, View, FieldOf, Import}
 use Rattle.vat_view.specs.Past.{Past, is}
-use Rattle.vat_view.specs.Connections.{is_aborted, asked_on, connection_of, is_own, is_another}
+use Rattle.vat_view.specs.Connections.{is_aborted, is_aborted_here, asked_on, connection_of, is_own, is_another}
 use Rattle.vat_view.specs.Glue.TurnTables.{after_turns}
 
 -- the call for which a record asks a question of this vat's, with the connection
@@ -26,24 +26,31 @@ on_for call None = None
 abbrev pub asked_at : Connections → ℕ → Option ℕ
 asked_at table c = option_and_then (λ connection. connection) (entry_at table.asked c)
 
--- the table has a connection as aborted
+-- a connection is marked, and there is room to mark one
+abbrev pub marked_at : BTreeMap ℕ Bool → ℕ → Bool
+marked_at marks k = unwrap_or (get nat_cmp marks k) false
+
+abbrev pub has_room : BTreeMap ℕ Bool → Option ℕ → Bool
+has_room marks (Some k) = is_some (get nat_cmp marks k)
+has_room marks None = true
+
+-- the table has a connection as aborted, and as aborted by this vat
 abbrev pub aborted_at : Connections → ℕ → Bool
-aborted_at table k = unwrap_or (get nat_cmp table.aborted k) false
+aborted_at table k = marked_at table.aborted k
+
+abbrev pub aborted_here_at : Connections → ℕ → Bool
+aborted_here_at table k = marked_at table.aborted_here k
 
 -- the table has room for a call that is asked
 abbrev pub has_asked : Connections → Option (ℕ × ℕ) → Bool
 has_asked table (Some a) = is_some (entry_at table.asked a.0)
 has_asked table None = true
 
--- the table has room for a connection that is aborted
-abbrev pub has_aborted : Connections → Option ℕ → Bool
-has_aborted table (Some k) = is_some (get nat_cmp table.aborted k)
-has_aborted table None = true
-
 -- the table of connections has what looking back finds
 pub record AreConnected (past : Past) (table : Connections) : Type 0 where
   pub asked : (c : ℕ) → asked_at table c ≡ asked_on c past
   pub aborted : (k : ℕ) → aborted_at table k ≡ is_aborted k past
+  pub aborted_here : (k : ℕ) → aborted_here_at table k ≡ is_aborted_here k past
 
 -- ---- walks to views of a kind
 
@@ -53,10 +60,15 @@ over_by events table (Import number place) = option_and_then connection_of (slic
 over_by events table (FieldOf call path) = asked_at table call
 over_by events table _ = None
 
+-- a view is elsewhere than over this connection, where it is reached over that one or none
+abbrev pub is_elsewhere_by : Edition → ℕ → View → Option ℕ → Bool
+is_elsewhere_by First k v over = is_own v || is_another k over
+is_elsewhere_by Later k v over = not (is k over)
+
 -- a view is sought, where it is reached over this connection
 abbrev pub is_sought : Sought → View → Option ℕ → Bool
 is_sought (Over k) v over = is k over
-is_sought (Elsewhere k) v over = is_own v || is_another k over
+is_sought (Elsewhere k edition) v over = is_elsewhere_by edition k v over
 
 -- the same by the table
 abbrev pub sought_by : List DecodedRecord → Connections → Sought → View → Bool

@@ -17,7 +17,7 @@ use Rattle.vat_view.specs.contracts.record.table_key.TableKeyOrd.TheImpl as id_o
 use Rattle.vat_view.specs.Types.{Descriptor, NoCap, SenderHosted, SenderPromise, ReceiverHosted, ReceiverAnswer, Return, Finish, Release, DecodedRecord, Host, Vow, Field, Wire, View, Object, Promise, FieldOf, Import, TableKey}
 use Rattle.vat_view.specs.Glue.Sides.{value_at}
 use Rattle.vat_view.specs.Past.{Past, id, same_id, names, record_index, last_answer}
-use Rattle.vat_view.specs.Questions.{is_late, question_returned, question_finished, question_released, question_taken, asks_elsewhere, noted_call, opening, return_of, is_returned, is_finished, is_released, is_taken}
+use Rattle.vat_view.specs.Questions.{is_late, question_returned, question_returned_lightly, question_finished, question_released, question_taken, asks_elsewhere, noted_call, opening, return_of, is_returned, is_returned_lightly, is_finished, is_released, is_taken}
 use Rattle.vat_view.specs.Uses.{UsesQuestions}
 use Rattle.vat_view.specs.Bindings.{Refers, NotesEach}
 use Rattle.vat_view.specs.Views.{placed_references, references, view_of_reference}
@@ -49,6 +49,7 @@ question_known q past = option_map (λ p. record {
   call = noted_call p.event;
   tail = asks_elsewhere p.event;
   returned = is_returned q past;
+  returned_lightly = is_returned_lightly q past;
   finished = is_finished q past;
   released = is_released q past;
   taken = is_taken q past;
@@ -153,12 +154,15 @@ given_back_by known _ = []
 
 -- a question that was just opened, with what its opening introduced
 abbrev pub just_opened : ℕ → Bool → List TableKey → Question
-just_opened call tail asked = record { call = call; tail = tail; returned = false; finished = false; released = false; taken = false; asked = asked; brought = [] }
+just_opened call tail asked = record { call = call; tail = tail; returned = false; returned_lightly = false; finished = false; released = false; taken = false; asked = asked; brought = [] }
 
--- a question whose Return has passed and introduced these, whose Finish has passed, whose results were given back, and
--- whose results were taken
+-- a question whose Return has passed and introduced these, with a Return that says that no Finish is needed, whose
+-- Finish has passed, whose results were given back, and whose results were taken
 abbrev pub with_return : List TableKey → Question → Question
 with_return brought known = record known { returned = true; brought = brought }
+
+abbrev pub with_light_return : Question → Question
+with_light_return known = record known { returned_lightly = true }
 
 abbrev pub with_finish : Question → Question
 with_finish known = record known { finished = true }
@@ -176,7 +180,8 @@ changed_if named change known = if named then option_map change known else known
 -- what a record that introduces these numbers makes of what is known of a question, by its return or its finish
 abbrev pub ended_by : DecodedRecord → List TableKey → TableKey → Option Question → Option Question
 ended_by e introduced q known =
-    changed_if (names q (question_released e)) with_release (changed_if (names q (question_finished e)) with_finish (changed_if (names q (question_returned e)) (with_return introduced) known))
+    changed_if (names q (question_released e)) with_release (changed_if (names q (question_finished e)) with_finish
+    (changed_if (names q (question_returned_lightly e)) with_light_return (changed_if (names q (question_returned e)) (with_return introduced) known)))
 
 -- what a record that opens no question, and introduces these numbers, makes of what is known of a question
 abbrev pub noted_by : DecodedRecord → List TableKey → TableKey → Option Question → Option Question
@@ -204,7 +209,7 @@ view_from named false origin = Some (Import origin.number origin.place)
 abbrev pub number_by : (ℕ → Option View) → ExportsImports → TableKey → Option View
 number_by named lives i = option_and_then (view_from named i.ours) (held_origin lives i)
 
--- the call of a question that isn't free, by what is known of it
+-- the call of a question that isn't over, by what is known of it
 abbrev pub call_by : Option Question → Option ℕ
 call_by (Some known) = if known.returned && known.finished then None else Some known.call
 call_by None = None

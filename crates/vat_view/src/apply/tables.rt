@@ -13,7 +13,7 @@ use crate::record::bindings::{bindings, introduced_by, new_references};
 use crate::record::decoded::DecodedRecord;
 use crate::record::effects::{
     asks_elsewhere, introductions, noted_call, origins, question_finished, question_opened,
-    question_released, question_returned, question_taken,
+    question_released, question_returned, question_returned_lightly, question_taken,
 };
 use crate::record::origin::Origin;
 use crate::record::table_key::TableKey;
@@ -97,7 +97,8 @@ fn note_return_or_finish(questions: &mut Questions, event: &DecodedRecord, intro
         ≡ ended_by event.now introduced q (question_at questions.old q) }
 {
     if let Some(question) = question_returned(event) {
-        questions.note_return(question, introduced);
+        let light = question_returned_lightly(event).is_some();
+        questions.note_return(question, light, introduced);
     }
     if let Some(question) = question_finished(event) {
         questions.note_finish(question, question_released(event).is_some());

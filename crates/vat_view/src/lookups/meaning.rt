@@ -57,17 +57,17 @@ pub(crate) fn view_of_number(
     }
 }
 
-/// The call of a question that isn't free.
+/// The call of a question that isn't over.
 pub(crate) fn call_of(questions: &Questions, question: TableKey) -> Option<u64>
     ensures { result ≡ call_by (question_at questions.now question) }
 {
     match questions.of(question) {
-        Some(known) if !(known.returned && known.finished) => Some(known.call),
+        Some(known) if !known.is_over() => Some(known.call),
         _ => None,
     }
 }
 
-/// The field at a path of the call of a question that isn't free.
+/// The field at a path of the call of a question that isn't over.
 pub(crate) fn field_of(
     questions: &Questions,
     question: TableKey,

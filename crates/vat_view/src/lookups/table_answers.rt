@@ -22,12 +22,12 @@ use crate::view::View;
 use rpc_view::{RpcMessage, Target};
 use std::alloc::{AllocError, Global};
 
-/// Whether a question is free.
+/// Whether a question is free: over, or behind a Return that says that no Finish is needed.
 pub(crate) fn is_free(questions: &Questions, question: TableKey) -> bool
     ensures { result ≡ free_in (question_at questions.now question) }
 {
     match questions.of(question) {
-        Some(known) => known.returned && known.finished,
+        Some(known) => known.is_over() || known.returned_lightly,
         None => true,
     }
 }

@@ -109,7 +109,7 @@ fn describes_in_life(state: &VatState, event: &DecodedRecord) -> bool
 
 /// What a record that may be applied next names and uses.
 impl VatState {
-    /// Whether a question number that it opens is free (rpc.capnp, `Call.questionId`).
+    /// Whether a question number that it opens is free (rpc.capnp, `Call.questionId` and `Return.noFinishNeeded`).
     pub fn opens_free(&self, event: &DecodedRecord) -> bool
         ensures { Decides result (OpensFree self.now event.now) }
     {

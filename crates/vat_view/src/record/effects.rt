@@ -2,7 +2,7 @@
 
 ghost use Rattle.std.specs.Prelude.{◌≡◌, [], IfOk, if◌then◌else◌};
 ghost use Rattle.std.specs.List.{filter_map};
-ghost use Rattle.vat_view.specs.Questions.{question_opened, question_returned, question_finished, question_released, question_taken, asks_elsewhere, noted_call};
+ghost use Rattle.vat_view.specs.Questions.{question_opened, question_returned, question_returned_lightly, question_finished, question_released, question_taken, asks_elsewhere, noted_call};
 ghost use Rattle.vat_view.specs.Lives.{descriptors, number_introduced, promise_resolved};
 ghost use Rattle.vat_view.specs.Views.{references};
 ghost use Rattle.vat_view.specs.Glue.Tables.{is_cap, origin_by, origins_from};
@@ -43,6 +43,26 @@ pub(crate) fn question_returned(event: &DecodedRecord) -> Option<TableKey>
             sent,
             connection,
             message: RpcMessage::Return { answer: number, .. },
+            ..
+        } => Some(TableKey::of_receiver(*sent, *connection, *number)),
+        _ => None,
+    }
+}
+
+/// The question that a record returns lightly: by a Return that says that no Finish is needed (rpc.capnp,
+/// `Return.noFinishNeeded`).
+pub(crate) fn question_returned_lightly(event: &DecodedRecord) -> Option<TableKey>
+    ensures { result ≡ question_returned_lightly event.now }
+{
+    match event {
+        DecodedRecord::Wire {
+            sent,
+            connection,
+            message: RpcMessage::Return {
+                answer: number,
+                light: true,
+                ..
+            },
             ..
         } => Some(TableKey::of_receiver(*sent, *connection, *number)),
         _ => None,

@@ -1,6 +1,6 @@
 //! What is known of one question.
 
-ghost use Rattle.std.specs.Prelude.{◌≡◌};
+ghost use Rattle.std.specs.Prelude.{◌≡◌, ◌&&◌};
 ghost use Rattle.vat_view.specs.Glue.Tables.{just_opened};
 
 use crate::record::table_keys::TableKeys;
@@ -14,6 +14,8 @@ pub(crate) struct Question {
     pub(crate) tail: bool,
     /// Whether its Return has passed.
     pub(crate) returned: bool,
+    /// Whether a Return of it has passed that says that no Finish is needed (rpc.capnp, `Return.noFinishNeeded`).
+    pub(crate) returned_lightly: bool,
     /// Whether its Finish has passed.
     pub(crate) finished: bool,
     /// Whether a Finish of it with releaseResultCaps true has passed.
@@ -35,6 +37,7 @@ impl Question {
             call,
             tail,
             returned: false,
+            returned_lightly: false,
             finished: false,
             released: false,
             taken: false,
@@ -43,12 +46,20 @@ impl Question {
         }
     }
 
+    /// Whether both its Return and its Finish have passed, so that it stands for its call no longer.
+    pub(crate) fn is_over(&self) -> bool
+        ensures { result ≡ (self.now.returned && self.now.finished) }
+    {
+        self.returned && self.finished
+    }
+
     /// What holds the place of what is known while that is changed. It takes no memory.
     pub(crate) fn blank() -> Question {
         Question {
             call: 0,
             tail: false,
             returned: false,
+            returned_lightly: false,
             finished: false,
             released: false,
             taken: false,

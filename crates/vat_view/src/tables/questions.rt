@@ -3,7 +3,7 @@
 ghost use Rattle.std.specs.Prelude.{◌≡◌, None, OnOk, OnErr, if◌then◌else◌};
 ghost use Rattle.std.specs.Option.{option_copied};
 ghost use Rattle.vat_view.specs.declared.record.table_key.TableKey.{TableKey};
-ghost use Rattle.vat_view.specs.Glue.Tables.{question_at, params_introduced_in, results_introduced_in, with_return, with_finish, with_release, with_taken, IsPut, IsSameQuestions, IsChanged};
+ghost use Rattle.vat_view.specs.Glue.Tables.{question_at, params_introduced_in, results_introduced_in, with_return, with_light_return, with_finish, with_release, with_taken, IsPut, IsSameQuestions, IsChanged};
 
 use crate::record::table_key::TableKey;
 use crate::record::table_keys::TableKeys;
@@ -62,12 +62,15 @@ impl Questions {
         self.entries.put(question, opened)
     }
 
-    /// This question was returned, and its Return introduced these numbers.
-    pub(crate) fn note_return(&mut self, question: TableKey, brought: TableKeys)
-        ensures { IsChanged question (with_return brought) self.old self.new }
+    /// This question was returned, and its Return introduced these numbers. A light one says that no Finish is needed.
+    pub(crate) fn note_return(&mut self, question: TableKey, light: bool, brought: TableKeys)
+        ensures { IsChanged question
+            (λ known. if light then with_light_return (with_return brought known)
+            else with_return brought known) self.old self.new }
     {
         if let Some(mut known) = self.entries.replace(question, Question::blank()) {
             known.returned = true;
+            known.returned_lightly = known.returned_lightly || light;
             known.brought = brought;
             let _ = self.entries.replace(question, known);
         }

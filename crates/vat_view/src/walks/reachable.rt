@@ -6,7 +6,7 @@ ghost use Rattle.vat_view.specs.Borrowed.{as_view};
 ghost use Rattle.vat_view.specs.Glue.Tables.{bound_at};
 ghost use Rattle.vat_view.specs.Connections.{connection_of, is_own, is_another};
 ghost use Rattle.vat_view.specs.Glue.TurnTables.{turn_by, HaveAhead};
-ghost use Rattle.vat_view.specs.Glue.ConnectionTables.{over_by, sought_by, ReachesOne};
+ghost use Rattle.vat_view.specs.Glue.ConnectionTables.{over_by, is_elsewhere_by, sought_by, ReachesOne};
 
 use crate::borrowed_view::BorrowedView;
 use crate::record::decoded::DecodedRecord;
@@ -14,14 +14,15 @@ use crate::tables::connections::Connections;
 use crate::tables::references::BoundReferences;
 use crate::tables::settlements::Settlements;
 use crate::walks::hops::{event_at, further, most_turns, turned_to};
+use rpc_view::Edition;
 
 /// Which views a walk seeks.
 #[derive(Clone, Copy)]
 pub(crate) enum Sought {
     /// Those that are reached over this connection.
     Over(u32),
-    /// Own objects, own promises, and those that are reached over another connection than this.
-    Elsewhere(u32),
+    /// Those that are elsewhere than over this connection, by the edition of the log.
+    Elsewhere(u32, Edition),
 }
 
 /// The connection on which a record's frame passed.
@@ -79,6 +80,22 @@ fn is_another(connection: u32, over: Option<u32>) -> bool
     }
 }
 
+/// Whether a view, which is reached over a connection or none, is elsewhere than over this one. In a log of the later
+/// edition it only isn't reached over this one.
+fn is_elsewhere(
+    edition: Edition,
+    connection: u32,
+    view: BorrowedView<'_>,
+    over: Option<u32>,
+) -> bool
+    ensures { result ≡ is_elsewhere_by edition connection (as_view view.entry) over }
+{
+    match edition {
+        Edition::First => is_own(view) || is_another(connection, over),
+        Edition::Later => !is_this(connection, over),
+    }
+}
+
 /// Whether a view is sought.
 fn is_sought(
     events: &[DecodedRecord],
@@ -91,7 +108,7 @@ fn is_sought(
     let over = reached_over(events, connections, view);
     match sought {
         Sought::Over(connection) => is_this(connection, over),
-        Sought::Elsewhere(connection) => is_own(view) || is_another(connection, over),
+        Sought::Elsewhere(connection, edition) => is_elsewhere(edition, connection, view, over),
     }
 }
 

@@ -1,8 +1,8 @@
 use Rattle.std.proofs.Common.{◌∙◌, sym}
 use Rattle.clap.specs.Words.{first_value, found_of}
-use Rattle.command_line.proofs.Matched.{besides_of, checked_as, has_subcommand, input_there, is_some_by, matched, number_as, read_as, spells_one, thing_is}
-use Rattle.command_line.proofs.Named.{checking, last_command, listing, migrating, of_frame, of_frames, of_graph, of_run, of_vat, ordering}
-use Rattle.command_line.specs.Parser.{count, most, path, start, workers}
+use Rattle.command_line.proofs.Matched.{besides_of, checked_as, has_subcommand, input_there, is_some_by, matched, number_as, read_as, set_as, spells_one, thing_is}
+use Rattle.command_line.proofs.Named.{checking, framing, last_command, listing, migrating, of_frames, of_graph, of_run, of_vat, ordering}
+use Rattle.command_line.specs.Parser.{count, later, most, path, start, workers}
 use Rattle.command_line.proofs.command.command_in.Goals as goal
 
 pub unreachable-requires : goal.unreachable-requires
@@ -57,8 +57,15 @@ returns-in-order-clause-spelled c words are =
 
 pub returns-in-migrate-clause-spelled : goal.returns-in-migrate-clause-spelled
 returns-in-migrate-clause-spelled c words are =
-    let m = matched words c.args.matches.now c.in-Some.given.now c.in-Some.name.now are c.in-Some.ensures.name c.in-Some.ensures.rows in
-    (m.rows, (read_as m migrating c.in-migrate.is, thing_is m _ c.value_of-input.ensures, sym (m.each path) ∙ c.value_of-in-migrate.ensures))
+    let m = matched words c.args.matches.now c.in-Some.given.now c.in-Some.name.now are c.in-Some.ensures.name c.in-Some.ensures.rows in (
+      m.rows,
+      (
+        read_as m migrating c.in-migrate.is,
+        thing_is m _ c.value_of-input.ensures,
+        set_as m later _ c.is_set-in-migrate.ensures,
+        sym (m.each path) ∙ c.value_of-in-migrate.ensures,
+      ),
+    )
 
 pub returns-in-records-clause-spelled : goal.returns-in-records-clause-spelled
 returns-in-records-clause-spelled c words are =
@@ -90,7 +97,7 @@ returns-in-vat-clause-spelled c words are =
 pub returns-in-frame-clause-spelled : goal.returns-in-frame-clause-spelled
 returns-in-frame-clause-spelled c words are =
     let m = matched words c.args.matches.now c.in-Some.given.now c.in-Some.name.now are c.in-Some.ensures.name c.in-Some.ensures.rows in
-    spells_one m of_frame _ c.in-frame.is c.value_of-input.ensures
+    (m.rows, (read_as m framing c.in-frame.is, thing_is m _ c.value_of-input.ensures, set_as m later _ c.is_set.ensures))
 
 pub returns-in_default-name-clause-spelled : goal.returns-in_default-name-clause-spelled
 returns-in_default-name-clause-spelled c words are =

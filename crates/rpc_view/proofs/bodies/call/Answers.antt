@@ -4,4 +4,4 @@ use Rattle.rpc_view.proofs.bodies.call.Goals as goal
 
 pub returns : goal.returns
 returns c =
-    rw (call_goes ((sections_of c.args.frame.now c.args.message.now).child 0) c.args.limits.now.words c.struct_in.new.limits.words c.u16_of-send_results_to.result c.bit_of.result (sections_of c.args.frame.now c.in_ok-call.call) c.in_ok-call.ensures c.u16_of-send_results_to.ensures c.bit_of.ensures c.if-send_results_to-gt2.false c.if-send_results_to-eq2.false c.if-bit_of.false) c.read_call_parts.ensures
+    rw (call_goes c.args.edition ((sections_of c.args.frame.now c.args.message.now).child 0) c.args.limits.now.words c.struct_in.new.limits.words c.u16_of-send_results_to.result c.bit_of.result c.is_beyond.result (sections_of c.args.frame.now c.in_ok-call.call) c.in_ok-call.ensures c.u16_of-send_results_to.ensures c.bit_of.ensures c.is_beyond.ensures c.if-send_results_to-gt2.false c.if-send_results_to-eq2.false c.if-is_beyond.false) c.read_call_parts.ensures

@@ -9,7 +9,7 @@ use Rattle.vat_log.proofs.writing.written_log.Given as goal
 
 abbrev pub invariant-loop-entry : goal.invariant-loop-entry
 invariant-loop-entry l = record {
-  so_far : l.out.items ≡ log_magic written_version ++ (number_bytes w32 l.vat ++ flat_map (record_bytes written_version) (take l.entry-index l.records));
+  so_far : l.out.items ≡ log_magic l.fn.version ++ (number_bytes w32 l.vat ++ flat_map (record_bytes written_version) (take l.entry-index l.records));
   fit : All Fits (take l.entry-index l.records);
   wide : All IsWide (take l.entry-index l.records);
   count : length l.ends.items ≡ l.entry-index;

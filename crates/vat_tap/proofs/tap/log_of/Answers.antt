@@ -28,4 +28,4 @@ pub returns-clause-rising : goal.returns-clause-rising
 returns-clause-rising c =
     let R = λ (it : LaneView). IsStrictlyIncreasing (tickets_of it.recorded) in
     let all : All R c.args.lanes.now = subst (All R) (take_all c.loop-lane.lane-index c.args.lanes.now (omega (arith, c.loop-lane-test.false))) c.loop-lane.invariant.rising in
-    if_ok_of c.write_lent_log.result all
+    if_ok_of c.stored.result all

@@ -11,7 +11,7 @@ returns-in-Ok g c =
     let read = c.in-Ok.ensures in (
       read.0,
       read.1,
-      prints_by (AnswersListing c.args.range.from c.args.range.count c.in-Ok.log.records) (AnswersLogRecords c.args.range.from c.args.range.count read.0)
+      prints_by (AnswersListing c.args.range.from c.args.range.count c.in-Ok.log) (AnswersLogRecords c.args.range.from c.args.range.count read.0)
           (Wrote g.O.Output.contents g.O.Output.is_finished) c.args.out.now c.say_log.new.out c.say_log.result
           (listing_is c.args.range.from c.args.range.count read.0 c.in-Ok.log read.2) c.say_log.ensures,
     )

@@ -12,7 +12,7 @@ returns g c =
     let found = c.migration_answer-made.ensures in (
       found.0,
       found.1,
-      written_by (IsMade made) (AnswersMigration found.0) (Wrote g.O.Output.contents g.O.Output.is_finished) (Wrote g.F.Output.contents g.F.Output.is_finished) c.args.out.now c.say_made.new.out c.args.file.now
+      written_by (IsMade made) (AnswersMigration c.args.later found.0) (Wrote g.O.Output.contents g.O.Output.is_finished) (Wrote g.F.Output.contents g.F.Output.is_finished) c.args.out.now c.say_made.new.out c.args.file.now
           c.say_made.new.file c.say_made.result
-          (answers_by (AnswersMigration found.0) (line (answer_text made.answer)) (answer_status made.answer) (option_map (λ bytes. bytes) made.bytes) found.2) c.say_made.ensures,
+          (answers_by (AnswersMigration c.args.later found.0) (line (answer_text made.answer)) (answer_status made.answer) (option_map (λ bytes. bytes) made.bytes) found.2) c.say_made.ensures,
     )

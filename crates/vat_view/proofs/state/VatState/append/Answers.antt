@@ -1,4 +1,4 @@
-use Rattle.std.proofs.Common.{◌≡◌, ◌∙◌, refl, sym, subst, length, arith}
+use Rattle.std.proofs.Common.{◌≡◌, ◌∙◌, sym, subst, length, arith}
 use Rattle.std.specs.Prelude.{reverse}
 use Rattle.std.proofs.lemmas.Grind.{common_steps}
 use Rattle.vat_view.specs.Sound.{IsSound}
@@ -11,7 +11,7 @@ use Rattle.vat_view.proofs.Keeping.{fits, state_refused, state_applied}
 use Rattle.vat_view.proofs.Settled.{says_then, turns_refused, turns_applied}
 use Rattle.vat_view.proofs.Hopping.{calls_then}
 use Rattle.vat_view.proofs.Promising.{resolves_after}
-use Rattle.vat_view.proofs.Connecting.{connected_refused, connected_applied}
+use Rattle.vat_view.proofs.Connecting.{says_itself, connected_refused, connected_applied}
 use Rattle.vat_view.proofs.Looping.{waits_same, waits_after}
 use Rattle.vat_view.proofs.Ahead.{kept_views, ahead_refused, ahead_unlearned, ahead_applied, again_same}
 use Rattle.vat_view.proofs.state.VatState.append.Goals as goal
@@ -21,7 +21,7 @@ invariant_of-self-in_err-make_room c = (
   subst (λ l. AreKept (reverse l) c.self.inside.questions c.self.inside.lives c.self.inside.bound c.self.inside.calls) (sym c.in_ok-reserve.ensures.items) c.self.invariant.0,
   subst (λ l. AreResolved (reverse l) c.self.inside.resolves) (sym c.in_ok-reserve.ensures.items) c.self.invariant.1,
   turns_refused c.self.inside.events.items c.reserve.new.self.items c.self.inside.turns c.make_room.new.self c.in_ok-reserve.ensures.items c.make_room.ensures.same c.self.invariant.2,
-  connected_refused c.self.inside.events.items c.reserve.new.self.items c.self.inside.connections c.self.inside.connections c.in_ok-reserve.ensures.items (λ k. refl) (λ k. refl) c.self.invariant.3,
+  connected_refused c.self.inside.events.items c.reserve.new.self.items c.self.inside.connections c.self.inside.connections c.in_ok-reserve.ensures.items (says_itself c.self.inside.connections) c.self.invariant.3,
   subst (λ l. AreWaiting (reverse l) c.self.inside.waits) (sym c.in_ok-reserve.ensures.items) c.self.invariant.4,
   ahead_refused c.self.inside.events.items c.reserve.new.self.items c.self.inside.turns c.make_room.new.self c.in_ok-reserve.ensures.items c.make_room.ensures.same c.self.inside.bound c.make_room.ensures.ahead c.self.invariant.5,
 )
@@ -31,7 +31,7 @@ invariant_of-self-in_err-room_for c = (
   subst (λ l. AreKept (reverse l) c.self.inside.questions c.self.inside.lives c.self.inside.bound c.self.inside.calls) (sym c.in_ok-reserve.ensures.items) c.self.invariant.0,
   (λ i. c.room_for.ensures.same i ∙ (subst (λ l. AreResolved (reverse l) c.self.inside.resolves) (sym c.in_ok-reserve.ensures.items) c.self.invariant.1) i),
   turns_refused c.self.inside.events.items c.reserve.new.self.items c.self.inside.turns c.make_room.new.self c.in_ok-reserve.ensures.items c.make_room.ensures.same c.self.invariant.2,
-  connected_refused c.self.inside.events.items c.reserve.new.self.items c.self.inside.connections c.self.inside.connections c.in_ok-reserve.ensures.items (λ k. refl) (λ k. refl) c.self.invariant.3,
+  connected_refused c.self.inside.events.items c.reserve.new.self.items c.self.inside.connections c.self.inside.connections c.in_ok-reserve.ensures.items (says_itself c.self.inside.connections) c.self.invariant.3,
   subst (λ l. AreWaiting (reverse l) c.self.inside.waits) (sym c.in_ok-reserve.ensures.items) c.self.invariant.4,
   ahead_refused c.self.inside.events.items c.reserve.new.self.items c.self.inside.turns c.make_room.new.self c.in_ok-reserve.ensures.items c.make_room.ensures.same c.self.inside.bound c.make_room.ensures.ahead c.self.invariant.5,
 )
@@ -41,7 +41,8 @@ invariant_of-self-in_err-grow_for c = (
   subst (λ l. AreKept (reverse l) c.self.inside.questions c.self.inside.lives c.self.inside.bound c.self.inside.calls) (sym c.in_ok-reserve.ensures.items) c.self.invariant.0,
   (λ i. c.room_for.ensures.same i ∙ (subst (λ l. AreResolved (reverse l) c.self.inside.resolves) (sym c.in_ok-reserve.ensures.items) c.self.invariant.1) i),
   turns_refused c.self.inside.events.items c.reserve.new.self.items c.self.inside.turns c.make_room.new.self c.in_ok-reserve.ensures.items c.make_room.ensures.same c.self.invariant.2,
-  connected_refused c.self.inside.events.items c.reserve.new.self.items c.self.inside.connections c.grow_for.new.self c.in_ok-reserve.ensures.items c.grow_for.ensures.asked c.grow_for.ensures.aborted c.self.invariant.3,
+  connected_refused c.self.inside.events.items c.reserve.new.self.items c.self.inside.connections c.grow_for.new.self c.in_ok-reserve.ensures.items
+      (record { asked = c.grow_for.ensures.asked; aborted = c.grow_for.ensures.aborted; aborted_here = c.grow_for.ensures.aborted_here }) c.self.invariant.3,
   subst (λ l. AreWaiting (reverse l) c.self.inside.waits) (sym c.in_ok-reserve.ensures.items) c.self.invariant.4,
   ahead_refused c.self.inside.events.items c.reserve.new.self.items c.self.inside.turns c.make_room.new.self c.in_ok-reserve.ensures.items c.make_room.ensures.same c.self.inside.bound c.make_room.ensures.ahead c.self.invariant.5,
 )
@@ -51,7 +52,8 @@ invariant_of-self-in_err-change c = (
   subst (λ l. AreKept (reverse l) c.self.inside.questions c.self.inside.lives c.self.inside.bound c.self.inside.calls) (sym c.in_ok-reserve.ensures.items) c.self.invariant.0,
   (λ i. c.room_for.ensures.same i ∙ (subst (λ l. AreResolved (reverse l) c.self.inside.resolves) (sym c.in_ok-reserve.ensures.items) c.self.invariant.1) i),
   turns_refused c.self.inside.events.items c.reserve.new.self.items c.self.inside.turns c.make_room.new.self c.in_ok-reserve.ensures.items c.make_room.ensures.same c.self.invariant.2,
-  connected_refused c.self.inside.events.items c.reserve.new.self.items c.self.inside.connections c.grow_for.new.self c.in_ok-reserve.ensures.items c.grow_for.ensures.asked c.grow_for.ensures.aborted c.self.invariant.3,
+  connected_refused c.self.inside.events.items c.reserve.new.self.items c.self.inside.connections c.grow_for.new.self c.in_ok-reserve.ensures.items
+      (record { asked = c.grow_for.ensures.asked; aborted = c.grow_for.ensures.aborted; aborted_here = c.grow_for.ensures.aborted_here }) c.self.invariant.3,
   waits_same (reverse c.reserve.new.self.items) c.self.inside.waits c.prepare.new.self c.prepare.ensures.same
       (subst (λ l. AreWaiting (reverse l) c.self.inside.waits) (sym c.in_ok-reserve.ensures.items) c.self.invariant.4),
   ahead_refused c.self.inside.events.items c.reserve.new.self.items c.self.inside.turns c.make_room.new.self c.in_ok-reserve.ensures.items c.make_room.ensures.same c.self.inside.bound c.make_room.ensures.ahead c.self.invariant.5,
@@ -74,7 +76,8 @@ invariant_of-self-in_err-apply_record c =
       kept,
       (λ i. c.room_for.ensures.same i ∙ (subst (λ l. AreResolved (reverse l) c.self.inside.resolves) (sym c.in_ok-reserve.ensures.items) c.self.invariant.1) i),
       turns_refused c.self.inside.events.items c.reserve.new.self.items c.self.inside.turns c.make_room.new.self c.in_ok-reserve.ensures.items c.make_room.ensures.same c.self.invariant.2,
-      connected_refused c.self.inside.events.items c.reserve.new.self.items c.self.inside.connections c.grow_for.new.self c.in_ok-reserve.ensures.items c.grow_for.ensures.asked c.grow_for.ensures.aborted c.self.invariant.3,
+      connected_refused c.self.inside.events.items c.reserve.new.self.items c.self.inside.connections c.grow_for.new.self c.in_ok-reserve.ensures.items
+          (record { asked = c.grow_for.ensures.asked; aborted = c.grow_for.ensures.aborted; aborted_here = c.grow_for.ensures.aborted_here }) c.self.invariant.3,
       waits_same (reverse c.reserve.new.self.items) c.self.inside.waits c.prepare.new.self c.prepare.ensures.same
           (subst (λ l. AreWaiting (reverse l) c.self.inside.waits) (sym c.in_ok-reserve.ensures.items) c.self.invariant.4),
       ahead_unlearned c.self.inside.events.items c.reserve.new.self.items c.self.inside.turns c.make_room.new.self c.in_ok-reserve.ensures.items c.make_room.ensures.same c.self.inside.bound
@@ -109,7 +112,9 @@ invariant_of-self-2 c =
           ∙ taken_from_known (reverse c.self.inside.events.items) c.self.inside.questions c.self.inside.lives c.self.inside.bound c.self.inside.calls c.self.invariant.0 c.args.event)
           (says_then c.self.inside.turns c.make_room.new.self c.drop_calls_ahead.new.self c.make_room.ensures.same c.drop_calls_ahead.ensures.same) c.note.ensures,
       connected_applied c.self.inside.events.items c.reserve.new.self.items c.push_reserved.new.self.items c.args.event c.self.inside.connections c.grow_for.new.self c.note_event.new.self
-          c.in_ok-reserve.ensures.items c.push_reserved.ensures.items c.grow_for.ensures.asked c.grow_for.ensures.aborted c.note_event.ensures.asked c.note_event.ensures.aborted c.self.invariant.3,
+          c.in_ok-reserve.ensures.items c.push_reserved.ensures.items
+          (record { asked = c.grow_for.ensures.asked; aborted = c.grow_for.ensures.aborted; aborted_here = c.grow_for.ensures.aborted_here })
+          (record { asked = c.note_event.ensures.asked; aborted = c.note_event.ensures.aborted; aborted_here = c.note_event.ensures.aborted_here }) c.self.invariant.3,
       state_applied c.self.inside.events.items c.reserve.new.self.items c.args.self.now c.args.event c.len-number.result
           (λ p. AreKept p c.self.inside.questions c.self.inside.lives c.self.inside.bound c.self.inside.calls × AreWaiting p c.self.inside.waits) (λ p. AreWaiting p c.change-2.new.self)
           c.self.view_is c.in_ok-reserve.ensures.items place (c.self.invariant.0, c.self.invariant.4) sound c.push_reserved.new.self.items c.push_reserved.ensures.items

@@ -1,9 +1,9 @@
 use Rattle.std.proofs.Common.{◌≡◌, subst}
-use Rattle.std.specs.Prelude.{Decides, ◌||◌, IsTrue}
+use Rattle.std.specs.Prelude.{Decides, IsTrue}
 use Rattle.vat_view.specs.declared.walks.reachable.Sought.TheVariants.{Elsewhere}
 use Rattle.vat_view.specs.Types.{View}
 use Rattle.vat_view.specs.Borrowed.{as_view}
-use Rattle.vat_view.specs.Connections.{LeadsElsewhere, reached_over, is_own, is_another}
+use Rattle.vat_view.specs.Connections.{LeadsElsewhere, is_elsewhere}
 use Rattle.vat_view.specs.Walks.{Next, next}
 use Rattle.vat_view.specs.Glue.Tables.{bound_at}
 use Rattle.vat_view.specs.Glue.TurnTables.{goes_by}
@@ -18,8 +18,8 @@ returns c =
     let same : (v : View) → going v ≡ next c.args.self.now v =
     goes_so c.self.inside.events.items c.as_slice-events.result.now c.args.self.now c.self.inside.questions c.self.inside.lives c.self.inside.bound c.self.inside.turns
     c.self.view_is c.as_slice-events.ensures.value c.self.invariant.0.tabled c.self.invariant.2 in
-    subst (λ v. Decides c.leads_to.result (LeadsElsewhere c.args.self.now v c.args.connection)) c.of.ensures
-    (one_known going c.args.self.now same (λ v. sought_by c.as_slice-events.result.now c.self.inside.connections (Elsewhere c.args.connection) v)
-    (λ v. IsTrue (is_own v || is_another c.args.connection (reached_over c.args.self.now v)))
-    (elsewhere_decides c.self.inside.events.items c.as_slice-events.result.now c.args.self.now c.self.inside.connections c.self.view_is c.as_slice-events.ensures.value c.self.invariant.3 c.args.connection)
+    subst (λ v. Decides c.leads_to.result (LeadsElsewhere c.args.edition c.args.self.now v c.args.connection)) c.of.ensures
+    (one_known going c.args.self.now same (λ v. sought_by c.as_slice-events.result.now c.self.inside.connections (Elsewhere c.args.connection c.args.edition) v)
+    (λ v. IsTrue (is_elsewhere c.args.edition c.args.connection c.args.self.now v))
+    (elsewhere_decides c.self.inside.events.items c.as_slice-events.result.now c.args.self.now c.self.inside.connections c.self.view_is c.as_slice-events.ensures.value c.self.invariant.3 c.args.edition c.args.connection)
     (as_view c.of.result) c.leads_to.result c.leads_to.ensures)

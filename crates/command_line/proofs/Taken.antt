@@ -17,7 +17,7 @@ use Rattle.clap.specs.declared.error.ErrorKind.TheVariants.{ValueValidation}
 use Rattle.clap.specs.declared.builder.value_parser.ValueParser.{ValueParser}
 use Rattle.clap.specs.declared.builder.value_parser.ValueParser.TheVariants as parser
 use Rattle.clap.proofs.OnLiterals.{clap_on_literals}
-use Rattle.command_line.proofs.Named.{Reader, checking, framing, listing, migrating, name_of, of_frames, of_graph, of_run, of_vat, ordering, reader_of, word_of}
+use Rattle.command_line.proofs.Named.{Reader, checking, drawing, framing, listing, migrating, name_of, of_frames, of_graph, of_run, of_vat, ordering, reader_of, word_of}
 use Rattle.command_line.proofs.One.{at, dashes, given, holding, sub}
 use Rattle.command_line.proofs.Reading.{shape_by}
 use Rattle.command_line.specs.Parser.{most, program, start}
@@ -182,6 +182,20 @@ order_words file out e h =
 pub takes_order : (first file out : Text) → is_flag file ≡ false → is_flag out ≡ false → fault_of program (first ∷ name_of ordering ∷ file ∷ codes "--out" ∷ out ∷ []) ≡ []
 unfolding clap_on_literals
 takes_order first file out e h = ap (λ (k : Kinds). or_else k []) (order_words file out e h)
+
+-- ---- draw
+
+draw_words : (file out : Text) → is_flag file ≡ false → is_flag out ≡ false → level_fault (shape_by drawing) [] nothing_held (file ∷ codes "--out" ∷ out ∷ []) false [] ≡ []
+unfolding clap_on_literals
+draw_words file out e h =
+    let is = plain_word_is file e in
+    let are = plain_word_is out h in
+    rw (is.0, is.1, is.2, are.0, are.1, are.2) refl
+
+-- has no fault, where CASE and FILE are no flags
+pub takes_draw : (first file out : Text) → is_flag file ≡ false → is_flag out ≡ false → fault_of program (first ∷ name_of drawing ∷ file ∷ codes "--out" ∷ out ∷ []) ≡ []
+unfolding clap_on_literals
+takes_draw first file out e h = ap (λ (k : Kinds). or_else k []) (draw_words file out e h)
 
 -- ---- migrate
 
@@ -348,3 +362,20 @@ refuses_part first file from count e f g never =
     go false b one two = part_by first file from count false b e f g one two
     go true false one two = part_by first file from count true false e f g one two
     go true true one two = absurd (never (accepts-Accepts false value_parser from one, accepts-Accepts false value_parser count two))
+
+-- ---- draw, of which a part is asked for
+
+draw_part_words : (file out from count : Text) → IsPlain file → IsPlain out → IsPlain from → IsPlain count → accepts false value_parser from ≡ true → accepts false value_parser count ≡ true
+    → level_fault (shape_by drawing) [] nothing_held (file ∷ codes "--out" ∷ out ∷ codes "--from" ∷ from ∷ codes "--count" ∷ count ∷ []) false [] ≡ []
+unfolding clap_on_literals
+draw_part_words file out from count is are first last accepted taken =
+    rw (is.0, is.1, is.2, are.0, are.1, are.2, first.0, first.1, first.2, last.0, last.1, last.2, accepted, taken) refl
+
+-- `draw CASE --out FILE --from I --count N` has no fault, where CASE and FILE are no flags, and I and N are numbers of 64 bits
+pub takes_draw_part : (first file out from count : Text) → is_flag file ≡ false → is_flag out ≡ false → IsUnsignedIn 0 most from → IsUnsignedIn 0 most count
+    → fault_of program (first ∷ name_of drawing ∷ file ∷ codes "--out" ∷ out ∷ codes "--from" ∷ from ∷ codes "--count" ∷ count ∷ []) ≡ []
+unfolding clap_on_literals
+takes_draw_part first file out from count e h f g =
+    ap (λ (k : Kinds). or_else k [])
+    (draw_part_words file out from count (plain_word_is file e) (plain_word_is out h) (plain_word_is from (number_is_plain 0 most from f)) (plain_word_is count (number_is_plain 0 most count g))
+    (Accepts-accepts false value_parser from f) (Accepts-accepts false value_parser count g))

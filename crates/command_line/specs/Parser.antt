@@ -43,7 +43,7 @@ path_rule = record (new_rule path) { long = Some (codes "out"); value_names = 1;
 abbrev pub writer : List ℕ → App
 writer name = with_rule (with_rule (new_app name) input_rule) path_rule
 
--- by what clap knows the options of `records`, which are given as `--from I` and `--count N`, numbers of 64 bits
+-- by what clap knows the options of `records` and `draw`, which are given as `--from I` and `--count N`, numbers of 64 bits
 abbrev pub start : List ℕ
 start = codes "from"
 
@@ -56,6 +56,10 @@ most = 18446744073709551615
 -- `records FILE`, with `--from I` and `--count N` if wanted
 abbrev pub records : App
 records = with_rule (with_rule (with_rule (new_app (codes "records")) input_rule) (number_rule start 0 most)) (number_rule count 0 most)
+
+-- `draw CASE --out FILE`, with `--from I` and `--count N` if wanted
+abbrev pub draw : App
+draw = with_rule (with_rule (with_rule (with_rule (new_app (codes "draw")) input_rule) path_rule) (number_rule start 0 most)) (number_rule count 0 most)
 
 -- by what clap knows that the later edition of rpc.capnp is asked for, which is said by `--later`
 abbrev pub later : List ℕ
@@ -79,7 +83,9 @@ top = on_top (λ s. record s { subcommand_required = true; arg_required_else_hel
 
 -- the program with its commands that read a case
 abbrev pub judging : App
-judging = with_subcommand (with_subcommand (with_subcommand (with_subcommand top check.top) (writer (codes "order")).top) (reader (codes "graph")).top) (reader (codes "run")).top
+judging =
+    with_subcommand (with_subcommand (with_subcommand (with_subcommand (with_subcommand top check.top) (writer (codes "order")).top) (reader (codes "graph")).top)
+    (reader (codes "run")).top) draw.top
 
 -- and with those that read a file or a frame
 abbrev pub reading : App

@@ -3,7 +3,7 @@ use Rattle.std.specs.Prelude.{◌≡◌, ◌⊎◌, ◌==◌, ◌≤◌, ⊤, �
 use Rattle.std.specs.Str.{bytes_eq}
 use Rattle.std.specs.Str.Parse.{IsNumeral, digits_value, without_leading_plus}
 use Rattle.command_line.specs.declared.command.Command.{Command}
-use Rattle.command_line.specs.declared.command.Command.TheVariants.{Check, Order, Graph, Run, Vat, Records, Frame, Frames, Migrate}
+use Rattle.command_line.specs.declared.command.Command.TheVariants.{Check, Order, Graph, Run, Draw, Vat, Records, Frame, Frames, Migrate}
 use Rattle.clap.specs.Simple.{subcommand_rows_of}
 use Rattle.clap.specs.Values.{IsUnsignedIn}
 use Rattle.clap.specs.Words.{Row, fault_of, first_of, subcommand_of}
@@ -80,12 +80,20 @@ SpellsRecords words name first many = (rows : List Row) ×
     (IsRead words (codes "records") rows × (first_of input rows ≡ Some name)
     × IsNumber (first_of start rows) first × IsNumber (first_of count rows) many)
 
+-- the words are read as `draw CASE --out FILE`, and clap finds CASE and FILE in them and, where they were given, the number of
+-- the first step and how many are wanted
+abbrev pub SpellsDraw : List (List ℕ) → List ℕ → List ℕ → Option ℕ → Option ℕ → Type 0
+SpellsDraw words name out first many = (rows : List Row) ×
+    (IsRead words (codes "draw") rows × (first_of input rows ≡ Some name) × (first_of path rows ≡ Some out)
+    × IsNumber (first_of start rows) first × IsNumber (first_of count rows) many)
+
 -- the words spell the command
 abbrev pub Spells : List (List ℕ) → Command → Type 0
 Spells words (Check name many) = SpellsCheck words name.now many
 Spells words (Order name out) = SpellsWriter (codes "order") words name.now out.now
 Spells words (Graph name) = SpellsOne (codes "graph") words name.now
 Spells words (Run name) = SpellsOne (codes "run") words name.now
+Spells words (Draw name out first many) = SpellsDraw words name.now out.now first many
 Spells words (Vat file) = SpellsOne (codes "vat") words file.now
 Spells words (Records file first many) = SpellsRecords words file.now first many
 Spells words (Frame hex is_later) = SpellsFrame words hex.now is_later
@@ -103,6 +111,7 @@ HasWorkers (Check name many) = (1 ≤ many) × (many ≤ 64)
 HasWorkers (Order name out) = ⊤
 HasWorkers (Graph name) = ⊤
 HasWorkers (Run name) = ⊤
+HasWorkers (Draw name out first many) = ⊤
 HasWorkers (Vat name) = ⊤
 HasWorkers (Records name first many) = ⊤
 HasWorkers (Frame hex is_later) = ⊤
@@ -115,6 +124,7 @@ out_of (Check name many) = None
 out_of (Order name out) = Some out.now
 out_of (Graph name) = None
 out_of (Run name) = None
+out_of (Draw name out first many) = Some out.now
 out_of (Vat name) = None
 out_of (Records name first many) = None
 out_of (Frame hex is_later) = None

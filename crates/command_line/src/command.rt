@@ -35,6 +35,14 @@ pub enum Command<'a> {
     Run {
         case: &'a str,
     },
+    /// Draw the case that the source has under this name, and write the picture to a file: from this step on, counted from
+    /// 0, or around what the verdict names; and as many steps, or as many as are drawn at most.
+    Draw {
+        case: &'a str,
+        out: &'a str,
+        from: Option<u64>,
+        count: Option<u64>,
+    },
     /// Audit one vat's log, which the source has under this name.
     Vat {
         file: &'a str,
@@ -71,7 +79,8 @@ impl<'a> Command<'a> {
         ensures { option_map (λ name. name.now) result ≡ out_of self.now }
     {
         match self {
-            Command::Order { out, .. } | Command::Migrate { out, .. } => Some(out),
+            Command::Order { out, .. } | Command::Draw { out, .. } => Some(out),
+            Command::Migrate { out, .. } => Some(out),
             Command::Check { .. } | Command::Graph { .. } | Command::Run { .. } => None,
             Command::Vat { .. } | Command::Records { .. } => None,
             Command::Frame { .. } | Command::Frames { .. } => None,
@@ -146,6 +155,12 @@ fn command_in<'a>(matches: &ArgMatches<'a>) -> Command<'a>
         },
         "graph" => Command::Graph { case: input },
         "run" => Command::Run { case: input },
+        "draw" => Command::Draw {
+            case: input,
+            out: value_of(given, OUT),
+            from: number_of(given, FROM),
+            count: number_of(given, COUNT),
+        },
         "vat" => Command::Vat { file: input },
         "records" => Command::Records {
             file: input,
@@ -180,7 +195,7 @@ fn matches_of<'a, S: AsStr>(alloc: Global, words: &'a [S]) -> Result<ArgMatches<
 /// The command that the words spell, of which the first is the program's name: `graph CASE`, `run CASE`, `vat FILE` or
 /// `frames FILE`, where before or after the last of these may stand `--`, and it may begin with a hyphen only after that or
 /// where it is `-`; or, as `clap` reads them, `check CASE` with `--workers N` if wanted, a number from 1 to 64, or `order
-/// CASE --out FILE`, or `frame HEX` with `--later` if wanted, or `migrate FILE --out FILE` with `--later` if wanted, or
+/// CASE --out FILE`, or `draw CASE --out FILE` with `--from I` and `--count N` if wanted, or `frame HEX` with `--later` if wanted, or `migrate FILE --out FILE` with `--later` if wanted, or
 /// `records FILE` with `--from I` and `--count N` if wanted, numbers of 64 bits.
 ///
 /// # Errors
@@ -211,6 +226,16 @@ pub fn command_of<'a, S: AsStr>(alloc: Global, words: &'a [S]) -> Result<Command
     ensures taken_order { (first case out : List ℕ)
         → map S.text words.entry.now ≡ first ∷ codes "order" ∷ case ∷ codes "--out" ∷ out ∷ []
         → is_flag case ≡ false → is_flag out ≡ false
+        → IfErr result (λ e. kind_of e ≡ ErrorKind.OutOfMemory) }
+    ensures taken_draw { (first case out : List ℕ)
+        → map S.text words.entry.now ≡ first ∷ codes "draw" ∷ case ∷ codes "--out" ∷ out ∷ []
+        → is_flag case ≡ false → is_flag out ≡ false
+        → IfErr result (λ e. kind_of e ≡ ErrorKind.OutOfMemory) }
+    ensures taken_draw_part { (first case out from count : List ℕ)
+        → map S.text words.entry.now
+        ≡ first ∷ codes "draw" ∷ case ∷ codes "--out" ∷ out ∷ codes "--from" ∷ from ∷ codes "--count" ∷ count ∷ []
+        → is_flag case ≡ false → is_flag out ≡ false
+        → IsUnsignedIn 0 most from → IsUnsignedIn 0 most count
         → IfErr result (λ e. kind_of e ≡ ErrorKind.OutOfMemory) }
     ensures taken_migrate { (first file out : List ℕ)
         → map S.text words.entry.now ≡ first ∷ codes "migrate" ∷ file ∷ codes "--out" ∷ out ∷ []

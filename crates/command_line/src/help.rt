@@ -142,6 +142,44 @@ Exit status:
      line can't be written, or the command line is wrong
   3  memory ran out";
 
+/// `draw`, in the list of commands.
+pub const DRAW: &str = "Draws the records of a case, with an arrow for each message";
+
+pub const DRAW_LONG: &str = "\
+Audits a case as check does, writes a picture of it to FILE, an SVG, and prints
+check's line (vataudit check --help), with its status.
+
+The picture has a column for each vat and a row for each record, in the order that
+run has, or as far as one goes. Each message is an arrow from the record that sends
+it to the one that receives it: a late Return is dashed, a canceled one dotted, a
+Call or a Return of a tail call dashed and dotted. The record that the line names is
+marked, with its rule; beside ORDER, calls that were made through one reference have
+one colour. At most 200 rows are drawn: those around the marked record, or else the
+first ones, or with --from those from step STEP on.
+
+Of a case that isn't audited nothing is drawn, and FILE isn't made: bad case .., bad
+log .., bad order .., cannot read, out of memory. What FILE held before is lost.
+docs/FORMATS.md says more of the picture.";
+
+pub const DRAW_END: &str = "\
+Example:
+  $ cd samples
+  $ vataudit draw overtaking_call.json --out overtaking_call.svg
+  no vat 1 record 11 rule ORDER
+
+Exit status:
+  0  yes, and the picture is written; so it is where the status is 1
+  1  no
+  2  a record isn't judged, and the picture is written; or the case or a file of it
+     is bad or can't be read, a write failed, or the command line is wrong
+  3  memory ran out";
+
+/// STEP of `draw`.
+pub const FROM_STEP: &str = "The first step that is drawn, counted from 0 as run does";
+
+/// N of `draw`.
+pub const COUNT_STEPS: &str = "How many steps are drawn at most, up to 200";
+
 /// `vat`, in the list of commands.
 pub const VAT: &str = "Audits the log of one vat";
 
@@ -355,10 +393,10 @@ pub const FROM: &str = "The first record that is printed, counted from 0";
 /// N of `records`.
 pub const COUNT: &str = "How many records are printed at most";
 
-/// CASE of `check`, `order`, `graph` and `run`.
+/// CASE of `check`, `order`, `graph`, `run` and `draw`.
 pub const CASE: &str = "The case, a path from the working directory; - is standard input";
 
-/// FILE of `order`.
+/// FILE of `order`, `draw` and `migrate`.
 pub const OUT: &str = "The file that is written";
 
 /// `migrate`, in the list of commands.

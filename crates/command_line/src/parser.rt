@@ -2,7 +2,7 @@
 
 ghost use Rattle.std.specs.Prelude.{◌≡◌, ℕ, List, IfOk, Some, codes, false};
 ghost use Rattle.clap.specs.Words.{Rule, app_of, new_rule, rule_of, with_subcommand};
-ghost use Rattle.command_line.specs.Parser.{check, frame, input_rule, judging, later_rule, migrate, path_rule, program, reader, reading, records, top, workers_rule, writer};
+ghost use Rattle.command_line.specs.Parser.{check, draw, frame, input_rule, judging, later_rule, migrate, path_rule, program, reader, reading, records, top, workers_rule, writer};
 
 use crate::help;
 use clap::builder::ValueParser;
@@ -191,7 +191,29 @@ fn with_records<'a>(alloc: Global, program: Command<'a>) -> Result<Command<'a>, 
     program.subcommand(records)
 }
 
-/// The program with its commands that read a case: `check CASE`, `order CASE --out FILE`, `graph CASE` and `run CASE`.
+/// The program with its command `draw CASE --out FILE`, which has the options `--from STEP` and `--count N`.
+///
+/// # Errors
+///
+/// Out of memory.
+fn with_drawing<'a>(alloc: Global, program: Command<'a>) -> Result<Command<'a>, AllocError>
+    ensures { IfOk result (λ c. app_of c ≡ with_subcommand (app_of program.entry) draw.top) }
+{
+    let from = number_option(alloc, FROM, "STEP", clap::value_parser!(u64), help::FROM_STEP);
+    let count = number_option(alloc, COUNT, "N", clap::value_parser!(u64), help::COUNT_STEPS);
+    let draw = Command::new(alloc, "draw")
+        .about(help::DRAW)
+        .long_about(help::DRAW_LONG)
+        .after_help(help::DRAW_END)
+        .arg(input(alloc, "CASE", help::CASE))?
+        .arg(out(alloc))?
+        .arg(from)?
+        .arg(count)?;
+    program.subcommand(draw)
+}
+
+/// The program with its commands that read a case: `check CASE`, `order CASE --out FILE`, `graph CASE`, `run CASE` and
+/// `draw CASE --out FILE`.
 ///
 /// # Errors
 ///
@@ -225,7 +247,8 @@ fn with_cases<'a>(alloc: Global, program: Command<'a>) -> Result<Command<'a>, Al
         help: help::CASE,
     };
     let judging = with_writer(alloc, with_check(alloc, program)?, order)?;
-    with_reader(alloc, with_reader(alloc, judging, graph)?, run)
+    let judging = with_reader(alloc, with_reader(alloc, judging, graph)?, run)?;
+    with_drawing(alloc, judging)
 }
 
 /// The program with its commands that read a log or frames: `vat FILE`, `records FILE`, `frame HEX` and `frames FILE`.

@@ -201,7 +201,7 @@ IsArranged logs (Some given) order = order ≡ completed logs given
 IsArranged logs None order = (begun : List ℕ) × BeginsLeast logs begun × (order ≡ completed logs begun)
 
 -- what a picture shows: the columns of all vats, the rows of the window, and the arrows of their messages
-pub record IsPictureOf (held : Contents) (order : List ℕ) (told : Report) (steps : List Step) (asked : Option Asked) (picture : Picture) : Type 0 where
+pub record IsPictureOf (held : Contents) (order : List ℕ) (told : Report) (steps : List Step) (asked : Asked) (picture : Picture) : Type 0 where
   pub told_is : picture.report.now ≡ told
   pub sentence_is : IfSome (sentence_of picture) IsLine
   pub columns_are : picture.columns.items ≡ columns_of held.logs picture.lines

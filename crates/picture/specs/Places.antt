@@ -5,6 +5,7 @@ use Rattle.std.specs.Option.{option_map}
 use Rattle.std.specs.Result.{result_ok}
 use Rattle.cap_reader.specs.Defaults.{default_limits}
 use Rattle.rpc_view.specs.Message.{message_of_bytes}
+use Rattle.rpc_view.specs.declared.edition.Edition.{Edition}
 use Rattle.rpc_view.specs.declared.message.RpcMessage.{RpcMessage}
 use Rattle.rpc_view.specs.declared.message.RpcMessage.TheVariants as messages
 use Rattle.vat_log.specs.Log.{Log}
@@ -94,11 +95,11 @@ mate_on held place passage = option_and_then (mate_from held passage.0 passage.1
 abbrev pub mate_of : Contents → Place → Body → Option Place
 mate_of held place event = option_and_then (mate_on held place) (passage_of event)
 
--- the message of a record, where it has one that is read within the default limits
-abbrev pub message_of : Body → Option RpcMessage
-message_of (Send connection call references frame) = result_ok (message_of_bytes frame default_limits)
-message_of (Receive connection call references frame) = result_ok (message_of_bytes frame default_limits)
-message_of _ = None
+-- the message of a record, where it has one that is read by an edition, within the default limits
+abbrev pub message_of : Edition → Body → Option RpcMessage
+message_of edition (Send connection call references frame) = result_ok (message_of_bytes edition frame default_limits)
+message_of edition (Receive connection call references frame) = result_ok (message_of_bytes edition frame default_limits)
+message_of edition _ = None
 
 -- what a message does to a question: it opens it (false), or finishes it and gives its results back (true)
 abbrev pub turn_of : ℕ → RpcMessage → Option Bool
@@ -108,19 +109,21 @@ turn_of question (messages.Finish finished true) = if finished == question then 
 turn_of question _ = None
 
 -- the same of a record, where it goes the way of the one who asks: sent or received, on the connection
-abbrev pub turn_by : Bool → ℕ → ℕ → Body → Option Bool
-turn_by asks connection question event =
-    if passes asks connection event then option_and_then (turn_of question) (message_of event) else None
+abbrev pub turn_by : Edition → Bool → ℕ → ℕ → Body → Option Bool
+turn_by edition asks connection question event =
+    if passes asks connection event then option_and_then (turn_of question) (message_of edition event) else None
 
 -- the last turn of a question in these records gives its results back
-abbrev pub is_released : Bool → ℕ → ℕ → List Body → Bool
-is_released asks connection question records = fold (λ released event. unwrap_or (turn_by asks connection question event) released) false records
+abbrev pub is_released : Edition → Bool → ℕ → ℕ → List Body → Bool
+is_released edition asks connection question records =
+    fold (λ released event. unwrap_or (turn_by edition asks connection question event) released) false records
 
 -- a message that passes so is a Return that is late, behind these records: a Finish with releaseResultCaps passed since its
 -- question was opened
-abbrev pub is_late : Option (Bool × ℕ) → Option RpcMessage → List Body → Bool
-is_late (Some passage) (Some (messages.Return answer releases outcome light)) before = is_released (not passage.0) passage.1 answer before
-is_late passage said before = false
+abbrev pub is_late : Edition → Option (Bool × ℕ) → Option RpcMessage → List Body → Bool
+is_late edition (Some passage) (Some (messages.Return answer releases outcome light)) before =
+    is_released edition (not passage.0) passage.1 answer before
+is_late edition passage said before = false
 
 -- the steps that an order leaves of a log, each of them its vat's
 abbrev pub steps_left : List ℕ → Log → List ℕ

@@ -1,5 +1,5 @@
 -- What a picture shows of a case: a column for each vat, a row for each record of the window, an arrow for each message.
-use Rattle.std.specs.Prelude.{◌≡◌, ℕ, ◌+◌, ◌-◌, ◌==◌, ◌&&◌, Bool, true, false, List, length, map, take, Option, Some, None, is_some, option_and_then, unwrap_or, if◌then◌else◌, nat_lt, nat_le, slice_get}
+use Rattle.std.specs.Prelude.{◌≡◌, ℕ, ◌+◌, ◌-◌, ◌/◌, ◌==◌, ◌&&◌, Bool, true, false, List, length, map, take, Option, Some, None, is_some, option_and_then, unwrap_or, if◌then◌else◌, nat_lt, nat_le, slice_get}
 use Rattle.std.specs.List.{filter_map, range_with_len}
 use Rattle.std.specs.Option.{option_map}
 use Rattle.rpc_view.specs.declared.message.RpcMessage.{RpcMessage}
@@ -8,6 +8,7 @@ use Rattle.rpc_view.specs.declared.message.Outcome.{Outcome}
 use Rattle.rpc_view.specs.declared.message.Outcome.TheVariants as outcomes
 use Rattle.vat_log.specs.Log.{Log}
 use Rattle.vat_log.specs.declared.body.Body.{Body}
+use Rattle.vat_rules.specs.Audit.{edition_of}
 use Rattle.run_model.specs.Steps.{vat_of}
 use Rattle.run_model.specs.declared.step.Step.{Step}
 use Rattle.run_model.specs.declared.step.Step.TheVariants.{Make}
@@ -67,22 +68,22 @@ mate_by held _ = None
 abbrev pub least_of : ℕ → ℕ → ℕ
 least_of a b = if nat_lt a b then a else b
 
--- the first step that is drawn, of so many: the one that is asked for, or one hundred before the one that the verdict names
-abbrev pub first_of : ℕ → ℕ → Option Asked → ℕ
-first_of steps middle (Some asked) = least_of asked.from steps
-first_of steps middle None = least_of (middle - 100) steps
+-- how many steps are wanted: two hundred, or fewer where fewer are asked for
+abbrev pub wanted_of : Option ℕ → ℕ
+wanted_of None = 200
+wanted_of (Some count) = least_of count 200
 
--- how many steps are drawn, where so many are left: two hundred at most
-abbrev pub count_of : ℕ → Option Asked → ℕ
-count_of left (Some asked) = least_of (least_of asked.count 200) left
-count_of left None = least_of 200 left
+-- the first step that is drawn, of so many: the one that is asked for, or the one that has half of those that are wanted
+-- between it and the step that the verdict names
+abbrev pub first_of : ℕ → ℕ → Asked → ℕ
+first_of steps middle asked = least_of (unwrap_or asked.from (middle - wanted_of asked.count / 2)) steps
 
 -- the steps that are drawn from the first one on
-abbrev pub window_from : ℕ → ℕ → Option Asked → Window
-window_from steps first asked = record { from = first; count = count_of (steps - first) asked }
+abbrev pub window_from : ℕ → ℕ → Asked → Window
+window_from steps first asked = record { from = first; count = least_of (wanted_of asked.count) (steps - first) }
 
 -- the window of so many steps
-abbrev pub window_of : ℕ → ℕ → Option Asked → Window
+abbrev pub window_of : ℕ → ℕ → Asked → Window
 window_of steps middle asked = window_from steps (first_of steps middle asked) asked
 
 -- the step that the verdict names, or the first
@@ -161,7 +162,7 @@ scene_in held order steps focus window = record {
 }
 
 -- what is drawn of a case, in this order, for its report: the window that is asked for, or the one around what is named
-abbrev pub scene_of : Contents → List ℕ → List Step → Report → Option Asked → Scene
+abbrev pub scene_of : Contents → List ℕ → List Step → Report → Asked → Scene
 scene_of held order steps told asked =
     scene_in held order steps (focus_of held order told) (window_of (length order) (middle_of order (named_by held order told)) asked)
 
@@ -189,15 +190,15 @@ pub record Drawn : Type 0 where
   pub late : Bool
   pub tone : Tone
 
--- the row of a record of a log
+-- the row of a record of a log, whose frames are read by the log's edition
 abbrev pub drawn : Scene → ℕ → Place → Log → Body → Drawn
 drawn scene row place log event = record {
   place = place;
   column = column_of scene.held.logs place.vat;
   line = line_of scene.fault row;
   body = event;
-  message = message_of event;
-  late = is_late (passage_of event) (message_of event) (take place.number log.records);
+  message = message_of (edition_of log) event;
+  late = is_late (edition_of log) (passage_of event) (message_of (edition_of log) event) (take place.number log.records);
   tone = tone_of scene place;
 }
 

@@ -80,7 +80,7 @@ pub fn draw<'a>(
     order: &'a [u32],
     report: &'a Report,
     steps: &'a [Step],
-    asked: Option<Asked>,
+    asked: Asked,
 ) -> Result<Picture<'a>, AllocError>
     ensures { IfOk result (IsPictureOf case.now order.now report.now steps.now asked) }
 {

@@ -1,15 +1,28 @@
 //! Returns that are late: a Finish with releaseResultCaps passed before them.
 
-ghost use Rattle.std.specs.Prelude.{◌≡◌, IfOk, take, slice_get, unwrap_or};
+ghost use Rattle.std.specs.Prelude.{◌≡◌, IfOk, take, slice_get};
+ghost use Rattle.vat_rules.specs.Audit.{edition_of};
 ghost use Rattle.picture.specs.Places.{is_late, is_released, turn_by, turn_of};
-ghost use Rattle.picture.specs.Glue.{turned_by};
+ghost use Rattle.picture.specs.Glue.{turn_in};
 
 use crate::frames::passes;
 use crate::logs::body_in;
 use crate::messages::message_of;
-use rpc_view::RpcMessage;
+use rpc_view::{Edition, RpcMessage};
 use std::alloc::{AllocError, Global};
 use vat_log::{Body, VatLog};
+use vat_rules::edition_of;
+
+/// A question as a vat's log has it.
+#[derive(Clone, Copy)]
+struct Question {
+    /// Whether the vat asks it: its Call was sent, and not received.
+    asks: bool,
+    /// Its connection.
+    connection: u32,
+    /// Its number there.
+    number: u32,
+}
 
 /// What a message does to a question: it opens it (false), or finishes it and gives its results back (true).
 fn turn_of(message: &RpcMessage, question: u32) -> Option<bool>
@@ -41,61 +54,62 @@ fn turn_of(message: &RpcMessage, question: u32) -> Option<bool>
     }
 }
 
-/// The same of a record, where it goes the way of the one who asks, on this connection.
+/// The same of a record that is read by an edition, where it goes the way of the one who asks, on the question's connection.
 fn turn_by(
     alloc: Global,
     body: &Body,
-    asks: bool,
-    connection: u32,
-    question: u32,
+    edition: Edition,
+    question: Question,
 ) -> Result<Option<bool>, AllocError>
-    ensures { IfOk result (λ turn. turn ≡ turn_by asks connection question body.now) }
+    ensures { IfOk result (λ turn. turn
+        ≡ turn_by edition question.asks question.connection question.number body.now) }
 {
-    if !passes(body, asks, connection) {
+    if !passes(body, question.asks, question.connection) {
         return Ok(None);
     }
-    match message_of(alloc, body)? {
-        Some(message) => Ok(turn_of(&message, question)),
+    match message_of(alloc, body, edition)? {
+        Some(message) => Ok(turn_of(&message, question.number)),
         None => Ok(None),
     }
 }
 
-/// Whether a question is released behind the record of this number, where it was so before it.
-fn turned(
+/// The same of the record of this number of a log.
+fn turn_at(
     alloc: Global,
     log: &VatLog,
     number: usize,
-    asker: (bool, u32, u32),
-    released: bool,
-) -> Result<bool, AllocError>
-    ensures { IfOk result (λ now. now ≡ turned_by asker.0 asker.1 asker.2 released
+    question: Question,
+) -> Result<Option<bool>, AllocError>
+    ensures { IfOk result (λ turn. turn
+        ≡ turn_in (edition_of log.now) question.asks question.connection question.number
         (slice_get log.now.records number)) }
 {
-    let Some(body) = body_in(log, number) else {
-        return Ok(released);
-    };
-    let (asks, connection, question) = asker;
-    match turn_by(alloc, body, asks, connection, question)? {
-        Some(turn) => Ok(turn),
-        None => Ok(released),
+    match body_in(log, number) {
+        Some(body) => turn_by(alloc, body, edition_of(log), question),
+        None => Ok(None),
     }
 }
 
-/// Whether the last turn of a question in the records before this one gives its results back.
+/// Whether the last turn of a question in the records before this one gives its results back. It is sought from there
+/// backwards, since it is seldom far.
 fn is_released(
     alloc: Global,
     log: &VatLog,
     number: usize,
-    asker: (bool, u32, u32),
+    question: Question,
 ) -> Result<bool, AllocError>
     ensures { IfOk result (λ released. released
-        ≡ is_released asker.0 asker.1 asker.2 (take number log.now.records)) }
+        ≡ is_released (edition_of log.now) question.asks question.connection question.number
+        (take number log.now.records)) }
 {
-    let mut released = false;
-    for at in 0..number {
-        released = turned(alloc, log, at, asker, released)?;
+    let mut at = number;
+    while at > 0 {
+        at -= 1;
+        if let Some(released) = turn_at(alloc, log, at, question)? {
+            return Ok(released);
+        }
     }
-    Ok(released)
+    Ok(false)
 }
 
 /// Whether a message that passes so, by the record of this number, is a Return that is late: a Finish of its question with
@@ -108,11 +122,16 @@ pub fn is_late(
     message: &Option<RpcMessage>,
 ) -> Result<bool, AllocError>
     ensures { IfOk result (λ late. late
-        ≡ is_late passage message.now (take number log.now.records)) }
+        ≡ is_late (edition_of log.now) passage message.now (take number log.now.records)) }
 {
     match (passage, message) {
         (Some((sent, connection)), Some(RpcMessage::Return { answer, .. })) => {
-            is_released(alloc, log, number, (!sent, connection, *answer))
+            let question = Question {
+                asks: !sent,
+                connection,
+                number: *answer,
+            };
+            is_released(alloc, log, number, question)
         }
         _ => Ok(false),
     }

@@ -17,6 +17,7 @@ use rpc_view::RpcMessage;
 use std::alloc::{AllocError, Global};
 use std::marker::Model;
 use vat_log::{Body, VatLog};
+use vat_rules::edition_of;
 
 /// How a row is marked.
 #[derive(Clone, Copy, Debug, PartialEq, Eq)]
@@ -102,7 +103,7 @@ fn drawn<'a>(
 ) -> Result<Row<'a>, AllocError>
     ensures { IfOk result (λ made. made ≡ drawn scene.now row place log.now body.now) }
 {
-    let message = message_of(alloc, body)?;
+    let message = message_of(alloc, body, edition_of(log))?;
     let late = is_late(alloc, log, place.number, passage_of(body), &message)?;
     Ok(Row {
         place,

@@ -74,7 +74,7 @@ pub fn scene_of<'a>(
     order: &'a [u32],
     steps: &'a [Step],
     report: &Report,
-    asked: Option<Asked>,
+    asked: Asked,
 ) -> Scene<'a>
     ensures scene { result ≡ scene_of case.now order.now steps.now report.now asked }
     ensures within { result.window.from + result.window.count ≤ length result.order }

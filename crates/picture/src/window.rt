@@ -1,18 +1,18 @@
 //! Which steps of an order are drawn.
 
 ghost use Rattle.std.specs.Prelude.{◌≡◌, ◌≤◌, ◌+◌};
-ghost use Rattle.picture.specs.Rows.{count_of, first_of, is_below, least_of, line_of, lines_of, middle_of, row_in, row_of, window_of};
+ghost use Rattle.picture.specs.Rows.{first_of, is_below, least_of, line_of, lines_of, middle_of, row_in, row_of, wanted_of, window_of};
 
 use crate::orders::step_of;
 use crate::place::Place;
 
-/// Steps of an order that are asked for.
+/// Which steps of an order are asked for.
 #[derive(Clone, Copy, Debug)]
 pub struct Asked {
-    /// The first step, counted from 0.
-    pub from: usize,
-    /// How many steps; what goes past the last one is left out, and so is what goes past 200.
-    pub count: usize,
+    /// The first step, counted from 0. Where there is none, the step that the verdict names is in the middle.
+    pub from: Option<u64>,
+    /// How many steps; what goes past the last one is left out, and so is what goes past 200. Where there is none, 200.
+    pub count: Option<u64>,
 }
 
 /// Steps of an order that follow one another: those that are drawn.
@@ -31,36 +31,37 @@ fn least_of(one: usize, other: usize) -> usize
     if one < other { one } else { other }
 }
 
-/// The first step that is drawn, of so many: the one that is asked for, or one hundred before the one that is named.
-fn first_of(steps: usize, middle: usize, asked: Option<Asked>) -> usize
+/// How many steps are wanted: 200, or fewer where fewer are asked for.
+fn wanted_of(count: Option<u64>) -> usize
+    ensures wanted { result ≡ wanted_of count }
+    ensures few { result ≤ 200 }
+{
+    match count {
+        Some(count) => least_of(count as usize, 200),
+        None => 200,
+    }
+}
+
+/// The first step that is drawn, of so many: the one that is asked for, or the one that has half of those that are wanted
+/// between it and the step that is named.
+fn first_of(steps: usize, middle: usize, asked: Asked) -> usize
     ensures first { result ≡ first_of steps middle asked }
     ensures within { result ≤ steps }
 {
-    match asked {
-        Some(asked) => least_of(asked.from, steps),
-        None => least_of(middle.saturating_sub(100), steps),
-    }
-}
-
-/// How many steps are drawn where so many are left: 200 at most.
-fn count_of(left: usize, asked: Option<Asked>) -> usize
-    ensures count { result ≡ count_of left asked }
-    ensures few { result ≤ 200 }
-    ensures within { result ≤ left }
-{
-    match asked {
-        Some(asked) => least_of(least_of(asked.count, 200), left),
-        None => least_of(200, left),
-    }
+    let first = match asked.from {
+        Some(from) => from as usize,
+        None => middle.saturating_sub(wanted_of(asked.count) / 2),
+    };
+    least_of(first, steps)
 }
 
 /// The window of so many steps: the one that is asked for, or the one around the step that is named.
-pub fn window_of(steps: usize, middle: usize, asked: Option<Asked>) -> Window
+pub fn window_of(steps: usize, middle: usize, asked: Asked) -> Window
     ensures window { result ≡ window_of steps middle asked }
     ensures within { result.from + result.count ≤ steps }
 {
     let from = first_of(steps, middle, asked);
-    let count = count_of(steps - from, asked) as u8;
+    let count = least_of(wanted_of(asked.count), steps - from) as u8;
     Window { from, count }
 }
 

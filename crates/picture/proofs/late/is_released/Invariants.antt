@@ -1,6 +1,11 @@
 use Rattle.std.proofs.Common.{◌≡◌, take}
+use Rattle.vat_rules.specs.Audit.{edition_of}
 use Rattle.picture.specs.Places.{is_released}
 use Rattle.picture.proofs.late.is_released.Given as goal
 
-abbrev pub invariant-loop-at : goal.invariant-loop-at
-invariant-loop-at l = l.released ≡ is_released l.asker.0 l.asker.1 l.asker.2 (take l.at l.log.records)
+-- what stands behind says nothing of the question
+abbrev pub invariant-loop : goal.invariant-loop
+invariant-loop l =
+    is_released (edition_of l.log) l.question.asks l.question.connection l.question.number (take l.number l.log.records)
+    ≡ is_released (edition_of l.log) l.question.asks l.question.connection l.question.number (take l.at l.log.records)
+

@@ -1,6 +1,8 @@
 //! The run of findings that are good.
 
+ghost use Rattle.std.specs.Prelude.{◌≡◌, None, IfOk, IfSome};
 ghost use Rattle.merge_order.specs.Fits.{IsFitting};
+ghost use Rattle.audit_core.specs.Explained.{AreExplained, HasNoRun};
 ghost use Rattle.audit_core.specs.Report.{AreGoodFindings};
 
 use crate::judging::line_of;
@@ -14,6 +16,7 @@ use std::alloc::{AllocError, Global};
 fn run_by(alloc: Global, findings: &Findings, order: &Order) -> Result<Run, AllocError>
     requires good { AreGoodFindings findings.now }
     requires fits { IsFitting findings.now.case.logs order.now }
+    ensures { IfOk result (AreExplained findings.now.case.logs) }
 {
     name_run(alloc, findings.vats(), order)
 }
@@ -24,7 +27,10 @@ fn run_by(alloc: Global, findings: &Findings, order: &Order) -> Result<Run, Allo
 /// # Errors
 ///
 /// Out of memory.
-pub fn run_of_findings(alloc: Global, findings: &Findings) -> Result<Option<Run>, AllocError> {
+pub fn run_of_findings(alloc: Global, findings: &Findings) -> Result<Option<Run>, AllocError>
+    ensures run { IfOk result (λ made. IfSome made (AreExplained findings.now.case.logs)) }
+    ensures none { IfOk result (λ made. made ≡ None → HasNoRun findings.now.case) }
+{
     if let Some(_) = line_of(findings) {
         return Ok(None);
     }

@@ -20,7 +20,7 @@ use Rattle.clap.proofs.OnLiterals.{clap_on_literals}
 use Rattle.command_line.proofs.Named.{Reader, checking, drawing, framing, listing, migrating, name_of, of_frames, of_graph, of_run, of_vat, ordering, reader_of, word_of}
 use Rattle.command_line.proofs.One.{at, dashes, given, holding, sub}
 use Rattle.command_line.proofs.Reading.{shape_by}
-use Rattle.command_line.specs.Parser.{most, program, start}
+use Rattle.command_line.specs.Parser.{most, path, program, start}
 use Rattle.command_line.specs.Parser.{count as many}
 use Rattle.command_line.specs.Spelled.{IsReader, is_flag}
 
@@ -365,17 +365,79 @@ refuses_part first file from count e f g never =
 
 -- ---- draw, of which a part is asked for
 
-draw_part_words : (file out from count : Text) → IsPlain file → IsPlain out → IsPlain from → IsPlain count → accepts false value_parser from ≡ true → accepts false value_parser count ≡ true
-    → level_fault (shape_by drawing) [] nothing_held (file ∷ codes "--out" ∷ out ∷ codes "--from" ∷ from ∷ codes "--count" ∷ count ∷ []) false [] ≡ []
-unfolding clap_on_literals
-draw_part_words file out from count is are first last accepted taken =
-    rw (is.0, is.1, is.2, are.0, are.1, are.2, first.0, first.1, first.2, last.0, last.1, last.2, accepted, taken) refl
+-- what is held after CASE, after `--out`, after FILE, after `--from`, after I, after `--count` and after N
+module _ (case out from count : Text) where
+  abbrev drawing_shape : Shape
+  drawing_shape = shape_by drawing
+
+  abbrev rows_case : List Row
+  rows_case = (settled drawing_shape.rules (holding (given case))).rows
+
+  abbrev at_out : Walk
+  at_out = state (record { rows = rows_case; pending = Some (path, []); skip = 0 }) (option path) 2
+
+  abbrev after_out : Held
+  after_out = record { rows = rows_case; pending = Some (path, out ∷ []); skip = 0 }
+
+  abbrev rows_out : List Row
+  rows_out = (settled drawing_shape.rules after_out).rows
+
+  abbrev at_first : Walk
+  at_first = state (record { rows = rows_out; pending = Some (start, []); skip = 0 }) (option start) 2
+
+  abbrev after_first : Held
+  after_first = record { rows = rows_out; pending = Some (start, from ∷ []); skip = 0 }
+
+  abbrev rows_first : List Row
+  rows_first = (settled drawing_shape.rules after_first).rows
+
+  abbrev at_many : Walk
+  at_many = state (record { rows = rows_first; pending = Some (many, []); skip = 0 }) (option many) 2
+
+  abbrev after_many : Held
+  after_many = record { rows = rows_first; pending = Some (many, count ∷ []); skip = 0 }
+
+  first_turn : accepts false value_parser from ≡ true → turn_fault drawing_shape [] (state after_first idle 2) (codes "--count") ≡ []
+  unfolding clap_on_literals
+  first_turn is = rw is refl
+
+  many_end : accepts false value_parser count ≡ true → fault_from drawing_shape (state after_many idle 2) [] ≡ []
+  unfolding clap_on_literals
+  many_end is = rw is refl
+
+  -- up to FILE there is no fault
+  up_to_out : IsPlain case → IsPlain out
+      → fault_from drawing_shape (at None 1 false) (case ∷ codes "--out" ∷ out ∷ codes "--from" ∷ from ∷ codes "--count" ∷ count ∷ [])
+      ≡ fault_from drawing_shape (state after_out idle 2) (codes "--from" ∷ from ∷ codes "--count" ∷ count ∷ [])
+  unfolding clap_on_literals
+  up_to_out is are =
+      let s = drawing_shape in
+      passed s (at None 1 false) (at (given case) 2 false) case (codes "--out" ∷ out ∷ codes "--from" ∷ from ∷ codes "--count" ∷ count ∷ [])
+      (plain_turn s (holding None) idle 1 case is) (plain_walk s (holding None) idle 1 case is)
+      ∙ passed s (at (given case) 2 false) at_out (codes "--out") (out ∷ codes "--from" ∷ from ∷ codes "--count" ∷ count ∷ []) refl refl
+      ∙ passed s at_out (state after_out idle 2) out (codes "--from" ∷ from ∷ codes "--count" ∷ count ∷ [])
+      (plain_turn s at_out.held (option path) 2 out are) (plain_walk s at_out.held (option path) 2 out are)
+
+  -- nor is there one behind it
+  from_out : IsPlain from → IsPlain count → accepts false value_parser from ≡ true → accepts false value_parser count ≡ true
+      → fault_from drawing_shape (state after_out idle 2) (codes "--from" ∷ from ∷ codes "--count" ∷ count ∷ []) ≡ []
+  unfolding clap_on_literals
+  from_out is are one two =
+      let s = drawing_shape in
+      passed s (state after_out idle 2) at_first (codes "--from") (from ∷ codes "--count" ∷ count ∷ []) refl refl
+      ∙ passed s at_first (state after_first idle 2) from (codes "--count" ∷ count ∷ [])
+      (plain_turn s at_first.held (option start) 2 from is) (plain_walk s at_first.held (option start) 2 from is)
+      ∙ passed s (state after_first idle 2) at_many (codes "--count") (count ∷ []) (first_turn one) refl
+      ∙ passed s at_many (state after_many idle 2) count []
+      (plain_turn s at_many.held (option many) 2 count are) (plain_walk s at_many.held (option many) 2 count are)
+      ∙ many_end two
 
 -- `draw CASE --out FILE --from I --count N` has no fault, where CASE and FILE are no flags, and I and N are numbers of 64 bits
-pub takes_draw_part : (first file out from count : Text) → is_flag file ≡ false → is_flag out ≡ false → IsUnsignedIn 0 most from → IsUnsignedIn 0 most count
-    → fault_of program (first ∷ name_of drawing ∷ file ∷ codes "--out" ∷ out ∷ codes "--from" ∷ from ∷ codes "--count" ∷ count ∷ []) ≡ []
+pub takes_draw_part : (first case out from count : Text) → is_flag case ≡ false → is_flag out ≡ false → IsUnsignedIn 0 most from → IsUnsignedIn 0 most count
+    → fault_of program (first ∷ name_of drawing ∷ case ∷ codes "--out" ∷ out ∷ codes "--from" ∷ from ∷ codes "--count" ∷ count ∷ []) ≡ []
 unfolding clap_on_literals
-takes_draw_part first file out from count e h f g =
+takes_draw_part first case out from count e h f g =
     ap (λ (k : Kinds). or_else k [])
-    (draw_part_words file out from count (plain_word_is file e) (plain_word_is out h) (plain_word_is from (number_is_plain 0 most from f)) (plain_word_is count (number_is_plain 0 most count g))
+    (up_to_out case out from count (plain_word_is case e) (plain_word_is out h)
+    ∙ from_out case out from count (plain_word_is from (number_is_plain 0 most from f)) (plain_word_is count (number_is_plain 0 most count g))
     (Accepts-accepts false value_parser from f) (Accepts-accepts false value_parser count g))

@@ -21,8 +21,11 @@ use Rattle.command_run.specs.declared.output.Failed.{Failed}
 use Rattle.command_run.specs.declared.output.Failed.TheVariants.{Out}
 use Rattle.command_run.specs.RecordAnswers.{first_ones}
 use Rattle.command_run.specs.CommandAnswers.{AnswersMigration}
+use Rattle.command_run.specs.DrawAnswers.{IsDrawn}
+use Rattle.command_run.specs.declared.commands.draw_case.DrawAnswer.{DrawAnswer}
 use Rattle.command_run.specs.declared.commands.migrate_log.MigrationAnswer.{MigrationAnswer}
 use Rattle.command_run.specs.Runs.{Writing}
+use Rattle.picture.specs.declared.window.Asked.{Asked}
 
 -- a finding, or why there is none, as an answer
 abbrev pub answer_of : Result VatFinding Fault → Answer
@@ -49,6 +52,12 @@ Ends first many count end = (events : List Body) → length events ≡ count →
 abbrev pub ComesJudged : {S : Type 0} → Reads S → S → List ℕ → Result Report Fault → S → Type 0
 ComesJudged gives old name (Ok report) new = (came : ReadCase) × (ComesOfCase gives old name (Ok came) new × IsReport came.case came.order report)
 ComesJudged gives old name (Err fault) new = (fault ≡ OutOfMemory) ⊎ ((found : CaseFault) × (ComesOfCase gives old name (Err found) new × (fault ≡ of_case found)))
+
+-- what came of a case that was drawn: its report and its picture, or its fault, or memory ran out
+abbrev pub ComesDrawn : {S : Type 0} → Asked → Reads S → S → List ℕ → Result DrawAnswer Fault → S → Type 0
+ComesDrawn asked gives old name (Ok made) new = (came : ReadCase) × ((report : Report) × (ComesOfCase gives old name (Ok came) new
+    × IsReport came.case came.order report × (made.answer ≡ answer.Report report) × IsDrawn came report asked (option_map (λ bytes. bytes) made.picture)))
+ComesDrawn asked gives old name (Err fault) new = (fault ≡ OutOfMemory) ⊎ ((found : CaseFault) × (ComesOfCase gives old name (Err found) new × (fault ≡ of_case found)))
 
 -- what came of writing lines alone: a write that failed is one of them
 abbrev pub of_lines : {E X : Type 0} → Result ℕ E → Result ℕ (Failed E X)

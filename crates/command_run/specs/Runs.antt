@@ -3,11 +3,12 @@ use Rattle.std.specs.Prelude.{◌≡◌, ◌⊎◌, ℕ, List, Option, Some, Non
 use Rattle.std.specs.Io.KnownBytes.{Appends}
 use Rattle.case_files.specs.CaseReading.{Read, Reads}
 use Rattle.command_line.specs.declared.command.Command.{Command}
-use Rattle.command_line.specs.declared.command.Command.TheVariants.{Check, Order, Graph, Run, Vat, Records, Frame, Frames, Migrate}
+use Rattle.command_line.specs.declared.command.Command.TheVariants.{Check, Order, Graph, Run, Draw, Vat, Records, Frame, Frames, Migrate}
 use Rattle.command_run.specs.declared.output.Failed.{Failed}
 use Rattle.command_run.specs.declared.output.Failed.TheVariants.{Out, File}
 use Rattle.command_run.specs.Answers.{edition_asked}
 use Rattle.command_run.specs.CommandAnswers.{AnswersFile, AnswersFrame, AnswersLogRecords, AnswersMigration, AnswersOrder, AnswersReportOf, AnswersSource}
+use Rattle.command_run.specs.DrawAnswers.{AnswersDraw}
 use Rattle.command_run.specs.ReportAnswers.{AnswersGraph, AnswersReport, AnswersRun}
 
 -- lines, a status and the bytes for the file, if there are any, are an answer
@@ -28,6 +29,8 @@ CarriesOut gives (Records file first many) old new writes = (read : Read) × giv
 CarriesOut gives (Check name workers) old new writes = writes (NoFile (AnswersReportOf AnswersReport gives old name.now new))
 CarriesOut gives (Graph name) old new writes = writes (NoFile (AnswersReportOf AnswersGraph gives old name.now new))
 CarriesOut gives (Run name) old new writes = writes (NoFile (AnswersReportOf AnswersRun gives old name.now new))
+CarriesOut gives (Draw name out first many) old new writes =
+    writes (λ text status bytes. AnswersDraw (record { from = first; count = many }) gives old name.now text status bytes new)
 CarriesOut gives (Migrate file later out) old new writes = (read : Read) × gives old file.now read new × writes (AnswersMigration later read)
 CarriesOut gives (Order name out) old new writes = writes (λ text status bytes. AnswersOrder gives old name.now text status bytes new)
 

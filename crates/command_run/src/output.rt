@@ -67,6 +67,6 @@ impl<W: Write> Output for W {
 pub enum Failed<O, F> {
     /// A write of the lines.
     Out(O),
-    /// A write of an order's or a new log's bytes.
+    /// A write of an order's, a picture's or a new log's bytes.
     File(F),
 }

@@ -6,6 +6,7 @@ ghost use Rattle.command_run.specs.Glue.{of_lines};
 ghost use Rattle.command_run.specs.Runs.{Adds, CarriesOut, Writes, WritesOrFails, Wrote};
 
 use crate::commands::check::say_report;
+use crate::commands::draw_case::say_drawn;
 use crate::commands::frame_list::say_frames;
 use crate::commands::graph::say_graph;
 use crate::commands::hex_frame::say_frame;
@@ -19,6 +20,7 @@ use crate::output::{Failed, Output};
 use case_files::{RememberingSource, Source};
 use cause_notes::{Heard, notes_of, write_note};
 use command_line::Command;
+use picture::Asked;
 use std::alloc::Global;
 use std::io;
 use std::io::Write;
@@ -61,6 +63,18 @@ fn answer_heard<R: Threads + Wait + Sync, S: Source, O: Output, F: Output>(
         Command::Order { case, .. } => say_order(host.alloc, case, source, heard, out, file),
         Command::Graph { case } => of_lines(say_graph(host, case, source, heard, out)),
         Command::Run { case } => of_lines(say_run(host, case, source, heard, out)),
+        Command::Draw {
+            case,
+            from,
+            count,
+            ..
+        } => {
+            let asked = Asked {
+                from: *from,
+                count: *count,
+            };
+            say_drawn(host, case, asked, source, heard, out, file)
+        }
         Command::Vat { file: name } => of_lines(say_vat(host.alloc, name, source, heard, out)),
         Command::Records {
             file: name,
@@ -90,7 +104,7 @@ fn answer_heard<R: Threads + Wait + Sync, S: Source, O: Output, F: Output>(
 /// Runs a command: writes its line, or its lines, to `out`, and answers the exit status. It is 0 where the log is good, the
 /// report of a case is yes, the message of each frame is said, the records are, or an order or a new log is made; 1 where a record breaks
 /// a rule, the report is a no, or no order exists; 2 where a record isn't judged, a message isn't read, or the input is bad
-/// or can't be read; and 3 where memory ran out. To `file` go the bytes of an order or of a new log alone, before the line. Of the workers that
+/// or can't be read; and 3 where memory ran out. To `file` go the bytes of an order, of a picture or of a new log alone, before the line. Of the workers that
 /// audit a case one is the calling thread, and `rt` starts the others; the answer is the same for any number of them.
 ///
 /// # Errors

@@ -1,4 +1,4 @@
-//! A case, read and audited: what `check`, `graph` and `run` have in common.
+//! A case, read and audited: what `check`, `graph` and `run` have in common, and `draw` in part.
 
 ghost use Rattle.std.specs.Prelude.{◌≡◌, ◌≤◌};
 ghost use Rattle.command_run.specs.Glue.{ComesJudged};
@@ -12,14 +12,14 @@ use std::sync::Wait;
 use std::thread::Threads;
 
 /// A gate at which no worker waits.
-struct OpenGate;
+pub(super) struct OpenGate;
 
 impl Gate for OpenGate {
     fn before_post(&self, _piece: u32) {}
 }
 
 /// The fault of a case that isn't audited although it ties up and its workers are neither none nor too many.
-fn fault_of(error: AuditError) -> Fault
+pub(super) fn fault_of(error: AuditError) -> Fault
     requires { error ≡ AuditError.OutOfMemory }
     ensures { result ≡ Fault.OutOfMemory }
 {

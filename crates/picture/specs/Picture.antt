@@ -1,6 +1,6 @@
 -- The text of a picture: an SVG in which each column, row and arrow is drawn, and nothing else but the line of `check`, the
 -- sentence of what is broken, and how many steps are left out.
-use Rattle.std.specs.Prelude.{◌≡◌, ℕ, ◌+◌, ◌-◌, ◌*◌, ◌==◌, Bool, true, false, List, [], ◌∷◌, ◌++◌, length, Option, Some, None, is_some, if◌then◌else◌, nat_lt, codes, IfSome}
+use Rattle.std.specs.Prelude.{◌≡◌, ℕ, ◌+◌, ◌-◌, ◌*◌, ◌==◌, Bool, List, [], ◌∷◌, ◌++◌, fold, length, max, encode_utf8, Option, Some, None, is_some, if◌then◌else◌, codes, IfSome}
 use Rattle.std.specs.Fmt.{decimal}
 use Rattle.std.specs.List.{flat_map}
 use Rattle.std.specs.Option.{option_copied}
@@ -13,10 +13,11 @@ use Rattle.audit_core.specs.declared.report.Report.{Report}
 use Rattle.audit_core.specs.declared.report.Report.TheVariants as reports
 use Rattle.report_lines.specs.Lines.{breach_code, report_text}
 use Rattle.report_lines.specs.Sentences.{IsLine}
-use Rattle.picture.specs.Places.{completed}
+use Rattle.picture.specs.Places.{completed, passage_of}
 use Rattle.picture.specs.Labels.{label_text}
-use Rattle.picture.specs.Rows.{Drawn, Scene, arrows_of, columns_of, lines_of, rows_of, scene_of}
+use Rattle.picture.specs.Rows.{Drawn, arrows_of, columns_of, ends_line, least_of, lines_of, room_in, rows_of, scene_of}
 use Rattle.picture.specs.declared.window.Asked.{Asked}
+use Rattle.picture.specs.declared.window.Gap.{Gap}
 use Rattle.picture.specs.declared.row.Tone.{Tone}
 use Rattle.picture.specs.declared.row.Tone.TheVariants.{Plain, Kin, Named, Fault}
 use Rattle.picture.specs.declared.columns.Column.{Column}
@@ -32,11 +33,11 @@ use Rattle.picture.specs.declared.drawing.Picture.{Picture}
 
 -- a column
 abbrev pub x_of : ℕ → ℕ
-x_of column = 60 + 420 * column
+x_of column = 60 + 360 * column
 
 -- a line
 abbrev pub y_of : ℕ → ℕ
-y_of line = 128 + 24 * line
+y_of line = 128 + 32 * line
 
 abbrev pub point_at : ℕ → ℕ → Point
 point_at column line = record { x = x_of column; y = y_of line }
@@ -85,26 +86,32 @@ abbrev pub arrow_text : Arrow → List ℕ
 arrow_text arrow = codes "<g class='" ++ (tone_word arrow.tone ++ (codes "'><path class='" ++ (stroke_word arrow.stroke
     ++ (codes "' d='" ++ (arrow_line arrow ++ codes "'/></g>\n")))))
 
--- a band from this height down
+-- a band of this height, from there down
 abbrev pub band_lines : ℕ → ℕ → List ℕ
 band_lines top height = codes "<rect class='band' y='" ++ (decimal top ++ (codes "' width='100%' height='" ++ (decimal height ++ codes "'/>\n")))
 
-abbrev pub band_of : Tone → ℕ → List ℕ
-band_of Fault top = band_lines top 48
-band_of Named top = band_lines top 24
-band_of _ top = []
+abbrev pub band_of : ℕ → Tone → ℕ → List ℕ
+band_of room Fault top = band_lines top (32 * room + 27)
+band_of room Named top = band_lines top 30
+band_of room _ top = []
 
--- the band behind a row that the verdict names: behind the one at fault there is room for the sentence
-abbrev pub band_text : Drawn → List ℕ
-band_text row = band_of row.tone (y_of row.line - 16)
+-- the band behind a row that the verdict names: behind the one at fault it goes down over the lines of the sentence
+abbrev pub band_text : ℕ → Drawn → List ℕ
+band_text room row = band_of room row.tone (y_of row.line - 15)
 
 -- the mark of a message, or of what a vat does by itself
 abbrev pub mark_word : Option RpcMessage → List ℕ
 mark_word said = if is_some said then codes "dot" else codes "own"
 
+-- How far down the words of a row are: of what it sends above the arrow, which goes down from there; of what it receives
+-- below the arrow, which comes from above; else beside the mark.
+abbrev pub words_y : Option (Bool × ℕ) → ℕ → ℕ
+words_y None y = y + 4
+words_y (Some passage) y = if passage.0 then y - 5 else y + 11
+
 abbrev pub row_text : Drawn → List ℕ
 row_text row = codes "<g class='" ++ (tone_word row.tone ++ (codes "'><circle class='" ++ (mark_word row.message ++ (codes "' cx='" ++ (decimal (x_of row.column)
-    ++ (codes "' cy='" ++ (decimal (y_of row.line) ++ (codes "' r='3.5'/><text x='" ++ (decimal (x_of row.column + 14) ++ (codes "' y='" ++ (decimal (y_of row.line + 4)
+    ++ (codes "' cy='" ++ (decimal (y_of row.line) ++ (codes "' r='3.5'/><text x='" ++ (decimal (x_of row.column + 14) ++ (codes "' y='" ++ (decimal (words_y (passage_of row.body) (y_of row.line))
     ++ (codes "'>" ++ (label_text row.place.number row.body row.message ++ codes "</text></g>\n")))))))))))))
 
 -- ---- beside them
@@ -114,15 +121,27 @@ abbrev pub code_text : Report → List ℕ
 code_text (reports.Vat vat at broken) = breach_code broken ++ codes ": "
 code_text _ = []
 
--- how far down the sentence is: below the row at fault, or else below the line of `check`
-abbrev pub sentence_y : Option ℕ → ℕ
-sentence_y (Some fault) = y_of fault + 20
-sentence_y None = 52
+-- where a line of the sentence ends
+abbrev pub line_end : List ℕ
+line_end = codes "</tspan><tspan x='60' dy='15'>"
 
-abbrev pub sentence_text : Report → Option ℕ → Option (List ℕ) → List ℕ
-sentence_text told fault (Some sentence) = codes "<text class='why' x='60' y='" ++ (decimal (sentence_y fault)
-    ++ (codes "'>" ++ (code_text told ++ (sentence ++ codes "</text>\n"))))
-sentence_text told fault None = []
+-- a text in lines, of which so many letters stand before it in its first line
+abbrev pub wrapped : ℕ → List ℕ → List ℕ
+wrapped at [] = []
+wrapped at (letter ∷ text) = if ends_line at letter then line_end ++ wrapped 0 text else encode_utf8 letter ++ wrapped (at + 1) text
+
+-- the sentence, so far down
+abbrev pub why_text : ℕ → Report → List ℕ → List ℕ
+why_text y told sentence = codes "<text class='why' y='" ++ (decimal y
+    ++ (codes "'><tspan x='60'>" ++ (code_text told ++ (wrapped 0 sentence ++ codes "</tspan></text>\n"))))
+
+-- it stands below the row at fault, or below the line of `check` where that names no record; where the record isn't drawn it
+-- is left out
+abbrev pub sentence_text : Report → Option Gap → Option (List ℕ) → List ℕ
+sentence_text told gap None = []
+sentence_text told (Some gap) (Some sentence) = why_text (y_of gap.row + 32) told sentence
+sentence_text reports.NoOrder None (Some sentence) = why_text 52 reports.NoOrder sentence
+sentence_text told None (Some sentence) = []
 
 -- how many steps are left out
 abbrev pub left_out_text : ℕ → List ℕ → ℕ → List ℕ
@@ -141,7 +160,7 @@ dark = codes "@media(prefers-color-scheme:dark){svg{--paper:#14171a;--ink:#e4e7e
 
 -- letters
 abbrev pub letters : List ℕ
-letters = codes "text{font:12px ui-monospace,Menlo,Consolas,monospace;fill:var(--ink)}\n.head{font-size:15px;font-weight:700}.vat{font-weight:700}.note{fill:var(--note)}.why{fill:var(--bad)}\n.plain text,.kin text,.named text{stroke:var(--paper);stroke-width:4px;paint-order:stroke}.named text{stroke:var(--badly)}\n"
+letters = codes "text{font:12px ui-monospace,Menlo,Consolas,monospace;fill:var(--ink)}\n.head{font-size:15px;font-weight:700}.vat{font-weight:700}.note{fill:var(--note)}.why{fill:var(--bad)}\n.band~.why{stroke:var(--badly);stroke-width:4px;paint-order:stroke}\n.plain text,.kin text,.named text{stroke:var(--paper);stroke-width:4px;paint-order:stroke}.named text{stroke:var(--badly)}\n"
 
 -- lines
 abbrev pub strokes : List ℕ
@@ -149,11 +168,11 @@ strokes = codes ".paper{fill:var(--paper)}.life{stroke:var(--faint);stroke-width
 
 -- marks
 abbrev pub marks : List ℕ
-marks = codes ".dot,.tip{fill:var(--ink)}.own{fill:var(--paper);stroke:var(--ink);stroke-width:1.4}\n.kin text{fill:var(--kin)}.kin circle{stroke:var(--kin);fill:var(--kin)}.kin path{stroke:var(--kin)}\n.fault text{fill:var(--bad);font-weight:700}.fault circle{stroke:var(--bad);fill:var(--bad)}.fault path{stroke:var(--bad)}\n</style>\n"
+marks = codes ".dot,.tip{fill:var(--ink)}.tip{fill:context-stroke}.own{fill:var(--paper);stroke:var(--ink);stroke-width:1.4}\n.kin text{fill:var(--kin)}.kin .dot{fill:var(--kin)}.kin .own,.kin path{stroke:var(--kin)}\n.fault text{fill:var(--bad);font-weight:700}.fault circle{stroke:var(--bad);fill:var(--bad)}.fault path{stroke:var(--bad)}\n</style>\n"
 
 -- the tip of an arrow
 abbrev pub tip : List ℕ
-tip = codes "<defs><marker id='tip' viewBox='0 0 8 8' refX='8' refY='4' markerWidth='8' markerHeight='8' orient='auto'><path class='tip' d='M0,0L8,4L0,8z'/></marker></defs>\n<rect class='paper' width='100%' height='100%'/>\n"
+tip = codes "<defs><marker id='tip' viewBox='0 0 8 8' refX='11' refY='4' markerWidth='8' markerHeight='8' orient='auto'><path class='tip' d='M0,0L8,4L0,8z'/></marker></defs>\n<rect class='paper' width='100%' height='100%'/>\n"
 
 -- what each picture begins with
 abbrev pub style : List ℕ
@@ -177,22 +196,29 @@ sentence_of picture = option_copied picture.sentence
 
 -- all of it
 abbrev pub picture_text : Picture → List ℕ
-picture_text picture = opening picture.width (height_of picture.lines) ++ (style ++ (flat_map band_text picture.rows.items
+picture_text picture = opening picture.width (height_of picture.lines) ++ (style ++ (flat_map (band_text (room_in picture.gap)) picture.rows.items
     ++ (head_text picture.report.now ++ (flat_map column_text picture.columns.items
     ++ (left_out_text picture.above (codes "above") 76 ++ (flat_map arrow_text picture.arrows.items ++ (flat_map row_text picture.rows.items
-    ++ (sentence_text picture.report.now picture.fault (sentence_of picture)
+    ++ (sentence_text picture.report.now picture.gap (sentence_of picture)
     ++ (left_out_text picture.below (codes "below") (y_of picture.lines + 34) ++ codes "</svg>\n")))))))))
 
 -- ---- the picture of a case
 
--- how many letters of a sentence count for the width
-abbrev pub letters_of : Option (List ℕ) → ℕ
-letters_of (Some sentence) = if nat_lt (length sentence) 400 then length sentence else 400
-letters_of None = 0
+-- how far to the right the words of a row go, and what is left free beside them: a letter is 8 wide at most, and 400 count
+abbrev pub row_end : Drawn → ℕ
+row_end row = x_of row.column + 8 * least_of (length (label_text row.place.number row.body row.message)) 400 + 30
 
--- how wide a picture of so many vats is that has a sentence of so many letters
-abbrev pub width_of : ℕ → ℕ → ℕ
-width_of vats count = if nat_lt (460 + 420 * vats) (140 + 8 * count) then 140 + 8 * count else 460 + 420 * vats
+-- the same of a sentence, which has lines
+abbrev pub sentence_end : Option (List ℕ) → ℕ
+sentence_end sentence = if is_some sentence then 860 else 0
+
+-- how far to the right one of these rows goes, or else so far
+abbrev pub farthest : ℕ → List Drawn → ℕ
+farthest least rows = fold (λ far row. max far (row_end row)) least rows
+
+-- how wide a picture of so many vats is: there is room for each column, the sentence and the words of each row
+abbrev pub width_of : ℕ → Option (List ℕ) → List Drawn → ℕ
+width_of vats sentence rows = farthest (max (x_of vats) (sentence_end sentence)) rows
 
 -- an order in which the records of a case are drawn: the one that is given, or else the one that takes the smallest vat
 -- number that may come at each step, as far as it goes; and behind it what it leaves
@@ -205,10 +231,10 @@ pub record IsPictureOf (held : Contents) (order : List ℕ) (told : Report) (ste
   pub told_is : picture.report.now ≡ told
   pub sentence_is : IfSome (sentence_of picture) IsLine
   pub columns_are : picture.columns.items ≡ columns_of held.logs picture.lines
-  pub rows_are : picture.rows.items ≡ rows_of (scene_of held order steps told asked)
-  pub arrows_are : picture.arrows.items ≡ arrows_of (scene_of held order steps told asked) picture.rows.items
-  pub fault_is : picture.fault ≡ (scene_of held order steps told asked).fault
-  pub lines_are : picture.lines ≡ lines_of picture.fault (scene_of held order steps told asked).window.count
-  pub above_are : picture.above ≡ (scene_of held order steps told asked).window.from
-  pub below_are : picture.below ≡ length order - (picture.above + (scene_of held order steps told asked).window.count)
-  pub width_is : picture.width ≡ width_of (length held.logs) (letters_of (sentence_of picture))
+  pub rows_are : picture.rows.items ≡ rows_of (scene_of held order steps told (sentence_of picture) asked)
+  pub arrows_are : picture.arrows.items ≡ arrows_of (scene_of held order steps told (sentence_of picture) asked) picture.rows.items
+  pub gap_is : picture.gap ≡ (scene_of held order steps told (sentence_of picture) asked).gap
+  pub lines_are : picture.lines ≡ lines_of picture.gap (scene_of held order steps told (sentence_of picture) asked).window.count
+  pub above_are : picture.above ≡ (scene_of held order steps told (sentence_of picture) asked).window.from
+  pub below_are : picture.below ≡ length order - (picture.above + (scene_of held order steps told (sentence_of picture) asked).window.count)
+  pub width_is : picture.width ≡ width_of (length held.logs) (sentence_of picture) picture.rows.items

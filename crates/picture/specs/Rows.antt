@@ -1,5 +1,5 @@
 -- What a picture shows of a case: a column for each vat, a row for each record of the window, an arrow for each message.
-use Rattle.std.specs.Prelude.{◌≡◌, ℕ, ◌+◌, ◌-◌, ◌/◌, ◌==◌, ◌&&◌, Bool, true, false, List, length, map, take, Option, Some, None, is_some, option_and_then, unwrap_or, if◌then◌else◌, nat_lt, nat_le, slice_get}
+use Rattle.std.specs.Prelude.{◌≡◌, ℕ, ◌+◌, ◌-◌, ◌/◌, ◌==◌, ◌&&◌, Bool, true, false, List, [], ◌∷◌, length, map, take, Option, Some, None, option_and_then, unwrap_or, if◌then◌else◌, nat_lt, nat_le, slice_get}
 use Rattle.std.specs.List.{filter_map, range_with_len}
 use Rattle.std.specs.Option.{option_map}
 use Rattle.rpc_view.specs.declared.message.RpcMessage.{RpcMessage}
@@ -23,6 +23,7 @@ use Rattle.picture.specs.declared.calls.Maker.{Maker}
 use Rattle.picture.specs.declared.focus.Focus.{Focus}
 use Rattle.picture.specs.declared.window.Window.{Window}
 use Rattle.picture.specs.declared.window.Asked.{Asked}
+use Rattle.picture.specs.declared.window.Gap.{Gap}
 use Rattle.picture.specs.declared.row.Tone.{Tone}
 use Rattle.picture.specs.declared.row.Tone.TheVariants.{Plain, Kin, Named, Fault}
 use Rattle.picture.specs.declared.columns.Column.{Column}
@@ -99,14 +100,40 @@ row_in window step =
 abbrev pub row_of : List ℕ → Window → Place → Option ℕ
 row_of order window place = option_and_then (row_in window) (step_of order place)
 
--- one line further down, below the row at fault: the line under that one is for the sentence
-abbrev pub is_below : Option ℕ → ℕ → Bool
-is_below None row = false
-is_below (Some fault) row = nat_lt fault row
+-- how many lines are free below the row at fault, if there is one
+abbrev pub room_in : Option Gap → ℕ
+room_in None = 0
+room_in (Some gap) = gap.room
 
--- the line of a row
-abbrev pub line_of : Option ℕ → ℕ → ℕ
-line_of fault row = row + (if is_below fault row then 1 else 0)
+-- how many of them are above a row
+abbrev pub room_above : Option Gap → ℕ → ℕ
+room_above None row = 0
+room_above (Some gap) row = if nat_lt gap.row row then gap.room else 0
+
+-- the line of a row: further down, below the row at fault
+abbrev pub line_of : Option Gap → ℕ → ℕ
+line_of gap row = row + room_above gap row
+
+-- ---- the sentence of what is broken, which stands below the row at fault
+
+-- a letter ends a line of it, behind so many letters: a blank behind the 84th
+abbrev pub ends_line : ℕ → ℕ → Bool
+ends_line at letter = (letter == 32) && nat_lt 84 at
+
+-- how often a line ends in a text, of which so many letters stand before it in its first line
+abbrev pub breaks_from : ℕ → List ℕ → ℕ
+breaks_from at [] = 0
+breaks_from at (letter ∷ text) = if ends_line at letter then breaks_from 0 text + 1 else breaks_from (at + 1) text
+
+-- how many lines of rows a sentence takes, each for two lines of its own: with the first one, for whatever the row has below it
+abbrev pub room_of : Option (List ℕ) → ℕ
+room_of None = 1
+room_of (Some sentence) = 1 + (least_of (breaks_from 0 sentence) 9 + 1) / 2
+
+-- the row at fault, and the lines below it
+abbrev pub gap_of : Option (List ℕ) → Option ℕ → Option Gap
+gap_of sentence None = None
+gap_of sentence (Some row) = Some (record { row = row; room = room_of sentence })
 
 -- ---- calls of one reference
 
@@ -137,7 +164,7 @@ are_kin _ _ = false
 -- ---- what is drawn
 
 -- a case, an order of its records, the steps of a run of all of them (or none), what the verdict names, who made the call
--- that it names and through which reference, the window, and the row at fault
+-- that it names and through which reference, the window, the sentence of what is broken, and the row at fault
 pub record Scene : Type 0 where
   pub held : Contents
   pub order : List ℕ
@@ -145,26 +172,29 @@ pub record Scene : Type 0 where
   pub focus : Focus
   pub maker : Option Maker
   pub window : Window
-  pub fault : Option ℕ
+  pub sentence : Option (List ℕ)
+  pub gap : Option Gap
 
 abbrev pub focus_of : Contents → List ℕ → Report → Focus
 focus_of held order told = record { at = named_by held order told; mate = mate_by held told }
 
-abbrev pub scene_in : Contents → List ℕ → List Step → Focus → Window → Scene
-scene_in held order steps focus window = record {
+abbrev pub scene_in : Contents → List ℕ → List Step → Focus → Option (List ℕ) → Window → Scene
+scene_in held order steps focus sentence window = record {
   held = held;
   order = order;
   steps = steps;
   focus = focus;
   maker = option_and_then (maker_at steps) focus.at;
   window = window;
-  fault = option_and_then (row_of order window) focus.at;
+  sentence = sentence;
+  gap = gap_of sentence (option_and_then (row_of order window) focus.at);
 }
 
--- what is drawn of a case, in this order, for its report: the window that is asked for, or the one around what is named
-abbrev pub scene_of : Contents → List ℕ → List Step → Report → Asked → Scene
-scene_of held order steps told asked =
-    scene_in held order steps (focus_of held order told) (window_of (length order) (middle_of order (named_by held order told)) asked)
+-- what is drawn of a case, in this order, for its report and its sentence: the window that is asked for, or the one around what
+-- is named
+abbrev pub scene_of : Contents → List ℕ → List Step → Report → Option (List ℕ) → Asked → Scene
+scene_of held order steps told sentence asked =
+    scene_in held order steps (focus_of held order told) sentence (window_of (length order) (middle_of order (named_by held order told)) asked)
 
 -- ---- rows
 
@@ -195,7 +225,7 @@ abbrev pub drawn : Scene → ℕ → Place → Log → Body → Drawn
 drawn scene row place log event = record {
   place = place;
   column = column_of scene.held.logs place.vat;
-  line = line_of scene.fault row;
+  line = line_of scene.gap row;
   body = event;
   message = message_of (edition_of log) event;
   late = is_late (edition_of log) (passage_of event) (message_of (edition_of log) event) (take place.number log.records);
@@ -233,17 +263,17 @@ stroke_of late (Some (messages.Call question target interface method params your
 stroke_of late _ = strokes.Plain
 
 -- how many lines there are
-abbrev pub lines_of : Option ℕ → ℕ → ℕ
-lines_of fault rows = rows + (if is_some fault then 1 else 0)
+abbrev pub lines_of : Option Gap → ℕ → ℕ
+lines_of gap rows = rows + room_in gap
 
 -- out of the window: downwards where it is received later, upwards where it was sent before
 abbrev pub reach_away : Scene → Bool → ℕ → Reach
-reach_away scene true column = Below column (lines_of scene.fault scene.window.count)
+reach_away scene true column = Below column (lines_of scene.gap scene.window.count)
 reach_away scene false column = Above column
 
 -- where an arrow goes to, or comes from, in this column: the other end's row, or out of the window
 abbrev pub reach_in : Scene → Bool → ℕ → Option ℕ → Reach
-reach_in scene sent column (Some row) = At column (line_of scene.fault row)
+reach_in scene sent column (Some row) = At column (line_of scene.gap row)
 reach_in scene sent column None = reach_away scene sent column
 
 -- where the other end is; nowhere, if there is none

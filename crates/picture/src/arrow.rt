@@ -111,7 +111,7 @@ fn reach_away(scene: &Scene<'_>, sent: bool, column: u32) -> Reach
     if sent {
         Reach::Below {
             column,
-            line: lines_of(scene.fault, scene.window.count),
+            line: lines_of(scene.gap, scene.window.count),
         }
     } else {
         Reach::Above { column }
@@ -125,7 +125,7 @@ fn reach_in(scene: &Scene<'_>, sent: bool, column: u32, row: Option<u8>) -> Reac
     match row {
         Some(row) => Reach::At {
             column,
-            line: line_of(scene.fault, row),
+            line: line_of(scene.gap, row),
         },
         None => reach_away(scene, sent, column),
     }

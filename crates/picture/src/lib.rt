@@ -8,6 +8,7 @@
 
 mod arrange;
 mod arrow;
+mod breaks;
 mod calls;
 mod columns;
 mod drawing;
@@ -23,6 +24,7 @@ mod place;
 mod row;
 mod scene;
 mod svg;
+mod width;
 mod window;
 
 pub use arrange::arrange;
@@ -31,4 +33,4 @@ pub use columns::Column;
 pub use drawing::{Picture, draw};
 pub use place::Place;
 pub use row::{Row, Tone};
-pub use window::{Asked, Window};
+pub use window::{Asked, Gap, Window};

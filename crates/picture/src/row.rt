@@ -108,7 +108,7 @@ fn drawn<'a>(
     Ok(Row {
         place,
         column: column_of(scene.case.logs(), place.vat),
-        line: line_of(scene.fault, row),
+        line: line_of(scene.gap, row),
         body,
         message,
         late,

@@ -1,14 +1,17 @@
 //! What a picture is drawn of.
 
-ghost use Rattle.std.specs.Prelude.{◌≡◌, ◌≤◌, ◌+◌, length, option_and_then};
+ghost use Rattle.std.specs.Prelude.{◌≡◌, ◌≤◌, ◌+◌, IfSome, length, option_and_then};
+ghost use Rattle.report_lines.specs.Sentences.{IsLine};
 ghost use Rattle.picture.specs.Rows.{maker_at, row_of, scene_of};
 
+use crate::breaks::gap_of;
 use crate::calls::{Maker, maker_at};
 use crate::focus::{Focus, focus_of};
 use crate::place::Place;
-use crate::window::{Asked, Window, middle_of, row_of, window_of};
+use crate::window::{Asked, Gap, Window, middle_of, row_of, window_of};
 use audit_core::Report;
 use case_book::Case;
+use report_lines::report_sentence;
 use run_model::Step;
 use std::marker::Model;
 
@@ -27,11 +30,14 @@ pub struct Scene<'a> {
     pub maker: Option<Maker>,
     /// The steps that are drawn.
     pub window: Window,
-    /// The row at fault, counted from 0.
-    pub fault: Option<u8>,
+    /// What is said to people of the rule that is broken, or of why a record isn't judged.
+    pub sentence: Option<&'static str>,
+    /// The row at fault.
+    pub gap: Option<Gap>,
 }
 
 impl<'a> Model for Scene<'a> {
+    ghost use Rattle.std.specs.Option.{option_copied};
     ghost use Rattle.picture.specs.Rows.{Scene};
 
     ghost Value = { Scene };
@@ -43,7 +49,8 @@ impl<'a> Model for Scene<'a> {
       focus = scene.focus;
       maker = scene.maker;
       window = scene.window;
-      fault = scene.fault;
+      sentence = option_copied scene.sentence;
+      gap = scene.gap;
     } };
 }
 
@@ -76,10 +83,12 @@ pub fn scene_of<'a>(
     report: &Report,
     asked: Asked,
 ) -> Scene<'a>
-    ensures scene { result ≡ scene_of case.now order.now steps.now report.now asked }
+    ensures scene { result ≡ scene_of case.now order.now steps.now report.now result.sentence asked }
+    ensures line { IfSome result.sentence IsLine }
     ensures within { result.window.from + result.window.count ≤ length result.order }
 {
     let focus = focus_of(case, order, report);
+    let sentence = report_sentence(report);
     let window = window_of(order.len(), middle_of(order, focus.at), asked);
     Scene {
         case,
@@ -88,6 +97,7 @@ pub fn scene_of<'a>(
         focus,
         maker: maker_named(steps, focus.at),
         window,
-        fault: row_named(order, window, focus.at),
+        sentence,
+        gap: gap_of(sentence, row_named(order, window, focus.at)),
     }
 }

@@ -1,7 +1,7 @@
 //! Which steps of an order are drawn.
 
 ghost use Rattle.std.specs.Prelude.{◌≡◌, ◌≤◌, ◌+◌};
-ghost use Rattle.picture.specs.Rows.{first_of, is_below, least_of, line_of, lines_of, middle_of, row_in, row_of, wanted_of, window_of};
+ghost use Rattle.picture.specs.Rows.{first_of, least_of, line_of, lines_of, middle_of, room_in, row_in, row_of, wanted_of, window_of};
 
 use crate::orders::step_of;
 use crate::place::Place;
@@ -24,8 +24,17 @@ pub struct Window {
     pub count: u8,
 }
 
+/// A row at fault, and the lines below it on which no row stands: they are for the sentence of what is broken.
+#[derive(Clone, Copy, Debug)]
+pub struct Gap {
+    /// The row, counted from 0.
+    pub row: u8,
+    /// How many lines are free.
+    pub room: u8,
+}
+
 /// The smaller of two.
-fn least_of(one: usize, other: usize) -> usize
+pub fn least_of(one: usize, other: usize) -> usize
     ensures { result ≡ least_of one other }
 {
     if one < other { one } else { other }
@@ -99,22 +108,29 @@ pub fn row_of(order: &[u32], window: Window, place: Place) -> Option<u8>
     }
 }
 
-/// The line of a row: one further down, below the row at fault.
-pub fn line_of(fault: Option<u8>, row: u8) -> u16
-    ensures { result ≡ line_of fault row }
+/// The line of a row: further down, below the row at fault.
+pub fn line_of(gap: Option<Gap>, row: u8) -> u16
+    ensures { result ≡ line_of gap row }
 {
-    match fault {
-        Some(fault) if fault < row => row as u16 + 1,
+    match gap {
+        Some(gap) if gap.row < row => row as u16 + gap.room as u16,
         _ => row as u16,
     }
 }
 
-/// How many lines so many rows have.
-pub fn lines_of(fault: Option<u8>, rows: u8) -> u16
-    ensures { result ≡ lines_of fault rows }
+/// How many lines are free below the row at fault, if there is one.
+pub fn room_in(gap: Option<Gap>) -> u8
+    ensures { result ≡ room_in gap }
 {
-    match fault {
-        Some(_) => rows as u16 + 1,
-        None => rows as u16,
+    match gap {
+        Some(gap) => gap.room,
+        None => 0,
     }
+}
+
+/// How many lines so many rows have.
+pub fn lines_of(gap: Option<Gap>, rows: u8) -> u16
+    ensures { result ≡ lines_of gap rows }
+{
+    rows as u16 + room_in(gap) as u16
 }

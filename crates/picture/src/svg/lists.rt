@@ -41,16 +41,20 @@ impl Display for Arrows<'_> {
     }
 }
 
-/// The bands of rows.
+/// The bands of rows: behind the one at fault there is room for so many lines more.
 #[derive(Clone, Copy)]
-pub struct Bands<'a>(pub &'a [Row<'a>]);
+pub struct Bands<'a> {
+    pub rows: &'a [Row<'a>],
+    pub room: u8,
+}
 
 impl Display for Bands<'_> {
-    ghost output = { λ rows. Some (flat_map band_text rows.0.now) };
+    ghost output = { λ bands. Some (flat_map (band_text bands.room) bands.rows.now) };
 
     fn fmt<W: fmt::Write>(&self, f: &mut Formatter<W>) -> fmt::Result {
-        for row in self.0 {
-            write!(f, "{}", Band(row))?;
+        let room = self.room;
+        for row in self.rows {
+            write!(f, "{}", Band { row, room })?;
         }
         Ok(())
     }

@@ -2,7 +2,7 @@
 
 mod lists;
 mod notes;
-mod points;
+pub(crate) mod points;
 mod shapes;
 mod style;
 mod whole;

@@ -3,9 +3,11 @@
 ghost use Rattle.std.specs.Prelude.{◌≡◌, ◌++◌, Some};
 ghost use Rattle.std.specs.Fmt.{WritesOnOk};
 ghost use Rattle.std.specs.Option.{option_copied};
-ghost use Rattle.picture.specs.Picture.{code_text, head_text, left_out_text, opening, sentence_text, sentence_y};
+ghost use Rattle.picture.specs.Picture.{code_text, head_text, left_out_text, line_end, opening, sentence_text, why_text, wrapped};
 
+use crate::breaks::ends_line;
 use crate::svg::points::y_of;
+use crate::window::Gap;
 use audit_core::Report;
 use report_lines::{ShownReport, breach_code};
 use std::fmt;
@@ -58,37 +60,72 @@ impl Display for Code<'_> {
     }
 }
 
-/// How far down the sentence is: below the row at fault, or else below the line of `check`.
-fn sentence_y(fault: Option<u8>) -> u64
-    ensures { result ≡ sentence_y fault }
+/// Where a line of the sentence ends.
+fn line_end() -> &'static str
+    ensures { result.now ≡ line_end }
 {
-    match fault {
-        Some(fault) => y_of(fault as u16) + 20,
-        None => 52,
+    "</tspan><tspan x='60' dy='15'>"
+}
+
+/// A text in lines.
+#[derive(Clone, Copy)]
+struct Wrapped<'a>(&'a str);
+
+impl Display for Wrapped<'_> {
+    ghost output = { λ text. Some (wrapped 0 text.0.now) };
+
+    fn fmt<W: fmt::Write>(&self, f: &mut Formatter<W>) -> fmt::Result {
+        let mut at = 0;
+        for letter in self.0.as_bytes() {
+            if ends_line(at, *letter) {
+                f.write_str(line_end())?;
+                at = 0;
+            } else {
+                f.write_char(*letter as char)?;
+                at += 1;
+            }
+        }
+        Ok(())
     }
 }
 
-/// The sentence of what is broken, with the rule's code.
+/// Writes the sentence of what is broken, so far down, with the rule's code.
+fn put_why<W: fmt::Write>(
+    f: &mut Formatter<W>,
+    y: u64,
+    report: &Report,
+    sentence: &str,
+) -> fmt::Result
+    ensures { WritesOnOk W.write_str_gives f.old result (why_text y report.now sentence.now) f.new }
+{
+    let code = Code(report);
+    let lines = Wrapped(sentence);
+    write!(
+        f,
+        "<text class='why' y='{y}'><tspan x='60'>{code}{lines}</tspan></text>\n"
+    )
+}
+
+/// The sentence of what is broken, below the row at fault, or below the line of `check` where that names no record.
 #[derive(Clone, Copy)]
 pub struct Sentence<'a> {
     pub report: &'a Report,
-    pub fault: Option<u8>,
+    pub gap: Option<Gap>,
     pub sentence: Option<&'static str>,
 }
 
 impl Display for Sentence<'_> {
-    ghost output = { λ told. Some (sentence_text told.report.now told.fault (option_copied told.sentence)) };
+    ghost output = { λ told. Some (sentence_text told.report.now told.gap (option_copied told.sentence)) };
 
     fn fmt<W: fmt::Write>(&self, f: &mut Formatter<W>) -> fmt::Result {
         let Some(sentence) = self.sentence else {
             return Ok(());
         };
-        let y = sentence_y(self.fault);
-        let code = Code(self.report);
-        write!(
-            f,
-            "<text class='why' x='60' y='{y}'>{code}{sentence}</text>\n"
-        )
+        match (self.report, self.gap) {
+            (report, Some(gap)) => put_why(f, y_of(gap.row as u16) + 32, report, sentence),
+            (Report::NoOrder, None) => put_why(f, 52, self.report, sentence),
+            (_, None) => Ok(()),
+        }
     }
 }
 

@@ -29,14 +29,14 @@ impl Display for Point {
 pub fn x_of(column: u32) -> u64
     ensures { result ≡ x_of column }
 {
-    60 + 420 * column as u64
+    60 + 360 * column as u64
 }
 
 /// Where a line is.
 pub fn y_of(line: u16) -> u64
     ensures { result ≡ y_of line }
 {
-    128 + 24 * line as u64
+    128 + 32 * line as u64
 }
 
 /// Where a column crosses a line.

@@ -2,11 +2,12 @@
 
 ghost use Rattle.std.specs.Prelude.{◌≡◌, Some};
 ghost use Rattle.std.specs.Fmt.{WritesOnOk};
-ghost use Rattle.picture.specs.Picture.{arrow_line, arrow_text, band_lines, band_text, column_text, line_text, mark_word, row_text, stroke_word, tone_word};
+ghost use Rattle.picture.specs.Picture.{arrow_line, arrow_text, band_lines, band_text, column_text, line_text, mark_word, row_text, stroke_word, tone_word, words_y, y_of};
 ghost use Rattle.picture.specs.Labels.{label_text};
 
 use crate::arrow::{Arrow, Stroke};
 use crate::columns::Column;
+use crate::frames::passage_of;
 use crate::label::Label;
 use crate::row::{Row, Tone};
 use crate::svg::points::{Point, point_at, reach_point, x_of, y_of};
@@ -99,7 +100,7 @@ impl Display for Arrow {
     }
 }
 
-/// Writes a band from this height down.
+/// Writes a band of this height, from there down.
 fn put_band<W: fmt::Write>(f: &mut Formatter<W>, top: u64, height: u64) -> fmt::Result
     ensures { WritesOnOk W.write_str_gives f.old result (band_lines top height) f.new }
 {
@@ -111,17 +112,20 @@ fn put_band<W: fmt::Write>(f: &mut Formatter<W>, top: u64, height: u64) -> fmt::
 
 /// The band behind a row that the verdict names; none behind others.
 #[derive(Clone, Copy)]
-pub struct Band<'a>(pub &'a Row<'a>);
+pub struct Band<'a> {
+    pub row: &'a Row<'a>,
+    pub room: u8,
+}
 
 impl Display for Band<'_> {
-    ghost output = { λ band. Some (band_text band.0.now) };
+    ghost output = { λ band. Some (band_text band.room band.row.now) };
 
     fn fmt<W: fmt::Write>(&self, f: &mut Formatter<W>) -> fmt::Result {
-        let row = self.0;
-        let top = y_of(row.line) - 16;
+        let row = self.row;
+        let top = y_of(row.line) - 15;
         match row.tone {
-            Tone::Fault => put_band(f, top, 48),
-            Tone::Named => put_band(f, top, 24),
+            Tone::Fault => put_band(f, top, 32 * self.room as u64 + 27),
+            Tone::Named => put_band(f, top, 30),
             Tone::Plain | Tone::Kin => Ok(()),
         }
     }
@@ -134,6 +138,19 @@ fn mark_word(message: &Option<RpcMessage>) -> &'static str
     if message.is_some() { "dot" } else { "own" }
 }
 
+/// How far down the words of a row are: of what it sends above the arrow, which goes down from there; of what it receives
+/// below the arrow, which comes from above; else beside the mark.
+fn words_y(passage: Option<(bool, u32)>, line: u16) -> u64
+    ensures { result ≡ words_y passage (y_of line) }
+{
+    let y = y_of(line);
+    match passage {
+        None => y + 4,
+        Some((true, _)) => y - 5,
+        Some((false, _)) => y + 11,
+    }
+}
+
 /// Writes a row: its mark at a point, and its words.
 fn put_row<W: fmt::Write>(f: &mut Formatter<W>, row: &Row<'_>, label: Label<'_>) -> fmt::Result
     requires { label_text label.number label.body.now label.message.now
@@ -141,7 +158,7 @@ fn put_row<W: fmt::Write>(f: &mut Formatter<W>, row: &Row<'_>, label: Label<'_>)
     ensures { WritesOnOk W.write_str_gives f.old result (row_text row.now) f.new }
 {
     let (x, y) = (x_of(row.column), y_of(row.line));
-    let (text_x, text_y) = (x + 14, y + 4);
+    let (text_x, text_y) = (x + 14, words_y(passage_of(row.body), row.line));
     let tone = tone_word(row.tone);
     let mark = mark_word(&row.message);
     write!(

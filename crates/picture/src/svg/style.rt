@@ -24,7 +24,7 @@ fn dark() -> &'static str
 fn letters() -> &'static str
     ensures { result.now ≡ letters }
 {
-    "text{font:12px ui-monospace,Menlo,Consolas,monospace;fill:var(--ink)}\n.head{font-size:15px;font-weight:700}.vat{font-weight:700}.note{fill:var(--note)}.why{fill:var(--bad)}\n.plain text,.kin text,.named text{stroke:var(--paper);stroke-width:4px;paint-order:stroke}.named text{stroke:var(--badly)}\n"
+    "text{font:12px ui-monospace,Menlo,Consolas,monospace;fill:var(--ink)}\n.head{font-size:15px;font-weight:700}.vat{font-weight:700}.note{fill:var(--note)}.why{fill:var(--bad)}\n.band~.why{stroke:var(--badly);stroke-width:4px;paint-order:stroke}\n.plain text,.kin text,.named text{stroke:var(--paper);stroke-width:4px;paint-order:stroke}.named text{stroke:var(--badly)}\n"
 }
 
 /// Lines.
@@ -38,14 +38,14 @@ fn strokes() -> &'static str
 fn marks() -> &'static str
     ensures { result.now ≡ marks }
 {
-    ".dot,.tip{fill:var(--ink)}.own{fill:var(--paper);stroke:var(--ink);stroke-width:1.4}\n.kin text{fill:var(--kin)}.kin circle{stroke:var(--kin);fill:var(--kin)}.kin path{stroke:var(--kin)}\n.fault text{fill:var(--bad);font-weight:700}.fault circle{stroke:var(--bad);fill:var(--bad)}.fault path{stroke:var(--bad)}\n</style>\n"
+    ".dot,.tip{fill:var(--ink)}.tip{fill:context-stroke}.own{fill:var(--paper);stroke:var(--ink);stroke-width:1.4}\n.kin text{fill:var(--kin)}.kin .dot{fill:var(--kin)}.kin .own,.kin path{stroke:var(--kin)}\n.fault text{fill:var(--bad);font-weight:700}.fault circle{stroke:var(--bad);fill:var(--bad)}.fault path{stroke:var(--bad)}\n</style>\n"
 }
 
 /// The tip of an arrow, and the page.
 fn tip() -> &'static str
     ensures { result.now ≡ tip }
 {
-    "<defs><marker id='tip' viewBox='0 0 8 8' refX='8' refY='4' markerWidth='8' markerHeight='8' orient='auto'><path class='tip' d='M0,0L8,4L0,8z'/></marker></defs>\n<rect class='paper' width='100%' height='100%'/>\n"
+    "<defs><marker id='tip' viewBox='0 0 8 8' refX='11' refY='4' markerWidth='8' markerHeight='8' orient='auto'><path class='tip' d='M0,0L8,4L0,8z'/></marker></defs>\n<rect class='paper' width='100%' height='100%'/>\n"
 }
 
 /// What each picture begins with.

@@ -8,6 +8,7 @@ use crate::svg::lists::{Arrows, Bands, Columns, Shapes};
 use crate::svg::notes::{Head, LeftOut, Opening, Sentence};
 use crate::svg::points::y_of;
 use crate::svg::style::Style;
+use crate::window::room_in;
 use std::fmt;
 use std::fmt::{Display, Formatter};
 
@@ -21,7 +22,10 @@ impl Display for Picture<'_> {
             height: bottom + 48,
         };
         let style = Style;
-        let bands = Bands(&self.rows);
+        let bands = Bands {
+            rows: &self.rows,
+            room: room_in(self.gap),
+        };
         let head = Head(self.report);
         let columns = Columns(&self.columns);
         let above = LeftOut {
@@ -33,7 +37,7 @@ impl Display for Picture<'_> {
         let rows = Shapes(&self.rows);
         let sentence = Sentence {
             report: self.report,
-            fault: self.fault,
+            gap: self.gap,
             sentence: self.sentence,
         };
         let below = LeftOut {

@@ -17,7 +17,7 @@ use Rattle.clap.specs.declared.error.ErrorKind.TheVariants.{ValueValidation}
 use Rattle.clap.specs.declared.builder.value_parser.ValueParser.{ValueParser}
 use Rattle.clap.specs.declared.builder.value_parser.ValueParser.TheVariants as parser
 use Rattle.clap.proofs.OnLiterals.{clap_on_literals}
-use Rattle.command_line.proofs.Named.{Reader, checking, drawing, framing, listing, migrating, name_of, of_frames, of_graph, of_run, of_vat, ordering, reader_of, word_of}
+use Rattle.command_line.proofs.Named.{Reader, checking, drawing, framing, graphing, listing, migrating, name_of, of_frames, of_run, of_vat, ordering, reader_of, word_of}
 use Rattle.command_line.proofs.One.{at, dashes, given, holding, sub}
 use Rattle.command_line.proofs.Reading.{shape_by}
 use Rattle.command_line.specs.Parser.{most, path, program, start}
@@ -69,17 +69,42 @@ file_taken name file e =
 
 taken_by : (r : Reader) (first file : Text) → is_flag file ≡ false → fault_of program (first ∷ word_of r ∷ file ∷ []) ≡ []
 unfolding clap_on_literals
-taken_by of_graph first file e = ap (λ (k : Kinds). or_else k []) (file_taken (word_of of_graph) file e)
 taken_by of_run first file e = ap (λ (k : Kinds). or_else k []) (file_taken (word_of of_run) file e)
 taken_by of_vat first file e = ap (λ (k : Kinds). or_else k []) (file_taken (word_of of_vat) file e)
 taken_by of_frames first file e = ap (λ (k : Kinds). or_else k []) (file_taken (word_of of_frames) file e)
 
 taken_after_by : (r : Reader) (first file : Text) → fault_of program (first ∷ word_of r ∷ dashes ∷ file ∷ []) ≡ []
 unfolding clap_on_literals
-taken_after_by of_graph first file = refl
 taken_after_by of_run first file = refl
 taken_after_by of_vat first file = refl
 taken_after_by of_frames first file = refl
+
+-- ---- graph
+
+graph_words : (case : Text) → is_flag case ≡ false → level_fault (shape_by graphing) [] nothing_held (case ∷ []) false [] ≡ []
+unfolding clap_on_literals
+graph_words case e =
+    let is = plain_word_is case e in
+    rw (is.0, is.1, is.2) refl
+
+takes_graph : (first case : Text) → is_flag case ≡ false → fault_of program (first ∷ name_of graphing ∷ case ∷ []) ≡ []
+unfolding clap_on_literals
+takes_graph first case e = ap (λ (k : Kinds). or_else k []) (graph_words case e)
+
+takes_graph_after : (first case : Text) → fault_of program (first ∷ name_of graphing ∷ dashes ∷ case ∷ []) ≡ []
+unfolding clap_on_literals
+takes_graph_after first case = refl
+
+graph_dot_words : (case : Text) → is_flag case ≡ false → level_fault (shape_by graphing) [] nothing_held (case ∷ codes "--dot" ∷ []) false [] ≡ []
+unfolding clap_on_literals
+graph_dot_words case e =
+    let is = plain_word_is case e in
+    rw (is.0, is.1, is.2) refl
+
+-- `graph CASE --dot` has no fault, where CASE is no flag
+pub takes_graph_dot : (first case : Text) → is_flag case ≡ false → fault_of program (first ∷ name_of graphing ∷ case ∷ codes "--dot" ∷ []) ≡ []
+unfolding clap_on_literals
+takes_graph_dot first case e = ap (λ (k : Kinds). or_else k []) (graph_dot_words case e)
 
 -- ---- frame
 
@@ -112,14 +137,16 @@ takes_frame_later first hex e = ap (λ (k : Kinds). or_else k []) (frame_later_w
 pub takes_one : (first name file : Text) → IsReader name → is_flag file ≡ false → fault_of program (first ∷ name ∷ file ∷ []) ≡ []
 takes_one first name file reads e = elim (reader_of name reads) [
   | inl r ↦ ap (λ (n : Text). fault_of program (first ∷ n ∷ file ∷ [])) r.1 ∙ taken_by r.0 first file e
-  | inr is ↦ ap (λ (n : Text). fault_of program (first ∷ n ∷ file ∷ [])) is ∙ takes_frame first file e
+  | inr (inl is) ↦ ap (λ (n : Text). fault_of program (first ∷ n ∷ file ∷ [])) is ∙ takes_graph first file e
+  | inr (inr is) ↦ ap (λ (n : Text). fault_of program (first ∷ n ∷ file ∷ [])) is ∙ takes_frame first file e
 ]
 
 -- with `--` between them they have none, whatever the word is
 pub takes_after_dashes : (first name file : Text) → IsReader name → fault_of program (first ∷ name ∷ dashes ∷ file ∷ []) ≡ []
 takes_after_dashes first name file reads = elim (reader_of name reads) [
   | inl r ↦ ap (λ (n : Text). fault_of program (first ∷ n ∷ dashes ∷ file ∷ [])) r.1 ∙ taken_after_by r.0 first file
-  | inr is ↦ ap (λ (n : Text). fault_of program (first ∷ n ∷ dashes ∷ file ∷ [])) is ∙ takes_frame_after first file
+  | inr (inl is) ↦ ap (λ (n : Text). fault_of program (first ∷ n ∷ dashes ∷ file ∷ [])) is ∙ takes_graph_after first file
+  | inr (inr is) ↦ ap (λ (n : Text). fault_of program (first ∷ n ∷ dashes ∷ file ∷ [])) is ∙ takes_frame_after first file
 ]
 
 -- ---- check

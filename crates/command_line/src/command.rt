@@ -8,7 +8,7 @@ ghost use Rattle.clap.specs.Words.{fault_of, first_value, found_of, kind_of, sub
 ghost use Rattle.command_line.specs.Parser.{most, program, workers};
 ghost use Rattle.command_line.specs.Spelled.{AreMatchesOf, HasWorkers, IsChecked, IsNumber, IsReader, Spells, is_flag, is_set, out_of};
 
-use crate::parser::{self, COUNT, FROM, INPUT, LATER, OUT, WORKERS};
+use crate::parser::{self, COUNT, DOT, FROM, INPUT, LATER, OUT, WORKERS};
 use clap::error::ErrorKind;
 use clap::{ArgMatches, Error};
 use std::alloc::Global;
@@ -27,9 +27,11 @@ pub enum Command<'a> {
         case: &'a str,
         out: &'a str,
     },
-    /// Print which vat came to have what of another's, in the case that the source has under this name.
+    /// Print which vat came to have what of another's, in the case that the source has under this name: as lines, or as a
+    /// graph in the DOT language.
     Graph {
         case: &'a str,
+        dot: bool,
     },
     /// Print the steps of the run of the case that the source has under this name.
     Run {
@@ -153,7 +155,10 @@ fn command_in<'a>(matches: &ArgMatches<'a>) -> Command<'a>
             case: input,
             out: value_of(given, OUT),
         },
-        "graph" => Command::Graph { case: input },
+        "graph" => Command::Graph {
+            case: input,
+            dot: is_set(given, DOT),
+        },
         "run" => Command::Run { case: input },
         "draw" => Command::Draw {
             case: input,
@@ -192,11 +197,12 @@ fn matches_of<'a, S: AsStr>(alloc: Global, words: &'a [S]) -> Result<ArgMatches<
     parser::command_line(alloc)?.try_get_matches_from(words)
 }
 
-/// The command that the words spell, of which the first is the program's name: `graph CASE`, `run CASE`, `vat FILE` or
-/// `frames FILE`, where before or after the last of these may stand `--`, and it may begin with a hyphen only after that or
-/// where it is `-`; or, as `clap` reads them, `check CASE` with `--workers N` if wanted, a number from 1 to 64, or `order
-/// CASE --out FILE`, or `draw CASE --out FILE` with `--from I` and `--count N` if wanted, or `frame HEX` with `--later` if wanted, or `migrate FILE --out FILE` with `--later` if wanted, or
-/// `records FILE` with `--from I` and `--count N` if wanted, numbers of 64 bits.
+/// The command that the words spell, of which the first is the program's name: `run CASE`, `vat FILE` or `frames FILE`, where
+/// before or after the last of these may stand `--`, and it may begin with a hyphen only after that or where it is `-`; or, as
+/// `clap` reads them, `check CASE` with `--workers N` if wanted, a number from 1 to 64, or `order CASE --out FILE`, or `graph
+/// CASE` with `--dot` if wanted, or `draw CASE --out FILE` with `--from I` and `--count N` if wanted, or `frame HEX` with
+/// `--later` if wanted, or `migrate FILE --out FILE` with `--later` if wanted, or `records FILE` with `--from I` and `--count N`
+/// if wanted, numbers of 64 bits.
 ///
 /// # Errors
 ///
@@ -244,6 +250,9 @@ pub fn command_of<'a, S: AsStr>(alloc: Global, words: &'a [S]) -> Result<Command
     ensures taken_frame_later { (first hex : List ℕ)
         → map S.text words.entry.now ≡ first ∷ codes "frame" ∷ codes "--later" ∷ hex ∷ []
         → is_flag hex ≡ false → IfErr result (λ e. kind_of e ≡ ErrorKind.OutOfMemory) }
+    ensures taken_graph_dot { (first case : List ℕ)
+        → map S.text words.entry.now ≡ first ∷ codes "graph" ∷ case ∷ codes "--dot" ∷ []
+        → is_flag case ≡ false → IfErr result (λ e. kind_of e ≡ ErrorKind.OutOfMemory) }
     ensures taken_migrate_later { (first file out : List ℕ)
         → map S.text words.entry.now
         ≡ first ∷ codes "migrate" ∷ file ∷ codes "--later" ∷ codes "--out" ∷ out ∷ []

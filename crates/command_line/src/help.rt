@@ -87,6 +87,9 @@ record:
   edge vat V to NAME record I   record I of vat V is the first that it received
                                 with a reference to NAME
 
+With --dot it prints them as one graph in the DOT language, which Graphviz draws: an
+edge goes from the vat that has a capability to the vat whose it is.
+
 NAME is obj W.N, object N of vat W; prom W.N, what vat W promised by its reference
 N; or field W.C PATH, what stands at a path of pointer fields in the results of
 call C of vat W. Records are counted from 0.
@@ -101,6 +104,7 @@ Example:
   $ cd samples
   $ vataudit graph pipelined_call.json
   edge vat 1 to obj 2.7 record 4
+  $ vataudit graph pipelined_call.json --dot | dot -Tsvg > pipelined_call.svg
 
 Exit status:
   0  yes, and the edges are printed
@@ -108,6 +112,9 @@ Exit status:
   2  a record isn't judged, the case or a file of it is bad or can't be read, a
      line can't be written, or the command line is wrong
   3  memory ran out";
+
+/// `--dot` of `graph`.
+pub const DOT_GRAPH: &str = "Prints a graph in the DOT language";
 
 /// `run`, in the list of commands.
 pub const RUN: &str = "Prints the run of a case, step by step";

@@ -27,7 +27,7 @@ CarriesOut gives (Frame hex later) old new writes = (new ≡ old) × writes (NoF
 CarriesOut gives (Frames file) old new writes = (read : Read) × gives old file.now read new × writes (NoFile (AnswersFile read))
 CarriesOut gives (Records file first many) old new writes = (read : Read) × gives old file.now read new × writes (NoFile (AnswersLogRecords first many read))
 CarriesOut gives (Check name workers) old new writes = writes (NoFile (AnswersReportOf AnswersReport gives old name.now new))
-CarriesOut gives (Graph name) old new writes = writes (NoFile (AnswersReportOf AnswersGraph gives old name.now new))
+CarriesOut gives (Graph name is_dot) old new writes = writes (NoFile (AnswersReportOf (AnswersGraph is_dot) gives old name.now new))
 CarriesOut gives (Run name) old new writes = writes (NoFile (AnswersReportOf AnswersRun gives old name.now new))
 CarriesOut gives (Draw name out first many) old new writes =
     writes (λ text status bytes. AnswersDraw (record { from = first; count = many }) gives old name.now text status bytes new)

@@ -61,7 +61,9 @@ fn answer_heard<R: Threads + Wait + Sync, S: Source, O: Output, F: Output>(
             of_lines(say_report(host, case, *workers, source, heard, out))
         }
         Command::Order { case, .. } => say_order(host.alloc, case, source, heard, out, file),
-        Command::Graph { case } => of_lines(say_graph(host, case, source, heard, out)),
+        Command::Graph { case, dot } => {
+            of_lines(say_graph(host, case, *dot, source, heard, out))
+        }
         Command::Run { case } => of_lines(say_run(host, case, source, heard, out)),
         Command::Draw {
             case,

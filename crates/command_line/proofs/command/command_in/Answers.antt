@@ -1,8 +1,8 @@
 use Rattle.std.proofs.Common.{◌∙◌, sym}
 use Rattle.clap.specs.Words.{first_value, found_of}
 use Rattle.command_line.proofs.Matched.{besides_of, checked_as, has_subcommand, input_there, is_some_by, matched, number_as, read_as, set_as, spells_one, thing_is}
-use Rattle.command_line.proofs.Named.{checking, drawing, framing, last_command, listing, migrating, of_frames, of_graph, of_run, of_vat, ordering}
-use Rattle.command_line.specs.Parser.{count, later, most, path, start, workers}
+use Rattle.command_line.proofs.Named.{checking, drawing, framing, graphing, last_command, listing, migrating, of_frames, of_run, of_vat, ordering}
+use Rattle.command_line.specs.Parser.{count, dot, later, most, path, start, workers}
 use Rattle.command_line.proofs.command.command_in.Goals as goal
 
 pub unreachable-requires : goal.unreachable-requires
@@ -111,7 +111,7 @@ returns-in-records-clause-spelled c words are =
 pub returns-in-graph-clause-spelled : goal.returns-in-graph-clause-spelled
 returns-in-graph-clause-spelled c words are =
     let m = matched words c.args.matches.now c.in-Some.given.now c.in-Some.name.now are c.in-Some.ensures.name c.in-Some.ensures.rows in
-    spells_one m of_graph _ c.in-graph.is c.value_of-input.ensures
+    (m.rows, (read_as m graphing c.in-graph.is, thing_is m _ c.value_of-input.ensures, set_as m dot _ c.is_set.ensures))
 
 pub returns-in-run-clause-spelled : goal.returns-in-run-clause-spelled
 returns-in-run-clause-spelled c words are =
@@ -126,7 +126,7 @@ returns-in-vat-clause-spelled c words are =
 pub returns-in-frame-clause-spelled : goal.returns-in-frame-clause-spelled
 returns-in-frame-clause-spelled c words are =
     let m = matched words c.args.matches.now c.in-Some.given.now c.in-Some.name.now are c.in-Some.ensures.name c.in-Some.ensures.rows in
-    (m.rows, (read_as m framing c.in-frame.is, thing_is m _ c.value_of-input.ensures, set_as m later _ c.is_set.ensures))
+    (m.rows, (read_as m framing c.in-frame.is, thing_is m _ c.value_of-input.ensures, set_as m later _ c.is_set-in-frame.ensures))
 
 pub returns-in_default-name-clause-spelled : goal.returns-in_default-name-clause-spelled
 returns-in_default-name-clause-spelled c words are =

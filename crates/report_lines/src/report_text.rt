@@ -10,7 +10,7 @@ use std::fmt;
 use std::fmt::Formatter;
 
 /// The code of what a record breaks.
-fn breach_code(breach: Breach) -> &'static str
+pub fn breach_code(breach: Breach) -> &'static str
     ensures { result.now ≡ breach_code breach }
 {
     match breach {

@@ -189,8 +189,34 @@ fn outside_sentence(why: Outside) -> &'static str {
     }
 }
 
-/// Appends the notes of a frame that isn't read: of a file that is something else than frames what it is, of the frame of
-/// the command line why.
+/// Appends the note of what a file is that was to hold frames; else why the last of them isn't read.
+fn put_last_frame(
+    alloc: Global,
+    text: &mut String,
+    file: &(String, Bytes),
+    fault: Fault,
+) -> Result<(), AllocError> {
+    if put_kind(alloc, text, file, FileKind::Other)? {
+        return Ok(());
+    }
+    let name = file.0.escape_debug();
+    if let Fault::Outside(why) = fault {
+        let sentence = outside_sentence(why);
+        return write!(
+            text,
+            "note: the last frame of {name} isn't judged: {sentence}\n"
+        );
+    }
+    match message_sentence(fault) {
+        Some(sentence) => write!(
+            text,
+            "note: the last frame of {name} isn't read: {sentence}\n"
+        ),
+        None => Ok(()),
+    }
+}
+
+/// Appends the notes of a frame that isn't read, the last of a file or the one of the command line.
 fn put_frame<S: RememberingSource>(
     alloc: Global,
     text: &mut String,
@@ -198,8 +224,7 @@ fn put_frame<S: RememberingSource>(
     fault: Fault,
 ) -> Result<(), AllocError> {
     if let Some(file) = last_file(source) {
-        let _ = put_kind(alloc, text, file, FileKind::Other)?;
-        return Ok(());
+        return put_last_frame(alloc, text, file, fault);
     }
     if let Fault::Outside(why) = fault {
         let sentence = outside_sentence(why);

@@ -3,13 +3,14 @@
 use crate::life_notes::put_life;
 use crate::lives::{Life, number_described};
 use crate::past::Past;
+use crate::question_notes::put_opening;
 use crate::turns::put_reference;
 use crate::view_text::{NumberText, ViewText};
 use report_lines::Shown;
 use rpc_view::{Descriptor, RpcMessage};
 use std::alloc::AllocError;
 use std::fmt::Write;
-use vat_view::{BorrowedView, DecodedRecord, View};
+use vat_view::{BorrowedView, DecodedRecord, TableKey, View};
 
 /// How many entries of a table are capabilities.
 fn caps_in(descriptors: &[Descriptor]) -> usize {
@@ -67,6 +68,21 @@ fn life_of(past: &Past<'_>, descriptor: &Descriptor) -> Option<Life> {
     }
 }
 
+/// The question that an entry of the record's table names.
+fn question_of(past: &Past<'_>, descriptor: &Descriptor) -> Option<TableKey> {
+    match (&past.event, descriptor) {
+        (
+            DecodedRecord::Wire {
+                sent,
+                connection,
+                ..
+            },
+            Descriptor::ReceiverAnswer(question, _),
+        ) => Some(TableKey::of_sender(*sent, *connection, *question)),
+        _ => None,
+    }
+}
+
 /// Notes what an entry stands for, and the record since which it does.
 pub(crate) fn put_entry(
     past: &Past<'_>,
@@ -86,8 +102,12 @@ pub(crate) fn put_entry(
         )?;
     }
     match life_of(past, descriptor) {
-        Some(life) if life.held > 0 => put_life(past, text, life),
-        _ => Ok(()),
+        Some(life) if life.held > 0 => put_life(past, text, life)?,
+        _ => {}
+    }
+    match question_of(past, descriptor) {
+        Some(key) => put_opening(past, text, key),
+        None => Ok(()),
     }
 }
 
@@ -294,10 +314,32 @@ fn put_changed(past: &Past<'_>, text: &mut String) -> Result<(), AllocError> {
     Ok(())
 }
 
+/// Notes that a Return which needs no Finish has references beside it, where it has; and says whether it has.
+fn put_light(past: &Past<'_>, text: &mut String) -> Result<bool, AllocError> {
+    match &past.event {
+        DecodedRecord::Wire {
+            references,
+            message: RpcMessage::Return { light: true, .. },
+            ..
+        } if !references.as_slice().is_empty() => {
+            let noted = references.as_slice().len();
+            write!(
+                text,
+                "note: it says noFinishNeeded, so no capability was expected in its table, and references noted are {noted}\n"
+            )?;
+            Ok(true)
+        }
+        _ => Ok(false),
+    }
+}
+
 /// Notes what was expected of a table, and what stands there.
 pub(crate) fn put_misdescribed(past: &Past<'_>, text: &mut String) -> Result<(), AllocError> {
     let sent = matches!(past.event, DecodedRecord::Wire { sent: true, .. });
     if sent && put_unpaired(past, text)? {
+        return Ok(());
+    }
+    if sent && put_light(past, text)? {
         return Ok(());
     }
     if sent && put_amiss(past, text)? {

@@ -1,13 +1,15 @@
 //! Calls that go elsewhere than where they were meant to.
 
 use crate::call_notes::put_origin;
+use crate::life_notes::put_life;
 use crate::past::Past;
+use crate::question_notes::put_opening;
 use crate::turns::put_way;
 use crate::view_text::ViewText;
-use rpc_view::RpcMessage;
+use rpc_view::{RpcMessage, Target};
 use std::alloc::AllocError;
 use std::fmt::Write;
-use vat_view::{BorrowedView, DecodedRecord, View};
+use vat_view::{BorrowedView, DecodedRecord, Number, TableKey, View};
 
 /// The record by which the vat hosts an object.
 fn host_of(past: &Past<'_>, sought: u64) -> Option<usize> {
@@ -94,6 +96,29 @@ fn put_method(
     Ok(true)
 }
 
+/// Notes the record since which the target of the record's call stands for what it does.
+fn put_since(past: &Past<'_>, text: &mut String) -> Result<(), AllocError> {
+    let DecodedRecord::Wire {
+        sent,
+        connection,
+        message: RpcMessage::Call { target, .. },
+        ..
+    } = &past.event
+    else {
+        return Ok(());
+    };
+    match target {
+        Target::Imported(number) => match past.lives.of(*connection, Number::Import(*number)) {
+            Some(life) => put_life(past, text, life),
+            None => Ok(()),
+        },
+        Target::Promised(question, _) => {
+            let key = TableKey::of_sender(*sent, *connection, *question);
+            put_opening(past, text, key)
+        }
+    }
+}
+
 /// Notes of a call that is sent to another target.
 fn put_sent(past: &Past<'_>, text: &mut String, call: u64) -> Result<(), AllocError> {
     let Some(reached) = put_goal(past, text, call)? else {
@@ -109,7 +134,8 @@ fn put_sent(past: &Past<'_>, text: &mut String, call: u64) -> Result<(), AllocEr
     match past.state.view_of_target(&past.event)? {
         Some(target) => {
             let shown = ViewText(BorrowedView::of(&target));
-            write!(text, "note: its target stands for {shown}\n")
+            write!(text, "note: its target stands for {shown}\n")?;
+            put_since(past, text)
         }
         None => Ok(()),
     }

@@ -29,6 +29,18 @@ fn put_opened(text: &mut String, key: TableKey, at: usize) -> Result<(), AllocEr
     )
 }
 
+/// Appends the note of the record that opened a question last, where there is one.
+pub(crate) fn put_opening(
+    past: &Past<'_>,
+    text: &mut String,
+    key: TableKey,
+) -> Result<(), AllocError> {
+    match opening_of(past, key) {
+        Some(opening) => put_opened(text, key, opening.at),
+        None => Ok(()),
+    }
+}
+
 /// The question that a record opens.
 fn question_opened(event: &DecodedRecord) -> Option<TableKey> {
     match event {

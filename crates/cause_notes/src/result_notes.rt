@@ -130,17 +130,26 @@ fn put_taken(
     taken: TableKey,
 ) -> Result<(), AllocError> {
     let call = opening.call;
-    match past.state.answered_by(call) {
-        Some(by) => write!(text, "note: call {call} was answered by call {by}\n")?,
-        None => write!(
+    match (past.state.answered_by(call), settled_by(past, call)) {
+        (Some(by), Some(at)) => write!(
+            text,
+            "note: call {call} was answered by call {by}, by record {at}\n"
+        )?,
+        _ => write!(
             text,
             "note: no record before answers call {call} by another\n"
         )?,
     }
     let number = taken.number;
-    match past.state.call_of(taken) {
-        Some(other) => write!(text, "note: question {number} stands for call {other}\n"),
-        None => Ok(()),
+    match (past.state.call_of(taken), opening_of(past, taken)) {
+        (Some(other), Some(asked)) => {
+            let at = asked.at;
+            write!(
+                text,
+                "note: question {number} stands for call {other}, since record {at}\n"
+            )
+        }
+        _ => Ok(()),
     }
 }
 

@@ -14,5 +14,5 @@ returns-in-Fails-clause-report c =
 pub returns-in-Some-clause-headline : goal.returns-in-Some-clause-headline
 returns-in-Some-clause-headline c = yes_means c.args.findings.now.case None c.in-Some.line (c.in-Some.ensures None)
 
-pub returns-clause-headline : goal.returns-clause-headline
-returns-clause-headline c = yes_by_order c.args.findings.now.case c.args.order.now c.by_order.result c.by_order.ensures
+pub returns-in-Fits-clause-headline : goal.returns-in-Fits-clause-headline
+returns-in-Fits-clause-headline c = yes_by_order c.args.findings.now.case c.args.order.now c.by_order.result c.by_order.ensures

@@ -17,8 +17,8 @@ returns-in-None-clause-report c =
     let same = c.logs.ensures.lent ∙ ap (λ (held : Contents). held.logs) c.case.ensures.lent in
     (good_case c.args.findings.now c.in_default.ensures, λ order fits. c.in_ok-make_order.ensures.none c.in-None.is order (subst (λ (held : List Log). IsFitting held order) (sym same) fits))
 
-pub returns-clause-report : goal.returns-clause-report
-returns-clause-report c =
+pub returns-in-Some-2-clause-report : goal.returns-in-Some-2-clause-report
+returns-in-Some-2-clause-report c =
     let logs = map (arc_value {X = VatLog} {Z = Global}) c.logs.result.now in
     let same : logs ≡ c.args.findings.now.case.logs = c.logs.ensures.lent ∙ ap (λ (held : Contents). held.logs) c.case.ensures.lent in
     let least : TakesLeast logs c.in-Some-2.order = subst (λ made. IfSome made (λ order. TakesLeast logs order)) c.in-Some-2.is c.in_ok-make_order.ensures.least in
@@ -28,5 +28,5 @@ returns-clause-report c =
 pub returns-in-Some-clause-headline : goal.returns-in-Some-clause-headline
 returns-in-Some-clause-headline c = yes_means c.args.findings.now.case None c.in-Some.line (c.in-Some.ensures None)
 
-pub returns-clause-headline : goal.returns-clause-headline
-returns-clause-headline c = yes_by_order c.args.findings.now.case c.in-Some-2.order c.by_order.result c.by_order.ensures
+pub returns-in-Some-2-clause-headline : goal.returns-in-Some-2-clause-headline
+returns-in-Some-2-clause-headline c = yes_by_order c.args.findings.now.case c.in-Some-2.order c.by_order.result c.by_order.ensures

@@ -2,5 +2,6 @@ mod Falling
 mod Listing
 mod Judged
 mod Mapped
+mod TellsMapped
 mod Running
 mod Told

@@ -64,6 +64,12 @@ abbrev pub of_lines : {E X : Type 0} → Result ℕ E → Result ℕ (Failed E X
 of_lines (Ok status) = Ok status
 of_lines (Err fault) = Err (Out fault)
 
+-- the exit status of lines that are told as objects: where they were told it is that of the answer, or that of a failed write,
+-- and else that or the one of out of memory
+abbrev pub EndsAs : {E X : Type 0} → Result ℕ (Failed E X) → ℕ → Type 0
+EndsAs (Ok status) ended = (ended ≡ status) ⊎ (ended ≡ 2)
+EndsAs (Err fault) ended = (ended ≡ 2) ⊎ (ended ≡ 3)
+
 -- what came of a log that was to be migrated answers it
 abbrev pub Migrates : Bool → Read → Result MigrationAnswer Fault → Type 0
 Migrates later read (Ok made) = AnswersMigration later read (line (answer_text made.answer)) (answer_status made.answer) (option_map (λ bytes. bytes) made.bytes)

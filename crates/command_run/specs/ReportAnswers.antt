@@ -13,7 +13,8 @@ use Rattle.case_files.specs.declared.case_fault.CaseFault.{CaseFault}
 use Rattle.case_files.specs.declared.case_fault.CaseFault.TheVariants as fault
 use Rattle.case_files.specs.declared.case_reading.ReadCase.{ReadCase}
 use Rattle.report_lines.specs.declared.answer.Answer.TheVariants.{Fault, Report}
-use Rattle.report_lines.specs.DotText.{dot_edge_text, dot_end, dot_head}
+use Rattle.report_lines.specs.declared.dot_text.DotBound.TheVariants.{Head, End}
+use Rattle.report_lines.specs.DotText.{bound_text, dot_edge_text}
 use Rattle.report_lines.specs.EdgeText.{edge_text}
 use Rattle.report_lines.specs.Faults.{of_case}
 use Rattle.report_lines.specs.Lines.{SaysAnswer, line}
@@ -27,7 +28,7 @@ edge_lines edges = flat_map (λ edge. line (edge_text edge)) edges
 
 -- the same in the DOT language: a graph, whose first line and last hold a line for each edge
 abbrev pub dot_lines : List Edge → List ℕ
-dot_lines edges = line dot_head ++ (flat_map (λ edge. line (dot_edge_text edge)) edges ++ line dot_end)
+dot_lines edges = line (bound_text Head) ++ (flat_map (λ edge. line (dot_edge_text edge)) edges ++ line (bound_text End))
 
 -- the lines of edges: in the DOT language where that is asked for
 abbrev pub graph_lines : Bool → List Edge → List ℕ

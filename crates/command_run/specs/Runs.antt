@@ -75,3 +75,16 @@ module _ {W F : Type 0} (answers : Answering) (to_out : Writing W) (to_file : Wr
   -- that a write failed.
   abbrev pub WritesOrFails : ℕ → Type 0
   WritesOrFails ended = WritesAll ended ⊎ ((ended ≡ 2) × (FailsAfterFile ⊎ FailsInFile))
+
+module _ {F : Type 0} (answers : Answering) (to_file : Writing F) (file file_new : F) where
+  -- an answer of this status came, and its bytes were written to the file; nothing is said of its lines
+  abbrev pub IsAnswered : ℕ → Type 0
+  IsAnswered status = (text : List ℕ) × ((bytes : Option (List ℕ)) × answers text status bytes × Saves to_file bytes file file_new)
+
+  -- an answer came whose bytes weren't all written
+  abbrev pub FailsToSave : Type 0
+  FailsToSave = (text : List ℕ) × ((status : ℕ) × ((bytes : Option (List ℕ)) × answers text status bytes × IsSome bytes))
+
+  -- What comes of telling an answer as objects: its status; or 2 where a write fails, or 3 where memory is refused for an object.
+  abbrev pub Tells : ℕ → Type 0
+  Tells ended = IsAnswered ended ⊎ (((ended ≡ 2) ⊎ (ended ≡ 3)) × (((status : ℕ) × IsAnswered status) ⊎ FailsToSave))

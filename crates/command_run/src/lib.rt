@@ -8,14 +8,18 @@
 //! a log that is migrated (`specs/MigrationAnswers.antt`), of a case whose order is asked for (`specs/OrderAnswers.antt`), and of one that is judged (`specs/ReportAnswers.antt`); what a
 //! run asks for and writes in `specs/Runs.antt`. [`answer_command`] does just that, or answers the error of a write;
 //! [`run_on`] does it over std's writers and ends with 2 where a write failed, and [`run_with_notes`] tells people more of
-//! it besides (`cause_notes`), on a writer of its own: what it tells is in no contract.
+//! it besides (`cause_notes`), on a writer of its own: what it tells is in no contract. [`run_as_json`] tells each line as an
+//! object (`json_lines`), and [`run_as_json_with_notes`] the notes in the last one.
 #![tactic(auto)]
 
 mod answering;
 mod commands;
 mod host;
+mod json_output;
 mod output;
 mod run;
+mod run_as_json;
 
 pub use output::{Failed, Output};
 pub use run::{FAILED, NotedSource, answer_command, run_on, run_with_notes};
+pub use run_as_json::{run_as_json, run_as_json_with_notes};

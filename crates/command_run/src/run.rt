@@ -21,7 +21,7 @@ use case_files::{RememberingSource, Source};
 use cause_notes::{Heard, notes_of, write_note};
 use command_line::Command;
 use picture::Asked;
-use std::alloc::Global;
+use std::alloc::{AllocError, Global};
 use std::io;
 use std::io::Write;
 use std::sync::Wait;
@@ -41,7 +41,7 @@ fn of_lines<O, F>(said: Result<u8, O>) -> Result<u8, Failed<O, F>>
 }
 
 /// Runs a command, as [`answer_command`] does; its last answer is heard.
-fn answer_heard<R: Threads + Wait + Sync, S: Source, O: Output, F: Output>(
+pub(crate) fn answer_heard<R: Threads + Wait + Sync, S: Source, O: Output, F: Output>(
     host: &Host<'_, R>,
     command: &Command<'_>,
     source: &mut S,
@@ -163,6 +163,20 @@ pub struct NotedSource<S, N> {
     pub notes: N,
 }
 
+/// The notes beside what was heard of a source.
+pub(crate) fn heard_notes<S: RememberingSource>(
+    alloc: Global,
+    command: &Command<'_>,
+    heard: &Heard,
+    source: &S,
+) -> Result<String, AllocError> {
+    let hex = match command {
+        Command::Frame { hex, .. } => Some(*hex),
+        _ => None,
+    };
+    notes_of(alloc, heard, source, hex)
+}
+
 /// Writes the notes beside what was heard of a source. Where a write fails, or memory is refused for them, they are left out.
 fn write_notes<S: RememberingSource, N: Write>(
     alloc: Global,
@@ -171,11 +185,7 @@ fn write_notes<S: RememberingSource, N: Write>(
     source: &S,
     notes: &mut N,
 ) {
-    let hex = match command {
-        Command::Frame { hex, .. } => Some(*hex),
-        _ => None,
-    };
-    if let Ok(text) = notes_of(alloc, heard, source, hex) {
+    if let Ok(text) = heard_notes(alloc, command, heard, source) {
         let _ = notes.write_all(text.as_bytes());
     }
 }

@@ -5,14 +5,14 @@ use Rattle.std.specs.Fmt.{decimal}
 use Rattle.run_model.specs.Edges.{Edge}
 use Rattle.run_model.specs.declared.cap.Cap.{Cap}
 use Rattle.run_model.specs.declared.cap.Cap.TheVariants.{Object, Promise, Field, Nothing}
+use Rattle.report_lines.specs.declared.dot_text.DotBound.{DotBound}
+use Rattle.report_lines.specs.declared.dot_text.DotBound.TheVariants.{Head, End}
 use Rattle.report_lines.specs.EdgeText.{cap_text}
 
 -- the graph's first line, and its last
-abbrev pub dot_head : List ℕ
-dot_head = codes "digraph capabilities {"
-
-abbrev pub dot_end : List ℕ
-dot_end = codes "}"
+abbrev pub bound_text : DotBound → List ℕ
+bound_text Head = codes "digraph capabilities {"
+bound_text End = codes "}"
 
 -- a vat's node
 abbrev pub node_text : ℕ → List ℕ

@@ -1,8 +1,8 @@
 //! The text of an edge in the DOT language, without an end of line (docs/FORMATS.md).
 
-ghost use Rattle.std.specs.Prelude.{◌≡◌, Some};
+ghost use Rattle.std.specs.Prelude.{Some};
 ghost use Rattle.authority.specs.Shown.{edge_of};
-ghost use Rattle.report_lines.specs.DotText.{dot_edge_text, dot_end, dot_head, node_text, owner_text};
+ghost use Rattle.report_lines.specs.DotText.{bound_text, dot_edge_text, node_text, owner_text};
 
 use crate::shown::Shown;
 use authority::Edge;
@@ -10,18 +10,24 @@ use run_model::Cap;
 use std::fmt;
 use std::fmt::{Display, Formatter};
 
-/// The first line of a graph.
-pub fn dot_head() -> &'static str
-    ensures { result.now ≡ dot_head }
-{
-    "digraph capabilities {"
+/// A line that bounds a graph in the DOT language, to be shown without the line's end.
+#[derive(Clone, Copy, Debug)]
+pub enum DotBound {
+    /// The first line.
+    Head,
+    /// The last line.
+    End,
 }
 
-/// The last line of a graph.
-pub fn dot_end() -> &'static str
-    ensures { result.now ≡ dot_end }
-{
-    "}"
+impl Display for DotBound {
+    ghost output = { λ bound. Some (bound_text bound) };
+
+    fn fmt<W: fmt::Write>(&self, f: &mut Formatter<W>) -> fmt::Result {
+        f.write_str(match self {
+            DotBound::Head => "digraph capabilities {",
+            DotBound::End => "}",
+        })
+    }
 }
 
 /// The node of a vat.

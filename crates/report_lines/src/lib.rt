@@ -25,11 +25,13 @@ mod shown;
 mod step_text;
 
 pub use answer::Answer;
-pub use dot_text::{DotEdge, dot_end, dot_head};
+pub use dot_text::{DotBound, DotEdge};
 pub use edge_text::ShownEdge;
 pub use fault::Fault;
+pub use finding_text::{code_of, word_of};
+pub use message_text::loopback_text;
 pub use record_text::NumberedRecord;
 pub use report_text::{ShownReport, breach_code};
 pub use sentences::{report_sentence, rule_sentence, why_sentence};
 pub use shown::Shown;
-pub use step_text::{NumberedStep, call_of_step};
+pub use step_text::{NumberedStep, call_of_step, kind_words};

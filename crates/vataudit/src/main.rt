@@ -5,7 +5,7 @@
 //! `vataudit frames FILE` that of each frame of a file; `vataudit migrate FILE --out FILE` writes a log in version 2.
 //! Beside the lines it notes on standard error what leads people to the cause of a no, of a record that isn't judged, of an
 //! input that is bad or can't be read and of a write that fails; `--quiet` before the command, or as the last word, leaves
-//! notes out. `vataudit --version` prints the version, and the kit by which it was proved.
+//! notes out. With `--json` in these places each line is a JSON object, and the last one has the notes. `vataudit --version` prints the version, and the kit by which it was proved.
 //!
 //! It stands on `command_line`, which reads the words, and on `command_run`, which runs the command that they spell
 //! and says in its specs/Runs.antt what a run prints. Here are the files: those that are read are a `Source` of
@@ -14,15 +14,21 @@
 
 ghost use Rattle.std.specs.Prelude.{◌≡◌, ◌≢◌, ◌⊎◌};
 ghost use Rattle.clap.specs.Words.{kind_of};
+ghost use Rattle.command_line.specs.Spelled.{HasWorkers};
 ghost use Rattle.report_lines.specs.Faults.{fault_status};
 
 mod file;
+mod manner;
 mod new_file;
 
 use clap::error::ErrorKind;
-use command_line::{VERSION, command_of};
-use command_run::{FAILED, NotedSource, run_on, run_with_notes};
+use command_line::{Command, VERSION, command_of};
+use command_run::{
+    FAILED, NotedSource, run_as_json, run_as_json_with_notes, run_on, run_with_notes,
+};
 use file::{Folder, RememberingFolder};
+use json_lines::{JsonLines, OUT_OF_MEMORY};
+use manner::take_manner;
 use new_file::NewFile;
 use report_lines::Fault;
 use std::fmt::{Display, Formatter};
@@ -33,23 +39,28 @@ use std::sync::Wait;
 use std::thread::Threads;
 use std::{env, fmt, fs, io};
 
-/// Prints that memory ran out, and gives the exit status: that of a failed write where the line can't be written.
-fn out_of_memory(rt: &impl Print) -> u8
+/// Prints that memory ran out, as a line or as an object, and gives the exit status: that of a failed write where the line can't be written.
+fn out_of_memory(rt: &impl Print, is_json: bool) -> u8
     ensures { (result ≡ fault_status Fault.OutOfMemory) ⊎ (result ≡ FAILED) }
 {
     let fault = Fault::OutOfMemory;
-    match println!(rt; "{fault}") {
+    let printed = if is_json {
+        println!(rt; "{OUT_OF_MEMORY}")
+    } else {
+        println!(rt; "{fault}")
+    };
+    match printed {
         Ok(()) => fault.status(),
         Err(_) => FAILED,
     }
 }
 
 /// Says on standard error what is wrong with the command line, and gives the exit status.
-fn refuse(rt: &(impl Print + Eprint), error: &clap::Error) -> u8
+fn refuse(rt: &(impl Print + Eprint), error: &clap::Error, is_json: bool) -> u8
     ensures { kind_of error.now ≢ ErrorKind.OutOfMemory → result ≡ FAILED }
 {
     if error.kind() == ErrorKind::OutOfMemory {
-        return out_of_memory(rt);
+        return out_of_memory(rt, is_json);
     }
     let _ = rt.eprint(error);
     FAILED
@@ -92,56 +103,72 @@ fn say_version<W: Write>(out: &mut W) -> u8 {
     0
 }
 
-/// Whether `--quiet` is the last word and nothing else than that: not the name that `--out` asks for, and behind no `--`.
-fn ends_quiet(words: &[String]) -> bool {
-    let [_, .., before, last] = words else {
-        return false;
+/// Runs a command with lines as text and, where none asks for quiet, notes.
+fn run_plainly<
+    R: Threads + Wait + Sync + Files + Input + AllocGlobal,
+    W: Write,
+    N: Write + Drop,
+>(
+    rt: &R,
+    is_quiet: bool,
+    command: &Command<'_>,
+    out: &mut W,
+    notes: N,
+) -> u8
+    requires { HasWorkers command.now }
+{
+    let alloc = rt.alloc();
+    let mut file = NewFile::new(rt, command.out());
+    if is_quiet {
+        let mut folder = Folder::new(rt);
+        return run_on(rt, alloc, command, &mut folder, out, &mut file);
+    }
+    let mut noted = NotedSource {
+        source: RememberingFolder::new(rt),
+        notes,
     };
-    if last.as_str() != "--quiet" || before.as_str() == "--out" {
-        return false;
-    }
-    words.iter().all(|word| word.as_str() != "--")
+    run_with_notes(rt, alloc, command, &mut noted, out, &mut file)
 }
 
-/// Takes away `--quiet`, where it stands before the command or is the last word, and says whether it did.
-fn take_quiet(words: &mut Vec<String>) -> bool {
-    if words.len() > 1 && words[1].as_str() == "--quiet" {
-        let _ = words.remove(1);
-        return true;
+/// Runs a command with lines as JSON objects, the last of which has the notes where none asks for quiet.
+fn run_in_json<R: Threads + Wait + Sync + Files + Input + AllocGlobal, W: Write>(
+    rt: &R,
+    is_quiet: bool,
+    command: &Command<'_>,
+    out: &mut W,
+) -> u8
+    requires { HasWorkers command.now }
+{
+    let alloc = rt.alloc();
+    let mut file = NewFile::new(rt, command.out());
+    let mut lines = JsonLines::new(alloc, out);
+    if is_quiet {
+        let mut folder = Folder::new(rt);
+        return run_as_json(rt, alloc, command, &mut folder, &mut lines, &mut file);
     }
-    if ends_quiet(words) {
-        let _ = words.pop();
-        return true;
-    }
-    false
+    let mut folder = RememberingFolder::new(rt);
+    run_as_json_with_notes(rt, alloc, command, &mut folder, &mut lines, &mut file)
 }
 
-/// Does what the words ask, writes its lines to `out` and, where none asks for quiet, notes to `notes`; and gives the exit
-/// status.
+/// Does what the words ask, writes its lines to `out` and, where none asks for quiet, notes to `notes`, or both as JSON
+/// objects to `out`; and gives the exit status.
 fn start<
     R: Threads + Wait + Sync + Files + Input + Print + Eprint + AllocGlobal,
     W: Write,
     N: Write + Drop,
 >(rt: &R, out: &mut W, notes: N, words: &mut Vec<String>) -> u8 {
-    let alloc = rt.alloc();
     if asks_version(words) {
         return say_version(out);
     }
-    let is_quiet = take_quiet(words);
-    let command = match command_of(alloc, words) {
+    let manner = take_manner(words);
+    let command = match command_of(rt.alloc(), words) {
         Ok(command) => command,
-        Err(error) => return refuse(rt, &error),
+        Err(error) => return refuse(rt, &error, manner.is_json),
     };
-    let mut file = NewFile::new(rt, command.out());
-    if is_quiet {
-        let mut folder = Folder::new(rt);
-        run_on(rt, alloc, &command, &mut folder, out, &mut file)
+    if manner.is_json {
+        run_in_json(rt, manner.is_quiet, &command, out)
     } else {
-        let mut noted = NotedSource {
-            source: RememberingFolder::new(rt),
-            notes,
-        };
-        run_with_notes(rt, alloc, &command, &mut noted, out, &mut file)
+        run_plainly(rt, manner.is_quiet, &command, out, notes)
     }
 }
 
@@ -151,7 +178,7 @@ fn main(rt: HostRuntime) -> ExitCode {
     let words: io::Result<Vec<String>> = env::args(&rt).and_then(|args| Ok(args.collect(alloc)?));
     ExitCode::from(match words {
         Ok(mut words) => start(&rt, &mut rt.stdout(), rt.stderr(), &mut words),
-        Err(e) if e.kind() == io::ErrorKind::OutOfMemory => out_of_memory(&rt),
+        Err(e) if e.kind() == io::ErrorKind::OutOfMemory => out_of_memory(&rt, false),
         Err(_) => {
             let _ = rt.eprint("error: an argument isn't UTF-8\n");
             FAILED

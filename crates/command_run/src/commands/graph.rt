@@ -14,7 +14,7 @@ use audit_core::Report;
 use authority::{Graph, graph};
 use case_files::Source;
 use cause_notes::Heard;
-use report_lines::{Answer, DotEdge, Fault, ShownEdge, dot_end, dot_head};
+use report_lines::{Answer, DotBound, DotEdge, Fault, ShownEdge};
 use run_model::Run;
 use std::alloc::Global;
 use std::sync::Wait;
@@ -27,7 +27,7 @@ fn put_edges<O: Output>(graph: &Graph, out: &mut O) -> Result<(), O::Error>
     ensures more { OnOk result (O.can_write out.new) }
 {
     for edge in graph.edges() {
-        out.write_line(ShownEdge(edge))?;
+        out.write_line(&ShownEdge(edge))?;
     }
     Ok(())
 }
@@ -38,11 +38,11 @@ fn put_dot<O: Output>(graph: &Graph, out: &mut O) -> Result<(), O::Error>
     ensures lines { OnOk result (Adds O.contents out.old (dot_lines graph.now) out.new) }
     ensures more { OnOk result (O.can_write out.new) }
 {
-    out.write_line(dot_head())?;
+    out.write_line(&DotBound::Head)?;
     for edge in graph.edges() {
-        out.write_line(DotEdge(edge))?;
+        out.write_line(&DotEdge(edge))?;
     }
-    out.write_line(dot_end())
+    out.write_line(&DotBound::End)
 }
 
 /// Writes the lines of edges, in the DOT language where that is asked for. More may follow.

@@ -34,7 +34,7 @@ fn put_steps<O: Output>(run: &Run, numbers: &[u64], out: &mut O) -> Result<(), O
             record: numbers[at],
             step,
         };
-        out.write_line(shown)?;
+        out.write_line(&shown)?;
     }
     Ok(())
 }

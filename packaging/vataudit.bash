@@ -5,6 +5,7 @@ _vataudit_options() {
     case $1 in
         check) echo "--workers=" ;;
         order) echo "--out=" ;;
+        graph) echo "--dot" ;;
         records) echo "--from= --count=" ;;
         frame) echo "--later" ;;
         migrate) echo "--out= --later" ;;
@@ -30,7 +31,7 @@ _vataudit() {
     for ((at = 1; at < COMP_CWORD; at++)); do
         case ${COMP_WORDS[at]} in
             --help | --version) return ;;
-            --quiet) [ -z "$command" ] || return ;;
+            --quiet | --json) [ -z "$command" ] || return ;;
             *) [ -n "$command" ] || command=${COMP_WORDS[at]} ;;
         esac
     done
@@ -38,8 +39,11 @@ _vataudit() {
     [ "$word" != = ] || word=
     [ "$before" != = ] || before=${COMP_WORDS[COMP_CWORD - 2]}
     if [ -z "$command" ]; then
-        local options="--quiet --help --version"
-        [ "$before" != --quiet ] || options=
+        local options="--quiet --json --help --version"
+        case $before in
+            --quiet) options="--json" ;;
+            --json) options="--quiet" ;;
+        esac
         mapfile -t COMPREPLY < <(compgen -W "$commands $options" -- "$word")
         return
     fi
@@ -52,7 +56,7 @@ _vataudit() {
     esac
     case $word in
         -*)
-            mapfile -t COMPREPLY < <(compgen -W "$(_vataudit_options "$command") --quiet --help" -- "$word")
+            mapfile -t COMPREPLY < <(compgen -W "$(_vataudit_options "$command") --quiet --json --help" -- "$word")
             [[ ${COMPREPLY[*]} != *= ]] || compopt -o nospace 2>/dev/null
             return
             ;;

@@ -12,6 +12,9 @@ the lines, an example and the exit status.
 Notes for people go to standard error: the record of a no, what its rule asks and
 what led to it, or why an input is bad. They change no line and no status.
 vataudit --quiet COMMAND .. leaves them out, as --quiet does as the last word.
+
+vataudit --json COMMAND .. prints each line as a JSON object, and the notes in
+the last one; --json may be the last word, too.
 vataudit --version prints the version, and the kit by which it was proved.
 
 Examples:

@@ -19,7 +19,9 @@ mod json_output;
 mod output;
 mod run;
 mod run_as_json;
+mod watch;
 
 pub use output::{Failed, Output};
 pub use run::{FAILED, NotedSource, answer_command, run_on, run_with_notes};
 pub use run_as_json::{run_as_json, run_as_json_with_notes};
+pub use watch::{Unwatched, Watch};

@@ -17,6 +17,7 @@ use crate::commands::run_steps::say_run;
 use crate::commands::vat_audit::say_vat;
 use crate::host::Host;
 use crate::output::{Failed, Output};
+use crate::watch::{Unwatched, Watch};
 use case_files::{RememberingSource, Source};
 use cause_notes::{Heard, notes_of, write_note};
 use command_line::Command;
@@ -41,8 +42,14 @@ fn of_lines<O, F>(said: Result<u8, O>) -> Result<u8, Failed<O, F>>
 }
 
 /// Runs a command, as [`answer_command`] does; its last answer is heard.
-pub(crate) fn answer_heard<R: Threads + Wait + Sync, S: Source, O: Output, F: Output>(
-    host: &Host<'_, R>,
+pub(crate) fn answer_heard<
+    R: Threads + Wait + Sync,
+    G: Watch + Sync,
+    S: Source,
+    O: Output,
+    F: Output,
+>(
+    host: &Host<'_, R, G>,
     command: &Command<'_>,
     source: &mut S,
     heard: &mut Heard,
@@ -127,14 +134,12 @@ pub fn answer_command<R: Threads + Wait + Sync, S: Source, O: Output, F: Output>
         (λ answers. Writes answers (Wrote O.contents O.is_finished)
         (Wrote F.contents F.is_finished) out.old out.new file.old file.new result) }
 {
-    answer_heard(
-        &Host { rt, alloc },
-        command,
-        source,
-        &mut Heard::new(),
-        out,
-        file,
-    )
+    let host = Host {
+        rt,
+        alloc,
+        watch: &Unwatched,
+    };
+    answer_heard(&host, command, source, &mut Heard::new(), out, file)
 }
 
 /// Runs a command over std's writers: as `answer_command`, and the exit status is 2 where a write fails.
@@ -154,13 +159,15 @@ pub fn run_on<R: Threads + Wait + Sync, S: Source, W: Write, F: Write>(
     answer_command(rt, alloc, command, source, out, file).unwrap_or(FAILED)
 }
 
-/// A source, and what the notes of what was read from it are written to.
+/// A source, what the notes of what was read from it are written to, and what watches its case being audited.
 #[derive(Drop)]
-pub struct NotedSource<S, N> {
+pub struct NotedSource<'a, S, N, G> {
     /// The source.
     pub source: S,
     /// The writer of the notes.
     pub notes: N,
+    /// The watch.
+    pub watch: &'a G,
 }
 
 /// The notes beside what was heard of a source.
@@ -211,11 +218,18 @@ fn write_failure<N: Write>(
 /// input that is bad or can't be read, and a write that failed (docs/FORMATS.md). No contract says what they tell. They change
 /// neither what is written elsewhere nor the exit status: where a write of them fails, or memory is refused for them, they are
 /// left out.
-pub fn run_with_notes<R: Threads + Wait + Sync, S: RememberingSource, W: Write, F: Write, N: Write>(
+pub fn run_with_notes<
+    R: Threads + Wait + Sync,
+    G: Watch + Sync,
+    S: RememberingSource,
+    W: Write,
+    F: Write,
+    N: Write,
+>(
     rt: &R,
     alloc: Global,
     command: &Command<'_>,
-    noted: &mut NotedSource<S, N>,
+    noted: &mut NotedSource<'_, S, N, G>,
     out: &mut W,
     file: &mut F,
 ) -> u8
@@ -225,7 +239,11 @@ pub fn run_with_notes<R: Threads + Wait + Sync, S: RememberingSource, W: Write, 
         (Adds F.contents) out.old out.new file.old file.new result) }
 {
     let mut heard = Heard::new();
-    let host = Host { rt, alloc };
+    let host = Host {
+        rt,
+        alloc,
+        watch: noted.watch,
+    };
     let answered = answer_heard(&host, command, &mut noted.source, &mut heard, out, file);
     write_notes(alloc, command, &heard, &noted.source, &mut noted.notes);
     write_failure(alloc, command, &answered, &mut noted.notes);

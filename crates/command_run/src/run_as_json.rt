@@ -9,6 +9,7 @@ use crate::host::Host;
 use crate::json_output::JsonOutput;
 use crate::output::Failed;
 use crate::run::{FAILED, answer_command, answer_heard, heard_notes};
+use crate::watch::Unwatched;
 use case_files::{RememberingSource, Source};
 use cause_notes::{Heard, write_note};
 use command_line::Command;
@@ -100,7 +101,11 @@ pub fn run_as_json_with_notes<
         (λ answers. Tells answers (Adds F.contents) file.old file.new result) }
 {
     let mut heard = Heard::new();
-    let host = Host { rt, alloc };
+    let host = Host {
+        rt,
+        alloc,
+        watch: &Unwatched,
+    };
     let mut out = JsonOutput(lines);
     let told = answer_heard(&host, command, source, &mut heard, &mut out, file);
     match notes_beside(alloc, command, &heard, source, &told) {

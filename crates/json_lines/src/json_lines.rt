@@ -57,11 +57,14 @@ impl<'a, W: Write> JsonLines<'a, W> {
         }
     }
 
-    /// Writes the object that is held back, if there is one.
+    /// Writes the object that is held back, if there is one: at once, or piece by piece where memory is refused for its text.
     fn write_held(&mut self) -> io::Result<()> {
-        match self.held.take() {
-            Some(object) => self.out.writeln(object),
-            None => Ok(()),
+        let Some(object) = self.held.take() else {
+            return Ok(());
+        };
+        match object.to_string(self.alloc) {
+            Ok(text) => self.out.writeln(text.as_str()),
+            Err(AllocError) => self.out.writeln(object),
         }
     }
 

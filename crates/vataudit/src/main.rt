@@ -20,24 +20,29 @@ ghost use Rattle.report_lines.specs.Faults.{fault_status};
 mod file;
 mod manner;
 mod new_file;
+mod progress;
+mod watched;
 
 use clap::error::ErrorKind;
 use command_line::{Command, VERSION, command_of};
 use command_run::{
-    FAILED, NotedSource, run_as_json, run_as_json_with_notes, run_on, run_with_notes,
+    FAILED, NotedSource, Unwatched, run_as_json, run_as_json_with_notes, run_on, run_with_notes,
 };
 use file::{Folder, RememberingFolder};
 use json_lines::{JsonLines, OUT_OF_MEMORY};
 use manner::take_manner;
 use new_file::NewFile;
+use progress::Progress;
 use report_lines::Fault;
 use std::fmt::{Display, Formatter};
-use std::io::Write;
+use std::io::{IsTerminal, Write};
 use std::process::ExitCode;
 use std::rt::Files;
 use std::sync::Wait;
 use std::thread::Threads;
-use std::{env, fmt, fs, io};
+use std::time::Clock;
+use std::{env, fmt, fs, io, thread};
+use watched::{CountedSource, WipingWriter};
 
 /// Prints that memory ran out, as a line or as an object, and gives the exit status: that of a failed write where the line can't be written.
 fn out_of_memory(rt: &impl Print, is_json: bool) -> u8
@@ -103,31 +108,100 @@ fn say_version<W: Write>(out: &mut W) -> u8 {
     0
 }
 
-/// Runs a command with lines as text and, where none asks for quiet, notes.
+/// Whether a run of a command may take long.
+fn may_take_long(command: &Command<'_>) -> bool {
+    matches!(
+        command,
+        Command::Check { .. }
+            | Command::Graph { .. }
+            | Command::Run { .. }
+            | Command::Draw { .. }
+            | Command::Vat { .. }
+    )
+}
+
+/// Runs a command with lines as text and without notes.
+fn run_quietly<R: Threads + Wait + Sync + Files + Input + AllocGlobal, W: Write>(
+    rt: &R,
+    command: &Command<'_>,
+    out: &mut W,
+) -> u8
+    requires { HasWorkers command.now }
+{
+    let mut file = NewFile::new(rt, command.out());
+    let mut folder = Folder::new(rt);
+    run_on(rt, rt.alloc(), command, &mut folder, out, &mut file)
+}
+
+/// Runs a command with lines as text and with notes.
 fn run_plainly<
     R: Threads + Wait + Sync + Files + Input + AllocGlobal,
     W: Write,
     N: Write + Drop,
 >(
     rt: &R,
-    is_quiet: bool,
     command: &Command<'_>,
     out: &mut W,
     notes: N,
 ) -> u8
     requires { HasWorkers command.now }
 {
-    let alloc = rt.alloc();
     let mut file = NewFile::new(rt, command.out());
-    if is_quiet {
-        let mut folder = Folder::new(rt);
-        return run_on(rt, alloc, command, &mut folder, out, &mut file);
-    }
     let mut noted = NotedSource {
         source: RememberingFolder::new(rt),
         notes,
+        watch: &Unwatched,
     };
-    run_with_notes(rt, alloc, command, &mut noted, out, &mut file)
+    run_with_notes(rt, rt.alloc(), command, &mut noted, out, &mut file)
+}
+
+/// Runs a command with lines as text and with notes, and tells of its progress meanwhile. Where no thread can be started it
+/// tells nothing.
+fn run_with_progress<
+    R: Threads + Wait + Clock + Sync + Files + Input + Eprint + AllocGlobal,
+    W: Write,
+    N: Write + Drop,
+>(
+    rt: &R,
+    command: &Command<'_>,
+    out: &mut W,
+    notes: N,
+) -> u8
+    requires { HasWorkers command.now }
+{
+    let progress = Progress::new();
+    let shared = &progress;
+    let mut file = NewFile::new(rt, command.out());
+    let mut lines = WipingWriter {
+        rt,
+        progress: shared,
+        out,
+    };
+    let mut noted = NotedSource {
+        source: CountedSource {
+            source: RememberingFolder::new(rt),
+            progress: shared,
+        },
+        notes: WipingWriter {
+            rt,
+            progress: shared,
+            out: notes,
+        },
+        watch: shared,
+    };
+    thread::scope(
+        thread::scope_env(),
+        rt,
+        move |scope|
+            requires { HasWorkers command.now }
+        {
+            let _ = scope.spawn(move || shared.tell(rt));
+            let alloc = rt.alloc();
+            let status = run_with_notes(rt, alloc, command, &mut noted, &mut lines, &mut file);
+            shared.wipe(rt);
+            status
+        },
+    )
 }
 
 /// Runs a command with lines as JSON objects, the last of which has the notes where none asks for quiet.
@@ -153,9 +227,9 @@ fn run_in_json<R: Threads + Wait + Sync + Files + Input + AllocGlobal, W: Write>
 /// Does what the words ask, writes its lines to `out` and, where none asks for quiet, notes to `notes`, or both as JSON
 /// objects to `out`; and gives the exit status.
 fn start<
-    R: Threads + Wait + Sync + Files + Input + Print + Eprint + AllocGlobal,
+    R: Threads + Wait + Clock + Sync + Files + Input + Print + Eprint + AllocGlobal,
     W: Write,
-    N: Write + Drop,
+    N: Write + IsTerminal + Drop,
 >(rt: &R, out: &mut W, notes: N, words: &mut Vec<String>) -> u8 {
     if asks_version(words) {
         return say_version(out);
@@ -167,8 +241,12 @@ fn start<
     };
     if manner.is_json {
         run_in_json(rt, manner.is_quiet, &command, out)
+    } else if manner.is_quiet {
+        run_quietly(rt, &command, out)
+    } else if notes.is_terminal() && may_take_long(&command) {
+        run_with_progress(rt, &command, out, notes)
     } else {
-        run_plainly(rt, manner.is_quiet, &command, out, notes)
+        run_plainly(rt, &command, out, notes)
     }
 }
 

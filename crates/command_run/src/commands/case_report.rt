@@ -4,19 +4,13 @@ ghost use Rattle.std.specs.Prelude.{◌≡◌, ◌≤◌};
 ghost use Rattle.command_run.specs.Glue.{ComesJudged};
 
 use crate::host::Host;
-use audit_core::{AuditError, Gate, Report, audit_with_findings};
+use crate::watch::Watch;
+use audit_core::{AuditError, Report, audit_with_findings};
 use case_files::{ReadCase, Source, read_case};
 use cause_notes::Heard;
 use report_lines::Fault;
 use std::sync::Wait;
 use std::thread::Threads;
-
-/// A gate at which no worker waits.
-pub(super) struct OpenGate;
-
-impl Gate for OpenGate {
-    fn before_post(&self, _piece: u32) {}
-}
 
 /// The fault of a case that isn't audited although it ties up and its workers are neither none nor too many.
 pub(super) fn fault_of(error: AuditError) -> Fault
@@ -35,8 +29,8 @@ pub(super) fn fault_of(error: AuditError) -> Fault
 /// # Errors
 ///
 /// The case's first fault, or out of memory.
-pub fn case_report<R: Threads + Wait + Sync, S: Source>(
-    host: &Host<'_, R>,
+pub fn case_report<R: Threads + Wait + Sync, G: Watch + Sync, S: Source>(
+    host: &Host<'_, R, G>,
     name: &str,
     workers: u32,
     source: &mut S,
@@ -47,7 +41,8 @@ pub fn case_report<R: Threads + Wait + Sync, S: Source>(
     ensures { ComesJudged S.read_gives source.old name.now result source.new }
 {
     let ReadCase { case, order } = read_case(host.alloc, source, name)?;
-    match audit_with_findings(host.rt, host.alloc, case, order, workers, &OpenGate) {
+    host.watch.begins(case.logs().len(), case.links().len());
+    match audit_with_findings(host.rt, host.alloc, case, order, workers, host.watch) {
         Ok((report, findings)) => {
             heard.keep(&report, findings);
             Ok(report)

@@ -10,6 +10,7 @@ use crate::answering::say;
 use crate::commands::case_report::case_report;
 use crate::host::Host;
 use crate::output::Output;
+use crate::watch::Watch;
 use case_files::Source;
 use cause_notes::Heard;
 use report_lines::{Answer, Fault};
@@ -21,8 +22,8 @@ use std::thread::Threads;
 /// # Errors
 ///
 /// That of a write; nothing is written after it.
-pub fn say_report<R: Threads + Wait + Sync, S: Source, O: Output>(
-    host: &Host<'_, R>,
+pub fn say_report<R: Threads + Wait + Sync, G: Watch + Sync, S: Source, O: Output>(
+    host: &Host<'_, R, G>,
     name: &str,
     workers: u32,
     source: &mut S,

@@ -8,9 +8,10 @@ ghost use Rattle.command_run.specs.Glue.{ComesDrawn};
 ghost use Rattle.command_run.specs.Runs.{Writes, Wrote};
 
 use crate::answering::{save, say};
-use crate::commands::case_report::{OpenGate, fault_of};
+use crate::commands::case_report::fault_of;
 use crate::host::Host;
 use crate::output::{Failed, Output};
+use crate::watch::Watch;
 use audit_core::{Breach, Report, audit_with_findings, run_of_findings};
 use bytes::Bytes;
 use case_book::Findings;
@@ -66,8 +67,8 @@ fn picture_bytes(
 
 /// The report of the case that a source has under a name, and its picture. What was found of its logs and links is heard,
 /// unless the report is yes.
-fn drawing<R: Threads + Wait + Sync, S: Source>(
-    host: &Host<'_, R>,
+fn drawing<R: Threads + Wait + Sync, G: Watch + Sync, S: Source>(
+    host: &Host<'_, R, G>,
     name: &str,
     asked: Asked,
     source: &mut S,
@@ -76,8 +77,9 @@ fn drawing<R: Threads + Wait + Sync, S: Source>(
     ensures { ComesDrawn asked S.read_gives source.old name.now result source.new }
 {
     let ReadCase { case, order } = read_case(host.alloc, source, name)?;
+    host.watch.begins(case.logs().len(), case.links().len());
     let arranged = arrange(host.alloc, &case, order.as_ref())?;
-    match audit_with_findings(host.rt, host.alloc, case, order, 1, &OpenGate) {
+    match audit_with_findings(host.rt, host.alloc, case, order, 1, host.watch) {
         Ok((report, findings)) => {
             let picture = picture_bytes(host.alloc, &findings, &arranged, &report, asked)?;
             heard.keep(&report, findings);
@@ -91,8 +93,8 @@ fn drawing<R: Threads + Wait + Sync, S: Source>(
 }
 
 /// The answer to the case that a source has under a name: its report and its picture, or its first fault.
-fn draw_answer<R: Threads + Wait + Sync, S: Source>(
-    host: &Host<'_, R>,
+fn draw_answer<R: Threads + Wait + Sync, G: Watch + Sync, S: Source>(
+    host: &Host<'_, R, G>,
     name: &str,
     asked: Asked,
     source: &mut S,
@@ -116,8 +118,8 @@ fn draw_answer<R: Threads + Wait + Sync, S: Source>(
 /// # Errors
 ///
 /// That of a write; nothing is written after it.
-pub fn say_drawn<R: Threads + Wait + Sync, S: Source, O: Output, F: Output>(
-    host: &Host<'_, R>,
+pub fn say_drawn<R: Threads + Wait + Sync, G: Watch + Sync, S: Source, O: Output, F: Output>(
+    host: &Host<'_, R, G>,
     name: &str,
     asked: Asked,
     source: &mut S,

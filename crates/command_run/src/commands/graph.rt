@@ -10,6 +10,7 @@ use crate::answering::say;
 use crate::commands::case_report::case_report;
 use crate::host::Host;
 use crate::output::Output;
+use crate::watch::Watch;
 use audit_core::Report;
 use authority::{Graph, graph};
 use case_files::Source;
@@ -84,8 +85,8 @@ fn say_edges<O: Output>(
 /// # Errors
 ///
 /// That of a write; nothing is written after it.
-pub fn say_graph<R: Threads + Wait + Sync, S: Source, O: Output>(
-    host: &Host<'_, R>,
+pub fn say_graph<R: Threads + Wait + Sync, G: Watch + Sync, S: Source, O: Output>(
+    host: &Host<'_, R, G>,
     name: &str,
     dot: bool,
     source: &mut S,

@@ -11,6 +11,7 @@ use crate::answering::say;
 use crate::commands::case_report::case_report;
 use crate::host::Host;
 use crate::output::Output;
+use crate::watch::Watch;
 use audit_core::Report;
 use authority::record_numbers;
 use case_files::Source;
@@ -64,8 +65,8 @@ fn say_steps<O: Output>(
 /// # Errors
 ///
 /// That of a write; nothing is written after it.
-pub fn say_run<R: Threads + Wait + Sync, S: Source, O: Output>(
-    host: &Host<'_, R>,
+pub fn say_run<R: Threads + Wait + Sync, G: Watch + Sync, S: Source, O: Output>(
+    host: &Host<'_, R, G>,
     name: &str,
     source: &mut S,
     heard: &mut Heard,

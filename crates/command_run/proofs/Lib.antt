@@ -4,3 +4,4 @@ mod Judged
 mod Mapped
 mod Running
 mod Told
+mod Drawn

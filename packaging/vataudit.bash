@@ -6,6 +6,7 @@ _vataudit_options() {
         check) echo "--workers=" ;;
         order) echo "--out=" ;;
         graph) echo "--dot" ;;
+        draw) echo "--out= --from= --count=" ;;
         records) echo "--from= --count=" ;;
         frame) echo "--later" ;;
         migrate) echo "--out= --later" ;;
@@ -25,7 +26,7 @@ _vataudit_files() {
 }
 
 _vataudit() {
-    local commands="check order graph run vat records frame frames migrate"
+    local commands="check order graph run draw vat records frame frames migrate"
     local word=${COMP_WORDS[COMP_CWORD]} before=${COMP_WORDS[COMP_CWORD - 1]} command="" at
     COMPREPLY=()
     for ((at = 1; at < COMP_CWORD; at++)); do
@@ -62,7 +63,7 @@ _vataudit() {
             ;;
     esac
     case $command in
-        check | order | graph | run) _vataudit_files "$word" .json ;;
+        check | order | graph | run | draw) _vataudit_files "$word" .json ;;
         vat | records | migrate) _vataudit_files "$word" .log ;;
         frames) _vataudit_files "$word" "" ;;
     esac

@@ -22,7 +22,7 @@ never_fits : (logs : List Log) (order : List ℕ) → order ≡ too_many logs �
 never_fits logs order is fits =
     let all = no_longer (begin logs) (too_many logs) (subst (IsFitting logs) is fits) in
     let first = left_at_first logs in
-    let long = length-replicate (records_in logs + 1) 0 in
+    let long : length (too_many logs) ≡ records_in logs + 1 = length-replicate {A = ℕ} (records_in logs + 1) 0 in
     absurd (omega (arith, all, first, long))
 
 pub no_run : (held : Contents) → IsCase held → (answer : Report) → ((given : Option (List ℕ)) → IsReport held given answer) → HasNoRun held

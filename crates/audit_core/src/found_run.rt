@@ -31,10 +31,11 @@ pub fn run_of_findings(alloc: Global, findings: &Findings) -> Result<Option<Run>
     ensures run { IfOk result (λ made. IfSome made (AreExplained findings.now.case.logs)) }
     ensures none { IfOk result (λ made. made ≡ None → HasNoRun findings.now.case) }
 {
+    let case = findings.case();
     if let Some(_) = line_of(findings) {
         return Ok(None);
     }
-    match make_order(alloc, findings.case().logs())? {
+    match make_order(alloc, case.logs())? {
         Some(order) => Ok(Some(run_by(alloc, findings, &order)?)),
         None => Ok(None),
     }

@@ -5,3 +5,4 @@ mod Mapped
 mod TellsMapped
 mod Running
 mod Told
+mod Drawn

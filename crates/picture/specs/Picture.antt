@@ -1,6 +1,6 @@
 -- The text of a picture: an SVG in which each column, row and arrow is drawn, and nothing else but the line of `check`, the
 -- sentence of what is broken, and how many steps are left out.
-use Rattle.std.specs.Prelude.{◌≡◌, ℕ, ◌+◌, ◌-◌, ◌*◌, ◌==◌, Bool, List, [], ◌∷◌, ◌++◌, fold, length, max, encode_utf8, Option, Some, None, is_some, if◌then◌else◌, codes, IfSome}
+use Rattle.std.specs.Prelude.{◌≡◌, ℕ, ◌+◌, ◌-◌, ◌*◌, ◌==◌, Bool, List, [], ◌∷◌, ◌++◌, fold, length, encode_utf8, Option, Some, None, is_some, if◌then◌else◌, codes, IfSome}
 use Rattle.std.specs.Fmt.{decimal}
 use Rattle.std.specs.List.{flat_map}
 use Rattle.std.specs.Option.{option_copied}
@@ -15,7 +15,7 @@ use Rattle.report_lines.specs.Lines.{breach_code, report_text}
 use Rattle.report_lines.specs.Sentences.{IsLine}
 use Rattle.picture.specs.Places.{completed, passage_of}
 use Rattle.picture.specs.Labels.{label_text}
-use Rattle.picture.specs.Rows.{Drawn, arrows_of, columns_of, ends_line, least_of, lines_of, room_in, rows_of, scene_of}
+use Rattle.picture.specs.Rows.{Drawn, arrows_of, columns_of, ends_line, greater_of, least_of, lines_of, room_in, rows_of, scene_of}
 use Rattle.picture.specs.declared.window.Asked.{Asked}
 use Rattle.picture.specs.declared.window.Gap.{Gap}
 use Rattle.picture.specs.declared.row.Tone.{Tone}
@@ -214,11 +214,11 @@ sentence_end sentence = if is_some sentence then 860 else 0
 
 -- how far to the right one of these rows goes, or else so far
 abbrev pub farthest : ℕ → List Drawn → ℕ
-farthest least rows = fold (λ far row. max far (row_end row)) least rows
+farthest least rows = fold (λ far row. greater_of far (row_end row)) least rows
 
 -- how wide a picture of so many vats is: there is room for each column, the sentence and the words of each row
 abbrev pub width_of : ℕ → Option (List ℕ) → List Drawn → ℕ
-width_of vats sentence rows = farthest (max (x_of vats) (sentence_end sentence)) rows
+width_of vats sentence rows = farthest (greater_of (x_of vats) (sentence_end sentence)) rows
 
 -- an order in which the records of a case are drawn: the one that is given, or else the one that takes the smallest vat
 -- number that may come at each step, as far as it goes; and behind it what it leaves

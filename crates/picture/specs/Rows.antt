@@ -69,6 +69,9 @@ mate_by held _ = None
 abbrev pub least_of : ℕ → ℕ → ℕ
 least_of a b = if nat_lt a b then a else b
 
+abbrev pub greater_of : ℕ → ℕ → ℕ
+greater_of a b = if nat_lt a b then b else a
+
 -- how many steps are wanted: two hundred, or fewer where fewer are asked for
 abbrev pub wanted_of : Option ℕ → ℕ
 wanted_of None = 200

@@ -6,7 +6,7 @@
 //! all that in `specs/Picture.antt`: [`draw`] makes just these rows and arrows, and a [`Picture`] is shown as just that text.
 #![tactic(auto)]
 
-mod arrange;
+mod arranging;
 mod arrow;
 mod breaks;
 mod calls;
@@ -27,7 +27,7 @@ mod svg;
 mod width;
 mod window;
 
-pub use arrange::arrange;
+pub use arranging::arrange;
 pub use arrow::{Arrow, Reach, Stroke};
 pub use columns::Column;
 pub use drawing::{Picture, draw};

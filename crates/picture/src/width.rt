@@ -2,6 +2,7 @@
 
 ghost use Rattle.std.specs.Prelude.{◌≡◌, ◌≤◌, IfOk};
 ghost use Rattle.std.specs.Option.{option_copied};
+ghost use Rattle.picture.specs.Rows.{greater_of};
 ghost use Rattle.picture.specs.Picture.{farthest, row_end, sentence_end, width_of};
 
 use crate::label::Label;
@@ -10,6 +11,13 @@ use crate::svg::points::x_of;
 use crate::window::least_of;
 use std::alloc::{AllocError, Global};
 use std::fmt::Display;
+
+/// The greater of two.
+fn greater_of(one: u64, other: u64) -> u64
+    ensures { result ≡ greater_of one other }
+{
+    if one < other { other } else { one }
+}
 
 /// How far to the right a sentence goes, if there is one: it has lines.
 fn sentence_end(sentence: Option<&str>) -> u64
@@ -37,7 +45,7 @@ fn farthest(alloc: Global, least: u64, rows: &[Row<'_>]) -> Result<u64, AllocErr
 {
     let mut far = least;
     for row in rows {
-        far = far.max(row_end(alloc, row)?);
+        far = greater_of(far, row_end(alloc, row)?);
     }
     Ok(far)
 }
@@ -53,6 +61,6 @@ pub fn width_of(
     ensures { IfOk result
         (λ width. width ≡ width_of vats (option_copied sentence.entry) rows.now) }
 {
-    let least = x_of(vats as u32).max(sentence_end(sentence));
+    let least = greater_of(x_of(vats as u32), sentence_end(sentence));
     farthest(alloc, least, rows)
 }

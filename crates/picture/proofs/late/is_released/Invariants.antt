@@ -8,4 +8,3 @@ abbrev pub invariant-loop : goal.invariant-loop
 invariant-loop l =
     is_released (edition_of l.log) l.question.asks l.question.connection l.question.number (take l.number l.log.records)
     ≡ is_released (edition_of l.log) l.question.asks l.question.connection l.question.number (take l.at l.log.records)
-

@@ -53,7 +53,8 @@ pub fn ask<R: Threads + Wait + Sync>(
 /// Appends what a picture draws: its lines behind those that all pictures begin with.
 fn put_picture(text: &mut String, made: &[u8]) -> Result<(), Fault> {
     let svg = std::str::from_utf8(made).map_err(|_| Fault::Unread)?;
-    let Some((_, drawn)) = svg.split_once("<rect class='paper' width='100%' height='100%'/>\n") else {
+    let Some((_, drawn)) = svg.split_once("<rect class='paper' width='100%' height='100%'/>\n")
+    else {
         return Err(Fault::Unread);
     };
     text.push_str(drawn)?;

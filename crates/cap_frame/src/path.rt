@@ -2,17 +2,24 @@
 
 ghost use Rattle.std.specs.Prelude.{◌≡◌, IfOk};
 
-use arrayvec::ArrayVec;
 use std::alloc::AllocError;
 use std::fmt::{self, Debug, Formatter, Write};
 use std::marker::Model;
 use std::sync::Arc;
 
-/// Numbers as they are kept.
+/// Numbers as they are kept: up to four, as most paths have, take no memory of their own.
 #[derive(Drop)]
 enum Kept {
-    /// Few, as most paths have: they take no memory of their own.
-    Few(ArrayVec<u16, 4>),
+    /// None.
+    Nothing,
+    /// A single one.
+    One([u16; 1]),
+    /// Two.
+    Two([u16; 2]),
+    /// Three.
+    Three([u16; 3]),
+    /// Four.
+    Four([u16; 4]),
     /// Many, which a path and its copies share, so that a long path is kept once however often it is noted.
     Many(Arc<Vec<u16>>),
 }
@@ -47,9 +54,13 @@ impl Path {
     pub fn new(fields: Vec<u16>) -> Result<Path, AllocError>
         ensures { IfOk result (λ path. path ≡ fields.items) }
     {
-        let kept = match ArrayVec::try_from(fields.as_slice()) {
-            Ok(few) => Kept::Few(few),
-            Err(_) => Kept::Many(Arc::new(*fields.allocator(), fields)?),
+        let kept = match fields.as_slice() {
+            [] => Kept::Nothing,
+            [a] => Kept::One([*a]),
+            [a, b] => Kept::Two([*a, *b]),
+            [a, b, c] => Kept::Three([*a, *b, *c]),
+            [a, b, c, d] => Kept::Four([*a, *b, *c, *d]),
+            _ => Kept::Many(Arc::new(*fields.allocator(), fields)?),
         };
         Ok(Path { kept })
     }
@@ -59,7 +70,11 @@ impl Path {
         ensures { result.now ≡ self.now }
     {
         match &self.kept {
-            Kept::Few(few) => few.as_slice(),
+            Kept::Nothing => &[],
+            Kept::One(numbers) => numbers.as_slice(),
+            Kept::Two(numbers) => numbers.as_slice(),
+            Kept::Three(numbers) => numbers.as_slice(),
+            Kept::Four(numbers) => numbers.as_slice(),
             Kept::Many(many) => many.as_slice(),
         }
     }
@@ -70,7 +85,11 @@ impl Path {
         ensures { IfOk result (λ path. path ≡ self.now) }
     {
         let kept = match &self.kept {
-            Kept::Few(few) => Kept::Few(few.clone()?),
+            Kept::Nothing => Kept::Nothing,
+            Kept::One(numbers) => Kept::One(*numbers),
+            Kept::Two(numbers) => Kept::Two(*numbers),
+            Kept::Three(numbers) => Kept::Three(*numbers),
+            Kept::Four(numbers) => Kept::Four(*numbers),
             Kept::Many(many) => Kept::Many(Arc::try_clone(many)?),
         };
         Ok(Path { kept })

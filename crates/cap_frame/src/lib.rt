@@ -2,7 +2,7 @@
 //!
 //! It stands on `bytes` and `byteorder`. What a frame is, is said in `specs/Segments.antt`. [`Frame::read`] gives
 //! exactly the segments that bytes spell, [`Frame::first_len`] how long the frame is that stands first. Nothing here
-//! takes memory but [`Path::new`], for a path of more than four numbers, which its copies share.
+//! takes memory but [`Path::new`] and [`Path::from_slice`], for a path of more than four numbers, which its copies share.
 #![tactic(auto)]
 
 mod frame;

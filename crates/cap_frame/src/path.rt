@@ -1,8 +1,9 @@
 //! Paths of pointer fields.
 
-ghost use Rattle.std.specs.Prelude.{◌≡◌, IfOk};
+ghost use Rattle.std.specs.Prelude.{◌≡◌, IfOk, IfSome};
+ghost use Rattle.cap_frame.specs.Glue.{numbers_of};
 
-use std::alloc::AllocError;
+use std::alloc::{AllocError, Global};
 use std::fmt::{self, Debug, Formatter, Write};
 use std::marker::Model;
 use std::sync::Arc;
@@ -49,20 +50,41 @@ impl Debug for Path {
     }
 }
 
+/// How few numbers are kept; None where they are many.
+fn few(fields: &[u16]) -> Option<Kept>
+    ensures { IfSome result (λ kept. numbers_of kept ≡ fields.now) }
+{
+    match fields {
+        [] => Some(Kept::Nothing),
+        [a] => Some(Kept::One([*a])),
+        [a, b] => Some(Kept::Two([*a, *b])),
+        [a, b, c] => Some(Kept::Three([*a, *b, *c])),
+        [a, b, c, d] => Some(Kept::Four([*a, *b, *c, *d])),
+        _ => None,
+    }
+}
+
 impl Path {
     /// The path of these numbers. The only error is that memory ran out; a path of at most four numbers takes none.
     pub fn new(fields: Vec<u16>) -> Result<Path, AllocError>
         ensures { IfOk result (λ path. path ≡ fields.items) }
     {
-        let kept = match fields.as_slice() {
-            [] => Kept::Nothing,
-            [a] => Kept::One([*a]),
-            [a, b] => Kept::Two([*a, *b]),
-            [a, b, c] => Kept::Three([*a, *b, *c]),
-            [a, b, c, d] => Kept::Four([*a, *b, *c, *d]),
-            _ => Kept::Many(Arc::new(*fields.allocator(), fields)?),
+        let kept = match few(fields.as_slice()) {
+            Some(kept) => kept,
+            None => Kept::Many(Arc::new(*fields.allocator(), fields)?),
         };
         Ok(Path { kept })
+    }
+
+    /// The path of the numbers that are lent. The only error is that memory ran out; a path of at most four numbers takes
+    /// none.
+    pub fn from_slice(alloc: Global, fields: &[u16]) -> Result<Path, AllocError>
+        ensures { IfOk result (λ path. path ≡ fields.now) }
+    {
+        match few(fields) {
+            Some(kept) => Ok(Path { kept }),
+            None => Path::new(Vec::from_slice(alloc, fields)?),
+        }
     }
 
     /// The numbers, the outermost struct's first.

@@ -65,7 +65,8 @@ fn finish<G: Gate>(alloc: Global, mut book: Book, gate: &G) -> Result<Findings, 
     }
 }
 
-/// The findings of all pieces of a case, by so many workers. The calling thread does what they leave undone.
+/// The findings of all pieces of a case, by so many workers. The calling thread does what they leave undone; one worker alone
+/// does all there, without a lock and without looking for the piece of each finding.
 pub(crate) fn find_all<R: Threads + Wait + Sync, G: Gate + Sync>(
     rt: &R,
     alloc: Global,
@@ -76,6 +77,9 @@ pub(crate) fn find_all<R: Threads + Wait + Sync, G: Gate + Sync>(
     requires { tie_fault_of case ≡ None }
     ensures { IfOk result (λ all. all.case ≡ case) }
 {
+    if workers == 1 {
+        return finish(alloc, Book::new(alloc, case)?, gate);
+    }
     let shared = Mutex::new(Book::new(alloc, case.copy(alloc)?)?);
     work_together(rt, alloc, &case, &shared, workers, gate);
     let book = own_book(alloc, case, shared.into_inner())?;

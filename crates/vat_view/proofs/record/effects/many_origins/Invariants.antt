@@ -1,6 +1,6 @@
 use Rattle.std.proofs.Common.{◌≡◌, take, count_by}
 use Rattle.vat_view.specs.Glue.Tables.{origins_from, is_cap}
-use Rattle.vat_view.proofs.record.effects.origins.Given as goal
+use Rattle.vat_view.proofs.record.effects.many_origins.Given as goal
 
 abbrev pub invariant-loop-place : goal.invariant-loop-place
 invariant-loop-place l = record {

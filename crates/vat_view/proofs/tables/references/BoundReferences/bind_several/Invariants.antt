@@ -1,7 +1,7 @@
 use Rattle.std.proofs.Common.{◌≡◌, ℕ, ◌++◌}
 use Rattle.vat_view.specs.Glue.Tables.{bound_at, bound_by}
 use Rattle.vat_view.specs.Glue.TurnTables.{IsOwnOrOld}
-use Rattle.vat_view.proofs.tables.references.BoundReferences.bind_each.Given as goal
+use Rattle.vat_view.proofs.tables.references.BoundReferences.bind_several.Given as goal
 
 abbrev pub invariant-loop-reference : goal.invariant-loop-reference
 invariant-loop-reference l = record {

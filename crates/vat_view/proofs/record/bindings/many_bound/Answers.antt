@@ -7,7 +7,7 @@ use Rattle.vat_view.specs.Types.{Descriptor, View}
 use Rattle.vat_view.specs.Views.{references}
 use Rattle.vat_view.specs.Glue.Tables.{is_cap, bound_at, question_at, view_by, reference_by, bound_one, bound_from}
 use Rattle.vat_view.proofs.Arriving.{bound_one_more}
-use Rattle.vat_view.proofs.record.bindings.bound_descriptors.Goals as goal
+use Rattle.vat_view.proofs.record.bindings.many_bound.Goals as goal
 
 pub loop-descriptor-preserved : goal.loop-descriptor-preserved
 loop-descriptor-preserved c =

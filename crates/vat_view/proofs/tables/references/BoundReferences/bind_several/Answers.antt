@@ -2,7 +2,7 @@ use Rattle.std.proofs.Common.{sym, ◌∙◌, ap, ◌==◌, [], ◌∷◌, ◌++
 use Rattle.vat_view.specs.Bindings.{contains}
 use Rattle.vat_view.specs.Glue.Tables.{bound_at}
 use Rattle.vat_view.proofs.Binding.{bound_more, bound_apart, any_err, then_ahead}
-use Rattle.vat_view.proofs.tables.references.BoundReferences.bind_each.Goals as goal
+use Rattle.vat_view.proofs.tables.references.BoundReferences.bind_several.Goals as goal
 
 pub loop-reference-preserved : goal.loop-reference-preserved
 loop-reference-preserved c = record {

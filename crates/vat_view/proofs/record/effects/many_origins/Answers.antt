@@ -7,8 +7,8 @@ use Rattle.vat_view.specs.declared.record.origin.Origin.{Origin}
 use Rattle.vat_view.specs.Types.{Descriptor, TableKey}
 use Rattle.vat_view.specs.Glue.Tables.{is_cap, origin_by, origins_from}
 use Rattle.vat_view.proofs.Originating.{origins_more}
-use Rattle.vat_view.proofs.record.effects.origins.Goals.{in-Some+in_ok-push, in_default, then-is_cap, else-is_cap}
-use Rattle.vat_view.proofs.record.effects.origins.Goals as goal
+use Rattle.vat_view.proofs.record.effects.many_origins.Goals.{in-Some+in_ok-push, in_default, then-is_cap, else-is_cap}
+use Rattle.vat_view.proofs.record.effects.many_origins.Goals as goal
 
 pub loop-place-preserved : goal.loop-place-preserved
 loop-place-preserved c =

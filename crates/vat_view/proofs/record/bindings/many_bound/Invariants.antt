@@ -1,7 +1,7 @@
 use Rattle.std.proofs.Common.{◌≡◌, take, count_by}
 use Rattle.vat_view.specs.Views.{references}
 use Rattle.vat_view.specs.Glue.Tables.{is_cap, bound_at, question_at, view_by, bound_from}
-use Rattle.vat_view.proofs.record.bindings.bound_descriptors.Given as goal
+use Rattle.vat_view.proofs.record.bindings.many_bound.Given as goal
 
 abbrev pub invariant-loop-descriptor : goal.invariant-loop-descriptor
 invariant-loop-descriptor l = record {

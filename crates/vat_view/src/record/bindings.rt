@@ -186,9 +186,7 @@ fn bound_descriptors(
                 None => Ok(ShortList::none()),
             }
         }
-        _ => Ok(ShortList::new(many_bound(
-            alloc, bound, lives, begun, questions, event,
-        )?)),
+        _ => Ok(ShortList::new(many_bound(alloc, bound, lives, begun, questions, event)?)),
     }
 }
 

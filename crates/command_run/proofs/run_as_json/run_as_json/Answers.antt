@@ -1,0 +1,8 @@
+use Rattle.std.specs.Prelude.{⊤}
+use Rattle.command_run.proofs.TellsMapped.{tells}
+use Rattle.command_run.proofs.run_as_json.run_as_json.Goals as goal
+
+pub returns : goal.returns
+returns g c =
+    tells _ g.F.Write.contents (λ _. ⊤) _ _ c.args.file.now c.answer_command-told.new.file c.answer_command-told.result c.end_lines.result c.end_lines.ensures
+    g.S.Source.read_gives c.args.command.now c.args.source.now c.answer_command-told.new.source c.answer_command-told.ensures

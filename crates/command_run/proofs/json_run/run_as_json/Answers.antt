@@ -1,6 +1,6 @@
 use Rattle.std.specs.Prelude.{⊤}
 use Rattle.command_run.proofs.TellsMapped.{tells}
-use Rattle.command_run.proofs.run_as_json.run_as_json.Goals as goal
+use Rattle.command_run.proofs.json_run.run_as_json.Goals as goal
 
 pub returns : goal.returns
 returns g c =

@@ -1,6 +1,6 @@
 use Rattle.std.specs.Prelude.{⊤}
 use Rattle.command_run.proofs.TellsMapped.{tells}
-use Rattle.command_run.proofs.run_as_json.run_as_json_with_notes.Goals as goal
+use Rattle.command_run.proofs.json_run.run_as_json_with_notes.Goals as goal
 
 pub returns-in-Ok : goal.returns-in-Ok
 returns-in-Ok g c =

@@ -83,12 +83,7 @@ pub fn run_as_json<R: Threads + Wait + Sync, S: Source, W: Write, F: Write>(
 }
 
 /// Runs a command as [`run_as_json`] does; its notes are told in the last object.
-pub fn run_as_json_with_notes<
-    R: Threads + Wait + Sync,
-    S: RememberingSource,
-    W: Write,
-    F: Write,
->(
+pub fn run_as_json_with_notes<R: Threads + Wait + Sync, S: RememberingSource, W: Write, F: Write>(
     rt: &R,
     alloc: Global,
     command: &Command<'_>,

@@ -136,7 +136,12 @@ pub(crate) fn record_object(
     let mut object = body_object(alloc, shown.body)?;
     put_member(alloc, &mut object, "record", Value::from(shown.at))?;
     if let Some(message) = &shown.message {
-        put_member(alloc, &mut object, "message", answer_object(alloc, message)?)?;
+        put_member(
+            alloc,
+            &mut object,
+            "message",
+            answer_object(alloc, message)?,
+        )?;
     }
     Ok(object)
 }

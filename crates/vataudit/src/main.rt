@@ -130,11 +130,7 @@ fn run_quietly<R: Threads + Wait + Sync + Files + Input + AllocGlobal, W: Write>
 }
 
 /// Runs a command with lines as text and with notes.
-fn run_plainly<
-    R: Threads + Wait + Sync + Files + Input + AllocGlobal,
-    W: Write,
-    N: Write + Drop,
->(
+fn run_plainly<R: Threads + Wait + Sync + Files + Input + AllocGlobal, W: Write, N: Write + Drop>(
     rt: &R,
     command: &Command<'_>,
     out: &mut W,
@@ -157,12 +153,7 @@ fn run_with_progress<
     R: Threads + Wait + Clock + Sync + Files + Input + Eprint + AllocGlobal,
     W: Write,
     N: Write + Drop,
->(
-    rt: &R,
-    command: &Command<'_>,
-    out: &mut W,
-    notes: N,
-) -> u8
+>(rt: &R, command: &Command<'_>, out: &mut W, notes: N) -> u8
     requires { HasWorkers command.now }
 {
     let progress = Progress::new();

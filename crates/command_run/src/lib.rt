@@ -21,6 +21,7 @@ mod output;
 mod run;
 mod watch;
 
+pub use json_output::JsonOutput;
 pub use json_run::{run_as_json, run_as_json_with_notes};
 pub use output::{Failed, Output};
 pub use run::{FAILED, NotedSource, answer_command, run_on, run_with_notes};

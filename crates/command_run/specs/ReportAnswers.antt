@@ -26,9 +26,13 @@ use Rattle.report_lines.specs.StepText.{step_text}
 abbrev pub edge_lines : List Edge → List ℕ
 edge_lines edges = flat_map (λ edge. line (edge_text edge)) edges
 
--- the same in the DOT language: a graph, whose first line and last hold a line for each edge
+-- the same in the DOT language
+abbrev pub dot_edge_lines : List Edge → List ℕ
+dot_edge_lines edges = flat_map (λ edge. line (dot_edge_text edge)) edges
+
+-- and the whole graph, with its first line and its last
 abbrev pub dot_lines : List Edge → List ℕ
-dot_lines edges = line (bound_text Head) ++ (flat_map (λ edge. line (dot_edge_text edge)) edges ++ line (bound_text End))
+dot_lines edges = line (bound_text Head) ++ (dot_edge_lines edges ++ line (bound_text End))
 
 -- the lines of edges: in the DOT language where that is asked for
 abbrev pub graph_lines : Bool → List Edge → List ℕ

@@ -17,12 +17,13 @@ mod answering;
 mod commands;
 mod host;
 mod json_output;
+mod json_run;
 mod output;
 mod run;
-mod run_as_json;
 mod watch;
 
+pub use json_output::JsonOutput;
+pub use json_run::{run_as_json, run_as_json_with_notes};
 pub use output::{Failed, Output};
 pub use run::{FAILED, NotedSource, answer_command, run_on, run_with_notes};
-pub use run_as_json::{run_as_json, run_as_json_with_notes};
 pub use watch::{Unwatched, Watch};

@@ -1,9 +1,9 @@
 -- Lists that are made item by item.
-use Rattle.std.proofs.Common.{◌≡◌, ◌∙◌, ℕ, zero, suc, ◌+◌, ◌<◌, List, [], ◌∷◌, ◌++◌, length, take, get_or, Option, Some, None, refl, sym, ap, add-one, arith, append_assoc, append-nil}
+use Rattle.std.proofs.Common.{◌≡◌, ◌∙◌, ℕ, zero, suc, ◌+◌, ◌<◌, List, [], ◌∷◌, ◌++◌, length, take, drop, get_or, Option, Some, None, refl, sym, ap, add-one, arith, append_assoc, append-nil}
 use Rattle.std.specs.Prelude.{map, replicate}
 use Rattle.std.specs.List.{filter_map, cons_option, flat_map, range_with_len}
 use Rattle.std.specs.Option.{option_to_list}
-use Rattle.std.proofs.lemmas.List.{take_more}
+use Rattle.std.proofs.lemmas.List.{at_drop_more, take_more}
 
 cons_more : {X : Type 0} (o : Option X) (xs ys : List X) → cons_option o (xs ++ ys) ≡ cons_option o xs ++ ys
 cons_more None xs ys = refl
@@ -45,3 +45,19 @@ repeated v n = rw (add-one n) (repeated_suc v n)
 pub replicated : {X : Type 0} (v : X) (xs : List X) (n : ℕ) (ys zs : List X) → ys ≡ xs ++ replicate n v → zs ≡ ys ++ v ∷ [] → zs ≡ xs ++ replicate (n + 1) v
 replicated v xs n ys zs so_far more =
     more ∙ ap (λ l. l ++ v ∷ []) so_far ∙ append_assoc xs (replicate n v) (v ∷ []) ∙ ap (λ l. xs ++ l) (repeated v n)
+
+-- what is left of a list, of which each item gives several
+pub several_more : {X Y Z : Type 0} (f : Y → List Z) (g : X → Y) (xs : List X) (i : ℕ) (x d : X) (y : Y) (zs more total : List Z) → i < length xs → x ≡ get_or xs i d → y ≡ g x
+    → more ≡ zs ++ f y → zs ++ flat_map f (map g (drop i xs)) ≡ total → more ++ flat_map f (map g (drop (i + 1) xs)) ≡ total
+several_more f g xs i x d y zs more total lt at is longer so_far =
+    let rest = flat_map f (map g (drop (i + 1) xs)) in
+    let next : flat_map f (map g (drop i xs)) ≡ f y ++ rest = at_drop_more (λ l. flat_map f (map g l)) xs i d lt ∙ ap (λ z. f z ++ rest) (sym (is ∙ ap g at)) in
+    ap (λ l. l ++ rest) longer ∙ append_assoc zs (f y) rest ∙ ap (λ l. zs ++ l) (sym next) ∙ so_far
+
+-- the same, where each gives one
+pub one_more : {X Y Z : Type 0} (f : Y → Z) (g : X → Y) (xs : List X) (i : ℕ) (x d : X) (y : Y) (z : Z) (zs more total : List Z) → i < length xs → x ≡ get_or xs i d → y ≡ g x
+    → z ≡ f y → more ≡ zs ++ z ∷ [] → zs ++ map f (map g (drop i xs)) ≡ total → more ++ map f (map g (drop (i + 1) xs)) ≡ total
+one_more f g xs i x d y z zs more total lt at is made longer so_far =
+    let rest = map f (map g (drop (i + 1) xs)) in
+    let next : map f (map g (drop i xs)) ≡ z ∷ rest = at_drop_more (λ l. map f (map g l)) xs i d lt ∙ ap (λ t. t ∷ rest) (sym (made ∙ ap f (is ∙ ap g at))) in
+    ap (λ l. l ++ rest) longer ∙ append_assoc zs (z ∷ []) rest ∙ ap (λ l. zs ++ l) (sym next) ∙ so_far

@@ -16,10 +16,10 @@ module _ {W : Type 0} (took : W → List ℕ → W → Type 0) where
     pub wrote : IsPlainFormatter old → HasWritten took old done now
     pub whole : done ++ wrapped at (drop i text) ≡ wrapped 0 text
 
-  one_further : (text : List ℕ) (i at d : ℕ) (b : Bool) → i < length text → d ≡ get_or text i d → b ≡ ends_line at d
+  one_further : (text : List ℕ) (i at d e : ℕ) (b : Bool) → i < length text → d ≡ get_or text i e → b ≡ ends_line at d
       → wrapped at (drop i text) ≡ cond b (line_end ++ wrapped 0 (drop (i + 1) text)) (encode_utf8 d ++ wrapped (at + 1) (drop (i + 1) text))
-  one_further text i at d b lt is ends =
-      at_drop_more (wrapped at) text i d lt ∙ ap (λ x. wrapped at (x ∷ drop (i + 1) text)) (sym is)
+  one_further text i at d e b lt is ends =
+      at_drop_more (wrapped at) text i e lt ∙ ap (λ x. wrapped at (x ∷ drop (i + 1) text)) (sym is)
       ∙ ap (λ t. cond t (line_end ++ wrapped 0 (drop (i + 1) text)) (encode_utf8 d ++ wrapped (at + 1) (drop (i + 1) text))) (sym ends)
 
   further : (text : List ℕ) (i at d next : ℕ) (part : List ℕ) (old now after : Formatter W) → next ≤ i + 1 → wrapped at (drop i text) ≡ part ++ wrapped next (drop (i + 1) text)
@@ -34,20 +34,20 @@ module _ {W : Type 0} (took : W → List ℕ → W → Type 0) where
   }
 
   -- a line ends
-  pub ended : (text : List ℕ) (i at d : ℕ) (b : Bool) (old now after : Formatter W) → i < length text → d ≡ get_or text i d → b ≡ ends_line at d → b ≡ true
+  pub ended : (text : List ℕ) (i at d e : ℕ) (b : Bool) (old now after : Formatter W) → i < length text → d ≡ get_or text i e → b ≡ ends_line at d → b ≡ true
       → Wraps text i at old now → (IsPlainFormatter now → HasWritten took now line_end after) → Wraps text (i + 1) 0 old after
-  ended text i at d b old now after lt is ends yes so_far more =
+  ended text i at d e b old now after lt is ends holds so_far more =
       further text i at d 0 line_end old now after (omega arith)
-      (one_further text i at d b lt is ends ∙ ap (λ t. cond t (line_end ++ wrapped 0 (drop (i + 1) text)) (encode_utf8 d ++ wrapped (at + 1) (drop (i + 1) text))) yes)
+      (one_further text i at d e b lt is ends ∙ ap (λ t. cond t (line_end ++ wrapped 0 (drop (i + 1) text)) (encode_utf8 d ++ wrapped (at + 1) (drop (i + 1) text))) holds)
       so_far more
 
   -- a letter more in the line
-  pub added : (text : List ℕ) (i at d : ℕ) (b : Bool) (old now after : Formatter W) → i < length text → d ≡ get_or text i d → b ≡ ends_line at d → b ≡ false
+  pub added : (text : List ℕ) (i at d e : ℕ) (b : Bool) (old now after : Formatter W) → i < length text → d ≡ get_or text i e → b ≡ ends_line at d → b ≡ false
       → Wraps text i at old now → (IsPlainFormatter now → HasWritten took now (encode_utf8 d) after) → Wraps text (i + 1) (at + 1) old after
-  added text i at d b old now after lt is ends no so_far more =
+  added text i at d e b old now after lt is ends fails so_far more =
       let few = so_far.few in
       further text i at d (at + 1) (encode_utf8 d) old now after (omega (arith, few))
-      (one_further text i at d b lt is ends ∙ ap (λ t. cond t (line_end ++ wrapped 0 (drop (i + 1) text)) (encode_utf8 d ++ wrapped (at + 1) (drop (i + 1) text))) no)
+      (one_further text i at d e b lt is ends ∙ ap (λ t. cond t (line_end ++ wrapped 0 (drop (i + 1) text)) (encode_utf8 d ++ wrapped (at + 1) (drop (i + 1) text))) fails)
       so_far more
 
   -- all of them

@@ -1,5 +1,5 @@
 -- Texts that are written one behind the other.
-use Rattle.std.proofs.Common.{◌≡◌, ◌∙◌, ℕ, ◌+◌, ◌<◌, ◌≤◌, List, [], ◌∷◌, ◌++◌, length, take, get_or, refl, sym, ap, arith, append_assoc, append-nil}
+use Rattle.std.proofs.Common.{◌≡◌, ◌∙◌, ℕ, ◌+◌, ◌<◌, ◌≤◌, List, [], ◌∷◌, ◌++◌, length, take, get_or, refl, sym, ap, ap₂, arith, append_assoc, append-nil}
 use Rattle.std.proofs.Output.{has_written_append, has_written_of_eq, writes_in_calls_nil}
 use Rattle.std.proofs.lemmas.List.{take_more, take_all}
 use Rattle.std.proofs.lemmas.Grind.{flat_map-append}
@@ -23,3 +23,7 @@ module _ {W X : Type 0} (took : W → List ℕ → W → Type 0) (f : X → List
             let before = so_far.wrote plain in
             has_written_of_eq took old _ _ after one (has_written_append took old (flat_map f (take i xs)) now (f x) after before (more before.plain));
       }
+
+-- six texts, each of them another's equal
+pub six : {a b c d e f p q r s t u : List ℕ} → a ≡ p → b ≡ q → c ≡ r → d ≡ s → e ≡ t → f ≡ u → a ++ (b ++ (c ++ (d ++ (e ++ f)))) ≡ p ++ (q ++ (r ++ (s ++ (t ++ u))))
+six one two three four five last = ap₂ ◌++◌ one (ap₂ ◌++◌ two (ap₂ ◌++◌ three (ap₂ ◌++◌ four (ap₂ ◌++◌ five last))))

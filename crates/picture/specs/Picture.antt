@@ -109,10 +109,22 @@ abbrev pub words_y : Option (Bool × ℕ) → ℕ → ℕ
 words_y None y = y + 4
 words_y (Some passage) y = if passage.0 then y - 5 else y + 11
 
+-- a mark at a point, painted so
+abbrev pub circle_text : List ℕ → List ℕ → Point → List ℕ
+circle_text tone mark at = codes "<g class='" ++ (tone ++ (codes "'><circle class='" ++ (mark ++ (codes "' cx='" ++ (decimal at.x
+    ++ (codes "' cy='" ++ (decimal at.y ++ codes "' r='3.5'/>")))))))
+
+-- words that begin at a point
+abbrev pub words_text : Point → List ℕ → List ℕ
+words_text at words = codes "<text x='" ++ (decimal at.x ++ (codes "' y='" ++ (decimal at.y ++ (codes "'>" ++ (words ++ codes "</text></g>\n")))))
+
+-- where the words of a row begin
+abbrev pub words_at : Drawn → Point
+words_at row = record { x = x_of row.column + 14; y = words_y (passage_of row.body) (y_of row.line) }
+
 abbrev pub row_text : Drawn → List ℕ
-row_text row = codes "<g class='" ++ (tone_word row.tone ++ (codes "'><circle class='" ++ (mark_word row.message ++ (codes "' cx='" ++ (decimal (x_of row.column)
-    ++ (codes "' cy='" ++ (decimal (y_of row.line) ++ (codes "' r='3.5'/><text x='" ++ (decimal (x_of row.column + 14) ++ (codes "' y='" ++ (decimal (words_y (passage_of row.body) (y_of row.line))
-    ++ (codes "'>" ++ (label_text row.place.number row.body row.message ++ codes "</text></g>\n")))))))))))))
+row_text row = circle_text (tone_word row.tone) (mark_word row.message) (point_at row.column row.line)
+    ++ words_text (words_at row) (label_text row.place.number row.body row.message)
 
 -- ---- beside them
 
@@ -175,7 +187,7 @@ abbrev pub tip : List ℕ
 tip = codes "<defs><marker id='tip' viewBox='0 0 8 8' refX='11' refY='4' markerWidth='8' markerHeight='8' orient='auto'><path class='tip' d='M0,0L8,4L0,8z'/></marker></defs>\n<rect class='paper' width='100%' height='100%'/>\n"
 
 -- what each picture begins with
-abbrev pub style : List ℕ
+unfoldable pub style : List ℕ
 style = light ++ (dark ++ (letters ++ (strokes ++ (marks ++ tip))))
 
 -- how high a picture of so many lines is

@@ -1,9 +1,9 @@
 //! The order in which the records of a case are drawn.
 
-ghost use Rattle.std.specs.Prelude.{◌≡◌, ◌≤◌, ◌-◌, ◌++◌, count_by, length, map, replicate, IfOk};
+ghost use Rattle.std.specs.Prelude.{◌≡◌, ◌++◌, map, replicate, IfOk};
 ghost use Rattle.std.specs.Arc.{arc_value};
 ghost use Rattle.std.specs.Option.{option_copied};
-ghost use Rattle.picture.specs.Places.{completed, is_vat};
+ghost use Rattle.picture.specs.Places.{completed, steps_left};
 ghost use Rattle.picture.specs.Picture.{IsArranged};
 
 use crate::orders::steps_of;
@@ -24,14 +24,21 @@ fn with_steps(order: Vec<u32>, vat: u32, steps: usize) -> Result<Vec<u32>, Alloc
     Ok(order)
 }
 
+/// These steps, and behind them those that an order leaves of a log.
+fn with_left(all: Vec<u32>, order: &[u32], log: &VatLog) -> Result<Vec<u32>, AllocError>
+    ensures { IfOk result (λ more. more.items ≡ all.items ++ steps_left order.now log.now) }
+{
+    let came = steps_of(order, log.vat());
+    with_steps(all, log.vat(), log.len().saturating_sub(came))
+}
+
 /// An order, and behind it what it leaves of these logs, by rising vat number.
 fn completed(alloc: Global, order: &[u32], logs: &[Arc<VatLog>]) -> Result<Vec<u32>, AllocError>
     ensures { IfOk result (λ all. all.items ≡ completed (map arc_value logs.now) order.now) }
 {
     let mut all = Vec::from_slice(alloc, order)?;
     for log in logs {
-        let came = steps_of(order, log.vat());
-        all = with_steps(all, log.vat(), log.len().saturating_sub(came))?;
+        all = with_left(all, order, log)?;
     }
     Ok(all)
 }

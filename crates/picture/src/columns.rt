@@ -3,7 +3,7 @@
 ghost use Rattle.std.specs.Prelude.{◌≡◌, ◌≤◌, length, map, IfOk};
 ghost use Rattle.std.specs.Arc.{arc_value};
 ghost use Rattle.case_book.specs.Case.{vat_limit};
-ghost use Rattle.picture.specs.Rows.{columns_of};
+ghost use Rattle.picture.specs.Rows.{column_at, columns_of};
 
 use crate::logs::column_of;
 use std::alloc::{AllocError, Global};
@@ -21,6 +21,19 @@ pub struct Column {
     pub line: u16,
 }
 
+/// The column of a log's vat, among these.
+fn column_at(logs: &[Arc<VatLog>], line: u16, log: &VatLog) -> Column
+    requires { length logs.now ≤ vat_limit }
+    ensures { result ≡ column_at (map arc_value logs.now) line log.now }
+{
+    let vat = log.vat();
+    Column {
+        vat,
+        column: column_of(logs, vat),
+        line,
+    }
+}
+
 /// The columns of these logs' vats.
 pub fn columns_of(alloc: Global, logs: &[Arc<VatLog>], line: u16) -> Result<Vec<Column>, AllocError>
     requires { length logs.now ≤ vat_limit }
@@ -28,12 +41,7 @@ pub fn columns_of(alloc: Global, logs: &[Arc<VatLog>], line: u16) -> Result<Vec<
 {
     let mut columns = Vec::new(alloc);
     for log in logs {
-        let vat = log.vat();
-        columns.push(Column {
-            vat,
-            column: column_of(logs, vat),
-            line,
-        })?;
+        columns.push(column_at(logs, line, log))?;
     }
     Ok(columns)
 }

@@ -105,8 +105,9 @@ fn is_released(
     let mut at = number;
     while at > 0 {
         at -= 1;
-        if let Some(released) = turn_at(alloc, log, at, question)? {
-            return Ok(released);
+        match turn_at(alloc, log, at, question)? {
+            Some(released) => return Ok(released),
+            None => {}
         }
     }
     Ok(false)

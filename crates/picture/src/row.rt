@@ -2,10 +2,12 @@
 
 ghost use Rattle.std.specs.Prelude.{◌≡◌, ◌≤◌, ◌+◌, ◌<◌, ◌++◌, length, IfOk, take};
 ghost use Rattle.std.specs.Option.{option_to_list};
+ghost use Rattle.picture.specs.Labels.{label_text};
 ghost use Rattle.picture.specs.Rows.{drawn, drawn_at, drawn_in, is_place, row_at, rows_of, tone_of};
 
 use crate::calls::{are_kin, maker_at};
 use crate::frames::passage_of;
+use crate::label::Label;
 use crate::late::is_late;
 use crate::logs::{body_in, column_of, log_of};
 use crate::messages::message_of;
@@ -65,6 +67,18 @@ impl<'a> Model for Row<'a> {
       late = row.late;
       tone = row.tone;
     } };
+}
+
+/// The words of a row.
+pub fn label_of<'a>(row: &'a Row<'_>) -> Label<'a>
+    ensures { label_text result.number result.body.now result.message.now
+        ≡ label_text row.now.place.number row.now.body row.now.message }
+{
+    Label {
+        number: row.place.number,
+        body: row.body,
+        message: &row.message,
+    }
 }
 
 /// Whether it is this record.
@@ -163,7 +177,7 @@ fn row_at<'a>(alloc: Global, scene: &Scene<'a>, row: u8) -> Result<Option<Row<'a
 
 /// These rows, and one more where there is one.
 fn with_row<'a>(rows: Vec<Row<'a>>, row: Option<Row<'a>>) -> Result<Vec<Row<'a>>, AllocError>
-    ensures { IfOk result (λ more. more.items ≡ rows.items ++ option_to_list row) }
+    ensures { IfOk result (λ more. more.items ≡ rows.entry.items ++ option_to_list row.entry) }
 {
     let mut rows = rows;
     if let Some(row) = row {

@@ -5,8 +5,7 @@ ghost use Rattle.std.specs.Option.{option_copied};
 ghost use Rattle.picture.specs.Rows.{greater_of};
 ghost use Rattle.picture.specs.Picture.{farthest, row_end, sentence_end, width_of};
 
-use crate::label::Label;
-use crate::row::Row;
+use crate::row::{Row, label_of};
 use crate::svg::points::x_of;
 use crate::window::least_of;
 use std::alloc::{AllocError, Global};
@@ -30,12 +29,7 @@ fn sentence_end(sentence: Option<&str>) -> u64
 fn row_end(alloc: Global, row: &Row<'_>) -> Result<u64, AllocError>
     ensures { IfOk result (λ end. end ≡ row_end row.now) }
 {
-    let label = Label {
-        number: row.place.number,
-        body: row.body,
-        message: &row.message,
-    };
-    let words = label.to_string(alloc)?;
+    let words = label_of(row).to_string(alloc)?;
     Ok(x_of(row.column) + 8 * least_of(words.len(), 400) as u64 + 30)
 }
 

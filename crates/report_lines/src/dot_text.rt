@@ -75,6 +75,9 @@ impl Display for DotEdge<'_> {
         let vat = Node(*vat);
         let owner = Owner(cap);
         let cap = Shown(cap);
-        write!(f, "  {vat} -> {owner} [label=\"{cap}\\nrecord {at_record}\"];")
+        write!(
+            f,
+            "  {vat} -> {owner} [label=\"{cap}\\nrecord {at_record}\"];"
+        )
     }
 }

@@ -26,10 +26,11 @@ mod watched;
 use clap::error::ErrorKind;
 use command_line::{Command, VERSION, command_of};
 use command_run::{
-    FAILED, NotedSource, Unwatched, run_as_json, run_as_json_with_notes, run_on, run_with_notes,
+    FAILED, JsonOutput, NotedSource, Unwatched, run_as_json, run_as_json_with_notes, run_on,
+    run_with_notes,
 };
 use file::{Folder, RememberingFolder};
-use json_lines::{JsonLines, OUT_OF_MEMORY};
+use json_lines::OUT_OF_MEMORY;
 use manner::take_manner;
 use new_file::NewFile;
 use progress::Progress;
@@ -206,7 +207,7 @@ fn run_in_json<R: Threads + Wait + Sync + Files + Input + AllocGlobal, W: Write>
 {
     let alloc = rt.alloc();
     let mut file = NewFile::new(rt, command.out());
-    let mut lines = JsonLines::new(alloc, out);
+    let mut lines = JsonOutput::new(alloc, out);
     if is_quiet {
         let mut folder = Folder::new(rt);
         return run_as_json(rt, alloc, command, &mut folder, &mut lines, &mut file);

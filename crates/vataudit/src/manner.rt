@@ -20,35 +20,44 @@ impl Manner {
 
     /// Notes a word that asks for a manner, and says whether it is one that wasn't noted before.
     fn takes(&mut self, word: &str) -> bool {
-        let noted = match word {
-            "--quiet" => &mut self.is_quiet,
-            "--json" => &mut self.is_json,
+        match word {
+            "--quiet" if !self.is_quiet => self.is_quiet = true,
+            "--json" if !self.is_json => self.is_json = true,
             _ => return false,
-        };
-        let is_new = !*noted;
-        *noted = true;
-        is_new
+        }
+        true
     }
 }
 
-/// Whether the last word is nothing else than what it seems to be: not the name that `--out` asks for, and behind no `--`.
-fn ends_alone(words: &[String]) -> bool {
-    let [_, .., before, _] = words else {
-        return false;
-    };
-    before.as_str() != "--out" && words.iter().all(|word| word.as_str() != "--")
+/// Notes the first word behind the program's name, where it asks for a manner, and says whether it does.
+fn takes_first(manner: &mut Manner, words: &[String]) -> bool {
+    match words {
+        [_, first, ..] => manner.takes(first.as_str()),
+        _ => false,
+    }
 }
 
-/// Takes away the words that ask for a manner, where they stand before the command or as the last words.
+/// The same of the last word, which is neither the name that `--out` asks for nor stands behind `--`.
+fn takes_last(manner: &mut Manner, words: &[String]) -> bool {
+    let [_, .., before, last] = words else {
+        return false;
+    };
+    if before.as_str() == "--out" || words.iter().any(|word| word.as_str() == "--") {
+        return false;
+    }
+    manner.takes(last.as_str())
+}
+
+/// Takes away the words that ask for a manner, where they stand before the command or are the last words.
 pub fn take_manner(words: &mut Vec<String>) -> Manner {
     let mut manner = Manner::plain();
     for _ in 0..2 {
-        if words.len() > 1 && manner.takes(words[1].as_str()) {
+        if words.len() > 1 && takes_first(&mut manner, words) {
             let _ = words.remove(1);
         }
     }
     for _ in 0..2 {
-        if ends_alone(words) && manner.takes(words[words.len() - 1].as_str()) {
+        if takes_last(&mut manner, words) {
             let _ = words.pop();
         }
     }

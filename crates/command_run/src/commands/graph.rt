@@ -3,7 +3,7 @@
 ghost use Rattle.std.specs.Prelude.{◌⊎◌, OnOk};
 ghost use Rattle.command_run.specs.CommandAnswers.{AnswersReportOf, IsOutOfMemory};
 ghost use Rattle.command_run.specs.Glue.{Prints};
-ghost use Rattle.command_run.specs.ReportAnswers.{AnswersGraph, ShowsEdges, dot_lines, edge_lines, graph_lines};
+ghost use Rattle.command_run.specs.ReportAnswers.{AnswersGraph, ShowsEdges, dot_edge_lines, dot_lines, edge_lines, graph_lines};
 ghost use Rattle.command_run.specs.Runs.{Adds, Wrote};
 
 use crate::answering::say;
@@ -33,6 +33,18 @@ fn put_edges<O: Output>(graph: &Graph, out: &mut O) -> Result<(), O::Error>
     Ok(())
 }
 
+/// Writes the lines of edges in the DOT language. More may follow.
+fn put_dot_edges<O: Output>(graph: &Graph, out: &mut O) -> Result<(), O::Error>
+    requires { O.can_write out.old }
+    ensures lines { OnOk result (Adds O.contents out.old (dot_edge_lines graph.now) out.new) }
+    ensures more { OnOk result (O.can_write out.new) }
+{
+    for edge in graph.edges() {
+        out.write_line(&DotEdge(edge))?;
+    }
+    Ok(())
+}
+
 /// Writes the lines of a graph in the DOT language. More may follow.
 fn put_dot<O: Output>(graph: &Graph, out: &mut O) -> Result<(), O::Error>
     requires { O.can_write out.old }
@@ -40,10 +52,9 @@ fn put_dot<O: Output>(graph: &Graph, out: &mut O) -> Result<(), O::Error>
     ensures more { OnOk result (O.can_write out.new) }
 {
     out.write_line(&DotBound::Head)?;
-    for edge in graph.edges() {
-        out.write_line(&DotEdge(edge))?;
-    }
-    out.write_line(&DotBound::End)
+    put_dot_edges(graph, out)?;
+    out.write_line(&DotBound::End)?;
+    Ok(())
 }
 
 /// Writes the lines of edges, in the DOT language where that is asked for. More may follow.

@@ -3,23 +3,23 @@
 ghost use Rattle.std.specs.Prelude.{Some};
 ghost use Rattle.std.specs.List.{flat_map};
 ghost use Rattle.picture.specs.Picture.{arrow_text, band_text, column_text, row_text};
+ghost use Rattle.picture.specs.Rows.{room_in};
 
-use crate::arrow::Arrow;
-use crate::columns::Column;
-use crate::row::Row;
+use crate::drawing::Picture;
 use crate::svg::shapes::{Band, Shape};
+use crate::window::room_in;
 use std::fmt;
 use std::fmt::{Display, Formatter};
 
 /// Columns, one behind the other.
 #[derive(Clone, Copy)]
-pub struct Columns<'a>(pub &'a [Column]);
+pub struct Columns<'a>(pub &'a Picture<'a>);
 
 impl Display for Columns<'_> {
-    ghost output = { λ columns. Some (flat_map column_text columns.0.now) };
+    ghost output = { λ picture. Some (flat_map column_text picture.0.now.columns.items) };
 
     fn fmt<W: fmt::Write>(&self, f: &mut Formatter<W>) -> fmt::Result {
-        for column in self.0 {
+        for column in &self.0.columns {
             write!(f, "{column}")?;
         }
         Ok(())
@@ -28,32 +28,29 @@ impl Display for Columns<'_> {
 
 /// Arrows, one behind the other.
 #[derive(Clone, Copy)]
-pub struct Arrows<'a>(pub &'a [Arrow]);
+pub struct Arrows<'a>(pub &'a Picture<'a>);
 
 impl Display for Arrows<'_> {
-    ghost output = { λ arrows. Some (flat_map arrow_text arrows.0.now) };
+    ghost output = { λ picture. Some (flat_map arrow_text picture.0.now.arrows.items) };
 
     fn fmt<W: fmt::Write>(&self, f: &mut Formatter<W>) -> fmt::Result {
-        for arrow in self.0 {
+        for arrow in &self.0.arrows {
             write!(f, "{arrow}")?;
         }
         Ok(())
     }
 }
 
-/// The bands of rows: behind the one at fault there is room for so many lines more.
+/// The bands of rows: behind the one at fault there is room for the sentence.
 #[derive(Clone, Copy)]
-pub struct Bands<'a> {
-    pub rows: &'a [Row<'a>],
-    pub room: u8,
-}
+pub struct Bands<'a>(pub &'a Picture<'a>);
 
 impl Display for Bands<'_> {
-    ghost output = { λ bands. Some (flat_map (band_text bands.room) bands.rows.now) };
+    ghost output = { λ picture. Some (flat_map (band_text (room_in picture.0.now.gap)) picture.0.now.rows.items) };
 
     fn fmt<W: fmt::Write>(&self, f: &mut Formatter<W>) -> fmt::Result {
-        let room = self.room;
-        for row in self.rows {
+        let room = room_in(self.0.gap);
+        for row in &self.0.rows {
             write!(f, "{}", Band { row, room })?;
         }
         Ok(())
@@ -62,13 +59,13 @@ impl Display for Bands<'_> {
 
 /// Rows, from above.
 #[derive(Clone, Copy)]
-pub struct Shapes<'a>(pub &'a [Row<'a>]);
+pub struct Shapes<'a>(pub &'a Picture<'a>);
 
 impl Display for Shapes<'_> {
-    ghost output = { λ rows. Some (flat_map row_text rows.0.now) };
+    ghost output = { λ picture. Some (flat_map row_text picture.0.now.rows.items) };
 
     fn fmt<W: fmt::Write>(&self, f: &mut Formatter<W>) -> fmt::Result {
-        for row in self.0 {
+        for row in &self.0.rows {
             write!(f, "{}", Shape(row))?;
         }
         Ok(())

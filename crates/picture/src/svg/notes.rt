@@ -1,30 +1,27 @@
 //! What stands beside columns, rows and arrows.
 
-ghost use Rattle.std.specs.Prelude.{◌≡◌, ◌++◌, Some};
+ghost use Rattle.std.specs.Prelude.{◌≡◌, ◌+◌, ◌++◌, Some, codes};
 ghost use Rattle.std.specs.Fmt.{WritesOnOk};
-ghost use Rattle.std.specs.Option.{option_copied};
-ghost use Rattle.picture.specs.Picture.{code_text, head_text, left_out_text, line_end, opening, sentence_text, why_text, wrapped};
+ghost use Rattle.picture.specs.Picture.{code_text, head_text, height_of, left_out_text, line_end, opening, sentence_of, sentence_text, why_text, wrapped, y_of};
 
 use crate::breaks::ends_line;
+use crate::drawing::Picture;
 use crate::svg::points::y_of;
-use crate::window::Gap;
 use audit_core::Report;
 use report_lines::{ShownReport, breach_code};
 use std::fmt;
 use std::fmt::{Display, Formatter};
 
-/// The begin of a picture of this width and height.
+/// The begin of a picture: its width and height.
 #[derive(Clone, Copy)]
-pub struct Opening {
-    pub width: u64,
-    pub height: u64,
-}
+pub struct Opening<'a>(pub &'a Picture<'a>);
 
-impl Display for Opening {
-    ghost output = { λ size. Some (opening size.width size.height) };
+impl Display for Opening<'_> {
+    ghost output = { λ picture. Some (opening picture.0.now.width (height_of picture.0.now.lines)) };
 
     fn fmt<W: fmt::Write>(&self, f: &mut Formatter<W>) -> fmt::Result {
-        let Opening { width, height } = self;
+        let width = self.0.width;
+        let height = y_of(self.0.lines) + 48;
         write!(
             f,
             "<svg xmlns='http://www.w3.org/2000/svg' width='{width}' height='{height}' viewBox='0 0 {width} {height}'>\n"
@@ -108,46 +105,62 @@ fn put_why<W: fmt::Write>(
 
 /// The sentence of what is broken, below the row at fault, or below the line of `check` where that names no record.
 #[derive(Clone, Copy)]
-pub struct Sentence<'a> {
-    pub report: &'a Report,
-    pub gap: Option<Gap>,
-    pub sentence: Option<&'static str>,
-}
+pub struct Sentence<'a>(pub &'a Picture<'a>);
 
 impl Display for Sentence<'_> {
-    ghost output = { λ told. Some (sentence_text told.report.now told.gap (option_copied told.sentence)) };
+    ghost output = { λ picture. Some (sentence_text picture.0.now.report.now picture.0.now.gap (sentence_of picture.0.now)) };
 
     fn fmt<W: fmt::Write>(&self, f: &mut Formatter<W>) -> fmt::Result {
-        let Some(sentence) = self.sentence else {
+        let Some(sentence) = self.0.sentence else {
             return Ok(());
         };
-        match (self.report, self.gap) {
-            (report, Some(gap)) => put_why(f, y_of(gap.row as u16) + 32, report, sentence),
-            (Report::NoOrder, None) => put_why(f, 52, self.report, sentence),
+        let report = self.0.report;
+        match (report, self.0.gap) {
+            (_, Some(gap)) => put_why(f, y_of(gap.row as u16) + 32, report, sentence),
+            (Report::NoOrder, None) => put_why(f, 52, report, sentence),
             (_, None) => Ok(()),
         }
     }
 }
 
-/// How many steps are left out, above or below.
-#[derive(Clone, Copy)]
-pub struct LeftOut<'a> {
-    pub steps: usize,
-    pub whence: &'a str,
-    pub y: u64,
+/// Writes how many steps are left out, above or below, if any are.
+fn put_left_out<W: fmt::Write>(
+    f: &mut Formatter<W>,
+    steps: usize,
+    whence: &str,
+    y: u64,
+) -> fmt::Result
+    ensures { WritesOnOk W.write_str_gives f.old result (left_out_text steps whence.now y) f.new }
+{
+    if steps == 0 {
+        return Ok(());
+    }
+    write!(
+        f,
+        "<text class='note' x='60' y='{y}'>{steps} steps {whence} are left out</text>\n"
+    )
 }
 
-impl Display for LeftOut<'_> {
-    ghost output = { λ left. Some (left_out_text left.steps left.whence.now left.y) };
+/// How many steps are left out above.
+#[derive(Clone, Copy)]
+pub struct Above<'a>(pub &'a Picture<'a>);
+
+impl Display for Above<'_> {
+    ghost output = { λ picture. Some (left_out_text picture.0.now.above (codes "above") 76) };
 
     fn fmt<W: fmt::Write>(&self, f: &mut Formatter<W>) -> fmt::Result {
-        let LeftOut { steps, whence, y } = *self;
-        if steps == 0 {
-            return Ok(());
-        }
-        write!(
-            f,
-            "<text class='note' x='60' y='{y}'>{steps} steps {whence} are left out</text>\n"
-        )
+        put_left_out(f, self.0.above, "above", 76)
+    }
+}
+
+/// How many steps are left out below.
+#[derive(Clone, Copy)]
+pub struct Below<'a>(pub &'a Picture<'a>);
+
+impl Display for Below<'_> {
+    ghost output = { λ picture. Some (left_out_text picture.0.now.below (codes "below") (y_of picture.0.now.lines + 34)) };
+
+    fn fmt<W: fmt::Write>(&self, f: &mut Formatter<W>) -> fmt::Result {
+        put_left_out(f, self.0.below, "below", y_of(self.0.lines) + 34)
     }
 }

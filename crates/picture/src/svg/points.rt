@@ -1,6 +1,6 @@
 //! Where things are, in pixels.
 
-ghost use Rattle.std.specs.Prelude.{◌≡◌, Some};
+ghost use Rattle.std.specs.Prelude.{◌≡◌, ◌≤◌, Some};
 ghost use Rattle.picture.specs.Picture.{point_at, point_text, reach_point, x_of, y_of};
 
 use crate::arrow::Reach;
@@ -34,7 +34,8 @@ pub fn x_of(column: u32) -> u64
 
 /// Where a line is.
 pub fn y_of(line: u16) -> u64
-    ensures { result ≡ y_of line }
+    ensures place { result ≡ y_of line }
+    ensures near { result ≤ 2097248 }
 {
     128 + 32 * line as u64
 }

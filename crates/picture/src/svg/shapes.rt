@@ -2,18 +2,20 @@
 
 ghost use Rattle.std.specs.Prelude.{◌≡◌, Some};
 ghost use Rattle.std.specs.Fmt.{WritesOnOk};
-ghost use Rattle.picture.specs.Picture.{arrow_line, arrow_text, band_lines, band_text, column_text, line_text, mark_word, row_text, stroke_word, tone_word, words_y, y_of};
+ghost use Rattle.picture.specs.Picture.{arrow_line, arrow_text, band_lines, band_text, column_text, circle_text, line_text, mark_word, row_text, stroke_word, tone_word, words_at, words_text, words_y, y_of};
 ghost use Rattle.picture.specs.Labels.{label_text};
+ghost use Rattle.picture.specs.Places.{passage_of};
 
 use crate::arrow::{Arrow, Stroke};
 use crate::columns::Column;
 use crate::frames::passage_of;
 use crate::label::Label;
-use crate::row::{Row, Tone};
+use crate::row::{Row, Tone, label_of};
 use crate::svg::points::{Point, point_at, reach_point, x_of, y_of};
 use rpc_view::RpcMessage;
 use std::fmt;
 use std::fmt::{Display, Formatter};
+use vat_log::Body;
 
 impl Display for Column {
     ghost output = { λ column. Some (column_text column) };
@@ -140,31 +142,63 @@ fn mark_word(message: &Option<RpcMessage>) -> &'static str
 
 /// How far down the words of a row are: of what it sends above the arrow, which goes down from there; of what it receives
 /// below the arrow, which comes from above; else beside the mark.
-fn words_y(passage: Option<(bool, u32)>, line: u16) -> u64
-    ensures { result ≡ words_y passage (y_of line) }
+fn words_y(body: &Body, line: u16) -> u64
+    ensures { result ≡ words_y (passage_of body.now) (y_of line) }
 {
     let y = y_of(line);
-    match passage {
+    match passage_of(body) {
         None => y + 4,
         Some((true, _)) => y - 5,
         Some((false, _)) => y + 11,
     }
 }
 
-/// Writes a row: its mark at a point, and its words.
-fn put_row<W: fmt::Write>(f: &mut Formatter<W>, row: &Row<'_>, label: Label<'_>) -> fmt::Result
-    requires { label_text label.number label.body.now label.message.now
-        ≡ label_text row.now.place.number row.now.body row.now.message }
-    ensures { WritesOnOk W.write_str_gives f.old result (row_text row.now) f.new }
+/// A mark at a point.
+#[derive(Clone, Copy)]
+struct Circle<'a> {
+    tone: &'a str,
+    mark: &'a str,
+    at: Point,
+}
+
+impl Display for Circle<'_> {
+    ghost output = { λ it. Some (circle_text it.tone.now it.mark.now it.at) };
+
+    fn fmt<W: fmt::Write>(&self, f: &mut Formatter<W>) -> fmt::Result {
+        let Circle { tone, mark, at } = *self;
+        let Point { x, y } = at;
+        write!(
+            f,
+            "<g class='{tone}'><circle class='{mark}' cx='{x}' cy='{y}' r='3.5'/>"
+        )
+    }
+}
+
+/// Words that begin at a point.
+#[derive(Clone, Copy)]
+struct Words<'a> {
+    at: Point,
+    label: Label<'a>,
+}
+
+impl Display for Words<'_> {
+    ghost output = { λ it. Some (words_text it.at (label_text it.label.number it.label.body.now it.label.message.now)) };
+
+    fn fmt<W: fmt::Write>(&self, f: &mut Formatter<W>) -> fmt::Result {
+        let Words { at, label } = *self;
+        let Point { x, y } = at;
+        write!(f, "<text x='{x}' y='{y}'>{label}</text></g>\n")
+    }
+}
+
+/// Where the words of a row begin.
+fn words_at(row: &Row<'_>) -> Point
+    ensures { result ≡ words_at row.now }
 {
-    let (x, y) = (x_of(row.column), y_of(row.line));
-    let (text_x, text_y) = (x + 14, words_y(passage_of(row.body), row.line));
-    let tone = tone_word(row.tone);
-    let mark = mark_word(&row.message);
-    write!(
-        f,
-        "<g class='{tone}'><circle class='{mark}' cx='{x}' cy='{y}' r='3.5'/><text x='{text_x}' y='{text_y}'>{label}</text></g>\n"
-    )
+    Point {
+        x: x_of(row.column) + 14,
+        y: words_y(row.body, row.line),
+    }
 }
 
 /// A row: its mark and its words.
@@ -176,11 +210,15 @@ impl Display for Shape<'_> {
 
     fn fmt<W: fmt::Write>(&self, f: &mut Formatter<W>) -> fmt::Result {
         let row = self.0;
-        let label = Label {
-            number: row.place.number,
-            body: row.body,
-            message: &row.message,
+        let circle = Circle {
+            tone: tone_word(row.tone),
+            mark: mark_word(&row.message),
+            at: point_at(row.column, row.line),
         };
-        put_row(f, row, label)
+        let words = Words {
+            at: words_at(row),
+            label: label_of(row),
+        };
+        write!(f, "{circle}{words}")
     }
 }

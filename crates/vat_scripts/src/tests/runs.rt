@@ -405,7 +405,17 @@ const WORDS: [(&[&str], Result<Command<'static>, ErrorKind>); 19] = [
     ),
     (
         &["vataudit", "graph", "a"],
-        Ok(Command::Graph { case: "a" }),
+        Ok(Command::Graph {
+            case: "a",
+            dot: false,
+        }),
+    ),
+    (
+        &["vataudit", "graph", "a", "--dot"],
+        Ok(Command::Graph {
+            case: "a",
+            dot: true,
+        }),
     ),
     (&["vataudit", "run", "-"], Ok(Command::Run { case: "-" })),
     (

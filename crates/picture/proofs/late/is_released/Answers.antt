@@ -1,16 +1,16 @@
-use Rattle.std.proofs.Common.{◌∙◌, refl, sym, ap, false}
-use Rattle.std.specs.Prelude.{slice_get, unwrap_or}
-use Rattle.picture.specs.Places.{turn_by}
-use Rattle.picture.specs.Glue.{turned_by}
-use Rattle.picture.proofs.Stepping.{folded}
+use Rattle.std.proofs.Common.{◌∙◌, ◌-◌, None, Some, arith, refl, sym}
+use Rattle.vat_rules.specs.Audit.{edition_of}
+use Rattle.picture.proofs.Released.{turned}
 use Rattle.picture.proofs.late.is_released.Goals as goal
+
+pub returns-in-Some : goal.returns-in-Some
+returns-in-Some c =
+    sym (c.loop-at.invariant
+    ∙ turned (edition_of c.args.log.now) c.args.question.asks c.args.question.connection c.args.question.number c.args.log.now.records c.loop-at.at (c.loop-at.at - 1) (Some c.in-Some.released)
+    (λ none. absurd (omega (arith, none, c.loop-at-test.true))) refl (sym c.in-Some.is ∙ c.in_ok-released.ensures))
 
 pub loop-at-preserved : goal.loop-at-preserved
 loop-at-preserved c =
-    let a = c.args.asker.0 in
-    let k = c.args.asker.1 in
-    let q = c.args.asker.2 in
-    let xs = c.args.log.now.records in
-    let i = c.loop-at.at in
-    c.in_ok-released.ensures ∙ ap (λ b. turned_by a k q b (slice_get xs i)) c.loop-at.invariant
-    ∙ sym (folded (λ released event. unwrap_or (turn_by a k q event) released) (λ b o. turned_by a k q b o) xs i false (λ y. refl) (λ y x. refl))
+    c.loop-at.invariant
+    ∙ turned (edition_of c.args.log.now) c.args.question.asks c.args.question.connection c.args.question.number c.args.log.now.records c.loop-at.at (c.loop-at.at - 1) None
+    (λ none. absurd (omega (arith, none, c.loop-at-test.true))) refl (sym c.in-None.is ∙ c.in_ok-released.ensures)

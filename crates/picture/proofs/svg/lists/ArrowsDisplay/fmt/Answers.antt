@@ -5,6 +5,6 @@ use Rattle.picture.proofs.svg.lists.ArrowsDisplay.fmt.Goals as goal
 
 pub loop-arrow-preserved : goal.loop-arrow-preserved
 loop-arrow-preserved g c =
-    writes_next g.W.Write.write_str_gives arrow_text c.args.self.now.0.now c.loop-arrow.arrow-index c.arrow-item.result c.arrow-item.result
-    c.args.f.now c.loop-arrow.f c.write.new.self c.loop-arrow-test.true c.arrow-item.is c.loop-arrow.invariant
+    writes_next g.W.Write.write_str_gives arrow_text c.deref-arrow-items.result.now c.loop-arrow.arrow-index _ _
+    c.args.f.now c.loop-arrow.f c.write.new.self c.loop-arrow-test.true refl c.loop-arrow.invariant
     (λ plain. c.in_ok-write.ensures.writes plain refl)

@@ -5,6 +5,6 @@ use Rattle.picture.proofs.svg.lists.ColumnsDisplay.fmt.Goals as goal
 
 pub loop-column-preserved : goal.loop-column-preserved
 loop-column-preserved g c =
-    writes_next g.W.Write.write_str_gives column_text c.args.self.now.0.now c.loop-column.column-index c.column-item.result c.column-item.result
-    c.args.f.now c.loop-column.f c.write.new.self c.loop-column-test.true c.column-item.is c.loop-column.invariant
+    writes_next g.W.Write.write_str_gives column_text c.deref-column-items.result.now c.loop-column.column-index _ _
+    c.args.f.now c.loop-column.f c.write.new.self c.loop-column-test.true refl c.loop-column.invariant
     (λ plain. c.in_ok-write.ensures.writes plain refl)

@@ -13,7 +13,7 @@ use crate::watch::Unwatched;
 use case_files::{RememberingSource, Source};
 use cause_notes::{Heard, write_note};
 use command_line::Command;
-use json_lines::{JsonFault, JsonLines};
+use json_lines::JsonFault;
 use report_lines::Fault;
 use std::alloc::{AllocError, Global};
 use std::io;
@@ -35,16 +35,16 @@ fn status_of(ended: io::Result<()>, status: u8) -> u8
 }
 
 /// Ends the lines with these notes, or with that of out of memory where an object wasn't made, and gives the exit status.
-fn end_lines<W: Write>(told: Told, lines: &mut JsonLines<'_, W>, notes: &str) -> u8
+fn end_lines<W: Write>(told: Told, out: &mut JsonOutput<'_, W>, notes: &str) -> u8
     ensures { EndsAs told result }
 {
     match told {
-        Ok(status) => status_of(lines.end(notes), status),
+        Ok(status) => status_of(out.lines.end(notes), status),
         Err(Failed::Out(JsonFault::OutOfMemory)) => {
-            status_of(lines.end_without_memory(), Fault::OutOfMemory.status())
+            status_of(out.lines.end_without_memory(), Fault::OutOfMemory.status())
         }
         Err(Failed::Out(JsonFault::Write(_))) => FAILED,
-        Err(Failed::File(_)) => status_of(lines.end(notes), FAILED),
+        Err(Failed::File(_)) => status_of(out.lines.end(notes), FAILED),
     }
 }
 
@@ -70,16 +70,15 @@ pub fn run_as_json<R: Threads + Wait + Sync, S: Source, W: Write, F: Write>(
     alloc: Global,
     command: &Command<'_>,
     source: &mut S,
-    lines: &mut JsonLines<'_, W>,
+    out: &mut JsonOutput<'_, W>,
     file: &mut F,
 ) -> u8
     requires { HasWorkers command.now }
     ensures { CarriesOut S.read_gives command.now source.old source.new
         (λ answers. Tells answers (Adds F.contents) file.old file.new result) }
 {
-    let mut out = JsonOutput(lines);
-    let told = answer_command(rt, alloc, command, source, &mut out, file);
-    end_lines(told, lines, "")
+    let told = answer_command(rt, alloc, command, source, out, file);
+    end_lines(told, out, "")
 }
 
 /// Runs a command as [`run_as_json`] does; its notes are told in the last object.
@@ -88,7 +87,7 @@ pub fn run_as_json_with_notes<R: Threads + Wait + Sync, S: RememberingSource, W:
     alloc: Global,
     command: &Command<'_>,
     source: &mut S,
-    lines: &mut JsonLines<'_, W>,
+    out: &mut JsonOutput<'_, W>,
     file: &mut F,
 ) -> u8
     requires { HasWorkers command.now }
@@ -101,10 +100,9 @@ pub fn run_as_json_with_notes<R: Threads + Wait + Sync, S: RememberingSource, W:
         alloc,
         watch: &Unwatched,
     };
-    let mut out = JsonOutput(lines);
-    let told = answer_heard(&host, command, source, &mut heard, &mut out, file);
+    let told = answer_heard(&host, command, source, &mut heard, out, file);
     match notes_beside(alloc, command, &heard, source, &told) {
-        Ok(notes) => end_lines(told, lines, notes.as_str()),
-        Err(AllocError) => end_lines(told, lines, ""),
+        Ok(notes) => end_lines(told, out, notes.as_str()),
+        Err(AllocError) => end_lines(told, out, ""),
     }
 }

@@ -1,13 +1,13 @@
 //! The notes beside an answer.
 
-use crate::bad_input::{message_sentence, put_fault};
-use crate::call_order::put_order_cause;
+use crate::cases::call_order::put_order_cause;
+use crate::cases::link_notes::{put_counterpart, put_received};
+use crate::cases::other_findings::{put_links, put_others};
 use crate::heard::{Heard, Told};
-use crate::link_notes::{put_counterpart, put_received};
+use crate::inputs::bad_input::{message_sentence, put_fault};
 use crate::logs::{Logs, put_place};
-use crate::other_findings::{put_links, put_others};
 use crate::reading::message_at;
-use crate::rule_notes::put_rule_cause;
+use crate::rules::rule_notes::put_rule_cause;
 use audit_core::Breach;
 use case_files::RememberingSource;
 use report_lines::Fault;

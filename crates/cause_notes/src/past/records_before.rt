@@ -1,6 +1,6 @@
 //! A log up to one of its records.
 
-use crate::lives::Lives;
+use crate::past::number_lives::Lives;
 use crate::reading::decoded;
 use std::alloc::{AllocError, Global};
 use vat_log::VatLog;

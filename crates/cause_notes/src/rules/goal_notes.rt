@@ -1,11 +1,11 @@
 //! Calls that go elsewhere than where they were meant to.
 
-use crate::call_notes::put_origin;
-use crate::life_notes::put_life;
-use crate::past::Past;
-use crate::question_notes::put_opening;
-use crate::turns::put_way;
-use crate::view_text::ViewText;
+use crate::past::records_before::Past;
+use crate::past::view_text::ViewText;
+use crate::past::view_turns::put_way;
+use crate::rules::call_notes::put_origin;
+use crate::rules::life_notes::put_life;
+use crate::rules::question_notes::put_opening;
 use rpc_view::{RpcMessage, Target};
 use std::alloc::AllocError;
 use std::fmt::Write;

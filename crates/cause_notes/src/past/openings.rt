@@ -1,6 +1,6 @@
 //! What passed of a question since it was opened last.
 
-use crate::past::Past;
+use crate::past::records_before::Past;
 use rpc_view::{Outcome, RpcMessage};
 use vat_view::{DecodedRecord, TableKey};
 

@@ -1,10 +1,10 @@
 //! Numbers that are used while they aren't held, and of which more is given back than is held.
 
-use crate::lives::{Life, Lives, number_described, number_named};
-use crate::openings::{Opening, opening_of};
-use crate::past::Past;
+use crate::past::number_lives::{Life, Lives, number_described, number_named};
+use crate::past::openings::{Opening, opening_of};
+use crate::past::records_before::Past;
+use crate::past::view_text::NumberText;
 use crate::reading::decoded;
-use crate::view_text::NumberText;
 use rpc_view::{Descriptor, RpcMessage};
 use std::alloc::AllocError;
 use std::fmt::Write;

@@ -1,11 +1,11 @@
 //! Promises that are settled or resolved where they can't be.
 
-use crate::desc_notes::{put_entry, resolved_by};
-use crate::life_notes::put_life;
-use crate::lives::Life;
-use crate::past::Past;
-use crate::turns::{binder_of, put_way};
-use crate::view_text::{NumberText, ViewText};
+use crate::past::number_lives::Life;
+use crate::past::records_before::Past;
+use crate::past::view_text::{NumberText, ViewText};
+use crate::past::view_turns::{binder_of, put_way};
+use crate::rules::desc_notes::{put_entry, resolved_by};
+use crate::rules::life_notes::put_life;
 use cap_frame::Path;
 use rpc_view::RpcMessage;
 use std::alloc::AllocError;

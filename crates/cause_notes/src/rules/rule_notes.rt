@@ -1,15 +1,15 @@
 //! The cause of a record that breaks a rule of its log.
 
-use crate::call_notes::{put_absent, put_answered};
-use crate::connection_notes::put_closed;
-use crate::desc_notes::{put_misdescribed, put_unpaired};
-use crate::goal_notes::put_astray;
-use crate::life_notes::{put_gone, put_miscounted};
-use crate::past::Past;
-use crate::promise_notes::{put_misresolved, put_unvowed};
-use crate::question_notes::{put_misused, put_reopened};
-use crate::reference_notes::put_unbound;
-use crate::result_notes::put_misreturned;
+use crate::past::records_before::Past;
+use crate::rules::call_notes::{put_absent, put_answered};
+use crate::rules::connection_notes::put_closed;
+use crate::rules::desc_notes::{put_misdescribed, put_unpaired};
+use crate::rules::goal_notes::put_astray;
+use crate::rules::life_notes::{put_gone, put_miscounted};
+use crate::rules::promise_notes::{put_misresolved, put_unvowed};
+use crate::rules::question_notes::{put_misused, put_reopened};
+use crate::rules::reference_notes::put_unbound;
+use crate::rules::result_notes::put_misreturned;
 use std::alloc::{AllocError, Global};
 use vat_log::VatLog;
 use vat_rules::Rule;

@@ -1,7 +1,7 @@
 //! Questions that are opened while they aren't free, and that are used where they can't be.
 
-use crate::openings::{Opening, opening_of};
-use crate::past::Past;
+use crate::past::openings::{Opening, opening_of};
+use crate::past::records_before::Past;
 use rpc_view::{Descriptor, Outcome, RpcMessage, Target};
 use std::alloc::AllocError;
 use std::fmt::Write;

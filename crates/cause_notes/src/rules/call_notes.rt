@@ -1,6 +1,6 @@
 //! Calls that have gone where they are delivered or sent on, and that are answered where they can't be.
 
-use crate::past::Past;
+use crate::past::records_before::Past;
 use cap_frame::Path;
 use report_lines::Shown;
 use rpc_view::{Outcome, RpcMessage};

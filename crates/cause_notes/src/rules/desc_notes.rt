@@ -1,11 +1,11 @@
 //! Capability tables that don't say what the references beside them stand for.
 
-use crate::life_notes::put_life;
-use crate::lives::{Life, number_described};
-use crate::past::Past;
-use crate::question_notes::put_opening;
-use crate::turns::put_reference;
-use crate::view_text::{NumberText, ViewText};
+use crate::past::number_lives::{Life, number_described};
+use crate::past::records_before::Past;
+use crate::past::view_text::{NumberText, ViewText};
+use crate::past::view_turns::put_reference;
+use crate::rules::life_notes::put_life;
+use crate::rules::question_notes::put_opening;
 use report_lines::Shown;
 use rpc_view::{Descriptor, RpcMessage};
 use std::alloc::AllocError;

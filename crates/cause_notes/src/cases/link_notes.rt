@@ -1,6 +1,6 @@
 //! Frames that were received and not sent so.
 
-use crate::frame_fields::put_field;
+use crate::cases::frame_fields::put_field;
 use crate::logs::Logs;
 use crate::reading::{message_at, put_record};
 use bytes::Bytes;

@@ -1,7 +1,7 @@
 //! Inputs that are bad or can't be read.
 
-use crate::bad_case::{put_form, put_refused, put_untied};
-use crate::file_kind::{FileKind, kind_of};
+use crate::inputs::bad_case::{put_form, put_refused, put_untied};
+use crate::inputs::file_kind::{FileKind, kind_of};
 use crate::logs::Logs;
 use bytes::Bytes;
 use cap_frame::FrameError;

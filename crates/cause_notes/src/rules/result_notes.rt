@@ -1,10 +1,10 @@
 //! Returns that don't say what is known of their call.
 
-use crate::call_notes::{put_left, put_origin, settled_by};
-use crate::desc_notes::put_entry;
-use crate::openings::{Opening, opening_of};
-use crate::past::Past;
-use crate::turns::put_way;
+use crate::past::openings::{Opening, opening_of};
+use crate::past::records_before::Past;
+use crate::past::view_turns::put_way;
+use crate::rules::call_notes::{put_left, put_origin, settled_by};
+use crate::rules::desc_notes::put_entry;
 use cap_frame::Path;
 use rpc_view::{Descriptor, Outcome, Payload, RpcMessage};
 use std::alloc::AllocError;

@@ -1,8 +1,8 @@
 //! References and calls that are bound twice, or that no record bound.
 
-use crate::call_notes::origin_of;
-use crate::past::Past;
-use crate::turns::binder_of;
+use crate::past::records_before::Past;
+use crate::past::view_turns::binder_of;
+use crate::rules::call_notes::origin_of;
 use rpc_view::RpcMessage;
 use std::alloc::AllocError;
 use std::fmt::Write;

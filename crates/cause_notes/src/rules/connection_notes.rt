@@ -1,6 +1,6 @@
 //! What is sent behind an abort.
 
-use crate::past::Past;
+use crate::past::records_before::Past;
 use rpc_view::RpcMessage;
 use std::alloc::AllocError;
 use std::fmt::Write;

@@ -1,7 +1,7 @@
 //! What was found of the other logs and of the links of a case.
 
+use crate::cases::link_notes::{put_counterpart, put_received};
 use crate::heard::report_of;
-use crate::link_notes::{put_counterpart, put_received};
 use crate::logs::Logs;
 use crate::reading::put_record;
 use audit_core::Report;

@@ -1,8 +1,8 @@
 //! Where views turn, with the records that turned them.
 
-use crate::openings::opening_before;
-use crate::past::Past;
-use crate::view_text::ViewText;
+use crate::past::openings::opening_before;
+use crate::past::records_before::Past;
+use crate::past::view_text::ViewText;
 use cap_frame::Path;
 use rpc_view::{Descriptor, Outcome, Payload, Resolution, RpcMessage};
 use std::alloc::AllocError;

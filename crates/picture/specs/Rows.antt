@@ -223,6 +223,10 @@ pub record Drawn : Type 0 where
   pub late : Bool
   pub tone : Tone
 
+-- a record of a log is a Return that is late
+abbrev pub late_in : Log → ℕ → Body → Bool
+late_in log number event = is_late (edition_of log) (passage_of event) (message_of (edition_of log) event) (take number log.records)
+
 -- the row of a record of a log, whose frames are read by the log's edition
 abbrev pub drawn : Scene → ℕ → Place → Log → Body → Drawn
 drawn scene row place log event = record {
@@ -231,7 +235,7 @@ drawn scene row place log event = record {
   line = line_of scene.gap row;
   body = event;
   message = message_of (edition_of log) event;
-  late = is_late (edition_of log) (passage_of event) (message_of (edition_of log) event) (take place.number log.records);
+  late = late_in log place.number event;
   tone = tone_of scene place;
 }
 
@@ -289,19 +293,33 @@ abbrev pub is_drawn_there : Bool → Reach → Bool
 is_drawn_there false (At column line) = true
 is_drawn_there _ _ = false
 
+-- the record of this number is a Return that is late, if the log has it
+abbrev pub late_number : ℕ → Log → Bool
+late_number number log = unwrap_or (option_map (late_in log number) (slice_get log.records number)) false
+
+-- the same of a place
+abbrev pub late_at : List Log → Place → Bool
+late_at logs place = unwrap_or (option_map (late_number place.number) (log_of logs place.vat)) false
+
+-- a message is a Return that is late at this end or at the other one
+abbrev pub late_by : List Log → Bool → Option Place → Bool
+late_by logs late None = late
+late_by logs late (Some mate) = if late then true else late_at logs mate
+
 -- the arrow of a row, that goes so far
-abbrev pub arrow_to : Drawn → Bool → Reach → Option Arrow
-arrow_to row sent reach = if is_drawn_there sent reach then None else Some (record {
+abbrev pub arrow_to : Drawn → Bool → Bool → Reach → Option Arrow
+arrow_to row sent late reach = if is_drawn_there sent reach then None else Some (record {
   column = row.column;
   line = row.line;
   sent = sent;
   reach = reach;
-  stroke = stroke_of row.late row.message;
+  stroke = stroke_of late row.message;
   tone = row.tone;
 })
 
 abbrev pub arrow_by : Scene → Drawn → (Bool × ℕ) → Option Arrow
-arrow_by scene row passage = arrow_to row passage.0 (reach_of scene passage.0 (mate_of scene.held row.place row.body))
+arrow_by scene row passage = arrow_to row passage.0 (late_by scene.held.logs row.late (mate_of scene.held row.place row.body))
+    (reach_of scene passage.0 (mate_of scene.held row.place row.body))
 
 -- the arrow of a row, where it has one
 abbrev pub arrow_of : Scene → Drawn → Option Arrow

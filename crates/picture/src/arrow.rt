@@ -1,10 +1,12 @@
 //! Arrows: the messages of rows.
 
-ghost use Rattle.std.specs.Prelude.{◌≡◌, ◌++◌, IfOk};
+ghost use Rattle.std.specs.Prelude.{◌≡◌, ◌++◌, IfOk, map};
+ghost use Rattle.std.specs.Arc.{arc_value};
 ghost use Rattle.std.specs.Option.{option_to_list};
-ghost use Rattle.picture.specs.Rows.{arrow_by, arrow_of, arrow_to, arrows_of, is_drawn_there, outcome_stroke, reach_away, reach_in, reach_of, stroke_of};
+ghost use Rattle.picture.specs.Rows.{arrow_by, arrow_of, arrow_to, arrows_of, is_drawn_there, late_by, outcome_stroke, reach_away, reach_in, reach_of, stroke_of};
 
 use crate::frames::passage_of;
+use crate::late::late_at;
 use crate::logs::column_of;
 use crate::mate::mate_of;
 use crate::place::Place;
@@ -13,6 +15,8 @@ use crate::scene::Scene;
 use crate::window::{line_of, lines_of, row_of};
 use rpc_view::{Outcome, RpcMessage};
 use std::alloc::{AllocError, Global};
+use std::sync::Arc;
+use vat_log::VatLog;
 
 /// Where the other end of an arrow is.
 #[derive(Clone, Copy, Debug, PartialEq, Eq)]
@@ -154,9 +158,30 @@ fn is_drawn_there(sent: bool, reach: Reach) -> bool
     }
 }
 
+/// Whether a message is a Return that is late at this end or at the other one.
+fn late_by(
+    alloc: Global,
+    logs: &[Arc<VatLog>],
+    late: bool,
+    mate: Option<Place>,
+) -> Result<bool, AllocError>
+    ensures { IfOk result (λ either. either ≡ late_by (map arc_value logs.now) late mate) }
+{
+    match mate {
+        Some(mate) => {
+            if late {
+                Ok(true)
+            } else {
+                late_at(alloc, logs, mate)
+            }
+        }
+        None => Ok(late),
+    }
+}
+
 /// The arrow of a row that goes so far, where it is drawn from here.
-fn arrow_to(row: &Row<'_>, sent: bool, reach: Reach) -> Option<Arrow>
-    ensures { result ≡ arrow_to row.now sent reach }
+fn arrow_to(row: &Row<'_>, sent: bool, late: bool, reach: Reach) -> Option<Arrow>
+    ensures { result ≡ arrow_to row.now sent late reach }
 {
     if is_drawn_there(sent, reach) {
         return None;
@@ -166,18 +191,23 @@ fn arrow_to(row: &Row<'_>, sent: bool, reach: Reach) -> Option<Arrow>
         line: row.line,
         sent,
         reach,
-        stroke: stroke_of(row.late, &row.message),
+        stroke: stroke_of(late, &row.message),
         tone: row.tone,
     })
 }
 
 /// The arrow of a row, where it has one.
-fn arrow_of(scene: &Scene<'_>, row: &Row<'_>) -> Option<Arrow>
-    ensures { result ≡ arrow_of scene.now row.now }
+fn arrow_of(alloc: Global, scene: &Scene<'_>, row: &Row<'_>) -> Result<Option<Arrow>, AllocError>
+    ensures { IfOk result (λ arrow. arrow ≡ arrow_of scene.now row.now) }
 {
-    let (sent, _) = passage_of(row.body)?;
-    let mate = mate_of(scene.case, row.place, row.body);
-    arrow_to(row, sent, reach_of(scene, sent, mate))
+    match passage_of(row.body) {
+        Some((sent, _)) => {
+            let mate = mate_of(scene.case, row.place, row.body);
+            let late = late_by(alloc, scene.case.logs(), row.late, mate)?;
+            Ok(arrow_to(row, sent, late, reach_of(scene, sent, mate)))
+        }
+        None => Ok(None),
+    }
 }
 
 /// These arrows, and one more where there is one.
@@ -201,7 +231,7 @@ pub fn arrows_of(
 {
     let mut arrows = Vec::new(alloc);
     for row in rows {
-        let made = arrow_of(scene, row);
+        let made = arrow_of(alloc, scene, row)?;
         arrows = with_arrow(arrows, made)?;
     }
     Ok(arrows)

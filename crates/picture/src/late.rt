@@ -1,15 +1,19 @@
 //! Returns that are late: a Finish with releaseResultCaps passed before them.
 
-ghost use Rattle.std.specs.Prelude.{◌≡◌, IfOk, take, slice_get};
+ghost use Rattle.std.specs.Prelude.{◌≡◌, IfOk, map, take, slice_get};
+ghost use Rattle.std.specs.Arc.{arc_value};
 ghost use Rattle.vat_rules.specs.Audit.{edition_of};
 ghost use Rattle.picture.specs.Places.{is_late, is_released, turn_by, turn_of};
+ghost use Rattle.picture.specs.Rows.{late_at, late_in, late_number};
 ghost use Rattle.picture.specs.Glue.{turn_in};
 
-use crate::frames::passes;
-use crate::logs::body_in;
+use crate::frames::{passage_of, passes};
+use crate::logs::{body_in, log_of};
 use crate::messages::message_of;
+use crate::place::Place;
 use rpc_view::{Edition, RpcMessage};
 use std::alloc::{AllocError, Global};
+use std::sync::Arc;
 use vat_log::{Body, VatLog};
 use vat_rules::edition_of;
 
@@ -135,5 +139,33 @@ pub fn is_late(
             is_released(alloc, log, number, question)
         }
         _ => Ok(false),
+    }
+}
+
+/// Whether a record of a log is a Return that is late.
+fn late_in(alloc: Global, log: &VatLog, number: usize, body: &Body) -> Result<bool, AllocError>
+    ensures { IfOk result (λ late. late ≡ late_in log.now number body.now) }
+{
+    let message = message_of(alloc, body, edition_of(log))?;
+    is_late(alloc, log, number, passage_of(body), &message)
+}
+
+/// Whether the record of this number is one, if the log has it.
+fn late_number(alloc: Global, log: &VatLog, number: usize) -> Result<bool, AllocError>
+    ensures { IfOk result (λ late. late ≡ late_number number log.now) }
+{
+    match body_in(log, number) {
+        Some(body) => late_in(alloc, log, number, body),
+        None => Ok(false),
+    }
+}
+
+/// The same of a place.
+pub fn late_at(alloc: Global, logs: &[Arc<VatLog>], place: Place) -> Result<bool, AllocError>
+    ensures { IfOk result (λ late. late ≡ late_at (map arc_value logs.now) place) }
+{
+    match log_of(logs, place.vat) {
+        Some(log) => late_number(alloc, log, place.number),
+        None => Ok(false),
     }
 }

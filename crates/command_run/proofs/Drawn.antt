@@ -47,11 +47,9 @@ drawing_of held lent order report asked run steps picture bytes text is_run lent
   steps,
   (
     picture,
-    (
-      subst (λ (s : List Step). IsRunFor held.logs report s) (sym lent_run) is_run,
-      subst (λ (h : Contents). IsPictureOf h order report steps asked picture) lent_case is_picture,
-      same ∙ text_is,
-    ),
+    subst (λ (s : List Step). IsRunFor held.logs report s) (sym lent_run) is_run,
+    subst (λ (h : Contents). IsPictureOf h order report steps asked picture) lent_case is_picture,
+    same ∙ text_is,
   ),
 )
 

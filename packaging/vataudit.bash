@@ -5,6 +5,8 @@ _vataudit_options() {
     case $1 in
         check) echo "--workers=" ;;
         order) echo "--out=" ;;
+        graph) echo "--dot" ;;
+        draw) echo "--out= --from= --count=" ;;
         records) echo "--from= --count=" ;;
         frame) echo "--later" ;;
         migrate) echo "--out= --later" ;;
@@ -24,13 +26,13 @@ _vataudit_files() {
 }
 
 _vataudit() {
-    local commands="check order graph run vat records frame frames migrate"
+    local commands="check order graph run draw vat records frame frames migrate"
     local word=${COMP_WORDS[COMP_CWORD]} before=${COMP_WORDS[COMP_CWORD - 1]} command="" at
     COMPREPLY=()
     for ((at = 1; at < COMP_CWORD; at++)); do
         case ${COMP_WORDS[at]} in
             --help | --version) return ;;
-            --quiet) [ -z "$command" ] || return ;;
+            --quiet | --json) [ -z "$command" ] || return ;;
             *) [ -n "$command" ] || command=${COMP_WORDS[at]} ;;
         esac
     done
@@ -38,8 +40,11 @@ _vataudit() {
     [ "$word" != = ] || word=
     [ "$before" != = ] || before=${COMP_WORDS[COMP_CWORD - 2]}
     if [ -z "$command" ]; then
-        local options="--quiet --help --version"
-        [ "$before" != --quiet ] || options=
+        local options="--quiet --json --help --version"
+        case $before in
+            --quiet) options="--json" ;;
+            --json) options="--quiet" ;;
+        esac
         mapfile -t COMPREPLY < <(compgen -W "$commands $options" -- "$word")
         return
     fi
@@ -52,13 +57,13 @@ _vataudit() {
     esac
     case $word in
         -*)
-            mapfile -t COMPREPLY < <(compgen -W "$(_vataudit_options "$command") --quiet --help" -- "$word")
+            mapfile -t COMPREPLY < <(compgen -W "$(_vataudit_options "$command") --quiet --json --help" -- "$word")
             [[ ${COMPREPLY[*]} != *= ]] || compopt -o nospace 2>/dev/null
             return
             ;;
     esac
     case $command in
-        check | order | graph | run) _vataudit_files "$word" .json ;;
+        check | order | graph | run | draw) _vataudit_files "$word" .json ;;
         vat | records | migrate) _vataudit_files "$word" .log ;;
         frames) _vataudit_files "$word" "" ;;
     esac

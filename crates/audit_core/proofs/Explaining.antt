@@ -84,14 +84,14 @@ module _ (all : AllFound) (whole : AreAll all) (order : List ℕ) (run : List St
 
 -- ---- an order that fits is no longer than the logs
 
-no_longer : (parts : List Part) (order : List ℕ) → FitsFrom parts order → length order ≤ left parts
+pub no_longer : (parts : List Part) (order : List ℕ) → FitsFrom parts order → length order ≤ left parts
 no_longer parts [] fits = omega arith
 no_longer parts (v ∷ order) fits =
     let rest = no_longer (after v parts) order fits.1 in
     let fewer = falls v parts fits.0 in
     omega (arith, rest, fewer)
 
-left_at_first : (logs : List Log) → left (begin logs) ≡ records_in logs
+pub left_at_first : (logs : List Log) → left (begin logs) ≡ records_in logs
 left_at_first [] = refl
 left_at_first (log ∷ logs) =
     let rest = left_at_first logs in

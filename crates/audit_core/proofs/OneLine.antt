@@ -77,7 +77,7 @@ one_first_bad held case v w a b one other a_bad b_bad =
       ]
     ]
 
-no_bad_log : (held : Contents) (v : ℕ) (a : Outcome) → IsFirstBad held.logs v a → IsBad a → AreGoodLogs held → ⊥
+pub no_bad_log : (held : Contents) (v : ℕ) (a : Outcome) → IsFirstBad held.logs v a → IsBad a → AreGoodLogs held → ⊥
 no_bad_log held v a first bad good = bad (tells first.log) (not_good first.log a first.found (good first.log first.there))
 
 -- ---- a link that isn't good has one line
@@ -111,7 +111,7 @@ module _ (held : Contents) (case : IsCase held) where
       (one_contained (λ (log : Log). log.vat) held.logs case.rising_vats one.first other.first own.first_held own_too.first_held (own.smaller ∙ sym own_too.smaller))
       (one_contained (λ (log : Log). log.vat) held.logs case.rising_vats one.second other.second own.second_held own_too.second_held (own.greater ∙ sym own_too.greater))
 
-  no_bad_link : (k end message : ℕ) (first : IsFirstBroken held k end message) → IsGoodLink held.logs first.link → ⊥
+  pub no_bad_link : (k end message : ℕ) (first : IsFirstBroken held k end message) → IsGoodLink held.logs first.link → ⊥
   no_bad_link k end message first good =
       no_bad_ends first.ends end message first.found (subst AreGoodEnds (same_ends first.link good.ends first.ends good.own first.own) good.good)
 
@@ -258,10 +258,10 @@ some_fits : (logs : List Log) (given : Option (List ℕ)) (order : List ℕ) →
 some_fits logs None order none fits = none order fits
 some_fits logs (Some given) order none fits = none
 
-broken_is_bad : (at : ℕ) (rule : RuleType) → IsBad (Broken at rule)
+pub broken_is_bad : (at : ℕ) (rule : RuleType) → IsBad (Broken at rule)
 broken_is_bad at rule story e = cc
 
-outside_is_bad : (at : ℕ) (why : Why) → IsBad (Outside at why)
+pub outside_is_bad : (at : ℕ) (why : Why) → IsBad (Outside at why)
 outside_is_bad at why story e = cc
 
 module _ (held : Contents) (case : IsCase held) (given : Option (List ℕ)) where

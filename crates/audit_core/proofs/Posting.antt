@@ -1,18 +1,14 @@
 -- A piece that is answered as missing is missing and claimed; where none is answered, none is missing.
 use Rattle.std.proofs.Common.{◌≡◌, ℕ, zero, suc, ◌<◌, Bool, true, false, cond, List, [], ◌∷◌, length, get_or, Option, Some, None, refl, sym, ap, ◌∙◌, subst, inl, inr, arith}
-use Rattle.std.specs.Prelude.{Result, Ok, Err, IfErr, is_none, position, count_by, slice_get, slice_set}
+use Rattle.std.specs.Prelude.{is_none, position, count_by, slice_get, slice_set}
 use Rattle.std.specs.List.{position_or_len}
-use Rattle.std.specs.Result.{is_err}
 use Rattle.std.proofs.lemmas.Bool.{cases_lt, lt-ltb}
 use Rattle.std.proofs.lemmas.Option.{slice_get-get_or}
 use Rattle.std.proofs.lemmas.List.Quantifiers.{position-Some}
 use Rattle.std.proofs.lemmas.List.Sums.{fails_before_first, sum_by-cons}
-use Rattle.case_book.specs.Pieces.{IsForPiece, pieces_of}
-use Rattle.case_book.specs.Books.{Kept, IsBook, IsMissing, IsClaimed, IsRefusal, least_missing, missing_in, with_claim}
+use Rattle.case_book.specs.Pieces.{pieces_of}
+use Rattle.case_book.specs.Books.{Kept, IsBook, IsMissing, IsClaimed, least_missing, missing_in, with_claim}
 use Rattle.case_book.specs.declared.finding.Finding.{Finding}
-use Rattle.case_book.specs.declared.refused.Refused.{Refused}
-use Rattle.case_book.specs.declared.refused.Refused.TheVariants.{Stranger, Double, Unclaimed}
-use Rattle.case_book.proofs.Numbered.{for_one}
 
 -- ---- the piece that is missing
 

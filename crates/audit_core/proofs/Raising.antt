@@ -1,7 +1,6 @@
 -- Where a case says yes, it says the same yes with any of its logs raised.
 use Rattle.std.proofs.Common.{◌≡◌, ℕ, ◌≤◌, Bool, true, false, if◌then◌else◌, List, [], ◌∷◌, length, map, Option, Some, None, refl, sym, ap, ap₂, ◌∙◌, subst}
 use Rattle.std.specs.Prelude.{Contains, slice_get}
-use Rattle.std.specs.Option.{option_map}
 use Rattle.std.specs.List.Sorted.{IsStrictlyIncreasing}
 use Rattle.std.proofs.lemmas.List.{length-map}
 use Rattle.std.proofs.lemmas.Option.{slice_get-map}
@@ -9,12 +8,11 @@ use Rattle.cap_reader.specs.Defaults.{default_limits}
 use Rattle.vat_log.specs.Log.{Log}
 use Rattle.vat_log.specs.Migrated.{raised}
 use Rattle.vat_rules.proofs.Editions.{all_good_later}
-use Rattle.merge_order.specs.Fits.{IsFitting}
 use Rattle.run_model.specs.declared.step.Step.{Step}
 use Rattle.run_model.specs.Edges.{AreEdges, Edge}
 use Rattle.case_book.specs.Case.{Contents, IsCase, vat_limit, vats_of}
 use Rattle.case_book.specs.Ties.{tie_fault_of}
-use Rattle.audit_core.specs.Report.{IsGoodLog, AreGoodLogs, IsReport, line_in, IsFittingIfGiven}
+use Rattle.audit_core.specs.Report.{IsGoodLog, IsReport, line_in, IsFittingIfGiven}
 use Rattle.audit_core.specs.Versions.{with_raised}
 use Rattle.audit_core.specs.declared.report.Report.{Report}
 use Rattle.audit_core.specs.declared.report.Report.TheVariants as report

@@ -1,6 +1,6 @@
 -- A report depends on the versions of logs by their editions alone: a link, an order and a run speak of records and
 -- messages. Logs are compared as they are once they are raised, which leaves nothing of their versions.
-use Rattle.std.proofs.Common.{◌≡◌, ℕ, ◌+◌, ◌-◌, ◌<◌, Bool, true, false, cond, ◌&&◌, ◌||◌, if◌then◌else◌, List, [], ◌∷◌, ◌++◌, length, map, Option, Some, None, refl, sym, ap, ap₂, ◌∙◌, subst, inl, inr, ◌⊎◌, arith}
+use Rattle.std.proofs.Common.{◌≡◌, ℕ, ◌+◌, ◌-◌, ◌<◌, Bool, true, false, cond, ◌&&◌, ◌||◌, if◌then◌else◌, List, [], ◌∷◌, ◌++◌, length, map, Option, Some, None, refl, sym, ap, ap₂, ◌∙◌, subst, inl, inr}
 use Rattle.std.specs.Prelude.{◌==◌, not, Contains, IsTrue, count_by, filter, sum_by, slice_get}
 use Rattle.std.specs.Option.{option_map}
 use Rattle.std.specs.List.{flat_map, list_any, AllByRecursion}
@@ -18,12 +18,9 @@ use Rattle.vat_view.specs.Past.{Each}
 use Rattle.vat_rules.specs.Audit.{reads_by, edition_of_version, edition_of, IsTrueOf}
 use Rattle.vat_rules.specs.First.{AllGood, IsFirst}
 use Rattle.vat_rules.specs.Types.{Edition}
-use Rattle.vat_rules.proofs.Editions.{all_good_later}
 use Rattle.vat_rules.specs.declared.outcome.Outcome.{Outcome}
-use Rattle.link_check.specs.Prefix.{Ends, IsOutcome, IsBrokenAtFirst, IsBrokenAtSecond}
+use Rattle.link_check.specs.Prefix.{Ends, IsOutcome}
 use Rattle.link_check.specs.declared.outcome.LinkOutcome.TheVariants.{Broken as BrokenAt}
-use Rattle.merge_order.specs.Fits.{IsFitting}
-use Rattle.merge_order.specs.declared.checking.OrderFinding.TheVariants.{Fails}
 use Rattle.run_model.specs.Steps.{vat_of}
 use Rattle.run_model.specs.declared.step.Step.{Step}
 use Rattle.run_model.specs.Edges.{AreEdges, Edge}
@@ -37,7 +34,7 @@ use Rattle.case_book.specs.Ties.{tie_fault_of, unlinked_in, lacks_log, links_of_
 use Rattle.case_book.specs.declared.ties.TieFault.TheVariants.{MissingLog, SameEnds}
 use Rattle.case_book.specs.Pieces.{IsComparisonOf}
 use Rattle.case_book.specs.declared.link.Link.{Link}
-use Rattle.audit_core.specs.Headline.{Explains, IsHeadline, IsBalancedThroughout, records_of, taken_of}
+use Rattle.audit_core.specs.Headline.{Explains, IsBalancedThroughout, records_of, taken_of}
 use Rattle.audit_core.specs.Report.{IsGoodLog, AreGoodEnds, IsFirstBad, IsFirstBroken, IsGoodLink, AreGoodLogs, AreGoodLinks, IsGoodCase, IsOrderFor, IsEarlyAt, IsYes, FailsAt, HasNoOrder, IsReport, line_in, IsFittingIfGiven, delivers, sends, receives}
 use Rattle.audit_core.specs.Versions.{AreSameButVersions}
 use Rattle.audit_core.specs.declared.report.Breach.TheVariants.{Rule, Order}

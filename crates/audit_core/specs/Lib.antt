@@ -1,5 +1,6 @@
 pub mod Headline
 pub mod Report
+pub mod Explained
 pub mod Refusals
 pub mod Glue
 pub mod Versions

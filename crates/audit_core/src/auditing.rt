@@ -21,7 +21,7 @@ use std::thread::Threads;
 const MAX_WORKERS: u32 = 64;
 
 /// Why a case isn't audited, but for running out of memory.
-fn refused(case: &Case, workers: u32) -> Option<AuditError>
+pub(crate) fn refused(case: &Case, workers: u32) -> Option<AuditError>
     ensures { result ≡ refusal_of case.now workers }
 {
     if workers == 0 {
@@ -65,8 +65,9 @@ fn finish<G: Gate>(alloc: Global, mut book: Book, gate: &G) -> Result<Findings, 
     }
 }
 
-/// The findings of all pieces of a case, by so many workers. The calling thread does what they leave undone.
-fn find_all<R: Threads + Wait + Sync, G: Gate + Sync>(
+/// The findings of all pieces of a case, by so many workers. The calling thread does what they leave undone; one worker alone
+/// does all there, without a lock and without looking for the piece of each finding.
+pub(crate) fn find_all<R: Threads + Wait + Sync, G: Gate + Sync>(
     rt: &R,
     alloc: Global,
     case: Case,
@@ -76,6 +77,9 @@ fn find_all<R: Threads + Wait + Sync, G: Gate + Sync>(
     requires { tie_fault_of case ≡ None }
     ensures { IfOk result (λ all. all.case ≡ case) }
 {
+    if workers == 1 {
+        return finish(alloc, Book::new(alloc, case)?, gate);
+    }
     let shared = Mutex::new(Book::new(alloc, case.copy(alloc)?)?);
     work_together(rt, alloc, &case, &shared, workers, gate);
     let book = own_book(alloc, case, shared.into_inner())?;

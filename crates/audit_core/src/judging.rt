@@ -16,7 +16,7 @@ use run_model::Run;
 use std::alloc::{AllocError, Global};
 
 /// The line of the first vat, or else of the first link, that isn't good. It is the same whatever the order.
-fn line_of(findings: &Findings) -> Option<Report>
+pub(crate) fn line_of(findings: &Findings) -> Option<Report>
     ensures { MatchOption result (AreGoodFindings findings.now)
         (λ answer. (given : Option (List ℕ)) → IsReport findings.now.case given answer) }
 {
@@ -64,6 +64,40 @@ fn by_order(alloc: Global, findings: &Findings, order: &Order) -> Result<Report,
     }
 }
 
+/// The report of findings that are lent, and of an order: [`judge`] answers just that.
+pub(crate) fn judge_lent(
+    alloc: Global,
+    findings: &Findings,
+    order: &Order,
+) -> Result<Report, AllocError>
+    ensures report { IfOk result (IsReport findings.now.case (Some order.now)) }
+    // What a yes means.
+    ensures headline { IfOk result (YesMeansHeadline findings.now.case.logs) }
+{
+    if let Some(line) = line_of(findings) {
+        return Ok(line);
+    }
+    match check_order(alloc, findings.case().logs(), order)? {
+        OrderFinding::Fails(step) => Ok(Report::OrderStep(step)),
+        OrderFinding::Fits => by_order(alloc, findings, order),
+    }
+}
+
+/// The report of findings that are lent, where no order is given: [`judge_unordered`] answers just that.
+pub(crate) fn judge_lent_unordered(alloc: Global, findings: &Findings) -> Result<Report, AllocError>
+    ensures report { IfOk result (IsReport findings.now.case None) }
+    // What a yes means.
+    ensures headline { IfOk result (YesMeansHeadline findings.now.case.logs) }
+{
+    if let Some(line) = line_of(findings) {
+        return Ok(line);
+    }
+    match make_order(alloc, findings.case().logs())? {
+        None => Ok(Report::NoOrder),
+        Some(order) => by_order(alloc, findings, &order),
+    }
+}
+
 /// The report of the findings of a case, and of an order of its records: the first line that applies. Vats are tried by their
 /// numbers, links by theirs, then the order, then the order of calls in the run of all vats.
 ///
@@ -75,13 +109,7 @@ pub fn judge(alloc: Global, findings: Findings, order: Order) -> Result<Report, 
     // What a yes means.
     ensures headline { IfOk result (YesMeansHeadline findings.case.logs) }
 {
-    if let Some(line) = line_of(&findings) {
-        return Ok(line);
-    }
-    match check_order(alloc, findings.case().logs(), &order)? {
-        OrderFinding::Fails(step) => Ok(Report::OrderStep(step)),
-        OrderFinding::Fits => by_order(alloc, &findings, &order),
-    }
+    judge_lent(alloc, &findings, &order)
 }
 
 /// The report of the findings of a case for which no order is given: it is judged by the order that takes the smallest vat
@@ -95,11 +123,5 @@ pub fn judge_unordered(alloc: Global, findings: Findings) -> Result<Report, Allo
     // What a yes means.
     ensures headline { IfOk result (YesMeansHeadline findings.case.logs) }
 {
-    if let Some(line) = line_of(&findings) {
-        return Ok(line);
-    }
-    match make_order(alloc, findings.case().logs())? {
-        None => Ok(Report::NoOrder),
-        Some(order) => by_order(alloc, &findings, &order),
-    }
+    judge_lent_unordered(alloc, &findings)
 }

@@ -3,7 +3,8 @@
 //! It stands on `case_book`, whose book keeps what is found for each piece, on `merge_order` for orders, and on `call_trace`,
 //! which names the run of good logs. Which report a case has, with an order or without one, is said in `specs/Report.antt`;
 //! [`audit`], [`judge`] and [`judge_unordered`] answer just that. What a yes means stands in `specs/Headline.antt`, clause by
-//! clause, and each of the three cites it (clause `headline`); when a case isn't audited, in `specs/Refusals.antt`. Laws: good
+//! clause, and each of the three cites it (clause `headline`), as does [`audit_with_findings`], which also answers what was found of
+//! each log and each link; when a case isn't audited, in `specs/Refusals.antt`. Laws: good
 //! findings of a case and an order that fits are such as name a run ([`good_findings_name_a_run`]), and a case has one line,
 //! whichever order fits ([`a_case_has_one_line`]), and one graph ([`a_case_has_one_graph`]), also with logs migrated
 //! ([`versions_change_nothing`]); and where it says yes, it says the same yes with logs raised ([`raising_keeps_a_yes`]).
@@ -13,14 +14,17 @@ mod auditing;
 mod counts;
 mod error;
 mod first_bad;
+mod found_run;
 mod gate;
 mod judging;
 mod laws;
 mod report;
+mod with_findings;
 mod working;
 
 pub use auditing::audit;
 pub use error::AuditError;
+pub use found_run::run_of_findings;
 pub use gate::Gate;
 pub use judging::{judge, judge_unordered};
 pub use laws::{
@@ -28,3 +32,4 @@ pub use laws::{
     versions_change_nothing,
 };
 pub use report::{Breach, Report};
+pub use with_findings::audit_with_findings;

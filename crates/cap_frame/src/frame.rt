@@ -9,22 +9,29 @@ use byteorder::{ByteOrder, LittleEndian};
 use bytes::Bytes;
 use std::marker::Model;
 
-/// A frame: its segments, each a list of words of 8 bytes. Contracts see it as those lists. It keeps the bytes alone,
-/// and each call finds its place in them anew.
+/// A frame: its segments, each a list of words of 8 bytes. Contracts see it as those lists. It keeps the bytes, and where
+/// the first segment lies in them, since most frames have one alone; for another segment each call finds its place anew.
 #[derive(Debug, Drop)]
 pub struct Frame {
     bytes: Bytes,
+    /// How many bytes stand before the first segment.
+    first: u64,
+    /// How many words the first segment has.
+    size: u64,
 }
 
 impl Model for Frame {
-    ghost use Rattle.std.specs.Prelude.{◌≡◌, List, ℕ, Ok};
-    ghost use Rattle.cap_frame.specs.Segments.{content, segments_of};
+    ghost use Rattle.std.specs.Prelude.{◌≡◌, ◌<◌, ◌^◌, List, ℕ, Ok, slice_index};
+    ghost use Rattle.cap_frame.specs.Segments.{content, segments_of, segment_count, sizes_of, table_len};
 
     ghost Value = { List (List ℕ) };
 
     ghost view = { λ frame. content frame.bytes };
 
-    ghost invariant = { λ frame. segments_of frame.bytes ≡ Ok (content frame.bytes) };
+    ghost invariant = { λ frame. (segments_of frame.bytes ≡ Ok (content frame.bytes))
+        × (frame.first ≡ table_len (segment_count frame.bytes))
+        × (frame.size ≡ slice_index (sizes_of frame.bytes) 0)
+        × (frame.first < 2 ^ 32) × (frame.size < 2 ^ 32) };
 }
 
 impl Frame {
@@ -41,7 +48,9 @@ impl Frame {
         ensures only { (segments : List (List ℕ)) → Spells bytes segments → result ≡ Ok segments }
     {
         check(bytes.as_slice())?;
-        Ok(Frame { bytes })
+        let first = table_len_for(count_in(bytes.as_slice()));
+        let size = size_in(bytes.as_slice(), 0);
+        Ok(Frame { bytes, first, size })
     }
 
     /// The length in bytes of the frame that stands first: its table with the padding, and its segments, by the stream
@@ -78,6 +87,29 @@ impl Frame {
 
     /// The word at a place of a segment, both counted from 0, or None where there is none.
     pub fn word(&self, segment: u32, index: u64) -> Option<u64>
+        ensures { result ≡ word_at self.now segment index }
+    {
+        if segment == 0 {
+            self.first_word(index)
+        } else {
+            self.word_of(segment, index)
+        }
+    }
+
+    /// The word at a place of the first segment.
+    fn first_word(&self, index: u64) -> Option<u64>
+        ensures { result ≡ word_at self.now 0 index }
+    {
+        if index >= self.size {
+            return None;
+        }
+        let at = self.first + 8 * index;
+        let (_, rest) = self.bytes.as_slice().split_at(at as usize);
+        Some(LittleEndian::read_u64(rest))
+    }
+
+    /// The word at a place of a segment that is found anew.
+    fn word_of(&self, segment: u32, index: u64) -> Option<u64>
         ensures { result ≡ word_at self.now segment index }
     {
         let bytes = self.bytes.as_slice();

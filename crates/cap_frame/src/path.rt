@@ -1,18 +1,26 @@
 //! Paths of pointer fields.
 
-ghost use Rattle.std.specs.Prelude.{◌≡◌, IfOk};
+ghost use Rattle.std.specs.Prelude.{◌≡◌, IfOk, IfSome};
+ghost use Rattle.cap_frame.specs.Glue.{numbers_of};
 
-use arrayvec::ArrayVec;
-use std::alloc::AllocError;
+use std::alloc::{AllocError, Global};
 use std::fmt::{self, Debug, Formatter, Write};
 use std::marker::Model;
 use std::sync::Arc;
 
-/// Numbers as they are kept.
+/// Numbers as they are kept: up to four, as most paths have, take no memory of their own.
 #[derive(Drop)]
 enum Kept {
-    /// Few, as most paths have: they take no memory of their own.
-    Few(ArrayVec<u16, 4>),
+    /// None.
+    Nothing,
+    /// A single one.
+    One([u16; 1]),
+    /// Two.
+    Two([u16; 2]),
+    /// Three.
+    Three([u16; 3]),
+    /// Four.
+    Four([u16; 4]),
     /// Many, which a path and its copies share, so that a long path is kept once however often it is noted.
     Many(Arc<Vec<u16>>),
 }
@@ -42,16 +50,41 @@ impl Debug for Path {
     }
 }
 
+/// How few numbers are kept; None where they are many.
+fn few(fields: &[u16]) -> Option<Kept>
+    ensures { IfSome result (λ kept. numbers_of kept ≡ fields.now) }
+{
+    match fields {
+        [] => Some(Kept::Nothing),
+        [a] => Some(Kept::One([*a])),
+        [a, b] => Some(Kept::Two([*a, *b])),
+        [a, b, c] => Some(Kept::Three([*a, *b, *c])),
+        [a, b, c, d] => Some(Kept::Four([*a, *b, *c, *d])),
+        _ => None,
+    }
+}
+
 impl Path {
     /// The path of these numbers. The only error is that memory ran out; a path of at most four numbers takes none.
     pub fn new(fields: Vec<u16>) -> Result<Path, AllocError>
         ensures { IfOk result (λ path. path ≡ fields.items) }
     {
-        let kept = match ArrayVec::try_from(fields.as_slice()) {
-            Ok(few) => Kept::Few(few),
-            Err(_) => Kept::Many(Arc::new(*fields.allocator(), fields)?),
+        let kept = match few(fields.as_slice()) {
+            Some(kept) => kept,
+            None => Kept::Many(Arc::new(*fields.allocator(), fields)?),
         };
         Ok(Path { kept })
+    }
+
+    /// The path of the numbers that are lent. The only error is that memory ran out; a path of at most four numbers takes
+    /// none.
+    pub fn from_slice(alloc: Global, fields: &[u16]) -> Result<Path, AllocError>
+        ensures { IfOk result (λ path. path ≡ fields.now) }
+    {
+        match few(fields) {
+            Some(kept) => Ok(Path { kept }),
+            None => Path::new(Vec::from_slice(alloc, fields)?),
+        }
     }
 
     /// The numbers, the outermost struct's first.
@@ -59,7 +92,11 @@ impl Path {
         ensures { result.now ≡ self.now }
     {
         match &self.kept {
-            Kept::Few(few) => few.as_slice(),
+            Kept::Nothing => &[],
+            Kept::One(numbers) => numbers.as_slice(),
+            Kept::Two(numbers) => numbers.as_slice(),
+            Kept::Three(numbers) => numbers.as_slice(),
+            Kept::Four(numbers) => numbers.as_slice(),
             Kept::Many(many) => many.as_slice(),
         }
     }
@@ -70,7 +107,11 @@ impl Path {
         ensures { IfOk result (λ path. path ≡ self.now) }
     {
         let kept = match &self.kept {
-            Kept::Few(few) => Kept::Few(few.clone()?),
+            Kept::Nothing => Kept::Nothing,
+            Kept::One(numbers) => Kept::One(*numbers),
+            Kept::Two(numbers) => Kept::Two(*numbers),
+            Kept::Three(numbers) => Kept::Three(*numbers),
+            Kept::Four(numbers) => Kept::Four(*numbers),
             Kept::Many(many) => Kept::Many(Arc::try_clone(many)?),
         };
         Ok(Path { kept })

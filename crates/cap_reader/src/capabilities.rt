@@ -72,7 +72,7 @@ fn judge_list(
 fn path_of(numbers: &Vec<u16>) -> Result<Path, AllocError>
     ensures { IfOk result (λ path. path ≡ numbers.now.items) }
 {
-    Path::new(numbers.clone()?)
+    Path::from_slice(*numbers.allocator(), numbers.as_slice())
 }
 
 /// Puts a capability behind those found. Room is made for one, and then for as many again as there are: most frames have

@@ -95,7 +95,7 @@ HasFile words file = (words ≡ file ∷ []) ⊎ ((words ≡ dashes ∷ file ∷
 
 module _ (name : Text) where
   abbrev pub sub : Shape
-  sub = record (unwrap_or (slice_get (built program).subs 4) (reader name).top) { name = name }
+  sub = record (unwrap_or (slice_get (built program).subs 5) (reader name).top) { name = name }
 
   sub_longs : (name : Text) → arg_by_long sub.rules name ≡ (if bytes_eq (codes "help") name || false then Some help else None)
   sub_longs name = refl

@@ -20,9 +20,9 @@ use Rattle.clap.specs.declared.builder.value_parser.ValueParser.TheVariants as p
 use Rattle.clap.proofs.OnLiterals.{clap_on_literals}
 use Rattle.command_line.proofs.Faultless.{first_none, never, then_none}
 use Rattle.command_line.proofs.Filled.{AllBring, AreFull, Brings, default_row, first_passes, given_value, level_full, no_default, parser_by, replaced_full, row_value, values_pass}
-use Rattle.command_line.proofs.Named.{IsOneOf, Named, Reader, all_names, checking, framing, help_word, listing, migrating, name_of, of_frames, of_graph, of_run, of_vat, ordering, reading, which, word_of}
+use Rattle.command_line.proofs.Named.{IsOneOf, Named, Reader, all_names, checking, drawing, framing, graphing, help_word, listing, migrating, name_of, of_frames, of_run, of_vat, ordering, reading, which, word_of}
 use Rattle.command_line.proofs.One.{HasFile, at, dashes, help, holding, main, names, sub, word_plain, words_read}
-use Rattle.command_line.specs.Parser.{check, count, frame, input, input_rule, later, later_rule, migrate, most, number_rule, path, path_rule, program, records, start, workers, workers_rule, writer}
+use Rattle.command_line.specs.Parser.{check, count, dot, draw, flag_rule, frame, graph, input, input_rule, later, migrate, most, number_rule, path, path_rule, program, records, start, workers, workers_rule, writer}
 use Rattle.command_line.specs.Spelled.{IsChecked, SpellsOne}
 
 -- ---- the first word
@@ -76,21 +76,29 @@ check_sub = unwrap_or (slice_get (built program).subs 0) check.top
 abbrev order_sub : Shape
 order_sub = unwrap_or (slice_get (built program).subs 1) (writer (codes "order")).top
 
+abbrev draw_sub : Shape
+draw_sub = unwrap_or (slice_get (built program).subs 4) draw.top
+
 abbrev records_sub : Shape
-records_sub = unwrap_or (slice_get (built program).subs 5) records.top
+records_sub = unwrap_or (slice_get (built program).subs 6) records.top
 
 abbrev migrate_sub : Shape
-migrate_sub = unwrap_or (slice_get (built program).subs 8) migrate.top
+migrate_sub = unwrap_or (slice_get (built program).subs 9) migrate.top
 
 abbrev frame_sub : Shape
-frame_sub = unwrap_or (slice_get (built program).subs 6) frame.top
+frame_sub = unwrap_or (slice_get (built program).subs 7) frame.top
+
+abbrev graph_sub : Shape
+graph_sub = unwrap_or (slice_get (built program).subs 2) graph.top
 
 abbrev pub shape_by : Named → Shape
 shape_by (reading r) = sub (word_of r)
 shape_by checking = check_sub
 shape_by ordering = order_sub
+shape_by drawing = draw_sub
 shape_by listing = records_sub
 shape_by migrating = migrate_sub
+shape_by graphing = graph_sub
 shape_by framing = frame_sub
 
 -- past the name of a command the walk keeps the words
@@ -103,35 +111,38 @@ stops h waiting n ended name seen (word ∷ words) =
 
 stop_at : (c : Named) (words : List Text) → (walk main.rules names nothing_held (name_of c ∷ words)).stopped ≡ Some (name_of c, words)
 unfolding walked
-stop_at (reading of_graph) words = stops (holding None) idle 1 false (word_of of_graph) [] words
+stop_at graphing words = stops (holding None) idle 1 false (name_of graphing) [] words
 stop_at (reading of_run) words = stops (holding None) idle 1 false (word_of of_run) [] words
 stop_at (reading of_vat) words = stops (holding None) idle 1 false (word_of of_vat) [] words
 stop_at (reading of_frames) words = stops (holding None) idle 1 false (word_of of_frames) [] words
 stop_at checking words = stops (holding None) idle 1 false (name_of checking) [] words
 stop_at ordering words = stops (holding None) idle 1 false (name_of ordering) [] words
+stop_at drawing words = stops (holding None) idle 1 false (name_of drawing) [] words
 stop_at listing words = stops (holding None) idle 1 false (name_of listing) [] words
 stop_at migrating words = stops (holding None) idle 1 false (name_of migrating) [] words
 stop_at framing words = stops (holding None) idle 1 false (name_of framing) [] words
 
 -- the command that is entered reads the words that are left
 entered_level : (c : Named) (words : List Text) → entered_fault (built program) (Some (name_of c, words)) ≡ level_fault (shape_by c) [] nothing_held words false []
-entered_level (reading of_graph) words = refl
+entered_level graphing words = refl
 entered_level (reading of_run) words = refl
 entered_level (reading of_vat) words = refl
 entered_level (reading of_frames) words = refl
 entered_level checking words = refl
 entered_level ordering words = refl
+entered_level drawing words = refl
 entered_level listing words = refl
 entered_level migrating words = refl
 entered_level framing words = refl
 
 entered_rows : (c : Named) (words : List Text) → entered (built program) (Some (name_of c, words)) ≡ Some (name_of c, rows_after (shape_by c).rules [] words)
-entered_rows (reading of_graph) words = refl
+entered_rows graphing words = refl
 entered_rows (reading of_run) words = refl
 entered_rows (reading of_vat) words = refl
 entered_rows (reading of_frames) words = refl
 entered_rows checking words = refl
 entered_rows ordering words = refl
+entered_rows drawing words = refl
 entered_rows listing words = refl
 entered_rows migrating words = refl
 entered_rows framing words = refl
@@ -168,7 +179,7 @@ main_read (w ∷ rest) e =
 
 -- ---- what it finds in them
 
--- the one thing, --workers, --out, --later, --from, --count and --help bring values that pass
+-- the one thing, --workers, --out, --later, --dot, --from, --count and --help bring values that pass
 brings_case : Brings false (with_index 1 (filled input_rule))
 brings_case [] rows e full = absurd (never e)
 brings_case (v ∷ vs) rows e full =
@@ -184,13 +195,13 @@ brings_workers [] rows e full = absurd (never e)
 brings_workers (v ∷ vs) rows e full =
     replaced_full workers _ CommandLine (v ∷ vs) rows (values_pass workers (v ∷ vs) (then_none (repeat_fault false workers rows) _ (then_none (range_kinds 1 1 (length (v ∷ vs))) _ e))) full
 
-brings_later : Brings false (filled later_rule)
-brings_later [] rows e full = replaced_full later _ CommandLine (codes "true" ∷ []) rows (refl, tt) full
-brings_later (v ∷ vs) rows e full = absurd (no_value (0 == length (v ∷ vs)) refl (first_none (range_kinds 0 0 (length (v ∷ vs))) _ e))
+brings_flag : (name : Text) → parser_by name ≡ parser.Bool → Brings false (filled (flag_rule name))
+brings_flag name is [] rows e full = replaced_full name _ CommandLine (codes "true" ∷ []) rows (rw is refl, tt) full
+brings_flag name is (v ∷ vs) rows e full = absurd (no_value (0 == length (v ∷ vs)) refl (first_none (range_kinds 0 0 (length (v ∷ vs))) _ e))
   where
     no_value : (b : Bool) → (0 == length (v ∷ vs)) ≡ b → (if b then [] else WrongNumberOfValues ∷ []) ≡ [] → ⊥
-    no_value true is e = omega (arith, eqb-true 0 (length (v ∷ vs)) is)
-    no_value false is e = never e
+    no_value true same e = omega (arith, eqb-true 0 (length (v ∷ vs)) same)
+    no_value false differs e = never e
 
 brings_help : Brings false help
 brings_help values rows e full = absurd (never (then_none (range_kinds 0 0 (length values)) (DisplayHelp ∷ []) e))
@@ -205,8 +216,10 @@ brings : (c : Named) → AllBring (shape_by c).args_override_self (shape_by c).r
 brings (reading r) = (brings_case, tt, (brings_help, tt, tt))
 brings checking = (brings_case, tt, (brings_workers, (refl, tt), (brings_help, tt, tt)))
 brings ordering = (brings_case, tt, (brings_path, tt, (brings_help, tt, tt)))
-brings migrating = (brings_case, tt, (brings_later, (refl, tt), (brings_path, tt, (brings_help, tt, tt))))
-brings framing = (brings_case, tt, (brings_later, (refl, tt), (brings_help, tt, tt)))
+brings drawing = (brings_case, tt, (brings_path, tt, (brings_number start refl, tt, (brings_number count refl, tt, (brings_help, tt, tt)))))
+brings migrating = (brings_case, tt, (brings_flag later refl, (refl, tt), (brings_path, tt, (brings_help, tt, tt))))
+brings graphing = (brings_case, tt, (brings_flag dot refl, (refl, tt), (brings_help, tt, tt)))
+brings framing = (brings_case, tt, (brings_flag later refl, (refl, tt), (brings_help, tt, tt)))
 brings listing = (brings_case, tt, (brings_number start refl, tt, (brings_number count refl, tt, (brings_help, tt, tt))))
 
 -- what has to be given was
@@ -238,7 +251,9 @@ abbrev pub Besides : Named → List Text → List Row → Text → Type 0
 Besides (reading r) words rows file = SpellsOne (word_of r) words file
 Besides checking words rows file = (t : Text) × ((first_of workers rows ≡ Some t) × IsUnsignedIn 1 64 t)
 Besides ordering words rows file = (out : Text) × (first_of path rows ≡ Some out)
+Besides drawing words rows file = (out : Text) × ((first_of path rows ≡ Some out) × IsChecked 0 most (first_of start rows) × IsChecked 0 most (first_of count rows))
 Besides migrating words rows file = (out : Text) × (first_of path rows ≡ Some out)
+Besides graphing words rows file = ⊤
 Besides framing words rows file = ⊤
 Besides listing words rows file = IsChecked 0 most (first_of start rows) × IsChecked 0 most (first_of count rows)
 
@@ -267,12 +282,22 @@ finds_by ordering first rest e full none =
     let file = given_value input rows given.0 full in
     let out = given_value path rows given.1 full in
     (file.0, (file.1, (out.0, out.1)))
+finds_by drawing first rest e full none =
+    let rows = rows_after draw_sub.rules [] rest in
+    let given = both_given (is_given input rows) (is_given path rows) none in
+    let file = given_value input rows given.0 full in
+    let out = given_value path rows given.1 full in
+    (file.0, (file.1, (out.0, (out.1, checked 0 most start rows refl full, checked 0 most count rows refl full))))
 finds_by migrating first rest e full none =
     let rows = rows_after migrate_sub.rules [] rest in
     let given = both_given (is_given input rows) (is_given path rows) none in
     let file = given_value input rows given.0 full in
     let out = given_value path rows given.1 full in
     (file.0, (file.1, (out.0, out.1)))
+finds_by graphing first rest e full none =
+    let rows = rows_after graph_sub.rules [] rest in
+    let case = given_value input rows (one_given (is_given input rows) none) full in
+    (case.0, (case.1, tt))
 finds_by framing first rest e full none =
     let rows = rows_after frame_sub.rules [] rest in
     let hex = given_value input rows (one_given (is_given input rows) none) full in

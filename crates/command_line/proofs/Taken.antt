@@ -17,10 +17,10 @@ use Rattle.clap.specs.declared.error.ErrorKind.TheVariants.{ValueValidation}
 use Rattle.clap.specs.declared.builder.value_parser.ValueParser.{ValueParser}
 use Rattle.clap.specs.declared.builder.value_parser.ValueParser.TheVariants as parser
 use Rattle.clap.proofs.OnLiterals.{clap_on_literals}
-use Rattle.command_line.proofs.Named.{Reader, checking, framing, listing, migrating, name_of, of_frames, of_graph, of_run, of_vat, ordering, reader_of, word_of}
+use Rattle.command_line.proofs.Named.{Reader, checking, drawing, framing, graphing, listing, migrating, name_of, of_frames, of_run, of_vat, ordering, reader_of, word_of}
 use Rattle.command_line.proofs.One.{at, dashes, given, holding, sub}
 use Rattle.command_line.proofs.Reading.{shape_by}
-use Rattle.command_line.specs.Parser.{most, program, start}
+use Rattle.command_line.specs.Parser.{most, path, program, start}
 use Rattle.command_line.specs.Parser.{count as many}
 use Rattle.command_line.specs.Spelled.{IsReader, is_flag}
 
@@ -69,17 +69,42 @@ file_taken name file e =
 
 taken_by : (r : Reader) (first file : Text) → is_flag file ≡ false → fault_of program (first ∷ word_of r ∷ file ∷ []) ≡ []
 unfolding clap_on_literals
-taken_by of_graph first file e = ap (λ (k : Kinds). or_else k []) (file_taken (word_of of_graph) file e)
 taken_by of_run first file e = ap (λ (k : Kinds). or_else k []) (file_taken (word_of of_run) file e)
 taken_by of_vat first file e = ap (λ (k : Kinds). or_else k []) (file_taken (word_of of_vat) file e)
 taken_by of_frames first file e = ap (λ (k : Kinds). or_else k []) (file_taken (word_of of_frames) file e)
 
 taken_after_by : (r : Reader) (first file : Text) → fault_of program (first ∷ word_of r ∷ dashes ∷ file ∷ []) ≡ []
 unfolding clap_on_literals
-taken_after_by of_graph first file = refl
 taken_after_by of_run first file = refl
 taken_after_by of_vat first file = refl
 taken_after_by of_frames first file = refl
+
+-- ---- graph
+
+graph_words : (case : Text) → is_flag case ≡ false → level_fault (shape_by graphing) [] nothing_held (case ∷ []) false [] ≡ []
+unfolding clap_on_literals
+graph_words case e =
+    let is = plain_word_is case e in
+    rw (is.0, is.1, is.2) refl
+
+takes_graph : (first case : Text) → is_flag case ≡ false → fault_of program (first ∷ name_of graphing ∷ case ∷ []) ≡ []
+unfolding clap_on_literals
+takes_graph first case e = ap (λ (k : Kinds). or_else k []) (graph_words case e)
+
+takes_graph_after : (first case : Text) → fault_of program (first ∷ name_of graphing ∷ dashes ∷ case ∷ []) ≡ []
+unfolding clap_on_literals
+takes_graph_after first case = refl
+
+graph_dot_words : (case : Text) → is_flag case ≡ false → level_fault (shape_by graphing) [] nothing_held (case ∷ codes "--dot" ∷ []) false [] ≡ []
+unfolding clap_on_literals
+graph_dot_words case e =
+    let is = plain_word_is case e in
+    rw (is.0, is.1, is.2) refl
+
+-- `graph CASE --dot` has no fault, where CASE is no flag
+pub takes_graph_dot : (first case : Text) → is_flag case ≡ false → fault_of program (first ∷ name_of graphing ∷ case ∷ codes "--dot" ∷ []) ≡ []
+unfolding clap_on_literals
+takes_graph_dot first case e = ap (λ (k : Kinds). or_else k []) (graph_dot_words case e)
 
 -- ---- frame
 
@@ -112,14 +137,16 @@ takes_frame_later first hex e = ap (λ (k : Kinds). or_else k []) (frame_later_w
 pub takes_one : (first name file : Text) → IsReader name → is_flag file ≡ false → fault_of program (first ∷ name ∷ file ∷ []) ≡ []
 takes_one first name file reads e = elim (reader_of name reads) [
   | inl r ↦ ap (λ (n : Text). fault_of program (first ∷ n ∷ file ∷ [])) r.1 ∙ taken_by r.0 first file e
-  | inr is ↦ ap (λ (n : Text). fault_of program (first ∷ n ∷ file ∷ [])) is ∙ takes_frame first file e
+  | inr (inl is) ↦ ap (λ (n : Text). fault_of program (first ∷ n ∷ file ∷ [])) is ∙ takes_graph first file e
+  | inr (inr is) ↦ ap (λ (n : Text). fault_of program (first ∷ n ∷ file ∷ [])) is ∙ takes_frame first file e
 ]
 
 -- with `--` between them they have none, whatever the word is
 pub takes_after_dashes : (first name file : Text) → IsReader name → fault_of program (first ∷ name ∷ dashes ∷ file ∷ []) ≡ []
 takes_after_dashes first name file reads = elim (reader_of name reads) [
   | inl r ↦ ap (λ (n : Text). fault_of program (first ∷ n ∷ dashes ∷ file ∷ [])) r.1 ∙ taken_after_by r.0 first file
-  | inr is ↦ ap (λ (n : Text). fault_of program (first ∷ n ∷ dashes ∷ file ∷ [])) is ∙ takes_frame_after first file
+  | inr (inl is) ↦ ap (λ (n : Text). fault_of program (first ∷ n ∷ dashes ∷ file ∷ [])) is ∙ takes_graph_after first file
+  | inr (inr is) ↦ ap (λ (n : Text). fault_of program (first ∷ n ∷ dashes ∷ file ∷ [])) is ∙ takes_frame_after first file
 ]
 
 -- ---- check
@@ -182,6 +209,20 @@ order_words file out e h =
 pub takes_order : (first file out : Text) → is_flag file ≡ false → is_flag out ≡ false → fault_of program (first ∷ name_of ordering ∷ file ∷ codes "--out" ∷ out ∷ []) ≡ []
 unfolding clap_on_literals
 takes_order first file out e h = ap (λ (k : Kinds). or_else k []) (order_words file out e h)
+
+-- ---- draw
+
+draw_words : (file out : Text) → is_flag file ≡ false → is_flag out ≡ false → level_fault (shape_by drawing) [] nothing_held (file ∷ codes "--out" ∷ out ∷ []) false [] ≡ []
+unfolding clap_on_literals
+draw_words file out e h =
+    let is = plain_word_is file e in
+    let are = plain_word_is out h in
+    rw (is.0, is.1, is.2, are.0, are.1, are.2) refl
+
+-- has no fault, where CASE and FILE are no flags
+pub takes_draw : (first file out : Text) → is_flag file ≡ false → is_flag out ≡ false → fault_of program (first ∷ name_of drawing ∷ file ∷ codes "--out" ∷ out ∷ []) ≡ []
+unfolding clap_on_literals
+takes_draw first file out e h = ap (λ (k : Kinds). or_else k []) (draw_words file out e h)
 
 -- ---- migrate
 
@@ -348,3 +389,82 @@ refuses_part first file from count e f g never =
     go false b one two = part_by first file from count false b e f g one two
     go true false one two = part_by first file from count true false e f g one two
     go true true one two = absurd (never (accepts-Accepts false value_parser from one, accepts-Accepts false value_parser count two))
+
+-- ---- draw, of which a part is asked for
+
+-- what is held after CASE, after `--out`, after FILE, after `--from`, after I, after `--count` and after N
+module _ (case out from count : Text) where
+  abbrev drawing_shape : Shape
+  drawing_shape = shape_by drawing
+
+  abbrev rows_case : List Row
+  rows_case = (settled drawing_shape.rules (holding (given case))).rows
+
+  abbrev at_out : Walk
+  at_out = state (record { rows = rows_case; pending = Some (path, []); skip = 0 }) (option path) 2
+
+  abbrev after_out : Held
+  after_out = record { rows = rows_case; pending = Some (path, out ∷ []); skip = 0 }
+
+  abbrev rows_out : List Row
+  rows_out = (settled drawing_shape.rules after_out).rows
+
+  abbrev at_first : Walk
+  at_first = state (record { rows = rows_out; pending = Some (start, []); skip = 0 }) (option start) 2
+
+  abbrev after_first : Held
+  after_first = record { rows = rows_out; pending = Some (start, from ∷ []); skip = 0 }
+
+  abbrev rows_first : List Row
+  rows_first = (settled drawing_shape.rules after_first).rows
+
+  abbrev at_many : Walk
+  at_many = state (record { rows = rows_first; pending = Some (many, []); skip = 0 }) (option many) 2
+
+  abbrev after_many : Held
+  after_many = record { rows = rows_first; pending = Some (many, count ∷ []); skip = 0 }
+
+  first_turn : accepts false value_parser from ≡ true → turn_fault drawing_shape [] (state after_first idle 2) (codes "--count") ≡ []
+  unfolding clap_on_literals
+  first_turn is = rw is refl
+
+  many_end : accepts false value_parser count ≡ true → fault_from drawing_shape (state after_many idle 2) [] ≡ []
+  unfolding clap_on_literals
+  many_end is = rw is refl
+
+  -- up to FILE there is no fault
+  up_to_out : IsPlain case → IsPlain out
+      → fault_from drawing_shape (at None 1 false) (case ∷ codes "--out" ∷ out ∷ codes "--from" ∷ from ∷ codes "--count" ∷ count ∷ [])
+      ≡ fault_from drawing_shape (state after_out idle 2) (codes "--from" ∷ from ∷ codes "--count" ∷ count ∷ [])
+  unfolding clap_on_literals
+  up_to_out is are =
+      let s = drawing_shape in
+      passed s (at None 1 false) (at (given case) 2 false) case (codes "--out" ∷ out ∷ codes "--from" ∷ from ∷ codes "--count" ∷ count ∷ [])
+      (plain_turn s (holding None) idle 1 case is) (plain_walk s (holding None) idle 1 case is)
+      ∙ passed s (at (given case) 2 false) at_out (codes "--out") (out ∷ codes "--from" ∷ from ∷ codes "--count" ∷ count ∷ []) refl refl
+      ∙ passed s at_out (state after_out idle 2) out (codes "--from" ∷ from ∷ codes "--count" ∷ count ∷ [])
+      (plain_turn s at_out.held (option path) 2 out are) (plain_walk s at_out.held (option path) 2 out are)
+
+  -- nor is there one behind it
+  from_out : IsPlain from → IsPlain count → accepts false value_parser from ≡ true → accepts false value_parser count ≡ true
+      → fault_from drawing_shape (state after_out idle 2) (codes "--from" ∷ from ∷ codes "--count" ∷ count ∷ []) ≡ []
+  unfolding clap_on_literals
+  from_out is are one two =
+      let s = drawing_shape in
+      passed s (state after_out idle 2) at_first (codes "--from") (from ∷ codes "--count" ∷ count ∷ []) refl refl
+      ∙ passed s at_first (state after_first idle 2) from (codes "--count" ∷ count ∷ [])
+      (plain_turn s at_first.held (option start) 2 from is) (plain_walk s at_first.held (option start) 2 from is)
+      ∙ passed s (state after_first idle 2) at_many (codes "--count") (count ∷ []) (first_turn one) refl
+      ∙ passed s at_many (state after_many idle 2) count []
+      (plain_turn s at_many.held (option many) 2 count are) (plain_walk s at_many.held (option many) 2 count are)
+      ∙ many_end two
+
+-- `draw CASE --out FILE --from I --count N` has no fault, where CASE and FILE are no flags, and I and N are numbers of 64 bits
+pub takes_draw_part : (first case out from count : Text) → is_flag case ≡ false → is_flag out ≡ false → IsUnsignedIn 0 most from → IsUnsignedIn 0 most count
+    → fault_of program (first ∷ name_of drawing ∷ case ∷ codes "--out" ∷ out ∷ codes "--from" ∷ from ∷ codes "--count" ∷ count ∷ []) ≡ []
+unfolding clap_on_literals
+takes_draw_part first case out from count e h f g =
+    ap (λ (k : Kinds). or_else k [])
+    (up_to_out case out from count (plain_word_is case e) (plain_word_is out h)
+    ∙ from_out case out from count (plain_word_is from (number_is_plain 0 most from f)) (plain_word_is count (number_is_plain 0 most count g))
+    (Accepts-accepts false value_parser from f) (Accepts-accepts false value_parser count g))

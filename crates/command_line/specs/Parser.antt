@@ -13,7 +13,7 @@ input = codes "input"
 abbrev pub input_rule : Rule
 input_rule = record (new_rule input) { value_names = 1; required = true }
 
--- a command that reads one thing: `graph CASE`, `run CASE`, `vat FILE`, `frames FILE`
+-- a command that reads one thing: `run CASE`, `vat FILE`, `frames FILE`
 abbrev pub reader : List ℕ → App
 reader name = with_rule (new_app name) input_rule
 
@@ -43,7 +43,7 @@ path_rule = record (new_rule path) { long = Some (codes "out"); value_names = 1;
 abbrev pub writer : List ℕ → App
 writer name = with_rule (with_rule (new_app name) input_rule) path_rule
 
--- by what clap knows the options of `records`, which are given as `--from I` and `--count N`, numbers of 64 bits
+-- by what clap knows the options of `records` and `draw`, which are given as `--from I` and `--count N`, numbers of 64 bits
 abbrev pub start : List ℕ
 start = codes "from"
 
@@ -57,21 +57,37 @@ most = 18446744073709551615
 abbrev pub records : App
 records = with_rule (with_rule (with_rule (new_app (codes "records")) input_rule) (number_rule start 0 most)) (number_rule count 0 most)
 
+-- `draw CASE --out FILE`, with `--from I` and `--count N` if wanted
+abbrev pub draw : App
+draw = with_rule (with_rule (with_rule (with_rule (new_app (codes "draw")) input_rule) path_rule) (number_rule start 0 most)) (number_rule count 0 most)
+
+-- an option that has no value: it is given, or it isn't
+abbrev pub flag_rule : List ℕ → Rule
+flag_rule name = record (new_rule name) { long = Some name; action = Some SetTrue }
+
+-- a command that reads one thing and has one such option
+abbrev pub flagged : List ℕ → List ℕ → App
+flagged name flag = with_rule (with_rule (new_app name) input_rule) (flag_rule flag)
+
 -- by what clap knows that the later edition of rpc.capnp is asked for, which is said by `--later`
 abbrev pub later : List ℕ
 later = codes "later"
 
--- an option that has no value: it is given, or it isn't
-abbrev pub later_rule : Rule
-later_rule = record (new_rule later) { long = Some (codes "later"); action = Some SetTrue }
-
 -- `frame HEX`, with `--later` if wanted
 abbrev pub frame : App
-frame = with_rule (with_rule (new_app (codes "frame")) input_rule) later_rule
+frame = flagged (codes "frame") later
+
+-- by what clap knows that the edges are asked for in the DOT language, which is said by `--dot`
+abbrev pub dot : List ℕ
+dot = codes "dot"
+
+-- `graph CASE`, with `--dot` if wanted
+abbrev pub graph : App
+graph = flagged (codes "graph") dot
 
 -- `migrate FILE --out FILE`, with `--later` if wanted
 abbrev pub migrate : App
-migrate = with_rule (with_rule (with_rule (new_app (codes "migrate")) input_rule) later_rule) path_rule
+migrate = with_rule (with_rule (with_rule (new_app (codes "migrate")) input_rule) (flag_rule later)) path_rule
 
 -- the program, of which a command has to be given
 abbrev pub top : App
@@ -79,7 +95,9 @@ top = on_top (λ s. record s { subcommand_required = true; arg_required_else_hel
 
 -- the program with its commands that read a case
 abbrev pub judging : App
-judging = with_subcommand (with_subcommand (with_subcommand (with_subcommand top check.top) (writer (codes "order")).top) (reader (codes "graph")).top) (reader (codes "run")).top
+judging =
+    with_subcommand (with_subcommand (with_subcommand (with_subcommand (with_subcommand top check.top) (writer (codes "order")).top) graph.top)
+    (reader (codes "run")).top) draw.top
 
 -- and with those that read a file or a frame
 abbrev pub reading : App

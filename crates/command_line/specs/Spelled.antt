@@ -3,12 +3,12 @@ use Rattle.std.specs.Prelude.{◌≡◌, ◌⊎◌, ◌==◌, ◌≤◌, ⊤, �
 use Rattle.std.specs.Str.{bytes_eq}
 use Rattle.std.specs.Str.Parse.{IsNumeral, digits_value, without_leading_plus}
 use Rattle.command_line.specs.declared.command.Command.{Command}
-use Rattle.command_line.specs.declared.command.Command.TheVariants.{Check, Order, Graph, Run, Vat, Records, Frame, Frames, Migrate}
+use Rattle.command_line.specs.declared.command.Command.TheVariants.{Check, Order, Graph, Run, Draw, Vat, Records, Frame, Frames, Migrate}
 use Rattle.clap.specs.Simple.{subcommand_rows_of}
 use Rattle.clap.specs.Values.{IsUnsignedIn}
 use Rattle.clap.specs.Words.{Row, fault_of, first_of, subcommand_of}
 use Rattle.clap.specs.declared.ArgMatches.{ArgMatches}
-use Rattle.command_line.specs.Parser.{count, input, later, path, program, start, workers}
+use Rattle.command_line.specs.Parser.{count, dot, input, later, path, program, start, workers}
 
 -- a word that begins with a hyphen, but `-`
 abbrev pub is_flag : List ℕ → Bool
@@ -58,10 +58,10 @@ abbrev pub is_set : Option (List ℕ) → Bool
 is_set None = false
 is_set (Some text) = bytes_eq text (codes "true")
 
--- the words are read as `frame HEX`, and clap finds HEX in them, and whether `--later` is there
-abbrev pub SpellsFrame : List (List ℕ) → List ℕ → Bool → Type 0
-SpellsFrame words hex is_later = (rows : List Row) ×
-    (IsRead words (codes "frame") rows × (first_of input rows ≡ Some hex) × (is_set (first_of later rows) ≡ is_later))
+-- the words are read as `COMMAND THING`, and clap finds THING in them, and whether this option without a value is there
+abbrev pub SpellsFlagged : List ℕ → List ℕ → List (List ℕ) → List ℕ → Bool → Type 0
+SpellsFlagged command flag words thing is_there = (rows : List Row) ×
+    (IsRead words command rows × (first_of input rows ≡ Some thing) × (is_set (first_of flag rows) ≡ is_there))
 
 -- the words are read as `COMMAND THING --out FILE`, and clap finds THING and FILE in them
 abbrev pub SpellsWriter : List ℕ → List (List ℕ) → List ℕ → List ℕ → Type 0
@@ -80,19 +80,27 @@ SpellsRecords words name first many = (rows : List Row) ×
     (IsRead words (codes "records") rows × (first_of input rows ≡ Some name)
     × IsNumber (first_of start rows) first × IsNumber (first_of count rows) many)
 
+-- the words are read as `draw CASE --out FILE`, and clap finds CASE and FILE in them and, where they were given, the number of
+-- the first step and how many are wanted
+abbrev pub SpellsDraw : List (List ℕ) → List ℕ → List ℕ → Option ℕ → Option ℕ → Type 0
+SpellsDraw words name out first many = (rows : List Row) ×
+    (IsRead words (codes "draw") rows × (first_of input rows ≡ Some name) × (first_of path rows ≡ Some out)
+    × IsNumber (first_of start rows) first × IsNumber (first_of count rows) many)
+
 -- the words spell the command
 abbrev pub Spells : List (List ℕ) → Command → Type 0
 Spells words (Check name many) = SpellsCheck words name.now many
 Spells words (Order name out) = SpellsWriter (codes "order") words name.now out.now
-Spells words (Graph name) = SpellsOne (codes "graph") words name.now
+Spells words (Graph name is_dot) = SpellsFlagged (codes "graph") dot words name.now is_dot
 Spells words (Run name) = SpellsOne (codes "run") words name.now
+Spells words (Draw name out first many) = SpellsDraw words name.now out.now first many
 Spells words (Vat file) = SpellsOne (codes "vat") words file.now
 Spells words (Records file first many) = SpellsRecords words file.now first many
-Spells words (Frame hex is_later) = SpellsFrame words hex.now is_later
+Spells words (Frame hex is_later) = SpellsFlagged (codes "frame") later words hex.now is_later
 Spells words (Frames file) = SpellsOne (codes "frames") words file.now
 Spells words (Migrate file is_later out) = SpellsMigrate words file.now is_later out.now
 
--- the name of a command that may be given one thing alone, and no option
+-- the name of a command that may be given one thing alone
 abbrev pub IsReader : List ℕ → Type 0
 IsReader name =
     (name ≡ codes "graph") ⊎ ((name ≡ codes "run") ⊎ ((name ≡ codes "vat") ⊎ ((name ≡ codes "frame") ⊎ (name ≡ codes "frames"))))
@@ -101,8 +109,9 @@ IsReader name =
 abbrev pub HasWorkers : Command → Type 0
 HasWorkers (Check name many) = (1 ≤ many) × (many ≤ 64)
 HasWorkers (Order name out) = ⊤
-HasWorkers (Graph name) = ⊤
+HasWorkers (Graph name is_dot) = ⊤
 HasWorkers (Run name) = ⊤
+HasWorkers (Draw name out first many) = ⊤
 HasWorkers (Vat name) = ⊤
 HasWorkers (Records name first many) = ⊤
 HasWorkers (Frame hex is_later) = ⊤
@@ -113,8 +122,9 @@ HasWorkers (Migrate file is_later out) = ⊤
 abbrev pub out_of : Command → Option (List ℕ)
 out_of (Check name many) = None
 out_of (Order name out) = Some out.now
-out_of (Graph name) = None
+out_of (Graph name is_dot) = None
 out_of (Run name) = None
+out_of (Draw name out first many) = Some out.now
 out_of (Vat name) = None
 out_of (Records name first many) = None
 out_of (Frame hex is_later) = None

@@ -8,7 +8,7 @@ ghost use Rattle.clap.specs.Words.{fault_of, first_value, found_of, kind_of, sub
 ghost use Rattle.command_line.specs.Parser.{most, program, workers};
 ghost use Rattle.command_line.specs.Spelled.{AreMatchesOf, HasWorkers, IsChecked, IsNumber, IsReader, Spells, is_flag, is_set, out_of};
 
-use crate::parser::{self, COUNT, FROM, INPUT, LATER, OUT, WORKERS};
+use crate::parser::{self, COUNT, DOT, FROM, INPUT, LATER, OUT, WORKERS};
 use clap::error::ErrorKind;
 use clap::{ArgMatches, Error};
 use std::alloc::Global;
@@ -27,13 +27,23 @@ pub enum Command<'a> {
         case: &'a str,
         out: &'a str,
     },
-    /// Print which vat came to have what of another's, in the case that the source has under this name.
+    /// Print which vat came to have what of another's, in the case that the source has under this name: as lines, or as a
+    /// graph in the DOT language.
     Graph {
         case: &'a str,
+        dot: bool,
     },
     /// Print the steps of the run of the case that the source has under this name.
     Run {
         case: &'a str,
+    },
+    /// Draw the case that the source has under this name, and write the picture to a file: from this step on, counted from
+    /// 0, or around what the verdict names; and as many steps, or as many as are drawn at most.
+    Draw {
+        case: &'a str,
+        out: &'a str,
+        from: Option<u64>,
+        count: Option<u64>,
     },
     /// Audit one vat's log, which the source has under this name.
     Vat {
@@ -71,7 +81,8 @@ impl<'a> Command<'a> {
         ensures { option_map (λ name. name.now) result ≡ out_of self.now }
     {
         match self {
-            Command::Order { out, .. } | Command::Migrate { out, .. } => Some(out),
+            Command::Order { out, .. } | Command::Draw { out, .. } => Some(out),
+            Command::Migrate { out, .. } => Some(out),
             Command::Check { .. } | Command::Graph { .. } | Command::Run { .. } => None,
             Command::Vat { .. } | Command::Records { .. } => None,
             Command::Frame { .. } | Command::Frames { .. } => None,
@@ -144,8 +155,17 @@ fn command_in<'a>(matches: &ArgMatches<'a>) -> Command<'a>
             case: input,
             out: value_of(given, OUT),
         },
-        "graph" => Command::Graph { case: input },
+        "graph" => Command::Graph {
+            case: input,
+            dot: is_set(given, DOT),
+        },
         "run" => Command::Run { case: input },
+        "draw" => Command::Draw {
+            case: input,
+            out: value_of(given, OUT),
+            from: number_of(given, FROM),
+            count: number_of(given, COUNT),
+        },
         "vat" => Command::Vat { file: input },
         "records" => Command::Records {
             file: input,
@@ -177,11 +197,12 @@ fn matches_of<'a, S: AsStr>(alloc: Global, words: &'a [S]) -> Result<ArgMatches<
     parser::command_line(alloc)?.try_get_matches_from(words)
 }
 
-/// The command that the words spell, of which the first is the program's name: `graph CASE`, `run CASE`, `vat FILE` or
-/// `frames FILE`, where before or after the last of these may stand `--`, and it may begin with a hyphen only after that or
-/// where it is `-`; or, as `clap` reads them, `check CASE` with `--workers N` if wanted, a number from 1 to 64, or `order
-/// CASE --out FILE`, or `frame HEX` with `--later` if wanted, or `migrate FILE --out FILE` with `--later` if wanted, or
-/// `records FILE` with `--from I` and `--count N` if wanted, numbers of 64 bits.
+/// The command that the words spell, of which the first is the program's name: `run CASE`, `vat FILE` or `frames FILE`, where
+/// before or after the last of these may stand `--`, and it may begin with a hyphen only after that or where it is `-`; or, as
+/// `clap` reads them, `check CASE` with `--workers N` if wanted, a number from 1 to 64, or `order CASE --out FILE`, or `graph
+/// CASE` with `--dot` if wanted, or `draw CASE --out FILE` with `--from I` and `--count N` if wanted, or `frame HEX` with
+/// `--later` if wanted, or `migrate FILE --out FILE` with `--later` if wanted, or `records FILE` with `--from I` and `--count N`
+/// if wanted, numbers of 64 bits.
 ///
 /// # Errors
 ///
@@ -212,6 +233,16 @@ pub fn command_of<'a, S: AsStr>(alloc: Global, words: &'a [S]) -> Result<Command
         → map S.text words.entry.now ≡ first ∷ codes "order" ∷ case ∷ codes "--out" ∷ out ∷ []
         → is_flag case ≡ false → is_flag out ≡ false
         → IfErr result (λ e. kind_of e ≡ ErrorKind.OutOfMemory) }
+    ensures taken_draw { (first case out : List ℕ)
+        → map S.text words.entry.now ≡ first ∷ codes "draw" ∷ case ∷ codes "--out" ∷ out ∷ []
+        → is_flag case ≡ false → is_flag out ≡ false
+        → IfErr result (λ e. kind_of e ≡ ErrorKind.OutOfMemory) }
+    ensures taken_draw_part { (first case out from count : List ℕ)
+        → map S.text words.entry.now
+        ≡ first ∷ codes "draw" ∷ case ∷ codes "--out" ∷ out ∷ codes "--from" ∷ from ∷ codes "--count" ∷ count ∷ []
+        → is_flag case ≡ false → is_flag out ≡ false
+        → IsUnsignedIn 0 most from → IsUnsignedIn 0 most count
+        → IfErr result (λ e. kind_of e ≡ ErrorKind.OutOfMemory) }
     ensures taken_migrate { (first file out : List ℕ)
         → map S.text words.entry.now ≡ first ∷ codes "migrate" ∷ file ∷ codes "--out" ∷ out ∷ []
         → is_flag file ≡ false → is_flag out ≡ false
@@ -219,6 +250,9 @@ pub fn command_of<'a, S: AsStr>(alloc: Global, words: &'a [S]) -> Result<Command
     ensures taken_frame_later { (first hex : List ℕ)
         → map S.text words.entry.now ≡ first ∷ codes "frame" ∷ codes "--later" ∷ hex ∷ []
         → is_flag hex ≡ false → IfErr result (λ e. kind_of e ≡ ErrorKind.OutOfMemory) }
+    ensures taken_graph_dot { (first case : List ℕ)
+        → map S.text words.entry.now ≡ first ∷ codes "graph" ∷ case ∷ codes "--dot" ∷ []
+        → is_flag case ≡ false → IfErr result (λ e. kind_of e ≡ ErrorKind.OutOfMemory) }
     ensures taken_migrate_later { (first file out : List ℕ)
         → map S.text words.entry.now
         ≡ first ∷ codes "migrate" ∷ file ∷ codes "--later" ∷ codes "--out" ∷ out ∷ []

@@ -9,9 +9,12 @@ pub const PROGRAM_END: &str = "\
 Each command prints its answer in lines on standard output; its own --help has
 the lines, an example and the exit status.
 
-Notes for people go to standard error: the record of a no and what its rule asks,
-or the file that is bad or can't be read. They change no line and no status.
+Notes for people go to standard error: the record of a no, what its rule asks and
+what led to it, or why an input is bad. They change no line and no status.
 vataudit --quiet COMMAND .. leaves them out, as --quiet does as the last word.
+
+vataudit --json COMMAND .. prints each line as a JSON object, and the notes in
+the last one; --json may be the last word, too.
 vataudit --version prints the version, and the kit by which it was proved.
 
 Examples:
@@ -87,6 +90,9 @@ record:
   edge vat V to NAME record I   record I of vat V is the first that it received
                                 with a reference to NAME
 
+With --dot it prints them as one graph in the DOT language, which Graphviz draws: an
+edge goes from the vat that has a capability to the vat whose it is.
+
 NAME is obj W.N, object N of vat W; prom W.N, what vat W promised by its reference
 N; or field W.C PATH, what stands at a path of pointer fields in the results of
 call C of vat W. Records are counted from 0.
@@ -101,6 +107,7 @@ Example:
   $ cd samples
   $ vataudit graph pipelined_call.json
   edge vat 1 to obj 2.7 record 4
+  $ vataudit graph pipelined_call.json --dot | dot -Tsvg > pipelined_call.svg
 
 Exit status:
   0  yes, and the edges are printed
@@ -108,6 +115,9 @@ Exit status:
   2  a record isn't judged, the case or a file of it is bad or can't be read, a
      line can't be written, or the command line is wrong
   3  memory ran out";
+
+/// `--dot` of `graph`.
+pub const DOT_GRAPH: &str = "Prints a graph in the DOT language";
 
 /// `run`, in the list of commands.
 pub const RUN: &str = "Prints the run of a case, step by step";
@@ -141,6 +151,44 @@ Exit status:
   2  a record isn't judged, the case or a file of it is bad or can't be read, a
      line can't be written, or the command line is wrong
   3  memory ran out";
+
+/// `draw`, in the list of commands.
+pub const DRAW: &str = "Draws the records of a case, with an arrow for each message";
+
+pub const DRAW_LONG: &str = "\
+Audits a case as check does, writes a picture of it to FILE, an SVG, and prints
+check's line (vataudit check --help), with its status.
+
+The picture has a column for each vat and a row for each record, in the order that
+run has, or as far as one goes. Each message is an arrow from the record that sends
+it to the one that receives it: a late Return is dashed, a canceled one dotted, a
+Call or a Return of a tail call dashed and dotted. The record that the line names is
+marked, with its rule; beside ORDER, calls that were made through one reference have
+one colour. At most 200 rows are drawn: those around the marked record, or else the
+first ones, or with --from those from step STEP on.
+
+Of a case that isn't audited nothing is drawn, and FILE isn't made: bad case .., bad
+log .., bad order .., cannot read, out of memory. What FILE held before is lost.
+docs/FORMATS.md says more of the picture.";
+
+pub const DRAW_END: &str = "\
+Example:
+  $ cd samples
+  $ vataudit draw overtaking_call.json --out overtaking_call.svg
+  no vat 1 record 11 rule ORDER
+
+Exit status:
+  0  yes, and the picture is written; so it is where the status is 1
+  1  no
+  2  a record isn't judged, and the picture is written; or the case or a file of it
+     is bad or can't be read, a write failed, or the command line is wrong
+  3  memory ran out";
+
+/// STEP of `draw`.
+pub const FROM_STEP: &str = "The first step that is drawn, counted from 0 as run does";
+
+/// N of `draw`.
+pub const COUNT_STEPS: &str = "How many steps are drawn at most, up to 200";
 
 /// `vat`, in the list of commands.
 pub const VAT: &str = "Audits the log of one vat";
@@ -355,10 +403,10 @@ pub const FROM: &str = "The first record that is printed, counted from 0";
 /// N of `records`.
 pub const COUNT: &str = "How many records are printed at most";
 
-/// CASE of `check`, `order`, `graph` and `run`.
+/// CASE of `check`, `order`, `graph`, `run` and `draw`.
 pub const CASE: &str = "The case, a path from the working directory; - is standard input";
 
-/// FILE of `order`.
+/// FILE of `order`, `draw` and `migrate`.
 pub const OUT: &str = "The file that is written";
 
 /// `migrate`, in the list of commands.

@@ -2,7 +2,7 @@
 
 ghost use Rattle.std.specs.Prelude.{◌≡◌, ℕ, List, IfOk, Some, codes, false};
 ghost use Rattle.clap.specs.Words.{Rule, app_of, new_rule, rule_of, with_subcommand};
-ghost use Rattle.command_line.specs.Parser.{check, frame, input_rule, judging, later_rule, migrate, path_rule, program, reader, reading, records, top, workers_rule, writer};
+ghost use Rattle.command_line.specs.Parser.{check, draw, flag_rule, flagged, input_rule, judging, migrate, path_rule, program, reader, reading, records, top, workers_rule, writer};
 
 use crate::help;
 use clap::builder::ValueParser;
@@ -26,6 +26,9 @@ pub(crate) const COUNT: &str = "count";
 
 /// By what `clap` knows that the later edition is asked for.
 pub(crate) const LATER: &str = "later";
+
+/// By what `clap` knows that the DOT language is asked for.
+pub(crate) const DOT: &str = "dot";
 
 /// What is said of a command that reads one thing.
 #[derive(Drop)]
@@ -69,13 +72,13 @@ fn number_option<'a>(
         .help(help)
 }
 
-/// The option `--later`, which has no value.
-fn later<'a>(alloc: Global, help: &'a str) -> Arg<'a>
-    ensures rule { rule_of result ≡ later_rule }
+/// An option that has no value.
+fn flag<'a>(alloc: Global, name: &'a str, help: &'a str) -> Arg<'a>
+    ensures rule { rule_of result ≡ flag_rule name.entry.now }
     ensures local { result.global ≡ false }
 {
-    Arg::new(alloc, LATER)
-        .long("later")
+    Arg::new(alloc, name)
+        .long(name)
         .action(ArgAction::SetTrue)
         .help(help)
 }
@@ -154,21 +157,29 @@ fn with_writer<'a>(
     program.subcommand(command)
 }
 
-/// The program with its command `frame HEX`, which has the option `--later`.
+/// The program with a command that reads one thing and has this option without a value.
 ///
 /// # Errors
 ///
 /// Out of memory.
-fn with_frame<'a>(alloc: Global, program: Command<'a>) -> Result<Command<'a>, AllocError>
-    ensures { IfOk result (λ c. app_of c ≡ with_subcommand (app_of program.entry) frame.top) }
+fn with_flagged<'a>(
+    alloc: Global,
+    program: Command<'a>,
+    said: Reader<'a>,
+    name: &'a str,
+    flag_help: &'a str,
+) -> Result<Command<'a>, AllocError>
+    ensures { IfOk result
+        (λ c. app_of c
+        ≡ with_subcommand (app_of program.entry) (flagged said.entry.name.now name.entry.now).top) }
 {
-    let frame = Command::new(alloc, "frame")
-        .about(help::FRAME)
-        .long_about(help::FRAME_LONG)
-        .after_help(help::FRAME_END)
-        .arg(input(alloc, "HEX", help::HEX))?
-        .arg(later(alloc, help::LATER_FRAME))?;
-    program.subcommand(frame)
+    let command = Command::new(alloc, said.name)
+        .about(said.about)
+        .long_about(said.long_about)
+        .after_help(said.after_help)
+        .arg(input(alloc, said.thing, said.help))?
+        .arg(flag(alloc, name, flag_help))?;
+    program.subcommand(command)
 }
 
 /// The program with its command `records FILE`, which has the options `--from I` and `--count N`.
@@ -191,7 +202,41 @@ fn with_records<'a>(alloc: Global, program: Command<'a>) -> Result<Command<'a>, 
     program.subcommand(records)
 }
 
-/// The program with its commands that read a case: `check CASE`, `order CASE --out FILE`, `graph CASE` and `run CASE`.
+/// The program with its command `draw CASE --out FILE`, which has the options `--from STEP` and `--count N`.
+///
+/// # Errors
+///
+/// Out of memory.
+fn with_drawing<'a>(alloc: Global, program: Command<'a>) -> Result<Command<'a>, AllocError>
+    ensures { IfOk result (λ c. app_of c ≡ with_subcommand (app_of program.entry) draw.top) }
+{
+    let from = number_option(
+        alloc,
+        FROM,
+        "STEP",
+        clap::value_parser!(u64),
+        help::FROM_STEP,
+    );
+    let count = number_option(
+        alloc,
+        COUNT,
+        "N",
+        clap::value_parser!(u64),
+        help::COUNT_STEPS,
+    );
+    let draw = Command::new(alloc, "draw")
+        .about(help::DRAW)
+        .long_about(help::DRAW_LONG)
+        .after_help(help::DRAW_END)
+        .arg(input(alloc, "CASE", help::CASE))?
+        .arg(out(alloc))?
+        .arg(from)?
+        .arg(count)?;
+    program.subcommand(draw)
+}
+
+/// The program with its commands that read a case: `check CASE`, `order CASE --out FILE`, `graph CASE`, `run CASE` and
+/// `draw CASE --out FILE`.
 ///
 /// # Errors
 ///
@@ -225,7 +270,9 @@ fn with_cases<'a>(alloc: Global, program: Command<'a>) -> Result<Command<'a>, Al
         help: help::CASE,
     };
     let judging = with_writer(alloc, with_check(alloc, program)?, order)?;
-    with_reader(alloc, with_reader(alloc, judging, graph)?, run)
+    let graphed = with_flagged(alloc, judging, graph, DOT, help::DOT_GRAPH)?;
+    let stepped = with_reader(alloc, graphed, run)?;
+    with_drawing(alloc, stepped)
 }
 
 /// The program with its commands that read a log or frames: `vat FILE`, `records FILE`, `frame HEX` and `frames FILE`.
@@ -245,6 +292,14 @@ fn with_files<'a>(alloc: Global, cases: Command<'a>) -> Result<Command<'a>, Allo
         thing: "FILE",
         help: help::FILE,
     };
+    let frame = Reader {
+        name: "frame",
+        about: help::FRAME,
+        long_about: help::FRAME_LONG,
+        after_help: help::FRAME_END,
+        thing: "HEX",
+        help: help::HEX,
+    };
     let frames = Reader {
         name: "frames",
         about: help::FRAMES,
@@ -254,7 +309,8 @@ fn with_files<'a>(alloc: Global, cases: Command<'a>) -> Result<Command<'a>, Allo
         help: help::FRAMES_FILE,
     };
     let logs = with_records(alloc, with_reader(alloc, cases, vat)?)?;
-    with_reader(alloc, with_frame(alloc, logs)?, frames)
+    let framed = with_flagged(alloc, logs, frame, LATER, help::LATER_FRAME)?;
+    with_reader(alloc, framed, frames)
 }
 
 /// The program with its command that writes a log: `migrate FILE --out FILE`, which has the option `--later`.
@@ -271,7 +327,7 @@ fn with_migration<'a>(alloc: Global, readers: Command<'a>) -> Result<Command<'a>
         .long_about(help::MIGRATE_LONG)
         .after_help(help::MIGRATE_END)
         .arg(input(alloc, "FILE", help::FILE))?
-        .arg(later(alloc, help::LATER_LOG))?
+        .arg(flag(alloc, LATER, help::LATER_LOG))?
         .arg(out(alloc))?;
     readers.subcommand(migrate)
 }

@@ -1,5 +1,5 @@
 -- Answers of a case that was judged.
-use Rattle.std.proofs.Common.{◌≡◌, ◌∙◌, ◌≤◌, ◌⊎◌, ℕ, List, None, Result, Ok, Err, refl, sym, ap, subst, inl, inr, arith}
+use Rattle.std.proofs.Common.{◌≡◌, ◌∙◌, ◌≤◌, ◌⊎◌, ℕ, Bool, List, None, Result, Ok, Err, refl, sym, ap, subst, inl, inr, arith}
 use Rattle.std.proofs.lemmas.Option.{none-some}
 use Rattle.case_book.specs.Case.{Contents}
 use Rattle.case_book.specs.Ties.{tie_fault_of}
@@ -84,13 +84,13 @@ fault_is answers gives old new name fault (inr (found, (comes, is))) =
 abbrev pub IsNoYes : ReportOf → Type 0
 IsNoYes report = (vats records delivered under_way : ℕ) (run : List StepOf) → report ≡ Yes vats records delivered under_way run → ⊥
 
-pub no_edges : (report : ReportOf) (text : List ℕ) (status : ℕ) → IsNoYes report → SaysAnswer (Report report) text status → AnswersGraph report text status
-no_edges (Yes v r d u run) text status not says = absurd (not v r d u run refl)
-no_edges (Vat v i b) text status not says = says
-no_edges (OutsideVat v i w) text status not says = says
-no_edges (Link c e m) text status not says = says
-no_edges (OrderStep k) text status not says = says
-no_edges NoOrder text status not says = says
+pub no_edges : (is_dot : Bool) (report : ReportOf) (text : List ℕ) (status : ℕ) → IsNoYes report → SaysAnswer (Report report) text status → AnswersGraph is_dot report text status
+no_edges is_dot (Yes v r d u run) text status not says = absurd (not v r d u run refl)
+no_edges is_dot (Vat v i b) text status not says = says
+no_edges is_dot (OutsideVat v i w) text status not says = says
+no_edges is_dot (Link c e m) text status not says = says
+no_edges is_dot (OrderStep k) text status not says = says
+no_edges is_dot NoOrder text status not says = says
 
 pub no_steps : (report : ReportOf) (text : List ℕ) (status : ℕ) → IsNoYes report → SaysAnswer (Report report) text status → AnswersRun report text status
 no_steps (Yes v r d u run) text status not says = absurd (not v r d u run refl)

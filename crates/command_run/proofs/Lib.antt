@@ -2,5 +2,7 @@ mod Falling
 mod Listing
 mod Judged
 mod Mapped
+mod TellsMapped
 mod Running
 mod Told
+mod Drawn

@@ -21,8 +21,11 @@ use Rattle.command_run.specs.declared.output.Failed.{Failed}
 use Rattle.command_run.specs.declared.output.Failed.TheVariants.{Out}
 use Rattle.command_run.specs.RecordAnswers.{first_ones}
 use Rattle.command_run.specs.CommandAnswers.{AnswersMigration}
+use Rattle.command_run.specs.DrawAnswers.{IsDrawn}
+use Rattle.command_run.specs.declared.commands.draw_case.DrawAnswer.{DrawAnswer}
 use Rattle.command_run.specs.declared.commands.migrate_log.MigrationAnswer.{MigrationAnswer}
 use Rattle.command_run.specs.Runs.{Writing}
+use Rattle.picture.specs.declared.window.Asked.{Asked}
 
 -- a finding, or why there is none, as an answer
 abbrev pub answer_of : Result VatFinding Fault → Answer
@@ -50,10 +53,22 @@ abbrev pub ComesJudged : {S : Type 0} → Reads S → S → List ℕ → Result 
 ComesJudged gives old name (Ok report) new = (came : ReadCase) × (ComesOfCase gives old name (Ok came) new × IsReport came.case came.order report)
 ComesJudged gives old name (Err fault) new = (fault ≡ OutOfMemory) ⊎ ((found : CaseFault) × (ComesOfCase gives old name (Err found) new × (fault ≡ of_case found)))
 
+-- what came of a case that was drawn: its report and its picture, or its fault, or memory ran out
+abbrev pub ComesDrawn : {S : Type 0} → Asked → Reads S → S → List ℕ → Result DrawAnswer Fault → S → Type 0
+ComesDrawn asked gives old name (Ok made) new = (came : ReadCase) × ((report : Report) × (ComesOfCase gives old name (Ok came) new
+    × IsReport came.case came.order report × (made.answer ≡ answer.Report report) × IsDrawn came report asked (option_map (λ bytes. bytes) made.picture)))
+ComesDrawn asked gives old name (Err fault) new = (fault ≡ OutOfMemory) ⊎ ((found : CaseFault) × (ComesOfCase gives old name (Err found) new × (fault ≡ of_case found)))
+
 -- what came of writing lines alone: a write that failed is one of them
 abbrev pub of_lines : {E X : Type 0} → Result ℕ E → Result ℕ (Failed E X)
 of_lines (Ok status) = Ok status
 of_lines (Err fault) = Err (Out fault)
+
+-- the exit status of lines that are told as objects: where they were told it is that of the answer, or that of a failed write,
+-- and else that or the one of out of memory
+abbrev pub EndsAs : {E X : Type 0} → Result ℕ (Failed E X) → ℕ → Type 0
+EndsAs (Ok status) ended = (ended ≡ status) ⊎ (ended ≡ 2)
+EndsAs (Err fault) ended = (ended ≡ 2) ⊎ (ended ≡ 3)
 
 -- what came of a log that was to be migrated answers it
 abbrev pub Migrates : Bool → Read → Result MigrationAnswer Fault → Type 0

@@ -2,6 +2,7 @@ pub mod Answers
 pub mod CommandAnswers
 pub mod Glue
 pub mod OrderAnswers
+pub mod DrawAnswers
 pub mod MigrationAnswers
 pub mod FrameFiles
 pub mod RecordAnswers

@@ -1,6 +1,6 @@
 -- The lines and the exit status that answer a case which is judged: the line of its report, or where it is yes, and they are
 -- asked for, the edges or the steps of its run.
-use Rattle.std.specs.Prelude.{◌≡◌, ◌≢◌, ℕ, List, [], ◌∷◌, ◌++◌, length, Result, Ok, Err}
+use Rattle.std.specs.Prelude.{◌≡◌, ◌≢◌, ℕ, Bool, true, false, List, [], ◌∷◌, ◌++◌, length, Result, Ok, Err}
 use Rattle.std.specs.List.{flat_map}
 use Rattle.run_model.specs.Edges.{AreEdges, Edge}
 use Rattle.run_model.specs.Steps.{PastSteps}
@@ -13,6 +13,8 @@ use Rattle.case_files.specs.declared.case_fault.CaseFault.{CaseFault}
 use Rattle.case_files.specs.declared.case_fault.CaseFault.TheVariants as fault
 use Rattle.case_files.specs.declared.case_reading.ReadCase.{ReadCase}
 use Rattle.report_lines.specs.declared.answer.Answer.TheVariants.{Fault, Report}
+use Rattle.report_lines.specs.declared.dot_text.DotBound.TheVariants.{Head, End}
+use Rattle.report_lines.specs.DotText.{bound_text, dot_edge_text}
 use Rattle.report_lines.specs.EdgeText.{edge_text}
 use Rattle.report_lines.specs.Faults.{of_case}
 use Rattle.report_lines.specs.Lines.{SaysAnswer, line}
@@ -23,6 +25,19 @@ use Rattle.report_lines.specs.StepText.{step_text}
 -- a line for each edge
 abbrev pub edge_lines : List Edge → List ℕ
 edge_lines edges = flat_map (λ edge. line (edge_text edge)) edges
+
+-- the same in the DOT language
+abbrev pub dot_edge_lines : List Edge → List ℕ
+dot_edge_lines edges = flat_map (λ edge. line (dot_edge_text edge)) edges
+
+-- and the whole graph, with its first line and its last
+abbrev pub dot_lines : List Edge → List ℕ
+dot_lines edges = line (bound_text Head) ++ (dot_edge_lines edges ++ line (bound_text End))
+
+-- the lines of edges: in the DOT language where that is asked for
+abbrev pub graph_lines : Bool → List Edge → List ℕ
+graph_lines false edges = edge_lines edges
+graph_lines true edges = dot_lines edges
 
 -- the line of a step, by the steps before it
 abbrev pub step_line : PastSteps → Step → List ℕ
@@ -37,9 +52,9 @@ step_lines_from before (step ∷ steps) = step_line before step ++ step_lines_fr
 abbrev pub step_lines : List Step → List ℕ
 step_lines run = step_lines_from [] run
 
--- lines and a status show the edges of a run
-abbrev pub ShowsEdges : List Step → List ℕ → ℕ → Type 0
-ShowsEdges run text status = (edges : List Edge) × (AreEdges run edges × (text ≡ edge_lines edges) × (status ≡ 0))
+-- lines and a status show the edges of a run, in the DOT language where that is asked for
+abbrev pub ShowsEdges : Bool → List Step → List ℕ → ℕ → Type 0
+ShowsEdges is_dot run text status = (edges : List Edge) × (AreEdges run edges × (text ≡ graph_lines is_dot edges) × (status ≡ 0))
 
 -- lines and a status show its steps
 abbrev pub ShowsSteps : List Step → List ℕ → ℕ → Type 0
@@ -56,9 +71,9 @@ abbrev pub AnswersReport : Reporting
 AnswersReport report text status = SaysAnswer (Report report) text status
 
 -- where the graph is asked for: the edges of the run, or the line of a report that isn't yes
-abbrev pub AnswersGraph : Reporting
-AnswersGraph (Yes vats records delivered under_way run) text status = ShowsEdges run text status
-AnswersGraph report text status = SaysAnswer (Report report) text status
+abbrev pub AnswersGraph : Bool → Reporting
+AnswersGraph is_dot (Yes vats records delivered under_way run) text status = ShowsEdges is_dot run text status
+AnswersGraph is_dot report text status = SaysAnswer (Report report) text status
 
 -- where the run is asked for: its steps, or the line of a report that isn't yes
 abbrev pub AnswersRun : Reporting

@@ -3,11 +3,12 @@ use Rattle.std.specs.Prelude.{◌≡◌, ◌⊎◌, ℕ, List, Option, Some, Non
 use Rattle.std.specs.Io.KnownBytes.{Appends}
 use Rattle.case_files.specs.CaseReading.{Read, Reads}
 use Rattle.command_line.specs.declared.command.Command.{Command}
-use Rattle.command_line.specs.declared.command.Command.TheVariants.{Check, Order, Graph, Run, Vat, Records, Frame, Frames, Migrate}
+use Rattle.command_line.specs.declared.command.Command.TheVariants.{Check, Order, Graph, Run, Draw, Vat, Records, Frame, Frames, Migrate}
 use Rattle.command_run.specs.declared.output.Failed.{Failed}
 use Rattle.command_run.specs.declared.output.Failed.TheVariants.{Out, File}
 use Rattle.command_run.specs.Answers.{edition_asked}
 use Rattle.command_run.specs.CommandAnswers.{AnswersFile, AnswersFrame, AnswersLogRecords, AnswersMigration, AnswersOrder, AnswersReportOf, AnswersSource}
+use Rattle.command_run.specs.DrawAnswers.{AnswersDraw}
 use Rattle.command_run.specs.ReportAnswers.{AnswersGraph, AnswersReport, AnswersRun}
 
 -- lines, a status and the bytes for the file, if there are any, are an answer
@@ -26,8 +27,10 @@ CarriesOut gives (Frame hex later) old new writes = (new ≡ old) × writes (NoF
 CarriesOut gives (Frames file) old new writes = (read : Read) × gives old file.now read new × writes (NoFile (AnswersFile read))
 CarriesOut gives (Records file first many) old new writes = (read : Read) × gives old file.now read new × writes (NoFile (AnswersLogRecords first many read))
 CarriesOut gives (Check name workers) old new writes = writes (NoFile (AnswersReportOf AnswersReport gives old name.now new))
-CarriesOut gives (Graph name) old new writes = writes (NoFile (AnswersReportOf AnswersGraph gives old name.now new))
+CarriesOut gives (Graph name is_dot) old new writes = writes (NoFile (AnswersReportOf (AnswersGraph is_dot) gives old name.now new))
 CarriesOut gives (Run name) old new writes = writes (NoFile (AnswersReportOf AnswersRun gives old name.now new))
+CarriesOut gives (Draw name out first many) old new writes =
+    writes (λ text status bytes. AnswersDraw (record { from = first; count = many }) gives old name.now text status bytes new)
 CarriesOut gives (Migrate file later out) old new writes = (read : Read) × gives old file.now read new × writes (AnswersMigration later read)
 CarriesOut gives (Order name out) old new writes = writes (λ text status bytes. AnswersOrder gives old name.now text status bytes new)
 
@@ -72,3 +75,16 @@ module _ {W F : Type 0} (answers : Answering) (to_out : Writing W) (to_file : Wr
   -- that a write failed.
   abbrev pub WritesOrFails : ℕ → Type 0
   WritesOrFails ended = WritesAll ended ⊎ ((ended ≡ 2) × (FailsAfterFile ⊎ FailsInFile))
+
+module _ {F : Type 0} (answers : Answering) (to_file : Writing F) (file file_new : F) where
+  -- an answer of this status came, and its bytes were written to the file; nothing is said of its lines
+  abbrev pub IsAnswered : ℕ → Type 0
+  IsAnswered status = (text : List ℕ) × ((bytes : Option (List ℕ)) × answers text status bytes × Saves to_file bytes file file_new)
+
+  -- an answer came whose bytes weren't all written
+  abbrev pub FailsToSave : Type 0
+  FailsToSave = (text : List ℕ) × ((status : ℕ) × ((bytes : Option (List ℕ)) × answers text status bytes × IsSome bytes))
+
+  -- What comes of telling an answer as objects: its status; or 2 where a write fails, or 3 where memory is refused for an object.
+  abbrev pub Tells : ℕ → Type 0
+  Tells ended = IsAnswered ended ⊎ (((ended ≡ 2) ⊎ (ended ≡ 3)) × (((status : ℕ) × IsAnswered status) ⊎ FailsToSave))

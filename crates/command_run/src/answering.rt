@@ -4,9 +4,9 @@ ghost use Rattle.std.specs.Prelude.{◌≡◌, OnOk, OnErr, IfOk, IsSome, option
 ghost use Rattle.report_lines.specs.Lines.{answer_status, answer_text, line};
 ghost use Rattle.command_run.specs.Runs.{Adds, Saves, Wrote};
 
-use crate::notes::cause::Heard;
 use crate::output::Output;
 use bytes::Bytes;
+use cause_notes::Heard;
 use report_lines::Answer;
 
 /// Writes the line of an answer that is kept, and gives its exit status. More may follow.

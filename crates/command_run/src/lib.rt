@@ -5,18 +5,25 @@
 //! `report_lines` shows what it answers. It opens no file: a source gives bytes by name, and an [`Output`] takes lines and
 //! bytes. The answer of each command stands in `specs/CommandAnswers.antt`, over that of a log and of a frame
 //! (`specs/Answers.antt`), of a file of frames (`specs/FrameFiles.antt`), of the records of a log (`specs/RecordAnswers.antt`), of
-//! a log that is migrated (`specs/MigrationAnswers.antt`), of a case whose order is asked for (`specs/OrderAnswers.antt`), and of one that is judged (`specs/ReportAnswers.antt`); what a
+//! a log that is migrated (`specs/MigrationAnswers.antt`), of a case whose order is asked for (`specs/OrderAnswers.antt`), of one that is
+//! judged (`specs/ReportAnswers.antt`), and of one that is drawn (`specs/DrawAnswers.antt`); what a
 //! run asks for and writes in `specs/Runs.antt`. [`answer_command`] does just that, or answers the error of a write;
 //! [`run_on`] does it over std's writers and ends with 2 where a write failed, and [`run_with_notes`] tells people more of
-//! it besides (notes/note_lines.rt), on a writer of its own: what it tells is in no contract.
+//! it besides (`cause_notes`), on a writer of its own: what it tells is in no contract. [`run_as_json`] tells each line as an
+//! object (`json_lines`), and [`run_as_json_with_notes`] the notes in the last one.
 #![tactic(auto)]
 
 mod answering;
 mod commands;
 mod host;
-mod notes;
+mod json_output;
+mod json_run;
 mod output;
 mod run;
+mod watch;
 
+pub use json_output::JsonOutput;
+pub use json_run::{run_as_json, run_as_json_with_notes};
 pub use output::{Failed, Output};
 pub use run::{FAILED, NotedSource, answer_command, run_on, run_with_notes};
+pub use watch::{Unwatched, Watch};

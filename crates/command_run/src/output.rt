@@ -4,6 +4,7 @@ ghost use Rattle.std.specs.Prelude.{ℕ, List, Option, None, OnOk, IfSome, ⊤};
 ghost use Rattle.std.specs.Io.KnownBytes.{Appends, Keeps};
 ghost use Rattle.std.specs.Fmt.{with_newline};
 
+use json_lines::Line;
 use std::fmt::Display;
 use std::io;
 use std::io::Write;
@@ -23,11 +24,11 @@ pub trait Output {
     // Whether it may be written to. A write that failed doesn't say that it still may.
     ghost can_write: { Self → Type 0 } = { λ _. ⊤ };
 
-    /// Writes a text, and behind it the end of the line.
-    fn write_line<D: Display + Drop>(&mut self, text: D) -> Result<(), Self::Error>
+    /// Writes a line: its text, and behind it the end of the line, or what stands for it.
+    fn write_line<L: Line + Display>(&mut self, line: &L) -> Result<(), Self::Error>
         requires { can_write self.old }
         ensures line { OnOk result
-            (IfSome (with_newline (D.output text))
+            (IfSome (with_newline (L.output line.now))
             (Appends (contents self.old) (contents self.new))) }
         ensures more { OnOk result (can_write self.new) };
 
@@ -49,8 +50,8 @@ impl<W: Write> Output for W {
 
     ghost contents = { W.contents };
 
-    fn write_line<D: Display + Drop>(&mut self, text: D) -> io::Result<()> {
-        self.writeln(text)
+    fn write_line<L: Line + Display>(&mut self, line: &L) -> io::Result<()> {
+        self.writeln(line)
     }
 
     fn write_bytes(&mut self, bytes: &[u8]) -> io::Result<()> {
@@ -67,6 +68,6 @@ impl<W: Write> Output for W {
 pub enum Failed<O, F> {
     /// A write of the lines.
     Out(O),
-    /// A write of an order's or a new log's bytes.
+    /// A write of an order's, a picture's or a new log's bytes.
     File(F),
 }

@@ -6,6 +6,7 @@ ghost use Rattle.command_run.specs.Glue.{of_lines};
 ghost use Rattle.command_run.specs.Runs.{Adds, CarriesOut, Writes, WritesOrFails, Wrote};
 
 use crate::commands::check::say_report;
+use crate::commands::draw_case::say_drawn;
 use crate::commands::frame_list::say_frames;
 use crate::commands::graph::say_graph;
 use crate::commands::hex_frame::say_frame;
@@ -15,12 +16,14 @@ use crate::commands::migrate_log::say_migrated;
 use crate::commands::run_steps::say_run;
 use crate::commands::vat_audit::say_vat;
 use crate::host::Host;
-use crate::notes::cause::Heard;
-use crate::notes::note_lines::notes_of;
 use crate::output::{Failed, Output};
+use crate::watch::{Unwatched, Watch};
 use case_files::{RememberingSource, Source};
+use cause_notes::{Heard, notes_of, write_note};
 use command_line::Command;
-use std::alloc::Global;
+use picture::Asked;
+use std::alloc::{AllocError, Global};
+use std::io;
 use std::io::Write;
 use std::sync::Wait;
 use std::thread::Threads;
@@ -39,8 +42,14 @@ fn of_lines<O, F>(said: Result<u8, O>) -> Result<u8, Failed<O, F>>
 }
 
 /// Runs a command, as [`answer_command`] does; its last answer is heard.
-fn answer_heard<R: Threads + Wait + Sync, S: Source, O: Output, F: Output>(
-    host: &Host<'_, R>,
+pub(crate) fn answer_heard<
+    R: Threads + Wait + Sync,
+    G: Watch + Sync,
+    S: Source,
+    O: Output,
+    F: Output,
+>(
+    host: &Host<'_, R, G>,
     command: &Command<'_>,
     source: &mut S,
     heard: &mut Heard,
@@ -59,8 +68,22 @@ fn answer_heard<R: Threads + Wait + Sync, S: Source, O: Output, F: Output>(
             of_lines(say_report(host, case, *workers, source, heard, out))
         }
         Command::Order { case, .. } => say_order(host.alloc, case, source, heard, out, file),
-        Command::Graph { case } => of_lines(say_graph(host, case, source, heard, out)),
+        Command::Graph { case, dot } => {
+            of_lines(say_graph(host, case, *dot, source, heard, out))
+        }
         Command::Run { case } => of_lines(say_run(host, case, source, heard, out)),
+        Command::Draw {
+            case,
+            from,
+            count,
+            ..
+        } => {
+            let asked = Asked {
+                from: *from,
+                count: *count,
+            };
+            say_drawn(host, case, asked, source, heard, out, file)
+        }
         Command::Vat { file: name } => of_lines(say_vat(host.alloc, name, source, heard, out)),
         Command::Records {
             file: name,
@@ -90,7 +113,7 @@ fn answer_heard<R: Threads + Wait + Sync, S: Source, O: Output, F: Output>(
 /// Runs a command: writes its line, or its lines, to `out`, and answers the exit status. It is 0 where the log is good, the
 /// report of a case is yes, the message of each frame is said, the records are, or an order or a new log is made; 1 where a record breaks
 /// a rule, the report is a no, or no order exists; 2 where a record isn't judged, a message isn't read, or the input is bad
-/// or can't be read; and 3 where memory ran out. To `file` go the bytes of an order or of a new log alone, before the line. Of the workers that
+/// or can't be read; and 3 where memory ran out. To `file` go the bytes of an order, of a picture or of a new log alone, before the line. Of the workers that
 /// audit a case one is the calling thread, and `rt` starts the others; the answer is the same for any number of them.
 ///
 /// # Errors
@@ -111,14 +134,12 @@ pub fn answer_command<R: Threads + Wait + Sync, S: Source, O: Output, F: Output>
         (λ answers. Writes answers (Wrote O.contents O.is_finished)
         (Wrote F.contents F.is_finished) out.old out.new file.old file.new result) }
 {
-    answer_heard(
-        &Host { rt, alloc },
-        command,
-        source,
-        &mut Heard::Nothing,
-        out,
-        file,
-    )
+    let host = Host {
+        rt,
+        alloc,
+        watch: &Unwatched,
+    };
+    answer_heard(&host, command, source, &mut Heard::new(), out, file)
 }
 
 /// Runs a command over std's writers: as `answer_command`, and the exit status is 2 where a write fails.
@@ -138,36 +159,77 @@ pub fn run_on<R: Threads + Wait + Sync, S: Source, W: Write, F: Write>(
     answer_command(rt, alloc, command, source, out, file).unwrap_or(FAILED)
 }
 
-/// A source, and what the notes of what was read from it are written to.
+/// A source, what the notes of what was read from it are written to, and what watches its case being audited.
 #[derive(Drop)]
-pub struct NotedSource<S, N> {
+pub struct NotedSource<'a, S, N, G> {
     /// The source.
     pub source: S,
     /// The writer of the notes.
     pub notes: N,
+    /// The watch.
+    pub watch: &'a G,
+}
+
+/// The notes beside what was heard of a source.
+pub(crate) fn heard_notes<S: RememberingSource>(
+    alloc: Global,
+    command: &Command<'_>,
+    heard: &Heard,
+    source: &S,
+) -> Result<String, AllocError> {
+    let hex = match command {
+        Command::Frame { hex, .. } => Some(*hex),
+        _ => None,
+    };
+    notes_of(alloc, heard, source, hex)
 }
 
 /// Writes the notes beside what was heard of a source. Where a write fails, or memory is refused for them, they are left out.
 fn write_notes<S: RememberingSource, N: Write>(
     alloc: Global,
-    heard: Heard,
+    command: &Command<'_>,
+    heard: &Heard,
     source: &S,
     notes: &mut N,
 ) {
-    if let Ok(text) = notes_of(alloc, heard, source) {
+    if let Ok(text) = heard_notes(alloc, command, heard, source) {
         let _ = notes.write_all(text.as_bytes());
     }
 }
 
-/// Runs a command over std's writers, as [`run_on`] does, and then writes notes: a line or two for people, beside
-/// a no, an outside, a file that can't be read or a log, an order or a case file that is bad (docs/FORMATS.md). No contract
-/// says what they tell. They change neither what is written elsewhere nor the exit status: where a write of them fails, or
-/// memory is refused for them, they are left out.
-pub fn run_with_notes<R: Threads + Wait + Sync, S: RememberingSource, W: Write, F: Write, N: Write>(
+/// Writes the note of a write that failed, if one did.
+fn write_failure<N: Write>(
+    alloc: Global,
+    command: &Command<'_>,
+    answered: &Result<u8, Failed<io::Error, io::Error>>,
+    notes: &mut N,
+) {
+    let noted = match answered {
+        Ok(_) => return,
+        Err(Failed::Out(error)) => write_note(alloc, None, error),
+        Err(Failed::File(error)) => write_note(alloc, command.out(), error),
+    };
+    if let Ok(text) = noted {
+        let _ = notes.write_all(text.as_bytes());
+    }
+}
+
+/// Runs a command over std's writers, as [`run_on`] does, and then writes notes: lines for people, beside a no, an outside, an
+/// input that is bad or can't be read, and a write that failed (docs/FORMATS.md). No contract says what they tell. They change
+/// neither what is written elsewhere nor the exit status: where a write of them fails, or memory is refused for them, they are
+/// left out.
+pub fn run_with_notes<
+    R: Threads + Wait + Sync,
+    G: Watch + Sync,
+    S: RememberingSource,
+    W: Write,
+    F: Write,
+    N: Write,
+>(
     rt: &R,
     alloc: Global,
     command: &Command<'_>,
-    noted: &mut NotedSource<S, N>,
+    noted: &mut NotedSource<'_, S, N, G>,
     out: &mut W,
     file: &mut F,
 ) -> u8
@@ -176,9 +238,14 @@ pub fn run_with_notes<R: Threads + Wait + Sync, S: RememberingSource, W: Write, 
         (λ answers. WritesOrFails answers (Adds W.contents)
         (Adds F.contents) out.old out.new file.old file.new result) }
 {
-    let mut heard = Heard::Nothing;
-    let host = Host { rt, alloc };
+    let mut heard = Heard::new();
+    let host = Host {
+        rt,
+        alloc,
+        watch: noted.watch,
+    };
     let answered = answer_heard(&host, command, &mut noted.source, &mut heard, out, file);
-    write_notes(alloc, heard, &noted.source, &mut noted.notes);
+    write_notes(alloc, command, &heard, &noted.source, &mut noted.notes);
+    write_failure(alloc, command, &answered, &mut noted.notes);
     answered.unwrap_or(FAILED)
 }

@@ -5,3 +5,4 @@ pub mod Tables
 pub mod Totals
 pub mod Places
 pub mod Scheduling
+mod Beginning

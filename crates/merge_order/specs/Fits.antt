@@ -95,6 +95,15 @@ TakesLeastFrom parts (vat ∷ order) = IsTrue (may_come parts vat) × ((smaller 
 abbrev pub TakesLeast : List Log → List ℕ → Type 0
 TakesLeast logs order = TakesLeastFrom (begin logs) order
 
+-- each step takes the smallest vat number that may come, until none may
+abbrev pub BeginsLeastFrom : List Part → List ℕ → Type 0
+BeginsLeastFrom parts [] = (vat : ℕ) → may_come parts vat ≡ false
+BeginsLeastFrom parts (vat ∷ order) = IsTrue (may_come parts vat) × ((smaller : ℕ) → smaller < vat → may_come parts smaller ≡ false) × BeginsLeastFrom (after vat parts) order
+
+-- the order that takes the smallest vat number that may come at each step, as far as one may
+abbrev pub BeginsLeast : List Log → List ℕ → Type 0
+BeginsLeast logs order = BeginsLeastFrom (begin logs) order
+
 -- the first step that may not come, or the order's length where records are left
 unfoldable pub fault_from : List Part → List ℕ → Option ℕ
 fault_from parts [] = if used_up parts then None else Some 0

@@ -21,5 +21,5 @@ mod waiting_vats;
 pub use checking::{OrderFinding, check_order};
 pub use error::OrderError;
 pub use format::{read_order, write_order};
-pub use making::make_order;
+pub use making::{begin_order, make_order};
 pub use order::Order;

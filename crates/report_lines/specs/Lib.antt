@@ -1,3 +1,4 @@
+pub mod DotText
 pub mod EdgeText
 pub mod Faults
 pub mod Lines

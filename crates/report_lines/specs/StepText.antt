@@ -59,6 +59,11 @@ kind_text (Fault vat c) = codes "fault"
 kind_text (Send vat connection message) = codes "send " ++ message_word message
 kind_text (Receive vat connection message bound) = codes "receive " ++ message_word message
 
+-- the word of a kind, and behind it that of a message, if there is one
+abbrev pub words_text : List ℕ → Option (List ℕ) → List ℕ
+words_text kind None = kind
+words_text kind (Some message) = kind ++ (codes " " ++ message)
+
 -- the call that a step names, if it does
 abbrev pub call_of_step : Step → Option Name
 call_of_step (Make vat number cap reference interface method) = Some (call vat number)

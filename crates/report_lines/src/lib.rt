@@ -4,13 +4,15 @@
 //! `cap_reader`, `vat_log` and `cap_frame`, whose values it shows. It asks no file, reads no bytes, audits nothing and takes
 //! no memory. An [`Answer`] is shown as just the text that `specs/Lines.antt` gives it, a [`Fault`] as that of
 //! `specs/Faults.antt`, a message as that of `specs/MessageText.antt`, a [`NumberedRecord`] as that of
-//! `specs/RecordText.antt`, an edge of a run ([`ShownEdge`]) as that of `specs/EdgeText.antt`, a step ([`NumberedStep`]) as
-//! that of `specs/StepText.antt`; `status` is just the exit status beside an answer. A line is the text and its end. What
+//! `specs/RecordText.antt`, an edge of a run ([`ShownEdge`]) as that of `specs/EdgeText.antt`, or of
+//! `specs/DotText.antt` where it is a [`DotEdge`], a step ([`NumberedStep`]) as
+//! that of `specs/StepText.antt`; a value from below that is [`Shown`] as its part of these; `status` is just the exit status beside an answer. A line is the text and its end. What
 //! people are told of a rule or of why a record isn't judged ([`rule_sentence`], [`why_sentence`], [`report_sentence`]) is
 //! a line too, and no contract says which.
 #![tactic(auto)]
 
 mod answer;
+mod dot_text;
 mod edge_text;
 mod fault;
 mod fault_name;
@@ -23,8 +25,13 @@ mod shown;
 mod step_text;
 
 pub use answer::Answer;
+pub use dot_text::{DotBound, DotEdge};
 pub use edge_text::ShownEdge;
 pub use fault::Fault;
+pub use finding_text::{code_of, word_of};
+pub use message_text::loopback_text;
 pub use record_text::NumberedRecord;
+pub use report_text::{ShownReport, breach_code};
 pub use sentences::{report_sentence, rule_sentence, why_sentence};
-pub use step_text::NumberedStep;
+pub use shown::Shown;
+pub use step_text::{NumberedStep, call_of_step, kind_words};

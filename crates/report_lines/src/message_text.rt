@@ -124,7 +124,7 @@ impl Display for Shown<&Resolution> {
 }
 
 /// The name of a loopback's end.
-fn loopback_text(loopback: Loopback) -> &'static str
+pub fn loopback_text(loopback: Loopback) -> &'static str
     ensures { result.now ≡ loopback_text loopback }
 {
     match loopback {

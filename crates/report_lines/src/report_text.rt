@@ -1,16 +1,16 @@
 //! The text and the exit status of a report.
 
-ghost use Rattle.std.specs.Prelude.{◌≡◌};
+ghost use Rattle.std.specs.Prelude.{◌≡◌, Some};
 ghost use Rattle.std.specs.Fmt.{WritesOnOk};
 ghost use Rattle.report_lines.specs.Lines.{breach_code, no_order_text, report_status, report_text};
 
 use crate::finding_text::{code_of, put_broken, put_outside};
 use audit_core::{Breach, Report};
 use std::fmt;
-use std::fmt::Formatter;
+use std::fmt::{Display, Formatter};
 
 /// The code of what a record breaks.
-fn breach_code(breach: Breach) -> &'static str
+pub fn breach_code(breach: Breach) -> &'static str
     ensures { result.now ≡ breach_code breach }
 {
     match breach {
@@ -61,5 +61,17 @@ pub fn report_status(report: &Report) -> u8
         Report::Yes { .. } => 0,
         Report::OutsideVat { .. } => 2,
         Report::Vat { .. } | Report::Link { .. } | Report::OrderStep(_) | Report::NoOrder => 1,
+    }
+}
+
+/// What is answered of a case, to be shown as its line, without the line's end.
+#[derive(Clone, Copy, Debug)]
+pub struct ShownReport<'a>(pub &'a Report);
+
+impl Display for ShownReport<'_> {
+    ghost output = { λ shown. Some (report_text shown.0.now) };
+
+    fn fmt<W: fmt::Write>(&self, f: &mut Formatter<W>) -> fmt::Result {
+        put_report(f, self.0)
     }
 }

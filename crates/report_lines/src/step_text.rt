@@ -1,8 +1,8 @@
 //! The text of a step, without an end of line: its number, its vat, its record there, the record's kind, and the call that
 //! it names (docs/FORMATS.md).
 
-ghost use Rattle.std.specs.Prelude.{◌≡◌, Some};
-ghost use Rattle.report_lines.specs.StepText.{call_of_step, call_of_message, called_text, kind_text, message_word, plain_word, step_text};
+ghost use Rattle.std.specs.Prelude.{◌≡◌, Some, option_map};
+ghost use Rattle.report_lines.specs.StepText.{call_of_step, call_of_message, called_text, kind_text, message_word, plain_word, step_text, words_text};
 
 use crate::shown::Shown;
 use run_model::{Message, Name, Plain, Step, vat_of};
@@ -55,7 +55,7 @@ fn call_of_message(message: &Message) -> Option<Name>
 }
 
 /// The call that a step names, if it does.
-fn call_of(step: &Step) -> Option<Name>
+pub fn call_of_step(step: &Step) -> Option<Name>
     ensures { result ≡ call_of_step step.now }
 {
     match step {
@@ -76,24 +76,34 @@ fn call_of(step: &Step) -> Option<Name>
     }
 }
 
-/// The kind of a step's record.
+/// The kind of a step's record, and the word for its message, if it has one.
+pub fn kind_words(step: &Step) -> (&'static str, Option<&'static str>)
+    ensures { kind_text step.now ≡ words_text result.0.now (option_map (λ word. word.now) result.1) }
+{
+    match step {
+        Step::Host { .. } => ("host", None),
+        Step::Vow { .. } => ("vow", None),
+        Step::Fulfil { .. } => ("fulfil", None),
+        Step::Break { .. } => ("break", None),
+        Step::Make { .. } => ("make", None),
+        Step::Name { .. } => ("field", None),
+        Step::Deliver { .. } => ("deliver", None),
+        Step::Answer { .. } => ("answer", None),
+        Step::AnswerBy { .. } => ("answerby", None),
+        Step::Fault { .. } => ("fault", None),
+        Step::Send { message, .. } => ("send", Some(message_word(message))),
+        Step::Receive { message, .. } => ("receive", Some(message_word(message))),
+    }
+}
+
+/// The kind of a step's record, with the word for its message.
 impl Display for Shown<&Step> {
     ghost output = { λ step. Some (kind_text step.0.now) };
 
     fn fmt<W: fmt::Write>(&self, f: &mut Formatter<W>) -> fmt::Result {
-        match self.0 {
-            Step::Host { .. } => f.write_str("host"),
-            Step::Vow { .. } => f.write_str("vow"),
-            Step::Fulfil { .. } => f.write_str("fulfil"),
-            Step::Break { .. } => f.write_str("break"),
-            Step::Make { .. } => f.write_str("make"),
-            Step::Name { .. } => f.write_str("field"),
-            Step::Deliver { .. } => f.write_str("deliver"),
-            Step::Answer { .. } => f.write_str("answer"),
-            Step::AnswerBy { .. } => f.write_str("answerby"),
-            Step::Fault { .. } => f.write_str("fault"),
-            Step::Send { message, .. } => write!(f, "send {}", message_word(message)),
-            Step::Receive { message, .. } => write!(f, "receive {}", message_word(message)),
+        match kind_words(self.0) {
+            (kind, None) => f.write_str(kind),
+            (kind, Some(message)) => write!(f, "{kind} {message}"),
         }
     }
 }
@@ -128,7 +138,7 @@ impl Display for NumberedStep<'_> {
         let NumberedStep { at, record, step } = self;
         let vat = vat_of(step);
         let kind = Shown(*step);
-        let called = Shown(call_of(step));
+        let called = Shown(call_of_step(step));
         write!(f, "step {at} vat {vat} record {record} {kind}{called}")
     }
 }

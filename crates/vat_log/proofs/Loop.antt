@@ -9,7 +9,7 @@ use Rattle.vat_log.specs.declared.error.LogError.TheVariants.{BadMagic, Short, B
 use Rattle.vat_log.specs.declared.body.Body.{Body}
 use Rattle.vat_log.specs.declared.kind.RecordKind.{RecordKind}
 use Rattle.vat_log.specs.declared.version.LogVersion.{LogVersion}
-use Rattle.vat_log.specs.Reading.{◌>>=◌, Fails, many_at, kind_at, fields_at, records_at}
+use Rattle.vat_log.specs.Reading.{◌>>=◌, Fails, count_at, many_at, list_at, kind_at, fields_at, records_at}
 
 -- a step that failed, whatever follows it
 pub Fails-then : {A B : Type 0} (e : LogError) (read : Result A LogError) (f : A → Result B LogError) → Fails e read → Fails e (read >>= f)
@@ -49,6 +49,17 @@ is_done item front count i at total le so_far =
     let k : count - i ≡ 0 = omega arith in
     let one : with_front front (many_at item (count - i) at) ≡ Ok (front, at) = rw k (ap (λ xs. Ok (xs, at)) (append-nil front)) in
     sym so_far ∙ one
+
+-- a list of one element is its count, and that element
+pub is_one : {A : Type 0} (version : LogVersion) (item : ℕ → Result (A × ℕ) LogError) (bytes : List ℕ) (at count after : ℕ) (x : A) (end : ℕ) → count_at version bytes at ≡ Ok (count, after) → count ≡ 1
+    → item after ≡ Ok (x, end) → list_at version item bytes at ≡ Ok (x ∷ [], end)
+unfolding list_at many_at
+is_one version item bytes at count after x end counted one found = rw (counted, one, found) refl
+
+pub one_fails : {A : Type 0} (e : LogError) (version : LogVersion) (item : ℕ → Result (A × ℕ) LogError) (bytes : List ℕ) (at count after : ℕ) → count_at version bytes at ≡ Ok (count, after) → count ≡ 1
+    → Fails e (item after) → Fails e (list_at version item bytes at)
+unfolding list_at many_at
+one_fails e version item bytes at count after counted one failed = rw (counted, one) (Fails-then e (item after) _ failed)
 
 -- one element more than those before this one
 pub taken : {X : Type 0} (xs : List X) (i : ℕ) (x : X) → i < length xs → x ≡ get_or xs i x → take (i + 1) xs ≡ take i xs ++ x ∷ []

@@ -1,6 +1,6 @@
 //! What a record says.
 
-ghost use Rattle.std.specs.Prelude.{◌≡◌, IfOk};
+ghost use Rattle.std.specs.Prelude.{◌≡◌, ◌∷◌, [], IfOk};
 
 use crate::passage::Passage;
 use bytes::Bytes;
@@ -10,18 +10,36 @@ use std::fmt::{self, Debug, Formatter, Write};
 use std::marker::Model;
 use std::slice;
 
+/// References as they are kept: a single one, as most frames have, takes no memory of its own.
+#[derive(Drop)]
+enum KeptReferences {
+    /// A single one.
+    One(u64),
+    /// None or several.
+    Several(Vec<u64>),
+}
+
 /// References noted beside a frame, in the order of the descriptors that aren't none (docs/FORMATS.md).
-#[derive(Debug, Drop)]
+#[derive(Drop)]
 pub struct References {
-    items: Vec<u64>,
+    kept: KeptReferences,
 }
 
 impl Model for References {
     ghost use Rattle.std.specs.Prelude.{List, ℕ};
+    ghost use Rattle.vat_log.specs.Glue.{references_of};
 
     ghost Value = { List ℕ };
 
-    ghost view = { λ references. references.items.items };
+    ghost view = { λ references. references_of references.kept };
+}
+
+impl Debug for References {
+    fn fmt<W: Write>(&self, f: &mut Formatter<W>) -> fmt::Result {
+        f.debug_struct("References")
+            .field("items", &self.as_slice())
+            .finish()
+    }
 }
 
 impl References {
@@ -29,22 +47,42 @@ impl References {
     pub fn new(items: Vec<u64>) -> References
         ensures { result ≡ items.items }
     {
-        References { items }
+        if let [reference] = items.as_slice() {
+            return References::one(*reference);
+        }
+        References {
+            kept: KeptReferences::Several(items),
+        }
+    }
+
+    /// This one alone. It takes no memory.
+    pub(crate) fn one(reference: u64) -> References
+        ensures { result ≡ reference ∷ [] }
+    {
+        References {
+            kept: KeptReferences::One(reference),
+        }
     }
 
     /// The references, in their order.
     pub fn as_slice(&self) -> &[u64]
         ensures { result.now ≡ self.now }
     {
-        &self.items
+        match &self.kept {
+            KeptReferences::One(reference) => slice::from_ref(reference),
+            KeptReferences::Several(items) => items.as_slice(),
+        }
     }
 
     /// A second list of the same references. The only error is that memory ran out.
     pub fn copy(&self) -> Result<References, AllocError>
         ensures { IfOk result (λ copied. copied ≡ self.now) }
     {
-        let items = self.items.clone()?;
-        Ok(References { items })
+        let kept = match &self.kept {
+            KeptReferences::One(reference) => KeptReferences::One(*reference),
+            KeptReferences::Several(items) => KeptReferences::Several(items.clone()?),
+        };
+        Ok(References { kept })
     }
 }
 
@@ -98,13 +136,20 @@ impl ResultReferences {
     {
         if items.len() == 1 {
             if let Some(answered) = items.pop() {
-                return ResultReferences {
-                    kept: KeptResults::One(answered),
-                };
+                return ResultReferences::one(answered);
             }
         }
         ResultReferences {
             kept: KeptResults::Several(items),
+        }
+    }
+
+    /// This one alone. It takes no memory.
+    pub(crate) fn one(answered: (u64, Path)) -> ResultReferences
+        ensures { result ≡ answered ∷ [] }
+    {
+        ResultReferences {
+            kept: KeptResults::One(answered),
         }
     }
 

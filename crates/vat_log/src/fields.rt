@@ -136,6 +136,10 @@ pub(crate) fn references_of(
     ensures within { IfOk result (λ x. x.1 ≤ length bytes.now) }
 {
     let (count, after) = count_of(version, bytes, at)?;
+    if count == 1 {
+        let (reference, after) = nonzero_of(bytes, after)?;
+        return Ok((References::one(reference), after));
+    }
     let (references, after) = many_references(alloc, count, bytes, after)?;
     Ok((References::new(references), after))
 }
@@ -173,6 +177,10 @@ pub(crate) fn path_of(
     ensures within { IfOk result (λ x. x.1 ≤ length bytes.now) }
 {
     let (count, after) = count_of(version, bytes, at)?;
+    if count == 1 {
+        let (field, after) = u16_at(bytes, after)?;
+        return Ok((Path::from_slice(alloc, &[field])?, after));
+    }
     let (fields, after) = many_path_fields(alloc, count, bytes, after)?;
     Ok((Path::new(fields)?, after))
 }
@@ -228,6 +236,10 @@ pub(crate) fn results_of(
     ensures within { IfOk result (λ x. x.1 ≤ length bytes.now) }
 {
     let (count, after) = count_of(version, bytes, at)?;
+    if count == 1 {
+        let (answered, after) = answered_of(alloc, version, bytes, after)?;
+        return Ok((ResultReferences::one(answered), after));
+    }
     let (results, after) = many_results(alloc, version, count, bytes, after)?;
     Ok((ResultReferences::new(results), after))
 }

@@ -50,8 +50,19 @@ pub fn ask<R: Threads + Wait + Sync>(
     }
 }
 
+/// Appends what a picture draws: its lines behind those that all pictures begin with.
+fn put_picture(text: &mut String, made: &[u8]) -> Result<(), Fault> {
+    let svg = std::str::from_utf8(made).map_err(|_| Fault::Unread)?;
+    let Some((_, drawn)) = svg.split_once("<rect class='paper' width='100%' height='100%'/>\n")
+    else {
+        return Err(Fault::Unread);
+    };
+    text.push_str(drawn)?;
+    Ok(())
+}
+
 /// Appends the vats of an order file, or how long a log is.
-fn put_made(text: &mut String, made: &[u8]) -> Result<(), AllocError> {
+fn put_order_or_log(text: &mut String, made: &[u8]) -> Result<(), AllocError> {
     let Some(steps) = made.strip_prefix(b"VATORD01".as_slice()) else {
         let len = made.len();
         let what = if made.starts_with(b"VATLOG02") {
@@ -76,6 +87,16 @@ fn put_made(text: &mut String, made: &[u8]) -> Result<(), AllocError> {
     text.push_str("\n")
 }
 
+/// Appends what was made.
+fn put_made(text: &mut String, made: &[u8]) -> Result<(), Fault> {
+    if made.starts_with(b"<svg") {
+        put_picture(text, made)
+    } else {
+        put_order_or_log(text, made)?;
+        Ok(())
+    }
+}
+
 /// All that a run told, line by line.
 fn text_of(alloc: Global, told: &Told) -> Result<String, Fault> {
     let out = std::str::from_utf8(&told.out).map_err(|_| Fault::Unread)?;
@@ -88,8 +109,8 @@ fn text_of(alloc: Global, told: &Told) -> Result<String, Fault> {
     Ok(text)
 }
 
-/// What the run that a conversation asks for prints, with `made V V ..` behind it where it wrote an order, or `made a log of N bytes`, of version 2 or, where it says so, 3, and its status as
-/// a last line.
+/// What the run that a conversation asks for prints, with `made V V ..` behind it where it wrote an order, or `made a log of N bytes`, of version 2 or, where it says so, 3, or
+/// the lines of a picture, and its status as a last line.
 pub fn answer<R: Threads + Wait + Sync>(
     rt: &R,
     alloc: Global,

@@ -8,6 +8,7 @@ pub mod KindTables
 pub mod LoopTables
 pub mod Queues
 pub mod Seen
+pub mod ShortLists
 pub mod Sides
 pub mod Tables
 pub mod TurnTables

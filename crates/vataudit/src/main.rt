@@ -3,9 +3,9 @@
 //! their run, and `vataudit order CASE --out FILE` makes an order of their records. `vataudit vat FILE` prints one line for the
 //! log of one vat, `vataudit records FILE` a line for each record of a log, `vataudit frame HEX` the message of a frame, and
 //! `vataudit frames FILE` that of each frame of a file; `vataudit migrate FILE --out FILE` writes a log in version 2.
-//! Beside the lines it notes on standard error what people need of a no, of a record that isn't judged and of a file that is
-//! bad or can't be read; `--quiet` before the command, or as the last word, leaves notes out. `vataudit --version` prints
-//! the version, and the kit by which it was proved.
+//! Beside the lines it notes on standard error what leads people to the cause of a no, of a record that isn't judged, of an
+//! input that is bad or can't be read and of a write that fails; `--quiet` before the command, or as the last word, leaves
+//! notes out. With `--json` in these places each line is a JSON object, and the last one has the notes. `vataudit --version` prints the version, and the kit by which it was proved.
 //!
 //! It stands on `command_line`, which reads the words, and on `command_run`, which runs the command that they spell
 //! and says in its specs/Runs.antt what a run prints. Here are the files: those that are read are a `Source` of
@@ -14,42 +14,59 @@
 
 ghost use Rattle.std.specs.Prelude.{◌≡◌, ◌≢◌, ◌⊎◌};
 ghost use Rattle.clap.specs.Words.{kind_of};
+ghost use Rattle.command_line.specs.Spelled.{HasWorkers};
 ghost use Rattle.report_lines.specs.Faults.{fault_status};
 
 mod file;
+mod manner;
 mod new_file;
+mod progress;
+mod watched;
 
 use clap::error::ErrorKind;
-use command_line::{VERSION, command_of};
-use command_run::{FAILED, NotedSource, run_on, run_with_notes};
+use command_line::{Command, VERSION, command_of};
+use command_run::{
+    FAILED, JsonOutput, NotedSource, Unwatched, run_as_json, run_as_json_with_notes, run_on,
+    run_with_notes,
+};
 use file::{Folder, RememberingFolder};
+use json_lines::OUT_OF_MEMORY;
+use manner::take_manner;
 use new_file::NewFile;
+use progress::Progress;
 use report_lines::Fault;
 use std::fmt::{Display, Formatter};
-use std::io::Write;
+use std::io::{IsTerminal, Write};
 use std::process::ExitCode;
 use std::rt::Files;
 use std::sync::Wait;
 use std::thread::Threads;
-use std::{env, fmt, fs, io};
+use std::time::Clock;
+use std::{env, fmt, fs, io, thread};
+use watched::{CountedSource, WipingWriter};
 
-/// Prints that memory ran out, and gives the exit status: that of a failed write where the line can't be written.
-fn out_of_memory(rt: &impl Print) -> u8
+/// Prints that memory ran out, as a line or as an object, and gives the exit status: that of a failed write where the line can't be written.
+fn out_of_memory(rt: &impl Print, is_json: bool) -> u8
     ensures { (result ≡ fault_status Fault.OutOfMemory) ⊎ (result ≡ FAILED) }
 {
     let fault = Fault::OutOfMemory;
-    match println!(rt; "{fault}") {
+    let printed = if is_json {
+        println!(rt; "{OUT_OF_MEMORY}")
+    } else {
+        println!(rt; "{fault}")
+    };
+    match printed {
         Ok(()) => fault.status(),
         Err(_) => FAILED,
     }
 }
 
 /// Says on standard error what is wrong with the command line, and gives the exit status.
-fn refuse(rt: &(impl Print + Eprint), error: &clap::Error) -> u8
+fn refuse(rt: &(impl Print + Eprint), error: &clap::Error, is_json: bool) -> u8
     ensures { kind_of error.now ≢ ErrorKind.OutOfMemory → result ≡ FAILED }
 {
     if error.kind() == ErrorKind::OutOfMemory {
-        return out_of_memory(rt);
+        return out_of_memory(rt, is_json);
     }
     let _ = rt.eprint(error);
     FAILED
@@ -92,56 +109,136 @@ fn say_version<W: Write>(out: &mut W) -> u8 {
     0
 }
 
-/// Whether `--quiet` is the last word and nothing else than that: not the name that `--out` asks for, and behind no `--`.
-fn ends_quiet(words: &[String]) -> bool {
-    let [_, .., before, last] = words else {
-        return false;
+/// Whether a run of a command may take long.
+fn may_take_long(command: &Command<'_>) -> bool {
+    matches!(
+        command,
+        Command::Check { .. }
+            | Command::Graph { .. }
+            | Command::Run { .. }
+            | Command::Draw { .. }
+            | Command::Vat { .. }
+    )
+}
+
+/// Runs a command with lines as text and without notes.
+fn run_quietly<R: Threads + Wait + Sync + Files + Input + AllocGlobal, W: Write>(
+    rt: &R,
+    command: &Command<'_>,
+    out: &mut W,
+) -> u8
+    requires { HasWorkers command.now }
+{
+    let mut file = NewFile::new(rt, command.out());
+    let mut folder = Folder::new(rt);
+    run_on(rt, rt.alloc(), command, &mut folder, out, &mut file)
+}
+
+/// Runs a command with lines as text and with notes.
+fn run_plainly<R: Threads + Wait + Sync + Files + Input + AllocGlobal, W: Write, N: Write + Drop>(
+    rt: &R,
+    command: &Command<'_>,
+    out: &mut W,
+    notes: N,
+) -> u8
+    requires { HasWorkers command.now }
+{
+    let mut file = NewFile::new(rt, command.out());
+    let mut noted = NotedSource {
+        source: RememberingFolder::new(rt),
+        notes,
+        watch: &Unwatched,
     };
-    if last.as_str() != "--quiet" || before.as_str() == "--out" {
-        return false;
-    }
-    words.iter().all(|word| word.as_str() != "--")
+    run_with_notes(rt, rt.alloc(), command, &mut noted, out, &mut file)
 }
 
-/// Takes away `--quiet`, where it stands before the command or is the last word, and says whether it did.
-fn take_quiet(words: &mut Vec<String>) -> bool {
-    if words.len() > 1 && words[1].as_str() == "--quiet" {
-        let _ = words.remove(1);
-        return true;
-    }
-    if ends_quiet(words) {
-        let _ = words.pop();
-        return true;
-    }
-    false
-}
-
-/// Does what the words ask, writes its lines to `out` and, where none asks for quiet, notes to `notes`; and gives the exit
-/// status.
-fn start<
-    R: Threads + Wait + Sync + Files + Input + Print + Eprint + AllocGlobal,
+/// Runs a command with lines as text and with notes, and tells of its progress meanwhile. Where no thread can be started it
+/// tells nothing.
+fn run_with_progress<
+    R: Threads + Wait + Clock + Sync + Files + Input + Eprint + AllocGlobal,
     W: Write,
     N: Write + Drop,
->(rt: &R, out: &mut W, notes: N, words: &mut Vec<String>) -> u8 {
+>(rt: &R, command: &Command<'_>, out: &mut W, notes: N) -> u8
+    requires { HasWorkers command.now }
+{
+    let progress = Progress::new();
+    let shared = &progress;
+    let mut file = NewFile::new(rt, command.out());
+    let mut lines = WipingWriter {
+        rt,
+        progress: shared,
+        out,
+    };
+    let mut noted = NotedSource {
+        source: CountedSource {
+            source: RememberingFolder::new(rt),
+            progress: shared,
+        },
+        notes: WipingWriter {
+            rt,
+            progress: shared,
+            out: notes,
+        },
+        watch: shared,
+    };
+    thread::scope(
+        thread::scope_env(),
+        rt,
+        move |scope|
+            requires { HasWorkers command.now }
+        {
+            let _ = scope.spawn(move || shared.tell(rt));
+            let alloc = rt.alloc();
+            let status = run_with_notes(rt, alloc, command, &mut noted, &mut lines, &mut file);
+            shared.wipe(rt);
+            status
+        },
+    )
+}
+
+/// Runs a command with lines as JSON objects, the last of which has the notes where none asks for quiet.
+fn run_in_json<R: Threads + Wait + Sync + Files + Input + AllocGlobal, W: Write>(
+    rt: &R,
+    is_quiet: bool,
+    command: &Command<'_>,
+    out: &mut W,
+) -> u8
+    requires { HasWorkers command.now }
+{
     let alloc = rt.alloc();
+    let mut file = NewFile::new(rt, command.out());
+    let mut lines = JsonOutput::new(alloc, out);
+    if is_quiet {
+        let mut folder = Folder::new(rt);
+        return run_as_json(rt, alloc, command, &mut folder, &mut lines, &mut file);
+    }
+    let mut folder = RememberingFolder::new(rt);
+    run_as_json_with_notes(rt, alloc, command, &mut folder, &mut lines, &mut file)
+}
+
+/// Does what the words ask, writes its lines to `out` and, where none asks for quiet, notes to `notes`, or both as JSON
+/// objects to `out`; and gives the exit status.
+fn start<
+    R: Threads + Wait + Clock + Sync + Files + Input + Print + Eprint + AllocGlobal,
+    W: Write,
+    N: Write + IsTerminal + Drop,
+>(rt: &R, out: &mut W, notes: N, words: &mut Vec<String>) -> u8 {
     if asks_version(words) {
         return say_version(out);
     }
-    let is_quiet = take_quiet(words);
-    let command = match command_of(alloc, words) {
+    let manner = take_manner(words);
+    let command = match command_of(rt.alloc(), words) {
         Ok(command) => command,
-        Err(error) => return refuse(rt, &error),
+        Err(error) => return refuse(rt, &error, manner.is_json),
     };
-    let mut file = NewFile::new(rt, command.out());
-    if is_quiet {
-        let mut folder = Folder::new(rt);
-        run_on(rt, alloc, &command, &mut folder, out, &mut file)
+    if manner.is_json {
+        run_in_json(rt, manner.is_quiet, &command, out)
+    } else if manner.is_quiet {
+        run_quietly(rt, &command, out)
+    } else if notes.is_terminal() && may_take_long(&command) {
+        run_with_progress(rt, &command, out, notes)
     } else {
-        let mut noted = NotedSource {
-            source: RememberingFolder::new(rt),
-            notes,
-        };
-        run_with_notes(rt, alloc, &command, &mut noted, out, &mut file)
+        run_plainly(rt, &command, out, notes)
     }
 }
 
@@ -151,7 +248,7 @@ fn main(rt: HostRuntime) -> ExitCode {
     let words: io::Result<Vec<String>> = env::args(&rt).and_then(|args| Ok(args.collect(alloc)?));
     ExitCode::from(match words {
         Ok(mut words) => start(&rt, &mut rt.stdout(), rt.stderr(), &mut words),
-        Err(e) if e.kind() == io::ErrorKind::OutOfMemory => out_of_memory(&rt),
+        Err(e) if e.kind() == io::ErrorKind::OutOfMemory => out_of_memory(&rt, false),
         Err(_) => {
             let _ = rt.eprint("error: an argument isn't UTF-8\n");
             FAILED

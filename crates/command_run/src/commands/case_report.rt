@@ -1,24 +1,19 @@
-//! A case, read and audited: what `check`, `graph` and `run` have in common.
+//! A case, read and audited: what `check`, `graph` and `run` have in common, and `draw` in part.
 
 ghost use Rattle.std.specs.Prelude.{◌≡◌, ◌≤◌};
 ghost use Rattle.command_run.specs.Glue.{ComesJudged};
 
 use crate::host::Host;
-use audit_core::{AuditError, Gate, Report, audit};
+use crate::watch::Watch;
+use audit_core::{AuditError, Report, audit_with_findings};
 use case_files::{ReadCase, Source, read_case};
+use cause_notes::Heard;
 use report_lines::Fault;
 use std::sync::Wait;
 use std::thread::Threads;
 
-/// A gate at which no worker waits.
-struct OpenGate;
-
-impl Gate for OpenGate {
-    fn before_post(&self, _piece: u32) {}
-}
-
 /// The fault of a case that isn't audited although it ties up and its workers are neither none nor too many.
-fn fault_of(error: AuditError) -> Fault
+pub(super) fn fault_of(error: AuditError) -> Fault
     requires { error ≡ AuditError.OutOfMemory }
     ensures { result ≡ Fault.OutOfMemory }
 {
@@ -29,24 +24,29 @@ fn fault_of(error: AuditError) -> Fault
 }
 
 /// The report of the case that a source has under a name, by the order that its file names, if it names one: so many workers
-/// audit it, the calling thread among them.
+/// audit it, the calling thread among them. What was found of its logs and links is heard, unless the report is yes.
 ///
 /// # Errors
 ///
 /// The case's first fault, or out of memory.
-pub fn case_report<R: Threads + Wait + Sync, S: Source>(
-    host: &Host<'_, R>,
+pub fn case_report<R: Threads + Wait + Sync, G: Watch + Sync, S: Source>(
+    host: &Host<'_, R, G>,
     name: &str,
     workers: u32,
     source: &mut S,
+    heard: &mut Heard,
 ) -> Result<Report, Fault>
     requires some { 1 ≤ workers }
     requires few { workers ≤ 64 }
     ensures { ComesJudged S.read_gives source.old name.now result source.new }
 {
     let ReadCase { case, order } = read_case(host.alloc, source, name)?;
-    match audit(host.rt, host.alloc, case, order, workers, &OpenGate) {
-        Ok(report) => Ok(report),
+    host.watch.begins(case.logs().len(), case.links().len());
+    match audit_with_findings(host.rt, host.alloc, case, order, workers, host.watch) {
+        Ok((report, findings)) => {
+            heard.keep(&report, findings);
+            Ok(report)
+        }
         Err(error) => Err(fault_of(error)),
     }
 }

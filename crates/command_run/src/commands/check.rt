@@ -9,9 +9,10 @@ ghost use Rattle.command_run.specs.Runs.{Wrote};
 use crate::answering::say;
 use crate::commands::case_report::case_report;
 use crate::host::Host;
-use crate::notes::cause::Heard;
 use crate::output::Output;
+use crate::watch::Watch;
 use case_files::Source;
+use cause_notes::Heard;
 use report_lines::{Answer, Fault};
 use std::sync::Wait;
 use std::thread::Threads;
@@ -21,8 +22,8 @@ use std::thread::Threads;
 /// # Errors
 ///
 /// That of a write; nothing is written after it.
-pub fn say_report<R: Threads + Wait + Sync, S: Source, O: Output>(
-    host: &Host<'_, R>,
+pub fn say_report<R: Threads + Wait + Sync, G: Watch + Sync, S: Source, O: Output>(
+    host: &Host<'_, R, G>,
     name: &str,
     workers: u32,
     source: &mut S,
@@ -35,7 +36,7 @@ pub fn say_report<R: Threads + Wait + Sync, S: Source, O: Output>(
     ensures { Prints (AnswersReportOf AnswersReport S.read_gives source.old name.now source.new)
         (Wrote O.contents O.is_finished) out.old out.new result }
 {
-    match case_report(host, name, workers, source) {
+    match case_report(host, name, workers, source, heard) {
         Ok(report) => say(Answer::Report(report), heard, out),
         Err(fault) => say(Answer::Fault(fault), heard, out),
     }

@@ -11,10 +11,10 @@ ghost use Rattle.command_run.specs.FrameFiles.{piece_len, piece_line, piece_stat
 use crate::answering::{put, say};
 use crate::commands::hex_frame::answer_of_bytes;
 use crate::commands::next_frame::cut_piece;
-use crate::notes::cause::Heard;
 use crate::output::Output;
 use bytes::Bytes;
 use case_files::Source;
+use cause_notes::Heard;
 use report_lines::{Answer, Fault};
 use rpc_view::Edition;
 use std::alloc::{AllocError, Global};

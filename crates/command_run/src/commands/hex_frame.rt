@@ -10,9 +10,9 @@ ghost use Rattle.command_run.specs.Glue.{Prints};
 ghost use Rattle.command_run.specs.Runs.{Wrote};
 
 use crate::answering::say;
-use crate::notes::cause::Heard;
 use crate::output::Output;
 use bytes::Bytes;
+use cause_notes::Heard;
 use hex::FromHexError;
 use report_lines::{Answer, Fault};
 use rpc_view::{Edition, Limits, ViewError, read_bytes};

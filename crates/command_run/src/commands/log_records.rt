@@ -11,9 +11,9 @@ ghost use Rattle.command_run.specs.Runs.{Adds, Wrote};
 
 use crate::answering::say;
 use crate::commands::hex_frame::answer_of_bytes;
-use crate::notes::cause::Heard;
 use crate::output::Output;
 use case_files::Source;
+use cause_notes::Heard;
 use report_lines::{Answer, Fault, NumberedRecord};
 use rpc_view::Edition;
 use std::alloc::{AllocError, Global};

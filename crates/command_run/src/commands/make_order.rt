@@ -7,11 +7,11 @@ ghost use Rattle.command_run.specs.OrderAnswers.{AnswersLogs};
 ghost use Rattle.command_run.specs.Runs.{Writes, Wrote};
 
 use crate::answering::{save, say};
-use crate::notes::cause::Heard;
 use crate::output::{Failed, Output};
 use bytes::Bytes;
 use case_book::Case;
 use case_files::{Source, read_case};
+use cause_notes::Heard;
 use merge_order::{make_order, write_order};
 use report_lines::{Answer, Fault};
 use std::alloc::{AllocError, Global};

@@ -9,10 +9,10 @@ ghost use Rattle.command_run.specs.MigrationAnswers.{made_of};
 ghost use Rattle.command_run.specs.Runs.{Writes, Wrote};
 
 use crate::answering::{save, say};
-use crate::notes::cause::Heard;
 use crate::output::{Failed, Output};
 use bytes::Bytes;
 use case_files::Source;
+use cause_notes::Heard;
 use report_lines::{Answer, Fault};
 use std::alloc::Global;
 use vat_log::{LogError, VatLog, migrate, parse_log, raise};

@@ -1,8 +1,9 @@
-//! The commands, one a file, with what they ask of their source and what they say. `check`, `graph` and `run` have the report
-//! of a case in common (case_report.rt).
+//! The commands, one a file, with what they ask of their source and what they say. `check`, `graph`, `run` and `draw` have the
+//! report of a case in common (case_report.rt).
 
 pub(crate) mod case_report;
 pub(crate) mod check;
+pub(crate) mod draw_case;
 pub(crate) mod frame_list;
 pub(crate) mod graph;
 pub(crate) mod hex_frame;

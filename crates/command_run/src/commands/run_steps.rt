@@ -10,11 +10,12 @@ ghost use Rattle.command_run.specs.Runs.{Adds, Wrote};
 use crate::answering::say;
 use crate::commands::case_report::case_report;
 use crate::host::Host;
-use crate::notes::cause::Heard;
 use crate::output::Output;
+use crate::watch::Watch;
 use audit_core::Report;
 use authority::record_numbers;
 use case_files::Source;
+use cause_notes::Heard;
 use report_lines::{Answer, Fault, NumberedStep};
 use run_model::Run;
 use std::alloc::Global;
@@ -34,7 +35,7 @@ fn put_steps<O: Output>(run: &Run, numbers: &[u64], out: &mut O) -> Result<(), O
             record: numbers[at],
             step,
         };
-        out.write_line(shown)?;
+        out.write_line(&shown)?;
     }
     Ok(())
 }
@@ -64,8 +65,8 @@ fn say_steps<O: Output>(
 /// # Errors
 ///
 /// That of a write; nothing is written after it.
-pub fn say_run<R: Threads + Wait + Sync, S: Source, O: Output>(
-    host: &Host<'_, R>,
+pub fn say_run<R: Threads + Wait + Sync, G: Watch + Sync, S: Source, O: Output>(
+    host: &Host<'_, R, G>,
     name: &str,
     source: &mut S,
     heard: &mut Heard,
@@ -75,7 +76,7 @@ pub fn say_run<R: Threads + Wait + Sync, S: Source, O: Output>(
     ensures { Prints (AnswersReportOf AnswersRun S.read_gives source.old name.now source.new)
         (Wrote O.contents O.is_finished) out.old out.new result }
 {
-    let report = match case_report(host, name, 1, source) {
+    let report = match case_report(host, name, 1, source, heard) {
         Ok(report) => report,
         Err(fault) => return say(Answer::Fault(fault), heard, out),
     };

@@ -7,9 +7,9 @@ ghost use Rattle.command_run.specs.Glue.{Prints, answer_of};
 ghost use Rattle.command_run.specs.Runs.{Wrote};
 
 use crate::answering::say;
-use crate::notes::cause::Heard;
 use crate::output::Output;
 use case_files::Source;
+use cause_notes::Heard;
 use report_lines::{Answer, Fault};
 use rpc_view::Limits;
 use std::alloc::Global;

@@ -4,7 +4,7 @@ use Rattle.std.specs.Prelude.{ℕ, List, [], ◌∷◌, map, Bool, true, false, 
 use Rattle.std.specs.List.{zip}
 use Rattle.vat_log.specs.declared.body.Body.{Body}
 use Rattle.vat_log.specs.declared.body.Body.TheVariants as body
-use Rattle.vat_rules.specs.Types.{DecodedRecord, View}
+use Rattle.vat_rules.specs.Types.{DecodedRecord, Wire, View}
 use Rattle.vat_view.specs.Past.{Past}
 use Rattle.vat_view.specs.Views.{view_of_target, views_of_descriptors}
 use Rattle.vat_view.specs.Questions.{is_late}
@@ -49,6 +49,11 @@ sight_with references standing = record {
   caps = standing.caps;
   late = standing.late;
 }
+
+-- a record sends or receives a frame
+abbrev pub is_wire : DecodedRecord → Bool
+is_wire (Wire sent connection call references message) = true
+is_wire _ = false
 
 -- a stored record has a frame
 abbrev pub has_frame : Body → Bool

@@ -261,6 +261,15 @@ impl RecordFacts {
         Ok(RecordFacts { kept })
     }
 
+    /// What the references stand for of a record that has no other numbers.
+    pub(crate) fn of_references(references: ViewList) -> RecordFacts
+        ensures { result ≡ sight_with references (standing_with None []) }
+    {
+        RecordFacts {
+            kept: kept_references(references),
+        }
+    }
+
     /// What the references stand for that the record binds or names, in its order, with the record counted.
     pub fn references(&self) -> &[Option<View>]
         ensures { result.now ≡ self.now.references }

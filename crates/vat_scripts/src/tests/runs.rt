@@ -4,7 +4,7 @@ use bytes::Bytes;
 use case_files::{FileList, RememberingSource, Source, SourceError};
 use clap::error::ErrorKind;
 use command_line::{Command, command_of};
-use command_run::{NotedSource, run_on, run_with_notes};
+use command_run::{NotedSource, Unwatched, run_on, run_with_notes};
 use std::alloc::Global;
 use std::io;
 use std::io::Write;
@@ -324,22 +324,29 @@ const UNBOUND: &[u8] = b"VATLOG01\x07\0\0\0\x07\x01\0\0\0\0\0\0\0\x02\0\0\0\0\0\
 
 /// What is noted of it.
 const UNBOUND_NOTES: &str =
-    "note: given: record 0 deliver call 1 object 2\nnote: rule: a record binds new references and calls once, names others only where they were bound, and notes a call beside a Bootstrap or a Call alone\n";
+    "note: given: record 0 deliver call 1 object 2\nnote: rule: a record binds new references and calls once, names others only where they were bound, and notes a call beside a Bootstrap or a Call alone\nnote: no record before makes or receives call 1\n";
 
 /// That log, and this writer of the notes.
-fn noted_source<N: Write + Drop>(alloc: Global, notes: N) -> Result<NotedSource<One, N>, Refused> {
+fn noted_source<N: Write + Drop>(
+    alloc: Global,
+    notes: N,
+) -> Result<NotedSource<'static, One, N, Unwatched>, Refused> {
     let name = String::from_str(alloc, "given")?;
     let bytes = Bytes::copy_from_slice(alloc, UNBOUND)?;
     let source = One {
         kept: vec![in alloc; (name, bytes)]?,
     };
-    Ok(NotedSource { source, notes })
+    Ok(NotedSource {
+        source,
+        notes,
+        watch: &Unwatched,
+    })
 }
 
 /// Whether it is told its no, beside its notes.
 fn is_told<R: Threads + Wait + Sync + AllocGlobal, N: Write>(
     rt: &R,
-    noted: &mut NotedSource<One, N>,
+    noted: &mut NotedSource<'_, One, N, Unwatched>,
 ) -> Result<bool, Refused> {
     let alloc = rt.alloc();
     let mut out = Vec::with_capacity(alloc, 256)?;
@@ -383,7 +390,7 @@ fn a_failed_note_changes_nothing(rt: HostRuntime) {
 }
 
 /// Words, and what they spell, or the kind of `clap`'s error.
-const WORDS: [(&[&str], Result<Command<'static>, ErrorKind>); 19] = [
+const WORDS: [(&[&str], Result<Command<'static>, ErrorKind>); 20] = [
     (&["vataudit", "vat", "-"], Ok(Command::Vat { file: "-" })),
     (
         &["vataudit", "check", "a"],
@@ -405,7 +412,17 @@ const WORDS: [(&[&str], Result<Command<'static>, ErrorKind>); 19] = [
     ),
     (
         &["vataudit", "graph", "a"],
-        Ok(Command::Graph { case: "a" }),
+        Ok(Command::Graph {
+            case: "a",
+            dot: false,
+        }),
+    ),
+    (
+        &["vataudit", "graph", "a", "--dot"],
+        Ok(Command::Graph {
+            case: "a",
+            dot: true,
+        }),
     ),
     (&["vataudit", "run", "-"], Ok(Command::Run { case: "-" })),
     (

@@ -1,15 +1,16 @@
 //! Which references a record binds, and to which views.
 
-ghost use Rattle.std.specs.Prelude.{◌≡◌, ◌∷◌, [], IfOk};
+ghost use Rattle.std.specs.Prelude.{◌≡◌, IfOk};
 ghost use Rattle.vat_view.specs.Lives.{descriptors};
 ghost use Rattle.vat_view.specs.Views.{references};
 ghost use Rattle.vat_view.specs.Bindings.{new_references};
-ghost use Rattle.vat_view.specs.Glue.Tables.{bound_at, question_at, origins_if, AreBegun, sender_view, view_by, reference_by, bound_from, bindings};
+ghost use Rattle.vat_view.specs.Glue.Tables.{bound_at, question_at, origins_if, AreBegun, sender_view, view_by, reference_by, bound_one, bound_from, bindings};
 
 use crate::lookups::meaning::{field_of, view_from, view_of_number};
 use crate::record::decoded::DecodedRecord;
 use crate::record::effects::{descriptors, is_cap, origins, references};
 use crate::record::introduced::{FEW, Introduced};
+use crate::record::short_list::ShortList;
 use crate::record::table_key::TableKey;
 use crate::tables::exports_imports::ExportsImports;
 use crate::tables::questions::Questions;
@@ -110,7 +111,7 @@ pub(crate) fn reference_by(
 }
 
 /// The references noted for the descriptors of a record, with what these stand for.
-fn bound_descriptors(
+fn many_bound(
     alloc: Global,
     bound: &BoundReferences,
     lives: &ExportsImports,
@@ -139,13 +140,54 @@ fn bound_descriptors(
     Ok(list)
 }
 
-/// One reference with its view.
-fn one(alloc: Global, reference: u64, view: View) -> Result<Vec<(u64, View)>, AllocError>
-    ensures { IfOk result (λ list. list.items ≡ (reference, view) ∷ []) }
+/// The reference noted for the first descriptor of a record, with what that stands for.
+fn first_bound(
+    bound: &BoundReferences,
+    lives: &ExportsImports,
+    begun: &Introduced<'_>,
+    questions: &Questions,
+    event: &DecodedRecord,
+    descriptor: &Descriptor,
+) -> Result<Option<(u64, View)>, AllocError>
+    ensures { IfOk result
+        (λ first. first
+        ≡ bound_one (view_by (bound_at bound.now) lives.now begun.now
+        (question_at questions.now) event.now) descriptor.now
+        (reference_by (references event.now) 0 descriptor.now)) }
 {
-    let mut list = Vec::new(alloc);
-    list.push((reference, view))?;
-    Ok(list)
+    let Some(reference) = reference_by(references(event), 0, descriptor) else {
+        return Ok(None);
+    };
+    match view_by(bound, lives, begun, questions, event, descriptor)? {
+        Some(view) => Ok(Some((reference, view))),
+        None => Ok(None),
+    }
+}
+
+/// The references noted for the descriptors of a record, with what these stand for.
+fn bound_descriptors(
+    alloc: Global,
+    bound: &BoundReferences,
+    lives: &ExportsImports,
+    begun: &Introduced<'_>,
+    questions: &Questions,
+    event: &DecodedRecord,
+) -> Result<ShortList<(u64, View)>, AllocError>
+    ensures { IfOk result
+        (λ list. list
+        ≡ bound_from (view_by (bound_at bound.now) lives.now begun.now
+        (question_at questions.now) event.now) (references event.now) 0 (descriptors event.now)) }
+{
+    match descriptors(event) {
+        [] => Ok(ShortList::none()),
+        [descriptor] => {
+            match first_bound(bound, lives, begun, questions, event, descriptor)? {
+                Some(first) => Ok(ShortList::one(first)),
+                None => Ok(ShortList::none()),
+            }
+        }
+        _ => Ok(ShortList::new(many_bound(alloc, bound, lives, begun, questions, event)?)),
+    }
 }
 
 /// The references that a record binds, with their views.
@@ -156,23 +198,27 @@ pub(crate) fn bindings(
     begun: &Introduced<'_>,
     questions: &Questions,
     event: &DecodedRecord,
-) -> Result<Vec<(u64, View)>, AllocError>
+) -> Result<ShortList<(u64, View)>, AllocError>
     ensures { IfOk result
-        (λ list. list.items
+        (λ list. list
         ≡ bindings (bound_at bound.now) lives.now begun.now (question_at questions.now) event.now) }
 {
     match event {
-        DecodedRecord::Host { reference, object } => one(alloc, *reference, View::Object(*object)),
-        DecodedRecord::Vow { reference } => one(alloc, *reference, View::Promise(*reference)),
+        DecodedRecord::Host { reference, object } => {
+            Ok(ShortList::one((*reference, View::Object(*object))))
+        }
+        DecodedRecord::Vow { reference } => {
+            Ok(ShortList::one((*reference, View::Promise(*reference))))
+        }
         DecodedRecord::Field {
             reference,
             call,
             path,
-        } => one(alloc, *reference, View::Field(*call, path.copy()?)),
+        } => Ok(ShortList::one((*reference, View::Field(*call, path.copy()?)))),
         DecodedRecord::Wire { sent: false, .. } => bound_descriptors(
             alloc, bound, lives, begun, questions, event,
         ),
-        _ => Ok(Vec::new(alloc)),
+        _ => Ok(ShortList::none()),
     }
 }
 

@@ -9,6 +9,7 @@ ghost use Rattle.vat_view.specs.Glue.Tables.{is_cap, origin_by, origins_from};
 
 use crate::record::decoded::DecodedRecord;
 use crate::record::origin::Origin;
+use crate::record::short_list::ShortList;
 use crate::record::table_key::TableKey;
 use crate::record::table_keys::TableKeys;
 use rpc_view::{Descriptor, Outcome, Resolution, RpcMessage};
@@ -272,21 +273,16 @@ pub(crate) fn origin_by(
     ))
 }
 
-/// What a record of this number introduces, with the origins; a late Return's introductions aren't counted.
-pub(crate) fn origins(
+/// What a record of this number introduces, with the origins.
+fn many_origins(
     alloc: Global,
-    late: bool,
     number: usize,
     event: &DecodedRecord,
 ) -> Result<Vec<(TableKey, Origin)>, AllocError>
     ensures { IfOk result
-        (λ list. list.items
-        ≡ (if late then [] else origins_from number event.now 0 0 (descriptors event.now))) }
+        (λ list. list.items ≡ origins_from number event.now 0 0 (descriptors event.now)) }
 {
     let mut list = Vec::new(alloc);
-    if late {
-        return Ok(list);
-    }
     let mut before = 0;
     for (place, descriptor) in descriptors(event).iter().enumerate() {
         if let Some(origin) = origin_by(number, event, place, before, descriptor) {
@@ -297,4 +293,29 @@ pub(crate) fn origins(
         }
     }
     Ok(list)
+}
+
+/// What a record of this number introduces, with the origins; a late Return's introductions aren't counted. Most records
+/// have one descriptor at most, and then it takes no memory.
+pub(crate) fn origins(
+    alloc: Global,
+    late: bool,
+    number: usize,
+    event: &DecodedRecord,
+) -> Result<ShortList<(TableKey, Origin)>, AllocError>
+    ensures { IfOk result
+        (λ list. list
+        ≡ (if late then [] else origins_from number event.now 0 0 (descriptors event.now))) }
+{
+    if late {
+        return Ok(ShortList::none());
+    }
+    match descriptors(event) {
+        [] => Ok(ShortList::none()),
+        [descriptor] => match origin_by(number, event, 0, 0, descriptor) {
+            Some(origin) => Ok(ShortList::one(origin)),
+            None => Ok(ShortList::none()),
+        },
+        _ => Ok(ShortList::new(many_origins(alloc, number, event)?)),
+    }
 }

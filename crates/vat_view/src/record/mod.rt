@@ -7,6 +7,7 @@ pub(crate) mod introduced;
 pub(crate) mod number;
 pub(crate) mod origin;
 pub(crate) mod parts;
+pub(crate) mod short_list;
 pub(crate) mod table_key;
 pub(crate) mod table_keys;
 pub(crate) mod unsettled;

@@ -7,6 +7,7 @@ ghost use Rattle.vat_view.specs.Bindings.{contains};
 ghost use Rattle.vat_view.specs.Glue.Tables.{bound_at, bound_by};
 ghost use Rattle.vat_view.specs.Glue.TurnTables.{bound_len, own_leap, ahead_at, IsOwnOrOld};
 
+use crate::record::short_list::ShortList;
 use crate::view::View;
 use rising_table::RisingTable;
 use std::alloc::{AllocError, Global};
@@ -141,7 +142,7 @@ impl BoundReferences {
     }
 
     /// These references have these views. Where memory is refused, some of them may.
-    pub(crate) fn bind_each(&mut self, list: Vec<(u64, View)>) -> Result<(), AllocError>
+    fn bind_several(&mut self, list: Vec<(u64, View)>) -> Result<(), AllocError>
         ensures ok { OnOk result
             ((q : ℕ) → bound_at self.new q ≡ bound_by q list.items (bound_at self.old q)) }
         ensures err { OnErr result
@@ -153,6 +154,22 @@ impl BoundReferences {
             self.bind(reference, view)?;
         }
         Ok(())
+    }
+
+    /// These references have these views. Where memory is refused, some of them may.
+    pub(crate) fn bind_each(&mut self, list: ShortList<(u64, View)>) -> Result<(), AllocError>
+        ensures ok { OnOk result
+            ((q : ℕ) → bound_at self.new q ≡ bound_by q list (bound_at self.old q)) }
+        ensures err { OnErr result
+            ((q : ℕ) → contains q (map (λ x. x.0) list) ≡ false
+            → bound_at self.new q ≡ bound_at self.old q) }
+        ensures ahead { IsOwnOrOld self.old self.new }
+    {
+        match list.alone() {
+            Ok(Some((reference, view))) => self.bind(reference, view),
+            Ok(None) => Ok(()),
+            Err(items) => self.bind_several(items),
+        }
     }
 
     /// This reference has no view.

@@ -1,8 +1,8 @@
 use Rattle.std.proofs.Common.{◌∙◌, sym}
 use Rattle.clap.specs.Words.{first_value, found_of}
 use Rattle.command_line.proofs.Matched.{besides_of, checked_as, has_subcommand, input_there, is_some_by, matched, number_as, read_as, set_as, spells_one, thing_is}
-use Rattle.command_line.proofs.Named.{checking, framing, last_command, listing, migrating, of_frames, of_graph, of_run, of_vat, ordering}
-use Rattle.command_line.specs.Parser.{count, later, most, path, start, workers}
+use Rattle.command_line.proofs.Named.{checking, drawing, framing, graphing, last_command, listing, migrating, of_frames, of_run, of_vat, ordering}
+use Rattle.command_line.specs.Parser.{count, dot, later, most, path, start, workers}
 use Rattle.command_line.proofs.command.command_in.Goals as goal
 
 pub unreachable-requires : goal.unreachable-requires
@@ -29,6 +29,12 @@ value_of-requires c =
     let out = besides_of m ordering c.in-order.is in
     is_some_by (first_value (found_of c.in-Some.given.now) path) out.0 (m.each path ∙ out.1)
 
+pub value_of-requires-in-draw : goal.value_of-requires-in-draw
+value_of-requires-in-draw c =
+    let m = matched c.requires.0 c.args.matches.now c.in-Some.given.now c.in-Some.name.now c.requires.1 c.in-Some.ensures.name c.in-Some.ensures.rows in
+    let out = besides_of m drawing c.in-draw.is in
+    is_some_by (first_value (found_of c.in-Some.given.now) path) out.0 (m.each path ∙ out.1.0)
+
 pub value_of-requires-in-migrate : goal.value_of-requires-in-migrate
 value_of-requires-in-migrate c =
     let m = matched c.requires.0 c.args.matches.now c.in-Some.given.now c.in-Some.name.now c.requires.1 c.in-Some.ensures.name c.in-Some.ensures.rows in
@@ -38,10 +44,20 @@ value_of-requires-in-migrate c =
 pub number_of-requires : goal.number_of-requires
 number_of-requires c =
     let m = matched c.requires.0 c.args.matches.now c.in-Some.given.now c.in-Some.name.now c.requires.1 c.in-Some.ensures.name c.in-Some.ensures.rows in
-    checked_as m 0 most start (besides_of m listing c.in-records.is).0
+    checked_as m 0 most start (besides_of m drawing c.in-draw.is).1.1
+
+pub number_of-requires-in-draw : goal.number_of-requires-in-draw
+number_of-requires-in-draw c =
+    let m = matched c.requires.0 c.args.matches.now c.in-Some.given.now c.in-Some.name.now c.requires.1 c.in-Some.ensures.name c.in-Some.ensures.rows in
+    checked_as m 0 most count (besides_of m drawing c.in-draw.is).1.2
 
 pub number_of-requires-in-records : goal.number_of-requires-in-records
 number_of-requires-in-records c =
+    let m = matched c.requires.0 c.args.matches.now c.in-Some.given.now c.in-Some.name.now c.requires.1 c.in-Some.ensures.name c.in-Some.ensures.rows in
+    checked_as m 0 most start (besides_of m listing c.in-records.is).0
+
+pub number_of-requires-in-records-2 : goal.number_of-requires-in-records-2
+number_of-requires-in-records-2 c =
     let m = matched c.requires.0 c.args.matches.now c.in-Some.given.now c.in-Some.name.now c.requires.1 c.in-Some.ensures.name c.in-Some.ensures.rows in
     checked_as m 0 most count (besides_of m listing c.in-records.is).1
 
@@ -54,6 +70,19 @@ pub returns-in-order-clause-spelled : goal.returns-in-order-clause-spelled
 returns-in-order-clause-spelled c words are =
     let m = matched words c.args.matches.now c.in-Some.given.now c.in-Some.name.now are c.in-Some.ensures.name c.in-Some.ensures.rows in
     (m.rows, (read_as m ordering c.in-order.is, thing_is m _ c.value_of-input.ensures, sym (m.each path) ∙ c.value_of.ensures))
+
+pub returns-in-draw-clause-spelled : goal.returns-in-draw-clause-spelled
+returns-in-draw-clause-spelled c words are =
+    let m = matched words c.args.matches.now c.in-Some.given.now c.in-Some.name.now are c.in-Some.ensures.name c.in-Some.ensures.rows in (
+      m.rows,
+      (
+        read_as m drawing c.in-draw.is,
+        thing_is m _ c.value_of-input.ensures,
+        sym (m.each path) ∙ c.value_of-in-draw.ensures,
+        number_as m start _ c.number_of.ensures,
+        number_as m count _ c.number_of-in-draw.ensures,
+      ),
+    )
 
 pub returns-in-migrate-clause-spelled : goal.returns-in-migrate-clause-spelled
 returns-in-migrate-clause-spelled c words are =
@@ -74,15 +103,15 @@ returns-in-records-clause-spelled c words are =
       (
         read_as m listing c.in-records.is,
         thing_is m _ c.value_of-input.ensures,
-        number_as m start _ c.number_of.ensures,
-        number_as m count _ c.number_of-in-records.ensures,
+        number_as m start _ c.number_of-in-records.ensures,
+        number_as m count _ c.number_of-in-records-2.ensures,
       ),
     )
 
 pub returns-in-graph-clause-spelled : goal.returns-in-graph-clause-spelled
 returns-in-graph-clause-spelled c words are =
     let m = matched words c.args.matches.now c.in-Some.given.now c.in-Some.name.now are c.in-Some.ensures.name c.in-Some.ensures.rows in
-    spells_one m of_graph _ c.in-graph.is c.value_of-input.ensures
+    (m.rows, (read_as m graphing c.in-graph.is, thing_is m _ c.value_of-input.ensures, set_as m dot _ c.is_set.ensures))
 
 pub returns-in-run-clause-spelled : goal.returns-in-run-clause-spelled
 returns-in-run-clause-spelled c words are =
@@ -97,11 +126,11 @@ returns-in-vat-clause-spelled c words are =
 pub returns-in-frame-clause-spelled : goal.returns-in-frame-clause-spelled
 returns-in-frame-clause-spelled c words are =
     let m = matched words c.args.matches.now c.in-Some.given.now c.in-Some.name.now are c.in-Some.ensures.name c.in-Some.ensures.rows in
-    (m.rows, (read_as m framing c.in-frame.is, thing_is m _ c.value_of-input.ensures, set_as m later _ c.is_set.ensures))
+    (m.rows, (read_as m framing c.in-frame.is, thing_is m _ c.value_of-input.ensures, set_as m later _ c.is_set-in-frame.ensures))
 
 pub returns-in_default-name-clause-spelled : goal.returns-in_default-name-clause-spelled
 returns-in_default-name-clause-spelled c words are =
     let m = matched words c.args.matches.now c.in-Some.given.now c.in-Some.name.now are c.in-Some.ensures.name c.in-Some.ensures.rows in
     let not = c.in_default-name in
-    let is = last_command m.command c.in-Some.name.now m.named not.not-check not.not-order not.not-graph not.not-run not.not-vat not.not-records not.not-frame not.not-migrate in
+    let is = last_command m.command c.in-Some.name.now m.named not.not-check not.not-order not.not-graph not.not-run not.not-draw not.not-vat not.not-records not.not-frame not.not-migrate in
     spells_one m of_frames _ is c.value_of-input.ensures

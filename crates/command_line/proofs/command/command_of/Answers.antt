@@ -3,7 +3,7 @@ use Rattle.clap.specs.Words.{kind_of}
 use Rattle.clap.specs.declared.error.ErrorKind.TheVariants.{OutOfMemory, ValueValidation}
 use Rattle.clap.proofs.TakesLemmas.{passed_up}
 use Rattle.command_line.proofs.Matched.{fails_by_memory, fails_by_value, handed_on, refused_never}
-use Rattle.command_line.proofs.Taken.{refuses_part, refuses_workers, takes_after_dashes, takes_check, takes_frame_later, takes_migrate, takes_migrate_later, takes_one, takes_order, takes_part, takes_records, takes_workers}
+use Rattle.command_line.proofs.Taken.{refuses_part, refuses_workers, takes_after_dashes, takes_check, takes_draw, takes_draw_part, takes_frame_later, takes_graph_dot, takes_migrate, takes_migrate_later, takes_one, takes_order, takes_part, takes_records, takes_workers}
 use Rattle.command_line.proofs.command.command_of.Goals as goal
 
 pub returns-in_err-matches-clause-taken : goal.returns-in_err-matches-clause-taken
@@ -40,6 +40,16 @@ returns-in_err-matches-clause-taken_order g c first case out spelled plain unfla
     passed_up c.from_residual.result c.in_err-matches.field-0.0 (λ e. kind_of e ≡ OutOfMemory) c.from_residual.ensures.1
     (fails_by_memory (map g.S.AsStr.text c.args.words.now) (first ∷ codes "order" ∷ case ∷ codes "--out" ∷ out ∷ []) c.in_err-matches.field-0.0 c.in_err-matches.ensures.kinds spelled (takes_order first case out plain unflagged))
 
+pub returns-in_err-matches-clause-taken_draw : goal.returns-in_err-matches-clause-taken_draw
+returns-in_err-matches-clause-taken_draw g c first case out spelled plain unflagged =
+    passed_up c.from_residual.result c.in_err-matches.field-0.0 (λ e. kind_of e ≡ OutOfMemory) c.from_residual.ensures.1
+    (fails_by_memory (map g.S.AsStr.text c.args.words.now) (first ∷ codes "draw" ∷ case ∷ codes "--out" ∷ out ∷ []) c.in_err-matches.field-0.0 c.in_err-matches.ensures.kinds spelled (takes_draw first case out plain unflagged))
+
+pub returns-in_err-matches-clause-taken_draw_part : goal.returns-in_err-matches-clause-taken_draw_part
+returns-in_err-matches-clause-taken_draw_part g c first case out from count spelled plain unflagged good well =
+    passed_up c.from_residual.result c.in_err-matches.field-0.0 (λ e. kind_of e ≡ OutOfMemory) c.from_residual.ensures.1
+    (fails_by_memory (map g.S.AsStr.text c.args.words.now) (first ∷ codes "draw" ∷ case ∷ codes "--out" ∷ out ∷ codes "--from" ∷ from ∷ codes "--count" ∷ count ∷ []) c.in_err-matches.field-0.0 c.in_err-matches.ensures.kinds spelled (takes_draw_part first case out from count plain unflagged good well))
+
 pub returns-in_err-matches-clause-taken_migrate : goal.returns-in_err-matches-clause-taken_migrate
 returns-in_err-matches-clause-taken_migrate g c first file out spelled plain unflagged =
     passed_up c.from_residual.result c.in_err-matches.field-0.0 (λ e. kind_of e ≡ OutOfMemory) c.from_residual.ensures.1
@@ -49,6 +59,11 @@ pub returns-in_err-matches-clause-taken_frame_later : goal.returns-in_err-matche
 returns-in_err-matches-clause-taken_frame_later g c first hex spelled plain =
     passed_up c.from_residual.result c.in_err-matches.field-0.0 (λ e. kind_of e ≡ OutOfMemory) c.from_residual.ensures.1
     (fails_by_memory (map g.S.AsStr.text c.args.words.now) (first ∷ codes "frame" ∷ codes "--later" ∷ hex ∷ []) c.in_err-matches.field-0.0 c.in_err-matches.ensures.kinds spelled (takes_frame_later first hex plain))
+
+pub returns-in_err-matches-clause-taken_graph_dot : goal.returns-in_err-matches-clause-taken_graph_dot
+returns-in_err-matches-clause-taken_graph_dot g c first case spelled plain =
+    passed_up c.from_residual.result c.in_err-matches.field-0.0 (λ e. kind_of e ≡ OutOfMemory) c.from_residual.ensures.1
+    (fails_by_memory (map g.S.AsStr.text c.args.words.now) (first ∷ codes "graph" ∷ case ∷ codes "--dot" ∷ []) c.in_err-matches.field-0.0 c.in_err-matches.ensures.kinds spelled (takes_graph_dot first case plain))
 
 pub returns-in_err-matches-clause-taken_migrate_later : goal.returns-in_err-matches-clause-taken_migrate_later
 returns-in_err-matches-clause-taken_migrate_later g c first file out spelled plain unflagged =

@@ -7,7 +7,7 @@ use Rattle.command_run.proofs.run.answer_heard.Goals as goal
 pub returns-in-Graph : goal.returns-in-Graph
 returns-in-Graph g c =
     rw c.in-Graph.is
-    (lines_written (AnswersReportOf AnswersGraph g.S.Source.read_gives c.args.source.now c.in-Graph.case.now c.say_graph.new.source) (Wrote g.O.Output.contents g.O.Output.is_finished)
+    (lines_written (AnswersReportOf (AnswersGraph c.in-Graph.dot) g.S.Source.read_gives c.args.source.now c.in-Graph.case.now c.say_graph.new.source) (Wrote g.O.Output.contents g.O.Output.is_finished)
     (Wrote g.F.Output.contents g.F.Output.is_finished) c.args.out.now c.say_graph.new.out c.args.file.now c.say_graph.result c.of_lines-in-Graph.result c.of_lines-in-Graph.ensures c.say_graph.ensures)
 
 pub returns-in-Run : goal.returns-in-Run

@@ -11,24 +11,24 @@ use Rattle.command_run.proofs.commands.graph.say_graph.Goals as goal
 
 pub returns-in-Err : goal.returns-in-Err
 returns-in-Err g c =
-    told (AnswersReportOf AnswersGraph g.S.Source.read_gives c.args.source.now c.args.name.now c.case_report.new.source) (Wrote g.O.Output.contents g.O.Output.is_finished)
+    told (AnswersReportOf (AnswersGraph c.args.dot) g.S.Source.read_gives c.args.source.now c.args.name.now c.case_report.new.source) (Wrote g.O.Output.contents g.O.Output.is_finished)
     c.args.out.now c.say.new.out (Fault c.in-Err.fault) c.say.result
-    (fault_is AnswersGraph g.S.Source.read_gives c.args.source.now c.case_report.new.source c.args.name.now c.in-Err.fault c.in-Err.ensures)
+    (fault_is (AnswersGraph c.args.dot) g.S.Source.read_gives c.args.source.now c.case_report.new.source c.args.name.now c.in-Err.fault c.in-Err.ensures)
     c.say.ensures.status c.say.ensures.line
 
 pub returns-in-Yes : goal.returns-in-Yes
 returns-in-Yes g c =
     let yes = c.in-Yes in
-    said AnswersGraph (ShowsEdges yes.run') g.S.Source.read_gives c.args.source.now c.case_report.new.source c.args.name.now c.in-Ok.report (Wrote g.O.Output.contents g.O.Output.is_finished)
+    said (AnswersGraph c.args.dot) (ShowsEdges c.args.dot yes.run') g.S.Source.read_gives c.args.source.now c.case_report.new.source c.args.name.now c.in-Ok.report (Wrote g.O.Output.contents g.O.Output.is_finished)
     c.args.out.now c.say_edges.new.out c.say_edges.result c.in-Ok.ensures
-    (λ text status shows. subst (λ (report : ReportOf). AnswersGraph report text status) (sym yes.is) shows) c.say_edges.ensures
+    (λ text status shows. subst (λ (report : ReportOf). AnswersGraph c.args.dot report text status) (sym yes.is) shows) c.say_edges.ensures
 
 pub returns-in_default : goal.returns-in_default
 returns-in_default g c =
     let report = c.in-Ok.report in
-    told (AnswersReportOf AnswersGraph g.S.Source.read_gives c.args.source.now c.args.name.now c.case_report.new.source) (Wrote g.O.Output.contents g.O.Output.is_finished)
+    told (AnswersReportOf (AnswersGraph c.args.dot) g.S.Source.read_gives c.args.source.now c.args.name.now c.case_report.new.source) (Wrote g.O.Output.contents g.O.Output.is_finished)
     c.args.out.now c.say-in_default.new.out (Report report) c.say-in_default.result
-    (report_is AnswersGraph g.S.Source.read_gives c.args.source.now c.case_report.new.source c.args.name.now report (line (answer_text (Report report))) (answer_status (Report report)) c.in-Ok.ensures
-    (no_edges report (line (answer_text (Report report))) (answer_status (Report report)) c.in_default.not-Yes
+    (report_is (AnswersGraph c.args.dot) g.S.Source.read_gives c.args.source.now c.case_report.new.source c.args.name.now report (line (answer_text (Report report))) (answer_status (Report report)) c.in-Ok.ensures
+    (no_edges c.args.dot report (line (answer_text (Report report))) (answer_status (Report report)) c.in_default.not-Yes
     (refl, refl)))
     c.say-in_default.ensures.status c.say-in_default.ensures.line

@@ -28,7 +28,7 @@ returns-in-Some-clause-ok c = three_ok c.apply_opening.result
     tabled_open before c.args.event.now c.args.questions.now c.apply_opening.new.questions c.args.lives.now c.apply_opening.new.lives tabled uses gives c.in_ok-numbers.numbers
     (introduces_them c.args.questions.now c.args.lives.now before c.args.event.now _ tabled uses c.requires c.in_ok-numbers.numbers c.in_ok-numbers.ensures)
     c.as_slice-begun.result.now
-    (begins_them c.args.questions.now c.args.lives.now before c.args.event.now _ tabled uses c.requires c.args.number number c.as_slice-begun.result.now (c.as_slice-begun.ensures.value ∙ c.in_ok-origins.ensures))
+    (begins_them c.args.questions.now c.args.lives.now before c.args.event.now _ tabled uses c.requires c.args.number number c.as_slice-begun.result.now (c.as_slice-begun.ensures ∙ c.in_ok-origins.ensures))
     births c.in-Some.question (sym c.in-Some.ensures) put counts)
     c.apply_opening.ensures.known c.apply_opening.ensures.counted c.apply_opening.ensures.born
 
@@ -38,7 +38,7 @@ returns-clause-ok c = three_ok c.apply_other.result
     tabled_close before c.args.event.now c.args.questions.now c.apply_other.new.questions c.args.lives.now c.apply_other.new.lives tabled uses gives c.in_ok-numbers.numbers
     (introduces_them c.args.questions.now c.args.lives.now before c.args.event.now _ tabled uses c.requires c.in_ok-numbers.numbers c.in_ok-numbers.ensures)
     c.as_slice-begun.result.now
-    (begins_them c.args.questions.now c.args.lives.now before c.args.event.now _ tabled uses c.requires c.args.number number c.as_slice-begun.result.now (c.as_slice-begun.ensures.value ∙ c.in_ok-origins.ensures))
+    (begins_them c.args.questions.now c.args.lives.now before c.args.event.now _ tabled uses c.requires c.args.number number c.as_slice-begun.result.now (c.as_slice-begun.ensures ∙ c.in_ok-origins.ensures))
     births (sym c.in-None.ensures) noted counts)
     c.apply_other.ensures.known c.apply_other.ensures.counted c.apply_other.ensures.born
 

@@ -6,4 +6,4 @@ use Rattle.vat_view.proofs.record.bindings.introduced_by.Goals as goal
 pub returns : goal.returns
 returns c = λ i.
     begun_from i (count_at c.new-begun.result i) (count_at c.raise_each.new.self i) (origin_at c.new-begun.result i) (origin_at c.raise_each.new.self i) c.as_slice.result.now _
-    (c.new-begun.ensures i) (c.in_ok-raise_each.ensures.counts i) (c.in_ok-raise_each.ensures.origins i) (c.as_slice.ensures.value ∙ c.in_ok-origins.ensures)
+    (c.new-begun.ensures i) (c.in_ok-raise_each.ensures.counts i) (c.in_ok-raise_each.ensures.origins i) (c.as_slice.ensures ∙ c.in_ok-origins.ensures)

@@ -1,0 +1,142 @@
+//! What is heard of an answer, for what people are told beside it. No answer depends on it.
+
+use audit_core::{Breach, Report};
+use case_book::Findings;
+use report_lines::{Answer, Fault, report_sentence, why_sentence};
+use vat_rules::{Outcome, VatFinding};
+
+/// What was heard of the answer that was said last.
+#[derive(Clone, Copy, Debug, PartialEq, Eq)]
+pub(crate) enum Told {
+    /// Nothing that people are told more of.
+    Nothing,
+    /// A fault of the input.
+    Fault(Fault),
+    /// A record breaks a rule.
+    Broken {
+        /// The vat.
+        vat: u32,
+        /// The record's number, counted from 0.
+        at: u64,
+        /// What it breaks.
+        breach: Breach,
+        /// What that asks, as a sentence.
+        rule: &'static str,
+    },
+    /// A record isn't judged.
+    Outside {
+        /// The vat.
+        vat: u32,
+        /// The record's number, counted from 0.
+        at: u64,
+        /// Why, as a sentence.
+        why: &'static str,
+    },
+    /// A frame was received that wasn't sent so.
+    Link {
+        /// The connection.
+        connection: u32,
+        /// The vat that received it.
+        end: u32,
+        /// Which of the frames that it received there, counted from 0.
+        message: u64,
+        /// What a link asks, as a sentence.
+        rule: &'static str,
+    },
+    /// No order fits, or the one that is given doesn't; what that asks, as a sentence.
+    NoOrder(&'static str),
+}
+
+/// What was heard of the answer that was said last, and what was found of the case that it judges, where it isn't yes.
+#[derive(Debug, Drop)]
+pub struct Heard {
+    pub(crate) told: Told,
+    pub(crate) findings: Option<Findings>,
+}
+
+/// What is heard of the report of a case.
+fn of_report(report: &Report) -> Told {
+    let Some(rule) = report_sentence(report) else {
+        return Told::Nothing;
+    };
+    match report {
+        Report::Vat {
+            vat,
+            at,
+            rule: breach,
+        } => Told::Broken {
+            vat: *vat,
+            at: *at,
+            breach: *breach,
+            rule,
+        },
+        Report::OutsideVat { vat, at, why } => Told::Outside {
+            vat: *vat,
+            at: *at,
+            why: why_sentence(*why),
+        },
+        Report::Link { conn, end, message } => Told::Link {
+            connection: *conn,
+            end: *end,
+            message: *message,
+            rule,
+        },
+        Report::OrderStep(_) | Report::NoOrder => Told::NoOrder(rule),
+        Report::Yes { .. } => Told::Nothing,
+    }
+}
+
+/// What is said of the finding of a log, as a report says it. None where it is good.
+pub(crate) fn report_of(finding: &VatFinding) -> Option<Report> {
+    let vat = finding.log().vat();
+    match finding.outcome() {
+        Outcome::Good(_) => None,
+        Outcome::Broken { at, rule } => Some(Report::Vat {
+            vat,
+            at: *at,
+            rule: Breach::Rule(*rule),
+        }),
+        Outcome::Outside { at, why } => Some(Report::OutsideVat {
+            vat,
+            at: *at,
+            why: *why,
+        }),
+    }
+}
+
+/// What is heard of the finding of a log.
+fn of_finding(finding: &VatFinding) -> Told {
+    match report_of(finding) {
+        Some(report) => of_report(&report),
+        None => Told::Nothing,
+    }
+}
+
+impl Heard {
+    /// Before any answer.
+    pub fn new() -> Heard {
+        Heard {
+            told: Told::Nothing,
+            findings: None,
+        }
+    }
+
+    /// Hears an answer, in the place of what was heard before.
+    pub fn hear(&mut self, answer: &Answer) {
+        self.told = match answer {
+            Answer::Finding(finding) => of_finding(finding),
+            Answer::Report(report) => of_report(report),
+            Answer::NoOrder => of_report(&Report::NoOrder),
+            Answer::Fault(fault) => Told::Fault(*fault),
+            Answer::Message(_) | Answer::Order(_) | Answer::Migrated(_) => Told::Nothing,
+        };
+    }
+
+    /// Keeps what was found of a case beside its report, unless that is yes.
+    pub fn keep(&mut self, report: &Report, findings: Findings) {
+        self.findings = match report {
+            Report::Yes { .. } => None,
+            _ => Some(findings),
+        };
+    }
+}

@@ -1,0 +1,127 @@
+//! What passed of a question since it was opened last.
+
+use crate::past::records_before::Past;
+use rpc_view::{Outcome, RpcMessage};
+use vat_view::{DecodedRecord, TableKey};
+
+/// The last opening of a question, and the records that returned it, finished it and took its results since.
+#[derive(Clone, Copy, Debug)]
+pub(crate) struct Opening {
+    /// The record that opened it.
+    pub(crate) at: usize,
+    /// The call.
+    pub(crate) call: u64,
+    /// Whether its results are to stay with their answerer.
+    pub(crate) yourself: bool,
+    /// Its Return.
+    pub(crate) returned: Option<usize>,
+    /// Its Finish.
+    pub(crate) finished: Option<usize>,
+    /// The Return that took its results.
+    pub(crate) taken: Option<usize>,
+}
+
+/// What a record does to a question.
+#[derive(Clone, Copy)]
+enum Change {
+    Opens(u64, bool),
+    Returns,
+    Finishes,
+    Takes,
+    ReturnsAndTakes,
+}
+
+/// Whether a message of this sender returns the question, and whether it takes its results.
+fn returned_by(key: TableKey, sent: bool, answer: u32, outcome: &Outcome) -> Option<Change> {
+    let returns = sent != key.ours && answer == key.number;
+    let takes = match outcome {
+        Outcome::TakeFrom(taken) => sent == key.ours && *taken == key.number,
+        _ => false,
+    };
+    match (returns, takes) {
+        (true, true) => Some(Change::ReturnsAndTakes),
+        (true, false) => Some(Change::Returns),
+        (false, true) => Some(Change::Takes),
+        (false, false) => None,
+    }
+}
+
+/// What a record does to this question.
+fn change_by(key: TableKey, event: &DecodedRecord) -> Option<Change> {
+    let DecodedRecord::Wire {
+        sent,
+        connection,
+        call,
+        message,
+        ..
+    } = event
+    else {
+        return None;
+    };
+    if *connection != key.connection {
+        return None;
+    }
+    let asks = *sent == key.ours;
+    match message {
+        RpcMessage::Bootstrap { question } if asks && *question == key.number => {
+            Some(Change::Opens(*call, false))
+        }
+        RpcMessage::Call {
+            question,
+            yourself,
+            ..
+        } if asks && *question == key.number => Some(Change::Opens(*call, *yourself)),
+        RpcMessage::Return {
+            answer,
+            outcome,
+            ..
+        } => returned_by(key, *sent, *answer, outcome),
+        RpcMessage::Finish { question, .. } if asks && *question == key.number => {
+            Some(Change::Finishes)
+        }
+        _ => None,
+    }
+}
+
+/// The question behind a change of it, made by the record of this number.
+fn changed(known: Option<Opening>, change: Change, at: usize) -> Option<Opening> {
+    if let Change::Opens(call, yourself) = change {
+        return Some(Opening {
+            at,
+            call,
+            yourself,
+            returned: None,
+            finished: None,
+            taken: None,
+        });
+    }
+    let mut opening = known?;
+    match change {
+        Change::Opens(_, _) => {}
+        Change::Returns => opening.returned = Some(at),
+        Change::Finishes => opening.finished = Some(at),
+        Change::Takes => opening.taken = Some(at),
+        Change::ReturnsAndTakes => {
+            opening.returned = Some(at);
+            opening.taken = Some(at);
+        }
+    }
+    Some(opening)
+}
+
+/// The last opening of a question among so many records, and what passed of it in them since.
+pub(crate) fn opening_before(past: &Past<'_>, key: TableKey, end: usize) -> Option<Opening> {
+    let mut known = None;
+    for at in 0..end {
+        let event = past.get(at)?;
+        if let Some(change) = change_by(key, event) {
+            known = changed(known, change, at);
+        }
+    }
+    known
+}
+
+/// The last opening of a question before the record that is told of.
+pub(crate) fn opening_of(past: &Past<'_>, key: TableKey) -> Option<Opening> {
+    opening_before(past, key, past.at)
+}

@@ -1,0 +1,107 @@
+//! A log up to one of its records.
+
+use crate::past::number_lives::Lives;
+use crate::reading::decoded;
+use std::alloc::{AllocError, Global};
+use vat_log::VatLog;
+use vat_view::{DecodedRecord, VatState};
+
+/// A record, and what the numbers of its log are before it.
+#[derive(Drop)]
+pub(crate) struct Past<'a> {
+    /// Where memory comes from.
+    pub(crate) alloc: Global,
+    /// The log.
+    pub(crate) log: &'a VatLog,
+    /// The record's number.
+    pub(crate) at: usize,
+    /// The record.
+    pub(crate) event: DecodedRecord,
+    /// The records before it, applied.
+    pub(crate) state: VatState,
+    /// The lives of the numbers that are watched.
+    pub(crate) lives: Lives,
+}
+
+/// Applies a record where it may be applied, and says whether it may.
+fn apply(state: &mut VatState, event: DecodedRecord) -> Result<bool, AllocError> {
+    if !state.refers(&event)? {
+        return Ok(false);
+    }
+    if !state.uses_questions(&event) {
+        return Ok(false);
+    }
+    if !state.uses_numbers(&event) {
+        return Ok(false);
+    }
+    if !state.gives_back_held(&event)? {
+        return Ok(false);
+    }
+    if !state.notes_each(&event) {
+        return Ok(false);
+    }
+    state.apply(event)?;
+    Ok(true)
+}
+
+/// Applies so many records of a log and watches numbers meanwhile. None where one of them can't be applied.
+fn walk(
+    alloc: Global,
+    log: &VatLog,
+    at: usize,
+    lives: &mut Lives,
+) -> Result<Option<VatState>, AllocError> {
+    let mut state = VatState::new(alloc);
+    for number in 0..at {
+        let Some(earlier) = decoded(alloc, log, number)? else {
+            return Ok(None);
+        };
+        if !apply(&mut state, earlier)? {
+            return Ok(None);
+        }
+        lives.see(&state, number);
+    }
+    Ok(Some(state))
+}
+
+impl<'a> Past<'a> {
+    /// The record of this number and the log before it, with these numbers watched. None where a frame isn't read.
+    pub(crate) fn watching(
+        alloc: Global,
+        log: &'a VatLog,
+        at: usize,
+        event: DecodedRecord,
+        mut lives: Lives,
+    ) -> Result<Option<Past<'a>>, AllocError> {
+        match walk(alloc, log, at, &mut lives)? {
+            Some(state) => Ok(Some(Past {
+                alloc,
+                log,
+                at,
+                event,
+                state,
+                lives,
+            })),
+            None => Ok(None),
+        }
+    }
+
+    /// The record of this number and the log before it, with the numbers watched that it uses. None where a frame isn't
+    /// read.
+    pub(crate) fn of(
+        alloc: Global,
+        log: &'a VatLog,
+        at: usize,
+    ) -> Result<Option<Past<'a>>, AllocError> {
+        let Some(event) = decoded(alloc, log, at)? else {
+            return Ok(None);
+        };
+        let lives = Lives::of_record(alloc, &event)?;
+        Past::watching(alloc, log, at, event, lives)
+    }
+
+    /// The record of this number among those before it.
+    pub(crate) fn get(&self, number: usize) -> Option<&DecodedRecord> {
+        self.state.event_at(number)
+    }
+}

@@ -1,0 +1,144 @@
+//! The picture of a case: its bytes go to a file, and then the report is said.
+
+ghost use Rattle.std.specs.Prelude.{◌≡◌, None, IfOk, List, ℕ, Option, option_map};
+ghost use Rattle.audit_core.specs.Report.{IsReport};
+ghost use Rattle.report_lines.specs.Lines.{answer_status, answer_text, line};
+ghost use Rattle.command_run.specs.DrawAnswers.{AnswersDraw, IsDrawing, IsRunFor};
+ghost use Rattle.command_run.specs.Glue.{ComesDrawn};
+ghost use Rattle.command_run.specs.Runs.{Writes, Wrote};
+
+use crate::answering::{save, say};
+use crate::commands::case_report::fault_of;
+use crate::host::Host;
+use crate::output::{Failed, Output};
+use crate::watch::Watch;
+use audit_core::{Breach, Report, audit_with_findings, run_of_findings};
+use bytes::Bytes;
+use case_book::Findings;
+use case_files::{ReadCase, Source, read_case};
+use cause_notes::Heard;
+use picture::{Asked, arrange, draw};
+use report_lines::{Answer, Fault};
+use run_model::Run;
+use std::alloc::{AllocError, Global};
+use std::sync::Wait;
+use std::thread::Threads;
+
+/// What answers a case that is drawn.
+#[derive(Drop)]
+struct DrawAnswer {
+    answer: Answer,
+    /// The bytes of the picture, where there is one.
+    picture: Option<Bytes>,
+}
+
+/// A run of the case of these findings, where their report names the order of calls; no steps where it doesn't.
+fn run_for(alloc: Global, findings: &Findings, report: &Report) -> Result<Run, AllocError>
+    requires { (given : Option (List ℕ)) × IsReport findings.now.case given report.now }
+    ensures { IfOk result (λ run. IsRunFor findings.now.case.logs report.now run) }
+{
+    match report {
+        Report::Vat {
+            rule: Breach::Order,
+            ..
+        } => match run_of_findings(alloc, findings)? {
+            Some(run) => Ok(run),
+            None => unreachable!(),
+        },
+        _ => Ok(Run::new(Vec::new(alloc))),
+    }
+}
+
+/// The bytes of the picture of a case whose records are drawn in this order.
+fn picture_bytes(
+    alloc: Global,
+    findings: &Findings,
+    order: &[u32],
+    report: &Report,
+    asked: Asked,
+) -> Result<Bytes, AllocError>
+    requires { (given : Option (List ℕ)) × IsReport findings.now.case given report.now }
+    ensures { IfOk result (IsDrawing findings.now.case order.now report.now asked) }
+{
+    let run = run_for(alloc, findings, report)?;
+    let picture = draw(alloc, findings.case(), order, report, run.steps(), asked)?;
+    Ok(Bytes::from_string(picture.to_string(alloc)?)?)
+}
+
+/// The report of the case that a source has under a name, and its picture. What was found of its logs and links is heard,
+/// unless the report is yes.
+fn drawing<R: Threads + Wait + Sync, G: Watch + Sync, S: Source>(
+    host: &Host<'_, R, G>,
+    name: &str,
+    asked: Asked,
+    source: &mut S,
+    heard: &mut Heard,
+) -> Result<DrawAnswer, Fault>
+    ensures { ComesDrawn asked S.read_gives source.old name.now result source.new }
+{
+    let ReadCase { case, order } = read_case(host.alloc, source, name)?;
+    host.watch.begins(case.logs().len(), case.links().len());
+    let arranged = arrange(host.alloc, &case, order.as_ref())?;
+    match audit_with_findings(host.rt, host.alloc, case, order, 1, host.watch) {
+        Ok((report, findings)) => {
+            let picture = picture_bytes(host.alloc, &findings, &arranged, &report, asked)?;
+            heard.keep(&report, findings);
+            Ok(DrawAnswer {
+                answer: Answer::Report(report),
+                picture: Some(picture),
+            })
+        }
+        Err(error) => Err(fault_of(error)),
+    }
+}
+
+/// The answer to the case that a source has under a name: its report and its picture, or its first fault.
+fn draw_answer<R: Threads + Wait + Sync, G: Watch + Sync, S: Source>(
+    host: &Host<'_, R, G>,
+    name: &str,
+    asked: Asked,
+    source: &mut S,
+    heard: &mut Heard,
+) -> DrawAnswer
+    ensures { AnswersDraw asked S.read_gives source.old name.now (line (answer_text result.answer))
+        (answer_status result.answer) (option_map (λ bytes. bytes) result.picture) source.new }
+{
+    match drawing(host, name, asked, source, heard) {
+        Ok(made) => made,
+        Err(fault) => DrawAnswer {
+            answer: Answer::Fault(fault),
+            picture: None,
+        },
+    }
+}
+
+/// Audits the case that a source has under a name, draws it, and writes the picture to `file`; then says the report. Or it
+/// says the case's first fault, and writes nothing to `file`.
+///
+/// # Errors
+///
+/// That of a write; nothing is written after it.
+pub fn say_drawn<R: Threads + Wait + Sync, G: Watch + Sync, S: Source, O: Output, F: Output>(
+    host: &Host<'_, R, G>,
+    name: &str,
+    asked: Asked,
+    source: &mut S,
+    heard: &mut Heard,
+    out: &mut O,
+    file: &mut F,
+) -> Result<u8, Failed<O::Error, F::Error>>
+    requires out { O.can_write out.old }
+    requires file { F.can_write file.old }
+    ensures { Writes (λ text status bytes. AnswersDraw asked S.read_gives source.old name.now text
+        status bytes source.new) (Wrote O.contents O.is_finished)
+        (Wrote F.contents F.is_finished) out.old out.new file.old file.new result }
+{
+    let DrawAnswer { answer, picture } = draw_answer(host, name, asked, source, heard);
+    if let Err(fault) = save(&picture, file) {
+        return Err(Failed::File(fault));
+    }
+    match say(answer, heard, out) {
+        Ok(status) => Ok(status),
+        Err(fault) => Err(Failed::Out(fault)),
+    }
+}

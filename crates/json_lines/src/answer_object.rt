@@ -1,0 +1,95 @@
+//! The object of an answer.
+
+use crate::fault_object::fault_object;
+use crate::message_object::message_object;
+use audit_core::Report;
+use report_lines::{Answer, breach_code, code_of, word_of};
+use serde_json::{Value, json};
+use std::alloc::{AllocError, Global};
+use vat_rules::{Outcome, VatFinding, Why};
+
+/// A record of a vat breaks what has this code.
+fn broken_object(alloc: Global, vat: u32, at: u64, code: &str) -> Result<Value, AllocError> {
+    json!(in alloc; {"kind": "no", "vat": vat, "record": at, "rule": code})
+}
+
+/// A record of a vat isn't judged.
+fn outside_object(alloc: Global, vat: u32, at: u64, why: Why) -> Result<Value, AllocError> {
+    let word = word_of(why);
+    json!(in alloc; {"kind": "outside", "vat": vat, "record": at, "why": word})
+}
+
+/// What the audit of a vat's log found.
+fn finding_object(alloc: Global, finding: &VatFinding) -> Result<Value, AllocError> {
+    let vat = finding.log().vat();
+    let records = finding.log().len();
+    match finding.outcome() {
+        Outcome::Good(story) => {
+            let delivered = story.delivered();
+            json!(in alloc; {"kind": "good", "vat": vat, "records": records, "delivered": delivered})
+        }
+        Outcome::Broken { at, rule } => broken_object(alloc, vat, *at, code_of(*rule)),
+        Outcome::Outside { at, why } => outside_object(alloc, vat, *at, *why),
+    }
+}
+
+/// A link whose ends differ.
+fn link_object(
+    alloc: Global,
+    connection: u32,
+    end: u32,
+    message: u64,
+) -> Result<Value, AllocError> {
+    json!(in alloc; {"kind": "no link", "connection": connection, "end": end, "message": message})
+}
+
+/// No order of the records exists.
+fn no_order_object(alloc: Global) -> Result<Value, AllocError> {
+    json!(in alloc; {"kind": "no order exists"})
+}
+
+/// What is answered of a case.
+fn report_object(alloc: Global, report: &Report) -> Result<Value, AllocError> {
+    match report {
+        Report::Vat { vat, at, rule } => broken_object(alloc, *vat, *at, breach_code(*rule)),
+        Report::OutsideVat { vat, at, why } => outside_object(alloc, *vat, *at, *why),
+        Report::Link { conn, end, message } => link_object(alloc, *conn, *end, *message),
+        Report::OrderStep(step) => {
+            let step = *step;
+            json!(in alloc; {"kind": "no order step", "step": step})
+        }
+        Report::NoOrder => no_order_object(alloc),
+        Report::Yes {
+            vats,
+            records,
+            delivered,
+            under_way,
+            ..
+        } => {
+            let (vats, records) = (*vats, *records);
+            let (delivered, under_way) = (*delivered, *under_way);
+            json!(in alloc; {
+                "kind": "yes", "vats": vats, "records": records, "delivered": delivered, "under_way": under_way
+            })
+        }
+    }
+}
+
+/// The object of an answer.
+pub(crate) fn answer_object(alloc: Global, answer: &Answer) -> Result<Value, AllocError> {
+    match answer {
+        Answer::Finding(finding) => finding_object(alloc, finding),
+        Answer::Report(report) => report_object(alloc, report),
+        Answer::Message(message) => message_object(alloc, message),
+        Answer::Order(order) => {
+            let steps = order.as_slice().len();
+            json!(in alloc; {"kind": "order", "steps": steps})
+        }
+        Answer::NoOrder => no_order_object(alloc),
+        Answer::Migrated(log) => {
+            let (vat, records) = (log.vat(), log.len());
+            json!(in alloc; {"kind": "migrated", "vat": vat, "records": records})
+        }
+        Answer::Fault(fault) => fault_object(alloc, *fault),
+    }
+}

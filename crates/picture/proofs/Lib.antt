@@ -1,0 +1,5 @@
+pub mod Stepping
+pub mod Released
+pub mod Wrapping
+pub mod Listing
+pub mod Writing

@@ -1,0 +1,5 @@
+pub mod Places
+pub mod Rows
+pub mod Labels
+pub mod Picture
+pub mod Glue

@@ -1,0 +1,57 @@
+//! What the verdict of a case names.
+
+ghost use Rattle.std.specs.Prelude.{◌≡◌};
+ghost use Rattle.picture.specs.Rows.{focus_of, mate_by, named_by};
+
+use crate::mate::{mate_at, receipt};
+use crate::orders::place_at;
+use crate::place::Place;
+use audit_core::Report;
+use case_book::Case;
+
+/// The records that a verdict names: the one at fault, and the other end of its message where the verdict is on a link.
+#[derive(Clone, Copy, Debug)]
+pub struct Focus {
+    /// The record at fault.
+    pub at: Option<Place>,
+    /// The other end of its message.
+    pub mate: Option<Place>,
+}
+
+/// The record that a verdict names.
+fn named_by(case: &Case, order: &[u32], report: &Report) -> Option<Place>
+    ensures { result ≡ named_by case.now order.now report.now }
+{
+    match report {
+        Report::Vat { vat, at, .. } | Report::OutsideVat { vat, at, .. } => Some(Place {
+            vat: *vat,
+            number: *at as usize,
+        }),
+        Report::Link { conn, end, message } => receipt(case, *conn, *end, *message as usize),
+        Report::OrderStep(step) => place_at(order, *step as usize),
+        Report::NoOrder | Report::Yes { .. } => None,
+    }
+}
+
+/// Where a verdict is on a link, the other end of its message.
+fn mate_by(case: &Case, report: &Report) -> Option<Place>
+    ensures { result ≡ mate_by case.now report.now }
+{
+    match report {
+        Report::Link { conn, end, message } => {
+            let place = receipt(case, *conn, *end, *message as usize)?;
+            mate_at(case, place)
+        }
+        _ => None,
+    }
+}
+
+/// What a verdict names.
+pub fn focus_of(case: &Case, order: &[u32], report: &Report) -> Focus
+    ensures { result ≡ focus_of case.now order.now report.now }
+{
+    Focus {
+        at: named_by(case, order, report),
+        mate: mate_by(case, report),
+    }
+}

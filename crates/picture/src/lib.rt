@@ -1,0 +1,36 @@
+//! A picture of a conversation: a column for each vat, a row for each record, and an arrow for each message.
+//!
+//! It stands on `audit_core`, whose report a picture is drawn for, on `report_lines`, whose texts stand in it, on
+//! `case_book`, `merge_order`, `run_model`, `vat_log` and `rpc_view`. It opens no file. Where records stand is said in
+//! `specs/Places.antt`, rows and arrows in `specs/Rows.antt`, the words of a row in `specs/Labels.antt`, and what is drawn of
+//! all that in `specs/Picture.antt`: [`draw`] makes just these rows and arrows, and a [`Picture`] is shown as just that text.
+#![tactic(auto)]
+
+mod arranging;
+mod arrow;
+mod breaks;
+mod calls;
+mod columns;
+mod drawing;
+mod focus;
+mod frames;
+mod label;
+mod late;
+mod logs;
+mod mate;
+mod messages;
+mod orders;
+mod place;
+mod row;
+mod scene;
+mod svg;
+mod width;
+mod window;
+
+pub use arranging::arrange;
+pub use arrow::{Arrow, Reach, Stroke};
+pub use columns::Column;
+pub use drawing::{Picture, draw};
+pub use place::Place;
+pub use row::{Row, Tone};
+pub use window::{Asked, Gap, Window};

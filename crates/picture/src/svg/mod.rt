@@ -1,0 +1,8 @@
+//! The text of a picture: an SVG that needs nothing else, with no script and no font of its own.
+
+mod lists;
+mod notes;
+pub(crate) mod points;
+mod shapes;
+mod style;
+mod whole;

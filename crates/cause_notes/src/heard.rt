@@ -3,6 +3,7 @@
 use audit_core::{Breach, Report};
 use case_book::Findings;
 use report_lines::{Answer, Fault, report_sentence, why_sentence};
+use std::mem;
 use vat_rules::{Outcome, VatFinding};
 
 /// What was heard of the answer that was said last.
@@ -132,10 +133,14 @@ impl Heard {
         };
     }
 
-    /// Keeps what was found of a case beside its report, unless that is yes.
+    /// Keeps what was found of a case beside its report, unless that is yes: then it is left to the system, which takes
+    /// all memory at once where the program ends.
     pub fn keep(&mut self, report: &Report, findings: Findings) {
         self.findings = match report {
-            Report::Yes { .. } => None,
+            Report::Yes { .. } => {
+                mem::forget(findings);
+                None
+            }
             _ => Some(findings),
         };
     }

@@ -8,6 +8,7 @@ use crate::output::Output;
 use bytes::Bytes;
 use cause_notes::Heard;
 use report_lines::Answer;
+use std::mem;
 
 /// Writes the line of an answer that is kept, and gives its exit status. More may follow.
 fn put_line<O: Output>(answer: &Answer, heard: &mut Heard, out: &mut O) -> Result<u8, O::Error>
@@ -21,14 +22,17 @@ fn put_line<O: Output>(answer: &Answer, heard: &mut Heard, out: &mut O) -> Resul
     Ok(answer.status())
 }
 
-/// Writes the line of an answer, and gives its exit status. More may follow.
+/// Writes the line of an answer, and gives its exit status. More may follow. What an answer holds is left to the system,
+/// which takes all memory at once where the program ends: to give it back here, record by record, takes longer.
 pub fn put<O: Output>(answer: Answer, heard: &mut Heard, out: &mut O) -> Result<u8, O::Error>
     requires { O.can_write out.old }
     ensures status { IfOk result (λ status. status ≡ answer_status answer) }
     ensures line { OnOk result (Adds O.contents out.old (line (answer_text answer)) out.new) }
     ensures more { OnOk result (O.can_write out.new) }
 {
-    put_line(&answer, heard, out)
+    let status = put_line(&answer, heard, out);
+    mem::forget(answer);
+    status
 }
 
 /// Writes the line of an answer, to which nothing is added, and gives its exit status.

@@ -328,6 +328,9 @@ pub(crate) fn leads(
     ensures { IsTrue result
         ↔ Reaches (turn_by events.now turns.now (bound_at bound.now)) (as_view from.entry) (as_view to.entry) }
 {
+    if from.is_same(to) {
+        return true;
+    }
     match leads_by_count(events, turns, bound, from, to) {
         Some(led) => led,
         None => leads_turn_by_turn(events, turns, bound, from, to),

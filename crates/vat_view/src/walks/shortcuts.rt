@@ -215,27 +215,19 @@ pub(crate) struct WayOn {
     pub(crate) reference: Option<u64>,
 }
 
-/// The call to whose field a view turns, if it does.
-fn call_by(events: &[DecodedRecord], turns: &Settlements, view: BorrowedView<'_>) -> Option<u64> {
-    match landed_by(events, turns, view) {
-        Some(Landing::Call(call)) => Some(call),
-        _ => None,
-    }
-}
-
-/// The reference where a view lands, or a field to which it turns by calls.
+/// The reference where the field of a call at a path lands, or a field to which it turns by calls.
 fn reference_beyond(
     events: &[DecodedRecord],
     turns: &Settlements,
-    view: BorrowedView<'_>,
+    call: u64,
+    path: &[u16],
 ) -> Option<u64> {
-    let mut at = view;
-    for _passed in 0..=turns.handovers_len() {
-        match landed_by(events, turns, at)? {
+    let mut call = call;
+    for _passed in 0..turns.handovers_len() {
+        let ahead = turns.call_ahead(call).to;
+        match landed_by(events, turns, BorrowedView::Field(ahead, path))? {
             Landing::Reference(reference) => return Some(reference),
-            Landing::Call(call) => {
-                at = BorrowedView::Field(turns.call_ahead(call).to, at.path());
-            }
+            Landing::Call(next) => call = next,
         }
     }
     None
@@ -247,9 +239,19 @@ pub(crate) fn way_from(
     turns: &Settlements,
     view: BorrowedView<'_>,
 ) -> WayOn {
-    WayOn {
-        call: call_by(events, turns, view),
-        reference: reference_beyond(events, turns, view),
+    match landed_by(events, turns, view) {
+        Some(Landing::Reference(reference)) => WayOn {
+            call: None,
+            reference: Some(reference),
+        },
+        Some(Landing::Call(call)) => WayOn {
+            call: Some(call),
+            reference: reference_beyond(events, turns, call, view.path()),
+        },
+        None => WayOn {
+            call: None,
+            reference: None,
+        },
     }
 }
 

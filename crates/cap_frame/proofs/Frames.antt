@@ -1,7 +1,7 @@
 -- What the tests of a frame say, and the places of its sizes and words.
 use Rattle.std.proofs.Common.{◌≡◌, ℕ, ◌+◌, ◌*◌, ◌<◌, ◌≤◌, Bool, true, false, cond, ltb, eqb, List, [], length, get_or, take, drop, Some, None, Result, Ok, Err, refl, sym, ap, subst, ◌∙◌, arith}
-use Rattle.std.specs.Prelude.{slice_get, sum}
-use Rattle.std.proofs.lemmas.Bool.{ltb-false, eqb-false, le-ltb, ne_eqb}
+use Rattle.std.specs.Prelude.{slice_get, sum, nat_lt, nat_le, ◌&&◌}
+use Rattle.std.proofs.lemmas.Bool.{ltb-false, eqb-false, lt-ltb, le-ltb, ne_eqb}
 use Rattle.std.proofs.lemmas.List.{drop-drop, get_or_past, take_all}
 use Rattle.std.proofs.lemmas.List.Sums.{sum_by_more_le}
 use Rattle.std.proofs.lemmas.Option.{slice_get-get_or, slice_get_past}
@@ -158,3 +158,17 @@ word_read bytes kept segment s i table words value same is lt within table-is wo
 pub no_word_at : (bytes kept : List ℕ) (segment s i : ℕ) → bytes ≡ kept → s ≡ segment → s < segment_count bytes
     → get_or (sizes_of bytes) s 0 ≤ i → None ≡ word_at (content kept) segment i
 no_word_at bytes kept segment s i same is lt past = rw (← same, ← is) (sym (no_word bytes s i lt past))
+
+-- a segment that is there has the words that the table says
+pub has_so_many : (bytes kept : List ℕ) (segment s size count : ℕ) → bytes ≡ kept → s ≡ segment → s < segment_count bytes → size ≡ get_or (sizes_of bytes) s 0
+    → nat_le count size ≡ nat_lt segment (length (content kept)) && nat_le count (length (get_or (content kept) segment []))
+has_so_many bytes kept segment s size count same is lt size-is =
+    let there : nat_lt s (length (content bytes)) ≡ true = rw (length-content bytes) (lt-ltb s (segment_count bytes) lt) in
+    rw (← same, ← is, there, segment_size bytes s lt, size-is) refl
+
+-- one that isn't there has none
+pub has_no_segment : (bytes kept : List ℕ) (segment s segments count : ℕ) → bytes ≡ kept → s ≡ segment → segments ≡ segment_count bytes → segments ≤ s
+    → nat_lt s segments ≡ nat_lt segment (length (content kept)) && nat_le count (length (get_or (content kept) segment []))
+has_no_segment bytes kept segment s segments count same is all past =
+    let none : nat_lt s (length (content bytes)) ≡ false = rw (length-content bytes) (le-ltb s (segment_count bytes) (omega (arith, all))) in
+    rw (← same, ← is, none) (le-ltb s segments past)

@@ -1,6 +1,6 @@
 //! Frames of the stream framing.
 
-ghost use Rattle.std.specs.Prelude.{◌≡◌, ◌<◌, ◌≤◌, ◌^◌, List, [], ℕ, length, take, slice_index_or, IfOk, IfErr, Ok, Err};
+ghost use Rattle.std.specs.Prelude.{◌≡◌, ◌<◌, ◌≤◌, ◌^◌, ◌&&◌, IsTrue, List, [], ℕ, length, take, nat_lt, nat_le, slice_index_or, IfOk, IfErr, Ok, Err};
 ghost use Rattle.cap_frame.specs.Segments.{word_at, first_len_of, segments_of, IsOneFrame, Spells};
 
 use crate::frame_error::FrameError;
@@ -85,7 +85,23 @@ impl Frame {
         count_in(self.bytes.as_slice()) as u32
     }
 
+    /// Whether the segment of this number, counted from 0, is there and has so many words.
+    #[inline]
+    pub fn has_words(&self, segment: u32, count: u64) -> bool
+        ensures value { result
+            ≡ (nat_lt segment (length self.now)
+            && nat_le count (length (slice_index_or self.now segment []))) }
+        ensures short { IsTrue result → count < 2 ^ 32 }
+    {
+        if segment == 0 {
+            count <= self.size
+        } else {
+            self.has_words_of(segment, count)
+        }
+    }
+
     /// The word at a place of a segment, both counted from 0, or None where there is none.
+    #[inline]
     pub fn word(&self, segment: u32, index: u64) -> Option<u64>
         ensures { result ≡ word_at self.now segment index }
     {
@@ -97,6 +113,7 @@ impl Frame {
     }
 
     /// The word at a place of the first segment.
+    #[inline]
     fn first_word(&self, index: u64) -> Option<u64>
         ensures { result ≡ word_at self.now 0 index }
     {
@@ -108,7 +125,23 @@ impl Frame {
         Some(LittleEndian::read_u64(rest))
     }
 
+    /// Whether a segment whose size is found anew is there and has so many words.
+    #[cold]
+    #[inline(never)]
+    fn has_words_of(&self, segment: u32, count: u64) -> bool
+        ensures value { result
+            ≡ (nat_lt segment (length self.now)
+            && nat_le count (length (slice_index_or self.now segment []))) }
+        ensures short { IsTrue result → count < 2 ^ 32 }
+    {
+        let bytes = self.bytes.as_slice();
+        let segment = u64::from(segment);
+        segment < count_in(bytes) && count <= size_in(bytes, segment)
+    }
+
     /// The word at a place of a segment that is found anew.
+    #[cold]
+    #[inline(never)]
     fn word_of(&self, segment: u32, index: u64) -> Option<u64>
         ensures { result ≡ word_at self.now segment index }
     {

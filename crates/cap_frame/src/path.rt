@@ -1,6 +1,6 @@
 //! Paths of pointer fields.
 
-ghost use Rattle.std.specs.Prelude.{◌≡◌, IfOk, IfSome};
+ghost use Rattle.std.specs.Prelude.{◌≡◌, ◌++◌, ◌∷◌, [], IfOk, IfSome};
 ghost use Rattle.cap_frame.specs.Glue.{numbers_of};
 
 use std::alloc::{AllocError, Global};
@@ -64,6 +64,18 @@ fn few(fields: &[u16]) -> Option<Kept>
     }
 }
 
+/// Numbers and one more behind them, as many are kept.
+#[cold]
+#[inline(never)]
+fn many(alloc: Global, fields: &[u16], field: u16) -> Result<Kept, AllocError>
+    ensures { IfOk result (λ kept. numbers_of kept ≡ fields.now ++ field ∷ []) }
+{
+    let mut numbers = Vec::with_capacity(alloc, fields.len() + 1)?;
+    numbers.extend_from_slice(fields)?;
+    numbers.push(field)?;
+    Ok(Kept::Many(Arc::new(alloc, numbers)?))
+}
+
 impl Path {
     /// The path of these numbers. The only error is that memory ran out; a path of at most four numbers takes none.
     pub fn new(fields: Vec<u16>) -> Result<Path, AllocError>
@@ -85,6 +97,21 @@ impl Path {
             Some(kept) => Ok(Path { kept }),
             None => Path::new(Vec::from_slice(alloc, fields)?),
         }
+    }
+
+    /// The path that leads on from this one by one more number. The only error is that memory ran out; a path of at most
+    /// four numbers takes none.
+    pub fn longer(&self, alloc: Global, field: u16) -> Result<Path, AllocError>
+        ensures { IfOk result (λ path. path ≡ self.now ++ field ∷ []) }
+    {
+        let kept = match &self.kept {
+            Kept::Nothing => Kept::One([field]),
+            Kept::One([a]) => Kept::Two([*a, field]),
+            Kept::Two([a, b]) => Kept::Three([*a, *b, field]),
+            Kept::Three([a, b, c]) => Kept::Four([*a, *b, *c, field]),
+            Kept::Four(_) | Kept::Many(_) => many(alloc, self.as_slice(), field)?,
+        };
+        Ok(Path { kept })
     }
 
     /// The numbers, the outermost struct's first.

@@ -1,7 +1,6 @@
 -- What the pointer at a place adds to a list of capabilities.
-use Rattle.std.proofs.Common.{◌≡◌, ℕ, zero, suc, ◌+◌, ◌-◌, ◌<◌, ◌≤◌, Bool, true, false, cond, List, [], ◌∷◌, ◌++◌, length, take, Option, Some, None, Result, Ok, Err, refl, sym, ap, subst, ◌∙◌, arith}
-use Rattle.std.proofs.lemmas.List.{append-nil, length-append}
-use Rattle.std.proofs.Math.Seq.{take-append_seam}
+use Rattle.std.proofs.Common.{◌≡◌, ℕ, zero, suc, ◌+◌, ◌-◌, ◌<◌, ◌≤◌, Bool, true, false, cond, List, [], ◌∷◌, ◌++◌, Option, Some, None, Result, Ok, Err, refl, sym, ap, subst, ◌∙◌, arith}
+use Rattle.std.proofs.lemmas.List.{append-nil}
 use Rattle.std.proofs.lemmas.Bool.{lt-ltb, eq-eqb, ne_eqb}
 use Rattle.cap_reader.specs.declared.pointee.Pointee.{Pointee}
 use Rattle.cap_reader.specs.declared.pointee.Pointee.TheVariants as leads
@@ -197,9 +196,3 @@ module _ (path : List ℕ) (segments : List (List ℕ)) (content : StructAt) whe
 
   pub field_done : (front : List (List ℕ × ℕ)) (i words : ℕ) (total : Result (List (List ℕ × ℕ)) ReadError × ℕ) → content.pointer_count ≤ i → with_front front (run (each field_at i (content.pointer_count - i)) words) ≡ total → total ≡ (Ok front, words)
   field_done front i words total le so_far = is_done field_at front content.pointer_count i words total le so_far
-
--- a path is as it was once its last number is gone
-pub popped : (front before after : List ℕ) (n len : ℕ) → before ≡ front ++ n ∷ [] → after ≡ take (len - 1) before → len ≡ length before → after ≡ front
-popped front before after n len e shorter all =
-    let k : len - 1 ≡ length front = omega (arith, all, ap length e, length-append front (n ∷ [])) in
-    shorter ∙ rw (k, e) (take-append_seam front (n ∷ []))

@@ -68,13 +68,6 @@ fn judge_list(
     }
 }
 
-/// The path of these numbers, in memory of its own.
-fn path_of(numbers: &Vec<u16>) -> Result<Path, AllocError>
-    ensures { IfOk result (λ path. path ≡ numbers.now.items) }
-{
-    Path::from_slice(*numbers.allocator(), numbers.as_slice())
-}
-
 /// Puts a capability behind those found. Room is made for one, and then for as many again as there are: most frames have
 /// one at most, and so no room is left over.
 fn put(found: &mut Vec<(Path, u32)>, path: Path, index: u32) -> Result<(), AllocError>
@@ -87,31 +80,30 @@ fn put(found: &mut Vec<(Path, u32)>, path: Path, index: u32) -> Result<(), Alloc
     Ok(())
 }
 
-/// Adds the capabilities at and below the pointer at a place, to which the path leads. A path that was lengthened is as
-/// it was again.
+/// Adds the capabilities at and below the pointer at a place, to which the path leads.
 fn add_fields(
+    alloc: Global,
     frame: &Frame,
     segment: u32,
     at: u64,
     depth: u8,
-    path: &mut Vec<u16>,
+    path: &Path,
     found: &mut Vec<(Path, u32)>,
     limits: &mut Limits,
 ) -> Result<(), ReadError>
     requires { at < 2 ^ 40 }
     ensures value { RunsInMemory (λ _. found.new.items) result limits.new.words
         (with_front found.old.items
-        (run (fields_in path.old.items (tree_at depth frame.now segment at)) limits.old.words)) }
-    ensures path { OnOk result (path.new.items ≡ path.old.items) }
+        (run (fields_in path.now (tree_at depth frame.now segment at)) limits.old.words)) }
     ensures kept { limits.old.words
-        ≤ limits.new.words + price (fields_in path.old.items (tree_at depth frame.now segment at)) }
+        ≤ limits.new.words + price (fields_in path.now (tree_at depth frame.now segment at)) }
     ensures words { limits.new.words ≤ limits.old.words }
     ensures depth { limits.new.depth ≡ limits.old.depth }
 {
     match follow(frame, segment, at)? {
         Pointee::Null => Ok(()),
         Pointee::Capability { index } => {
-            put(found, path_of(path)?, index)?;
+            put(found, path.copy()?, index)?;
             Ok(())
         }
         Pointee::List {
@@ -130,17 +122,17 @@ fn add_fields(
             let content = enter(frame, segment, start, sizes, depth, limits)?;
             let first = u64::from(content.start) + u64::from(content.data_words);
             for number in 0..content.pointer_count {
-                path.push(number)?;
+                let path = path.longer(alloc, number)?;
                 add_fields(
+                    alloc,
                     frame,
                     content.segment,
                     first + u64::from(number),
                     content.below,
-                    path,
+                    &path,
                     found,
                     limits,
                 )?;
-                path.pop();
             }
             Ok(())
         }
@@ -164,15 +156,16 @@ fn list_capabilities(
     ensures words { limits.new.words ≤ limits.old.words }
     ensures depth { limits.new.depth ≡ limits.old.depth }
 {
-    let mut path = Vec::new(alloc);
+    let start = Path::new(Vec::new(alloc))?;
     let mut found = Vec::new(alloc);
     if let Some(at) = place.pointer(n) {
         add_fields(
+            alloc,
             frame,
             place.segment,
             at,
             place.below,
-            &mut path,
+            &start,
             &mut found,
             limits,
         )?;

@@ -17,7 +17,7 @@ pub fn reaches(frame: &Frame, segment: u32, count: u64) -> bool
     ensures value { result ≡ has_words frame.now segment count }
     ensures short { IsTrue result → count < 2 ^ 32 }
 {
-    segment < frame.segments() && (count == 0 || frame.word(segment, count - 1).is_some())
+    frame.has_words(segment, count)
 }
 
 /// The start, where that many words from it on lie in the segment.

@@ -1,6 +1,7 @@
 //! Following the pads of far pointers.
 
-ghost use Rattle.std.specs.Prelude.{◌≡◌, ◌<◌, ◌^◌};
+ghost use Rattle.std.specs.Prelude.{◌≡◌, ◌<◌, ◌^◌, ℕ};
+ghost use Rattle.cap_reader.specs.declared.pointer.Pointer.TheVariants.{Far};
 ghost use Rattle.cap_reader.specs.Pointers.{pointee_of, pad_word as pad_word_in, pointee_by_tag, pointee_behind, content_in, pointee_at};
 
 use crate::extent::word_or_zero;
@@ -10,6 +11,7 @@ use crate::read_error::ReadError;
 use cap_frame::Frame;
 
 /// What a pointer says where it stands itself; it may not be far.
+#[inline(always)]
 #[tactic(auto, unfolding(crate::specs::Pointers::pointee_of))]
 fn direct(segment: u32, at: u64, pointer: Pointer) -> Result<Pointee, ReadError>
     requires { at < 2 ^ 40 }
@@ -114,32 +116,42 @@ fn by_tag(frame: &Frame, first: Pointer, tag: Pointer) -> Result<Pointee, ReadEr
     content(frame, segment, pointee)
 }
 
+/// What a far pointer leads to, by its pad of two words or of one.
+#[tactic(auto, unfolding(crate::specs::Pointers::pointee_behind))]
+#[cold]
+#[inline(never)]
+fn behind_pad(
+    frame: &Frame,
+    two_words: bool,
+    offset: u32,
+    segment: u32,
+) -> Result<Pointee, ReadError>
+    // Wherever the pointer stands itself.
+    ensures { (here at : ℕ) → result
+        ≡ pointee_behind frame.now here at (Far two_words offset segment) }
+{
+    let at = u64::from(offset);
+    let first = pad_word(frame, segment, at)?;
+    if !two_words {
+        return direct(segment, at, Pointer::of(first));
+    }
+    let tag = pad_word(frame, segment, at + 1)?;
+    by_tag(frame, Pointer::of(first), Pointer::of(tag))
+}
+
 /// What the pointer at a place leads to.
 #[tactic(auto, unfolding(crate::specs::Pointers::pointee_behind))]
+#[inline(always)]
 pub fn follow(frame: &Frame, segment: u32, at: u64) -> Result<Pointee, ReadError>
     requires { at < 2 ^ 40 }
     ensures { result ≡ pointee_at frame.now segment at }
 {
     match Pointer::of(word_or_zero(frame, segment, at)) {
         Pointer::Far {
-            two_words: false,
+            two_words,
             offset,
             segment,
-        } => {
-            let at = u64::from(offset);
-            let pad = pad_word(frame, segment, at)?;
-            direct(segment, at, Pointer::of(pad))
-        }
-        Pointer::Far {
-            two_words: true,
-            offset,
-            segment,
-        } => {
-            let at = u64::from(offset);
-            let first = pad_word(frame, segment, at)?;
-            let tag = pad_word(frame, segment, at + 1)?;
-            by_tag(frame, Pointer::of(first), Pointer::of(tag))
-        }
+        } => behind_pad(frame, two_words, offset, segment),
         pointer => direct(segment, at, pointer),
     }
 }

@@ -11,11 +11,10 @@ decreases-add_fields l = l.depth
 
 abbrev pub invariant-loop-number : goal.invariant-loop-number
 invariant-loop-number l =
-    let each_field = each (λ n. fields_in (l.fn.path.items ++ n ∷ []) (child_at l.frame l.content n)) in
+    let each_field = each (λ n. fields_in (l.fn.path ++ n ∷ []) (child_at l.frame l.content n)) in
     record {
-      so_far : with_front l.found.items (run (each_field l.number (l.content.pointer_count - l.number)) l.limits.words) ≡ with_front l.fn.found.items (run (fields_in l.fn.path.items (tree_at l.fn.depth l.frame l.fn.segment l.fn.at)) l.fn.limits.words);
-      paid : l.fn.limits.words + price (each_field l.number (l.content.pointer_count - l.number)) ≡ l.limits.words + price (fields_in l.fn.path.items (tree_at l.fn.depth l.frame l.fn.segment l.fn.at));
+      so_far : with_front l.found.items (run (each_field l.number (l.content.pointer_count - l.number)) l.limits.words) ≡ with_front l.fn.found.items (run (fields_in l.fn.path (tree_at l.fn.depth l.frame l.fn.segment l.fn.at)) l.fn.limits.words);
+      paid : l.fn.limits.words + price (each_field l.number (l.content.pointer_count - l.number)) ≡ l.limits.words + price (fields_in l.fn.path (tree_at l.fn.depth l.frame l.fn.segment l.fn.at));
       fewer_words : l.limits.words ≤ l.fn.limits.words;
-      same_path : l.path.items ≡ l.fn.path.items;
       same_depth : l.limits.depth ≡ l.fn.limits.depth;
     }

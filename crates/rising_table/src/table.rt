@@ -1,9 +1,11 @@
 //! Values by numbers, most of which come in rising order.
 
 ghost use Rattle.std.specs.Prelude.{◌≡◌, ◌==◌, ℕ, [], None, Some, OnOk, OnErr, IfOk, IfErr, IfSome, IsTrue, length, is_some, MatchOption, if◌then◌else◌};
-ghost use Rattle.std.specs.Option.{option_copied};
+ghost use Rattle.std.specs.Option.{option_copied, option_copied_mut};
+ghost use Rattle.std.specs.Borrow.{sem};
 ghost use Rattle.rising_table.specs.Entries.{entry_at};
 ghost use Rattle.rising_table.specs.Glue.{AreRising, IsAt, IsGapFor};
+ghost use Rattle.rising_table.specs.Lends.{lends_value};
 
 use std::alloc::{AllocError, Global};
 use std::collections::BTreeMap;
@@ -165,6 +167,17 @@ impl<V: Drop> RisingTable<V> {
                 Some(last) => Some(mem::replace(last, value)),
                 None => None,
             },
+        }
+    }
+
+    /// The value of this number, to be changed, if it has one.
+    pub fn get_mut(&mut self, key: u64) -> Option<&mut V>
+        ensures* writes_back { sem 𝓛 (lends_value V.row self.entry key result) }
+        ensures value { option_copied_mut result ≡ entry_at self.old key }
+    {
+        match search(&self.row, key) {
+            Ok(place) => Some(&mut self.row[place].1),
+            Err(_) => self.rest.get_mut(&key),
         }
     }
 

@@ -11,7 +11,7 @@ use Rattle.vat_log.specs.declared.body.Body.TheVariants.{Send, Receive}
 use Rattle.merge_order.specs.declared.ready_vats.ReadyVats.{ReadyVats}
 use Rattle.merge_order.specs.declared.waiting_vats.WaitingVats.{WaitingVats}
 use Rattle.merge_order.specs.Fits.{Part, sends_frame, sent_so_far, received_so_far, part_of, sent_by_the_others, may_follow, may_come_from, may_come, further, after}
-use Rattle.merge_order.specs.Waits.{is_ready, waits, next_from, next_of, awaited_by, sent_by, IsQueued, IsPutOff, IsWoken}
+use Rattle.merge_order.specs.Waits.{is_ready, waits, next_from, next_of, awaited_by, sent_by, IsQueued, IsPutOff, IsWoken, IsScheduled}
 use Rattle.merge_order.proofs.Greedy.{eqb_apart, further_log, other_stays, own_moves, part_stays, others_own, others_more}
 use Rattle.merge_order.proofs.Steps.{rising_tail, rising_after}
 use Rattle.merge_order.proofs.Tables.{none_more, count_next}
@@ -53,6 +53,22 @@ queued_begin ps ready waiting rising all = record {
   rising = rising;
   comes = λ v may. all v ∙ may_part ps v may;
   awaits = λ v connection e. ap (λ (b : Bool). b || waits waiting connection v) (all v ∙ awaits_part (part_of v ps) connection e);
+}
+
+-- ---- where nothing is left
+
+none_may : (v : ℕ) → may_come [] v ≡ false
+unfolding may_come
+none_may v = refl
+
+pub scheduled_none : (ready : ReadyVats) (waiting : WaitingVats) → IsScheduled [] ready waiting None
+scheduled_none ready waiting = record {
+  queued = record {
+    rising = λ i lt. omega (arith, lt);
+    comes = λ v may. absurd (false≢true (sym (none_may v) ∙ may));
+    awaits = λ v connection e. absurd cc;
+  };
+  least = none_may;
 }
 
 -- ---- a vat that was tried waits

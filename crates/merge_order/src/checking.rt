@@ -43,7 +43,7 @@ pub fn check_order(
         if !progress.may_come(*vat) {
             return Ok(OrderFinding::Fails(step as u64));
         }
-        progress = progress.take(*vat)?;
+        progress.take(*vat)?;
     }
     if progress.is_used_up() {
         Ok(OrderFinding::Fits)

@@ -22,6 +22,13 @@ impl Counts {
         }
     }
 
+    /// None came up any more.
+    pub fn clear(&mut self)
+        ensures { IsEmpty self.new }
+    {
+        self.counts.clear();
+    }
+
     /// How often this connection came up.
     pub fn of(&self, connection: u32) -> u64
         ensures { result ≡ count_on self.now connection }
@@ -35,8 +42,12 @@ impl Counts {
         ensures ok { OnOk result (IsRaisedByOne connection self.old self.new) }
         ensures err { OnErr result (HasSameCounts self.old self.new) }
     {
-        let count = self.of(connection) + 1;
-        self.counts.insert(connection, count)?;
+        match self.counts.get_mut(&connection) {
+            Some(count) => *count += 1,
+            None => {
+                self.counts.insert(connection, 1)?;
+            }
+        }
         Ok(())
     }
 }

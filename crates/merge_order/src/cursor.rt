@@ -36,6 +36,7 @@ impl Model for Cursor {
 impl Cursor {
     ghost use Rattle.merge_order.specs.Fits.{sent_so_far, received_so_far};
     ghost use Rattle.merge_order.specs.Glue.{RisesWith, one_further, count_on};
+    ghost use Rattle.merge_order.specs.Waits.{sent_by};
 
     /// At the log's begin.
     pub fn new(alloc: Global, log: &Arc<VatLog>) -> Result<Cursor, AllocError>
@@ -84,27 +85,34 @@ impl Cursor {
         self.received_counts.of(connection)
     }
 
-    /// Takes the next record, of which there is one; the totals rise with what it sends.
-    pub fn go_on(&mut self, totals: &mut Counts) -> Result<(), AllocError>
+    /// Takes the next record, of which there is one; the totals rise with what it sends. It answers the connection on which
+    /// the record sends a frame.
+    pub fn go_on(&mut self, totals: &mut Counts) -> Result<Option<u32>, AllocError>
         requires left { self.old.came < length self.old.log.records }
         // No count is full.
         requires few { self.old.came + 1 < 2 ^ 64 }
         requires roomy { (connection : ℕ) → count_on totals.old connection + 1 < 2 ^ 64 }
         ensures goes { OnOk result (self.new ≡ one_further self.old) }
         ensures adds { OnOk result (RisesWith self.old self.new totals.old totals.new) }
+        ensures sent { IfOk result
+            (λ sent. sent ≡ sent_by (slice_get self.old.log.records self.old.came)) }
     {
         let Some(event) = self.log.get(self.came) else {
             unreachable!()
         };
-        match event.body() {
+        let sent = match event.body() {
             Body::Send { connection, .. } => {
                 totals.raise(*connection)?;
                 self.sent_counts.raise(*connection)?;
+                Some(*connection)
             }
-            Body::Receive { connection, .. } => self.received_counts.raise(*connection)?,
-            _ => {}
-        }
+            Body::Receive { connection, .. } => {
+                self.received_counts.raise(*connection)?;
+                None
+            }
+            _ => None,
+        };
         self.came += 1;
-        Ok(())
+        Ok(sent)
     }
 }

@@ -29,7 +29,7 @@ pub fn make_order(alloc: Global, logs: &[Arc<VatLog>]) -> Result<Option<Order>, 
     let mut vats = Vec::new(alloc);
     while let Some(vat) = schedule.least() {
         vats.push(vat)?;
-        schedule = schedule.take(vat)?;
+        schedule.take(vat)?;
     }
     if schedule.is_used_up() {
         Ok(Some(Order::new(vats)))
@@ -49,7 +49,7 @@ pub fn begin_order(alloc: Global, logs: &[Arc<VatLog>]) -> Result<Order, AllocEr
     let mut vats = Vec::new(alloc);
     while let Some(vat) = schedule.least() {
         vats.push(vat)?;
-        schedule = schedule.take(vat)?;
+        schedule.take(vat)?;
     }
     let order = Order::new(vats);
     Ok(order)

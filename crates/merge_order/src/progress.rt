@@ -1,6 +1,6 @@
 //! Several logs, each with how many of its records came already.
 
-ghost use Rattle.std.specs.Prelude.{◌≡◌, ◌+◌, ◌<◌, ◌^◌, ℕ, true, Some, None, length, map, is_some, IfOk, MatchOption, slice_index_or};
+ghost use Rattle.std.specs.Prelude.{◌≡◌, ◌+◌, ◌<◌, ◌^◌, ℕ, true, Some, None, [], length, map, is_some, IfOk, OnOk, OnErr, MatchOption, slice_index_or};
 ghost use Rattle.std.specs.Arc.{arc_value};
 ghost use Rattle.std.specs.Option.{option_copied};
 
@@ -92,16 +92,6 @@ impl Progress {
         }
     }
 
-    /// The connection on which the next record of this vat sends a frame.
-    pub fn sent_next(&self, vat: u32) -> Option<u32>
-        ensures { result ≡ sent_by (next_of vat self.now) }
-    {
-        match self.find(vat)?.next()?.body() {
-            Body::Send { connection, .. } => Some(*connection),
-            _ => None,
-        }
-    }
-
     /// How many frames the other vats sent on the connection. The vat's own cursor is one of these.
     fn sent_by_others(&self, own: &Cursor, connection: u32) -> u64
         requires { part_of own.now.log.vat self.now ≡ Some own.now }
@@ -138,23 +128,36 @@ impl Progress {
         self.may_go_on(own)
     }
 
-    /// Takes the next record of this vat, which may come. Where memory is refused, nothing is left of the progress.
-    pub fn take(self, vat: u32) -> Result<Progress, AllocError>
-        requires may { may_come self vat ≡ true }
+    /// Takes the next record of this vat, which may come, and answers the connection on which it sends a frame. Where memory
+    /// is refused, nothing is left of the progress.
+    pub fn take(&mut self, vat: u32) -> Result<Option<u32>, AllocError>
+        requires may { may_come self.old vat ≡ true }
         // No count is full.
-        requires few { came_by_all self + 1 < 2 ^ 64 }
-        ensures later { IfOk result (λ later. later ≡ after vat self) }
-        ensures count { IfOk result (λ later. came_by_all later ≡ came_by_all self + 1) }
+        requires few { came_by_all self.old + 1 < 2 ^ 64 }
+        ensures later { OnOk result (self.new ≡ after vat self.old) }
+        ensures count { OnOk result (came_by_all self.new ≡ came_by_all self.old + 1) }
+        ensures sent { IfOk result (λ sent. sent ≡ sent_by (next_of vat self.old)) }
+        ensures err { OnErr result (self.new ≡ []) }
     {
         let Some(at) = self.place_of(vat) else {
             unreachable!()
         };
-        let Progress {
-            mut cursors,
-            mut totals,
-        } = self;
-        cursors[at].go_on(&mut totals)?;
-        Ok(Progress { cursors, totals })
+        match self.cursors[at].go_on(&mut self.totals) {
+            Ok(sent) => Ok(sent),
+            Err(error) => {
+                self.cursors.clear();
+                self.totals.clear();
+                Err(error)
+            }
+        }
+    }
+
+    /// Nothing is left of the progress, which has no logs any more.
+    pub fn clear(&mut self)
+        ensures { self.new ≡ [] }
+    {
+        self.cursors.clear();
+        self.totals.clear();
     }
 
     /// Whether all records came.

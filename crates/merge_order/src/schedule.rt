@@ -38,7 +38,7 @@ impl Model for Schedule {
 impl Schedule {
     ghost use Rattle.merge_order.specs.Fits.{IsRising, begin, may_come, after, used_up};
     ghost use Rattle.merge_order.specs.Glue.{came_by_all};
-    ghost use Rattle.merge_order.specs.Waits.{IsQueued, IsPutOff, IsWoken};
+    ghost use Rattle.merge_order.specs.Waits.{IsQueued, IsPutOff, IsWoken, IsScheduled};
 
     /// Before the first step.
     pub fn new(alloc: Global, logs: &[Arc<VatLog>]) -> Result<Schedule, AllocError>
@@ -46,8 +46,15 @@ impl Schedule {
         ensures { IfOk result (λ schedule. schedule ≡ begin (map arc_value logs.now)) }
     {
         let progress = Progress::new(alloc, logs)?;
-        let ready = progress.vats(alloc)?;
-        Schedule::settle(progress, ready, WaitingVats::new(alloc))
+        let mut ready = progress.vats(alloc)?;
+        let mut waiting = WaitingVats::new(alloc);
+        let first = Schedule::settle(&progress, &mut ready, &mut waiting)?;
+        Ok(Schedule {
+            progress,
+            ready,
+            waiting,
+            first,
+        })
     }
 
     /// This vat waits now, where its next record is a RECV.
@@ -76,33 +83,43 @@ impl Schedule {
         Ok(())
     }
 
-    /// Lets each ready vat that may not come yet wait, up to the first that may come.
+    /// Lets each ready vat that may not come yet wait, up to the first that may come, which it answers.
     fn settle(
-        progress: Progress,
-        mut ready: ReadyVats,
-        mut waiting: WaitingVats,
-    ) -> Result<Schedule, AllocError>
-        requires { IsQueued progress ready waiting }
-        ensures { IfOk result (λ schedule. schedule ≡ progress) }
+        progress: &Progress,
+        ready: &mut ReadyVats,
+        waiting: &mut WaitingVats,
+    ) -> Result<Option<u32>, AllocError>
+        requires { IsQueued progress.now ready.old waiting.old }
+        ensures { IfOk result (IsScheduled progress.now ready.new waiting.new) }
     {
         while let Some(vat) = ready.least() {
             if progress.may_come(vat) {
-                return Ok(Schedule {
-                    progress,
-                    ready,
-                    waiting,
-                    first: Some(vat),
-                });
+                return Ok(Some(vat));
             }
-            Schedule::put_off(&progress, vat, &mut waiting)?;
+            Schedule::put_off(progress, vat, waiting)?;
             ready.remove(vat);
         }
-        Ok(Schedule {
-            progress,
-            ready,
-            waiting,
-            first: None,
-        })
+        Ok(None)
+    }
+
+    /// A step of this vat, which may come, and the vat whose next record may come then.
+    fn step(
+        progress: &mut Progress,
+        vat: u32,
+        ready: &mut ReadyVats,
+        waiting: &mut WaitingVats,
+    ) -> Result<Option<u32>, AllocError>
+        requires may { may_come progress.old vat ≡ true }
+        // No count is full.
+        requires few { came_by_all progress.old + 1 < 2 ^ 64 }
+        requires queued { IsQueued progress.old ready.old waiting.old }
+        ensures later { OnOk result (progress.new ≡ after vat progress.old) }
+        ensures count { OnOk result (came_by_all progress.new ≡ came_by_all progress.old + 1) }
+        ensures scheduled { IfOk result (IsScheduled progress.new ready.new waiting.new) }
+    {
+        let sent = progress.take(vat)?;
+        Schedule::wake(sent, ready, waiting)?;
+        Schedule::settle(progress, ready, waiting)
     }
 
     /// The smallest vat number whose next record may come.
@@ -115,23 +132,24 @@ impl Schedule {
     }
 
     /// Takes the next record of this vat, which may come. Where memory is refused, nothing is left of the schedule.
-    pub fn take(self, vat: u32) -> Result<Schedule, AllocError>
-        requires may { may_come self vat ≡ true }
+    pub fn take(&mut self, vat: u32) -> Result<(), AllocError>
+        requires may { may_come self.old vat ≡ true }
         // No count is full.
-        requires few { came_by_all self + 1 < 2 ^ 64 }
-        ensures later { IfOk result (λ later. later ≡ after vat self) }
-        ensures count { IfOk result (λ later. came_by_all later ≡ came_by_all self + 1) }
+        requires few { came_by_all self.old + 1 < 2 ^ 64 }
+        ensures later { OnOk result (self.new ≡ after vat self.old) }
+        ensures count { OnOk result (came_by_all self.new ≡ came_by_all self.old + 1) }
     {
-        let Schedule {
-            progress,
-            mut ready,
-            mut waiting,
-            first: _,
-        } = self;
-        let sent = progress.sent_next(vat);
-        let progress = progress.take(vat)?;
-        Schedule::wake(sent, &mut ready, &mut waiting)?;
-        Schedule::settle(progress, ready, waiting)
+        match Schedule::step(&mut self.progress, vat, &mut self.ready, &mut self.waiting) {
+            Ok(first) => {
+                self.first = first;
+                Ok(())
+            }
+            Err(error) => {
+                self.progress.clear();
+                self.first = None;
+                Err(error)
+            }
+        }
     }
 
     /// Whether all records came.

@@ -50,10 +50,11 @@ impl WaitingVats {
         ensures left { (on : ℕ) → waiting_on self.new on
             ≡ (if connection == on then [] else waiting_on self.old on) }
     {
-        let Some(vats) = self.vats.remove(&connection) else {
+        let Some(vats) = self.vats.get_mut(&connection) else {
             return Ok(());
         };
-        ready.add_all(&vats)?;
-        Ok(())
+        let woken = ready.add_all(vats);
+        vats.clear();
+        woken
     }
 }

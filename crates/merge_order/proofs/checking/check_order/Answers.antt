@@ -17,8 +17,8 @@ loop-step-preserved c =
     let vats = c.as_slice-vats.result.now in
     let at = c.loop-step.step in
     let front = drop_more vats at 0 (omega (arith, c.loop-step-test.true)) in (
-      rw c.in_ok-progress-2.ensures.later (checked_more c.loop-step.progress at (get_or vats at 0) (drop at vats) (drop (at + 1) vats) _ c.loop-step.invariant.0 front (sym c.may_come.ensures ∙ c.if-not-may_come.false)),
-      omega (arith, c.in_ok-progress-2.ensures.count, c.loop-step.invariant.1),
+      rw c.in_ok-take.ensures.later (checked_more c.loop-step.progress at (get_or vats at 0) (drop at vats) (drop (at + 1) vats) _ c.loop-step.invariant.0 front (sym c.may_come.ensures ∙ c.if-not-may_come.false)),
+      omega (arith, c.in_ok-take.ensures.count, c.loop-step.invariant.1),
     )
 
 pub returns-then-not-may_come-clause-exact : goal.returns-then-not-may_come-clause-exact

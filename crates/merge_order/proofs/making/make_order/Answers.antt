@@ -10,7 +10,7 @@ pub loop-vat-init : goal.loop-vat-init
 loop-vat-init c = rw (c.in_ok-schedule.ensures, c.new-vats.ensures.items) (made_none _, came_begin (map arc_value c.args.logs.now))
 
 pub loop-vat-smaller : goal.loop-vat-smaller
-loop-vat-smaller c = rw c.in_ok-schedule-2.ensures.later (falls c.in-Some.vat c.loop-vat.schedule c.in-Some.ensures.0)
+loop-vat-smaller c = rw c.in_ok-take.ensures.later (falls c.in-Some.vat c.loop-vat.schedule c.in-Some.ensures.0)
 
 pub take-requires-clause-few : goal.take-requires-clause-few
 take-requires-clause-few c = omega (arith, c.loop-vat.invariant.1, c.in_ok-push.ensures.len)
@@ -18,9 +18,9 @@ take-requires-clause-few c = omega (arith, c.loop-vat.invariant.1, c.in_ok-push.
 pub loop-vat-preserved : goal.loop-vat-preserved
 loop-vat-preserved c =
     let longer = ap length c.in_ok-push.ensures.items ∙ length-append c.loop-vat.vats.items (c.in-Some.vat ∷ []) in (
-      rw (c.in_ok-schedule-2.ensures.later, c.in_ok-push.ensures.items)
+      rw (c.in_ok-take.ensures.later, c.in_ok-push.ensures.items)
           (made_more _ c.loop-vat.schedule c.loop-vat.vats.items c.in-Some.vat c.in-Some.ensures.0 c.in-Some.ensures.1 c.loop-vat.invariant.0),
-      omega (arith, c.in_ok-schedule-2.ensures.count, c.loop-vat.invariant.1, longer),
+      omega (arith, c.in_ok-take.ensures.count, c.loop-vat.invariant.1, longer),
     )
 
 pub returns-then-is_used_up-clause-fits : goal.returns-then-is_used_up-clause-fits

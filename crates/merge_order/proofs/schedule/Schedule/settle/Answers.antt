@@ -3,13 +3,5 @@ use Rattle.merge_order.proofs.Scheduling.{queued_tried}
 use Rattle.merge_order.proofs.schedule.Schedule.settle.Goals as goal
 
 pub loop-vat-preserved : goal.loop-vat-preserved
-loop-vat-preserved c = record {
-  same = c.loop-vat.invariant.same;
-  queued = queued_tried _ c.loop-vat.ready c.remove.new.self c.loop-vat.waiting c.put_off.new.waiting c.in-Some.vat c.loop-vat.invariant.queued (sym c.may_come.ensures ∙ c.if-may_come.false) c.in_ok-put_off.ensures c.remove.ensures.others;
-}
-
-pub returns-then-may_come : goal.returns-then-may_come
-returns-then-may_come c = c.loop-vat.invariant.same
-
-pub returns : goal.returns
-returns c = c.loop-vat.invariant.same
+loop-vat-preserved c =
+    queued_tried _ c.loop-vat.ready c.remove.new.self c.loop-vat.waiting c.put_off.new.waiting c.in-Some.vat c.loop-vat.invariant (sym c.may_come.ensures ∙ c.if-may_come.false) c.in_ok-put_off.ensures c.remove.ensures.others

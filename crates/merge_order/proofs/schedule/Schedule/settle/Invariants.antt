@@ -1,9 +1,8 @@
-use Rattle.std.proofs.Common.{◌≡◌}
 use Rattle.merge_order.specs.Waits.{IsQueued, ready_count}
 use Rattle.merge_order.proofs.schedule.Schedule.settle.Given as goal
 
 abbrev pub invariant-loop-vat : goal.invariant-loop-vat
-invariant-loop-vat l = record { same : l.progress ≡ l.fn.progress; queued : IsQueued l.progress l.ready l.waiting }
+invariant-loop-vat l = IsQueued l.progress l.ready l.waiting
 
 abbrev pub decreases-loop-vat : goal.decreases-loop-vat
 decreases-loop-vat l = ready_count l.ready

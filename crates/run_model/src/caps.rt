@@ -41,7 +41,7 @@ impl Caps {
     pub(crate) fn copy(&self) -> Result<Caps, AllocError>
         ensures { IfOk result (λ copied. copied ≡ self.now) }
     {
-        let mut caps = Vec::new(*self.caps.allocator());
+        let mut caps = Vec::with_capacity(*self.caps.allocator(), self.caps.len())?;
         for cap in &self.caps {
             caps.push(cap.copy()?)?;
         }

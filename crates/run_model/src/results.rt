@@ -42,7 +42,7 @@ impl Results {
     pub(crate) fn copy(&self) -> Result<Results, AllocError>
         ensures { IfOk result (λ copied. copied ≡ self.now) }
     {
-        let mut results = Vec::new(*self.results.allocator());
+        let mut results = Vec::with_capacity(*self.results.allocator(), self.results.len())?;
         for (path, cap) in &self.results {
             results.push((path.copy()?, cap.copy()?))?;
         }

@@ -29,8 +29,16 @@ impl StepNumbers {
         ensures counts { OnOk result (IsStepCounted vat self.old self.new) }
         ensures answer { IfOk result (λ number. number ≡ step_count self.old vat) }
     {
-        let number = self.entries.get(&vat).copied().unwrap_or(0);
-        self.entries.insert(vat, number + 1)?;
-        Ok(number)
+        match self.entries.get_mut(&vat) {
+            Some(count) => {
+                let number = *count;
+                *count += 1;
+                Ok(number)
+            }
+            None => {
+                self.entries.insert(vat, 1)?;
+                Ok(0)
+            }
+        }
     }
 }

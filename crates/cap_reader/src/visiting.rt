@@ -95,6 +95,7 @@ pub fn enter(
 
 /// The struct at the pointer at a place, None where it is null.
 #[tactic(auto, using(crate::proofs::OtherKinds::list_is_no_structure), unfolding(crate::specs::Tree::tree_behind, crate::specs::Reading::pay_for))]
+#[inline(always)]
 fn struct_at(
     frame: &Frame,
     segment: u32,
@@ -166,6 +167,7 @@ pub fn composite(
 
 /// The list of structs at the pointer at a place, None where it is null.
 #[tactic(auto, using(crate::proofs::OtherKinds::structure_is_no_list), unfolding(crate::specs::Tree::tree_behind, crate::specs::Tree::list_there))]
+#[inline(always)]
 fn list_at(frame: &Frame, segment: u32, at: u64, depth: u8) -> Result<Option<ListAt>, ReadError>
     requires { at < 2 ^ 40 }
     ensures { Gives (λ found. option_map (elements_at frame.now) found) result
@@ -218,6 +220,7 @@ pub fn root(frame: &Frame, limits: &mut Limits) -> Result<StructAt, ReadError>
 ///
 /// Each of [`ReadError`] but `OutOfMemory`, in the order that is told there. The words left are as they were.
 #[tactic(auto, unfolding(crate::specs::Reading::pay_for))]
+#[inline(always)]
 pub fn struct_field(
     frame: &Frame,
     place: &StructAt,
@@ -243,6 +246,7 @@ pub fn struct_field(
 /// structs, or its tag isn't a struct's; else `OutOfSegment` where the list leaves its segment, or its elements the
 /// list. A list whose very tag leaves the segment is `OutOfSegment`.
 #[tactic(auto, unfolding(crate::specs::Reading::pay_for))]
+#[inline(always)]
 pub fn list_field(
     frame: &Frame,
     place: &StructAt,

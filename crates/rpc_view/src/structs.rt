@@ -25,6 +25,7 @@ pub fn root_struct(frame: &Frame, limits: &mut Limits) -> Result<Option<StructAt
 
 /// The struct at a pointer of a struct.
 #[tactic(auto, unfolding(crate::specs::Reading::part, cap_reader::specs::Reading::pay_for, cap_reader::specs::Reading::and_then))]
+#[inline(always)]
 pub fn struct_in(
     frame: &Frame,
     place: &Option<StructAt>,
@@ -42,6 +43,7 @@ pub fn struct_in(
 
 /// The list of structs at a pointer of a struct.
 #[tactic(auto, unfolding(crate::specs::Reading::part, cap_reader::specs::Reading::pay_for, cap_reader::specs::Reading::and_then))]
+#[inline(always)]
 pub fn list_in(
     frame: &Frame,
     place: &Option<StructAt>,

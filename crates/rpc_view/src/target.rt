@@ -15,6 +15,7 @@ use std::alloc::Global;
 
 /// The target at a pointer of a struct.
 #[tactic(auto, using(crate::proofs::Running::run_then), unfolding(crate::specs::Message::target_in, cap_reader::specs::Reading::pay_for, cap_reader::specs::Reading::and_then))]
+#[inline(always)]
 pub fn target(
     alloc: Global,
     frame: &Frame,

@@ -1,12 +1,12 @@
 -- What a write through a lent value is to look-ups.
-use Rattle.std.proofs.Common.{◌≡◌, ℕ, List, [], ◌∷◌, ◌++◌, length, set, get_or, Some, None, Option, Bool, true, false, inl, inr, refl, sym, ap, ◌∙◌, ◌==◌, ◌+◌, if◌then◌else◌, arith}
+use Rattle.std.proofs.Common.{◌≡◌, ℕ, List, [], ◌∷◌, ◌++◌, length, set, get_or, Some, None, Bool, true, false, refl, sym, ap, ◌∙◌, ◌==◌, ◌+◌, if◌then◌else◌, arith}
 use Rattle.std.specs.Prelude.{option_map}
 use Rattle.std.specs.Option.{option_or}
 use Rattle.std.specs.Ordering.{nat_cmp}
 use Rattle.std.specs.Cmp.{unsigned_ties}
 use Rattle.std.specs.Map.{set_value}
 use Rattle.std.specs.BTreeMap.{is_at}
-use Rattle.std.proofs.lemmas.Bool.{eqb-true, cases_Bool}
+use Rattle.std.proofs.lemmas.Bool.{eqb-true}
 use Rattle.std.proofs.lemmas.Bool.Decides.{nat_tests}
 use Rattle.std.proofs.lemmas.List.{length-append, length-set}
 use Rattle.std.proofs.lemmas.Map.{length-set_value}

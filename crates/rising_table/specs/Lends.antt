@@ -1,6 +1,6 @@
 -- What a table ends as, where a `&mut` to one of its values is returned.
 use Rattle.std.specs.Prelude.{ℕ, ◌≡◌, ◌==◌, List, Option, option_map, length, if◌then◌else◌}
-use Rattle.std.specs.Borrow.{Lends, LendsSo, Fml, RattleType, MutBor}
+use Rattle.std.specs.Borrow.{LendsSo, Fml, RattleType, MutBor}
 use Rattle.rising_table.specs.Entries.{entry_at}
 use Rattle.rising_table.specs.contracts.table.RisingTable.{the_row}
 

@@ -74,16 +74,13 @@ fn near_the_end<V>(row: &[(u64, V)], key: u64) -> Option<Result<usize, usize>>
     None
 }
 
-/// Where a number is in a row, or where it would go. Mostly it is where it would be if none were left out before it, or
-/// above all, or among the last.
-fn search<V>(row: &[(u64, V)], key: u64) -> Result<usize, usize>
+/// Where a number is in a row, or where it would go, looked for from the row's end: above all, or among the last, or
+/// anywhere.
+fn search_from_end<V>(row: &[(u64, V)], key: u64) -> Result<usize, usize>
     requires { AreRising row.now }
     ensures found { IfOk result (IsAt row.now key) }
     ensures absent { IfErr result (IsGapFor row.now key) }
 {
-    if let Some(place) = place_by_count(row, key) {
-        return Ok(place);
-    }
     if is_above(row, key) {
         return Err(row.len());
     }
@@ -91,6 +88,18 @@ fn search<V>(row: &[(u64, V)], key: u64) -> Result<usize, usize>
         return place;
     }
     row.binary_search_by_key(&key, |entry| entry.0)
+}
+
+/// Where a number is in a row, or where it would go. Mostly it is where it would be if none were left out before it.
+fn search<V>(row: &[(u64, V)], key: u64) -> Result<usize, usize>
+    requires { AreRising row.now }
+    ensures found { IfOk result (IsAt row.now key) }
+    ensures absent { IfErr result (IsGapFor row.now key) }
+{
+    match place_by_count(row, key) {
+        Some(place) => Ok(place),
+        None => search_from_end(row, key),
+    }
 }
 
 impl<V: Drop> RisingTable<V> {
@@ -139,7 +148,7 @@ impl<V: Drop> RisingTable<V> {
             ≡ (if key == q then Some value else entry_at self.old q)) }
         ensures err { OnErr result (self.new ≡ self.old) }
     {
-        match search(&self.row, key) {
+        match search_from_end(&self.row, key) {
             Ok(place) => self.row[place] = (key, value),
             Err(place) if place == self.row.len() => self.row.push((key, value))?,
             Err(_) => {

@@ -1,7 +1,7 @@
 use Rattle.std.proofs.Common.{rules}
 use Rattle.std.proofs.lemmas.List.Sorted.{answers_always}
 use Rattle.rising_table.proofs.Finding.{found, missed}
-use Rattle.rising_table.proofs.table.search.Goals as goal
+use Rattle.rising_table.proofs.table.search_from_end.Goals as goal
 
 -- the closure gives an entry's number
 pub returns-clause-found : goal.returns-clause-found

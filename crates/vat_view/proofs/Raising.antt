@@ -8,14 +8,11 @@ use Rattle.vat_view.specs.declared.record.origin.Life.{Life}
 use Rattle.vat_view.specs.declared.record.origin.Origin.{Origin}
 use Rattle.vat_view.specs.Types.{TableKey}
 use Rattle.vat_view.specs.Past.{same_id}
-use Rattle.vat_view.specs.Glue.Tables.{begun_at, kept_origin, raised_origin}
+use Rattle.vat_view.specs.Glue.Tables.{raised_origin}
 use Rattle.vat_view.proofs.Naming.{same_id_is, same_id_self}
 
 abbrev pub count_in : Option Life → ℕ
 count_in o = unwrap_or (option_map (λ life. life.count) o) 0
-
-abbrev pub origin_in : Option Life → Option Origin
-origin_in o = option_map begun_at o
 
 pub apart_sym : (a b : TableKey) → same_id a b ≡ false → same_id b a ≡ false
 apart_sym a b e = elim (cases_Bool (same_id b a)) [
@@ -23,16 +20,21 @@ apart_sym a b e = elim (cases_Bool (same_id b a)) [
   | inr apart ↦ apart
 ]
 
-kept_if : (b : Bool) (o p : Origin) → Some (if b then o else p) ≡ (if b then Some o else Some p)
-kept_if true o p = refl
-kept_if false o p = refl
+-- where a number had a life, what is written in its place is put there
+pub put_written : (old : TableKey → Option Life) (n : TableKey) (life w : Life) → Some life ≡ old n → (i : TableKey) →
+    (if same_id n i then option_map (λ _. w) (old i) else old i) ≡ (if same_id n i then Some w else old i)
+put_written old n life w had i = at (same_id n i) refl
+  where
+    at : (b : Bool) → same_id n i ≡ b → (if b then option_map (λ _. w) (old i) else old i) ≡ (if b then Some w else old i)
+    at true same = ap (λ o. option_map (λ _. w) o) (ap (λ x. old x) (sym (same_id_is n i same)) ∙ sym had)
+    at false other = refl
 
-kept_at : (old : Option Life) (origin : Origin) → Some (kept_origin old origin) ≡ (if true && (count_in old == 0) then Some origin else origin_in old)
-kept_at None origin = refl
-kept_at (Some life) origin = kept_if (life.count == 0) origin (begun_at life)
+pub if_ok : {A E P Q : Type 0} (r : Result A E) → OnOk r P → (P → Q) → OnOk r Q
+if_ok (Ok x) p f = f p
+if_ok (Err e) p f = tt
 
-module _ (old new : TableKey → Option Life) (n : TableKey) (w : Life) (origin : Origin)
-    (put : (i : TableKey) → new i ≡ (if same_id n i then Some w else old i)) (count_is : w.count ≡ count_in (old n) + 1) (origin_is : begun_at w ≡ kept_origin (old n) origin) where
+module _ (old new : TableKey → Option Life) (n : TableKey) (w : Life)
+    (put : (i : TableKey) → new i ≡ (if same_id n i then Some w else old i)) (count_is : w.count ≡ count_in (old n) + 1) where
   at_it : new n ≡ Some w
   at_it = put n ∙ ap (λ b. if b then Some w else old n) (same_id_self n)
 
@@ -44,14 +46,6 @@ module _ (old new : TableKey → Option Life) (n : TableKey) (w : Life) (origin 
     | inl same ↦ subst (λ x. count_in (new x) ≡ count_in (old x) + (if same_id x n then 1 else 0)) (sym (same_id_is i n same))
         (ap (λ o. count_in o) at_it ∙ count_is ∙ ap (λ b. count_in (old n) + (if b then 1 else 0)) (sym (same_id_self n)))
     | inr apart ↦ let here : count_in (new i) ≡ count_in (old i) = ap (λ o. count_in o) (at_other i apart) in rw apart (omega (arith, here))
-  ]
-
-  pub raised_origin_is : (i : TableKey) → origin_in (new i) ≡ (if same_id i n && (count_in (old i) == 0) then Some origin else origin_in (old i))
-  raised_origin_is i = elim (cases_Bool (same_id i n)) [
-    | inl same ↦ subst (λ x. origin_in (new x) ≡ (if same_id x n && (count_in (old x) == 0) then Some origin else origin_in (old x))) (sym (same_id_is i n same))
-        (ap (λ o. origin_in o) at_it ∙ ap (λ o. Some o) origin_is ∙ kept_at (old n) origin
-        ∙ ap (λ b. if b && (count_in (old n) == 0) then Some origin else origin_in (old n)) (sym (same_id_self n)))
-    | inr apart ↦ ap (λ o. origin_in o) (at_other i apart) ∙ ap (λ b. if b && (count_in (old i) == 0) then Some origin else origin_in (old i)) (sym apart)
   ]
 
 -- ---- one introduction more in a list

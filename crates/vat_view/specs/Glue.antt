@@ -5,6 +5,7 @@ pub mod ConnectionTables
 pub mod Ids
 pub mod Kept
 pub mod KindTables
+pub mod LentSides
 pub mod LoopTables
 pub mod Queues
 pub mod Seen

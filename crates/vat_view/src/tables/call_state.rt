@@ -91,9 +91,9 @@ impl CallEntry {
         if self.aimed { Some(&self.goal) } else { None }
     }
 
-    /// How far a call is once this has happened to it.
-    pub(crate) fn after(mut self, step: CallChange) -> CallEntry
-        ensures { call_state_in result ≡ after_change step (call_state_in self) }
+    /// This happens to the call.
+    pub(crate) fn change(&mut self, step: CallChange)
+        ensures { call_state_in self.new ≡ after_change step (call_state_in self.old) }
     {
         match step {
             CallChange::Left => self.at_vat = false,
@@ -111,7 +111,6 @@ impl CallEntry {
             }
             CallChange::Known => self.known = true,
         }
-        self
     }
 }
 

@@ -149,15 +149,8 @@ impl Calls {
             ≡ (if call == c then option_map (after_change step) (call_state_at self.old c)
             else call_state_at self.old c) }
     {
-        let held = CallEntry::new(CallState {
-            asked: None,
-            at_vat: false,
-            served: false,
-            settled: false,
-            known: false,
-        });
-        if let Some(entry) = self.entries.replace(call, held) {
-            let _ = self.entries.replace(call, entry.after(step));
+        if let Some(entry) = self.entries.get_mut(call) {
+            entry.change(step);
         }
     }
 }

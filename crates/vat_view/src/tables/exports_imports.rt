@@ -4,12 +4,27 @@ ghost use Rattle.std.specs.Prelude.{◌≡◌, ◌+◌, ◌-◌, ◌<◌, ◌==�
 ghost use Rattle.std.specs.Option.{option_or};
 ghost use Rattle.vat_view.specs.declared.record.table_key.TableKey.{TableKey};
 ghost use Rattle.vat_view.specs.Past.{same_id};
-ghost use Rattle.vat_view.specs.Glue.Tables.{life_at, count_at, origin_at, kept_origin, held_origin, raised_origin};
+ghost use Rattle.vat_view.specs.Glue.Tables.{life_at, count_at, origin_at, begun_at, kept_origin, held_origin, raised_origin};
 
 use crate::record::origin::{Life, Origin};
 use crate::record::table_key::TableKey;
 use crate::tables::by_connection::ByConnection;
 use std::alloc::{AllocError, Global};
+
+/// This life's number is held once more, and the life begins here where the number wasn't held. Where it can't be, which
+/// is answered as memory that is refused, nothing changes.
+fn raise_life(life: &mut Life, origin: Origin) -> Result<(), AllocError>
+    ensures count { OnOk result (life.new.count ≡ life.old.count + 1) }
+    ensures origin { OnOk result (begun_at life.new ≡ kept_origin (Some life.old) origin) }
+    ensures err { OnErr result (life.new ≡ life.old) }
+{
+    if life.count == 0 {
+        *life = Life::new(1, origin)?;
+        return Ok(());
+    }
+    life.count = life.count.checked_add(1).ok_or(AllocError)?;
+    Ok(())
+}
 
 /// How often each number is held, and where its life began.
 #[derive(Drop)]
@@ -52,16 +67,6 @@ impl ExportsImports {
         }
     }
 
-    /// Where the life of this number began, if it is held; else this.
-    fn origin_or(&self, number: TableKey, origin: Origin) -> Origin
-        ensures { result ≡ kept_origin (life_at self.now number) origin }
-    {
-        match self.entries.get(number) {
-            Some(life) if life.count > 0 => life.origin(),
-            _ => origin,
-        }
-    }
-
     /// This number is held once more, and its life begins here where it wasn't held. Where memory is refused, nothing
     /// changes; a count of 2^64, which takes as many introductions, is answered so too.
     fn raise(&mut self, number: TableKey, origin: Origin) -> Result<(), AllocError>
@@ -74,11 +79,10 @@ impl ExportsImports {
             else origin_at self.old i)) }
         ensures err { OnErr result ((i : TableKey) → life_at self.new i ≡ life_at self.old i) }
     {
-        let count = self.count_of(number).checked_add(1).ok_or(AllocError)?;
-        let origin = self.origin_or(number, origin);
-        let life = Life::new(count, origin)?;
-        self.entries.put(number, life)?;
-        Ok(())
+        match self.entries.get_mut(number) {
+            Some(life) => raise_life(life, origin),
+            None => self.entries.put(number, Life::new(1, origin)?),
+        }
     }
 
     /// This number is held so much less often, down to 0.
@@ -87,9 +91,8 @@ impl ExportsImports {
             ≡ count_at self.old i - (if same_id i number then by else 0) }
         ensures origins { (i : TableKey) → origin_at self.new i ≡ origin_at self.old i }
     {
-        if let Some(life) = self.entries.get(number) {
-            let lowered = life.less(by);
-            let _ = self.entries.replace(number, lowered);
+        if let Some(life) = self.entries.get_mut(number) {
+            *life = life.less(by);
         }
     }
 

@@ -52,19 +52,4 @@ impl Question {
     {
         self.returned && self.finished
     }
-
-    /// What holds the place of what is known while that is changed. It takes no memory.
-    pub(crate) fn blank() -> Question {
-        Question {
-            call: 0,
-            tail: false,
-            returned: false,
-            returned_lightly: false,
-            finished: false,
-            released: false,
-            taken: false,
-            asked: TableKeys::none(),
-            brought: TableKeys::none(),
-        }
-    }
 }

@@ -68,11 +68,10 @@ impl Questions {
             (λ known. if light then with_light_return (with_return brought known)
             else with_return brought known) self.old self.new }
     {
-        if let Some(mut known) = self.entries.replace(question, Question::blank()) {
+        if let Some(known) = self.entries.get_mut(question) {
             known.returned = true;
             known.returned_lightly = known.returned_lightly || light;
             known.brought = brought;
-            let _ = self.entries.replace(question, known);
         }
     }
 
@@ -82,10 +81,9 @@ impl Questions {
             (λ known. if released then with_release (with_finish known) else with_finish known)
             self.old self.new }
     {
-        if let Some(mut known) = self.entries.replace(question, Question::blank()) {
+        if let Some(known) = self.entries.get_mut(question) {
             known.finished = true;
             known.released = known.released || released;
-            let _ = self.entries.replace(question, known);
         }
     }
 
@@ -93,9 +91,8 @@ impl Questions {
     pub(crate) fn note_taken(&mut self, question: TableKey)
         ensures { IsChanged question with_taken self.old self.new }
     {
-        if let Some(mut known) = self.entries.replace(question, Question::blank()) {
+        if let Some(known) = self.entries.get_mut(question) {
             known.taken = true;
-            let _ = self.entries.replace(question, known);
         }
     }
 }

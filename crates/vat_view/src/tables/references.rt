@@ -91,12 +91,8 @@ impl BoundReferences {
         if self.dropped {
             return;
         }
-        let held = Binding {
-            view: View::Object(reference),
-            ahead,
-        };
-        if let Some(Binding { view, .. }) = self.entries.replace(reference, held) {
-            let _ = self.entries.replace(reference, Binding { view, ahead });
+        if let Some(binding) = self.entries.get_mut(reference) {
+            binding.ahead = ahead;
         }
     }
 

@@ -1,9 +1,9 @@
 //! Where the order of calls is broken.
 
-ghost use Rattle.std.specs.Prelude.{◌≡◌, ◌<◌, ◌^◌, ℕ, Some, length, IfOk};
+ghost use Rattle.std.specs.Prelude.{◌≡◌, ◌<◌, ◌^◌, ℕ, Some, None, false, length, IfOk};
 ghost use Rattle.run_model.specs.Steps.{steps_of};
 ghost use Rattle.run_model.specs.Early.{IsOrderFault};
-ghost use Rattle.call_trace.specs.Glue.Overtaking.{lesser, goes_before};
+ghost use Rattle.call_trace.specs.Glue.Overtaking.{AreOvertaken, lesser, goes_before};
 
 use crate::latest::Latest;
 use crate::overtaking::last_overtakings;
@@ -30,6 +30,19 @@ fn is_early(step: &Step, place: usize, until: &Latest) -> bool
     }
 }
 
+/// Whether a step of these delivers a call that is overtaken.
+fn is_any_early(steps: &[Step], until: &Latest) -> bool
+    requires { AreOvertaken steps.now until.now }
+    ensures { result ≡ false → IsOrderFault steps.now None }
+{
+    for (index, step) in steps.iter().enumerate() {
+        if is_early(step, index + 1, until) {
+            return true;
+        }
+    }
+    false
+}
+
 /// Where the run breaks the order of calls: a step that delivers a call although another, which was made before it through
 /// the same reference, is delivered only later. The step is told by its vat and by how many steps of that vat stand before
 /// it; of several the one of the smallest vat, and then the first. None where the run keeps the order. Each vat has fewer
@@ -40,6 +53,9 @@ pub fn order_fault(alloc: Global, run: &Run) -> Result<Option<(u32, u32)>, Alloc
 {
     let steps = run.steps();
     let until = last_overtakings(alloc, steps)?;
+    if !is_any_early(steps, &until) {
+        return Ok(None);
+    }
     let mut numbers = StepNumbers::new(alloc);
     let mut fault = None;
     for (index, step) in steps.iter().enumerate() {

@@ -1,15 +1,36 @@
 //! Places in a run, noted by vat and number.
 
-ghost use Rattle.std.specs.Prelude.{◌≡◌, ℕ, OnOk};
-ghost use Rattle.call_trace.specs.Glue.Overtaking.{latest_of, IsRaised};
+ghost use Rattle.std.specs.Prelude.{◌≡◌, ◌==◌, ℕ, OnOk, max, if◌then◌else◌};
+ghost use Rattle.call_trace.specs.Glue.Overtaking.{place_in, latest_of, IsRaised};
 
+use rising_table::RisingTable;
 use std::alloc::{AllocError, Global};
 use std::collections::BTreeMap;
 
-/// The latest place that was noted for each number of each vat, and 0 where none was.
+/// The latest place that was noted for each number of each vat, and 0 where none was. Most numbers of a vat come in rising
+/// order.
 #[derive(Drop)]
 pub(crate) struct Latest {
-    entries: BTreeMap<(u32, u64), usize>,
+    alloc: Global,
+    vats: BTreeMap<u32, RisingTable<usize>>,
+}
+
+/// The place that a vat's table has of this number.
+fn place_in(places: &RisingTable<usize>, number: u64) -> usize
+    ensures { result ≡ place_in places.now number }
+{
+    places.get(number).copied().unwrap_or(0)
+}
+
+/// Notes a place in a vat's table, which counts where it is later than those before.
+fn raise_in(places: &mut RisingTable<usize>, number: u64, place: usize) -> Result<(), AllocError>
+    ensures { OnOk result ((n : ℕ) → place_in places.new n
+        ≡ (if number == n then max place (place_in places.old n) else place_in places.old n)) }
+{
+    if place_in(places, number) < place {
+        places.put(number, place)?;
+    }
+    Ok(())
 }
 
 impl Latest {
@@ -18,7 +39,8 @@ impl Latest {
         ensures { (vat number : ℕ) → latest_of result vat number ≡ 0 }
     {
         Latest {
-            entries: BTreeMap::new(alloc),
+            alloc,
+            vats: BTreeMap::new(alloc),
         }
     }
 
@@ -26,8 +48,8 @@ impl Latest {
     pub(crate) fn of(&self, vat: u32, number: u64) -> usize
         ensures { result ≡ latest_of self.now vat number }
     {
-        match self.entries.get(&(vat, number)) {
-            Some(place) => *place,
+        match self.vats.get(&vat) {
+            Some(places) => place_in(places, number),
             None => 0,
         }
     }
@@ -36,9 +58,14 @@ impl Latest {
     pub(crate) fn raise(&mut self, vat: u32, number: u64, place: usize) -> Result<(), AllocError>
         ensures { OnOk result (IsRaised vat number place self.old self.new) }
     {
-        if self.of(vat, number) < place {
-            self.entries.insert((vat, number), place)?;
+        match self.vats.get_mut(&vat) {
+            Some(places) => raise_in(places, number, place),
+            None => {
+                let mut places = RisingTable::new(self.alloc);
+                raise_in(&mut places, number, place)?;
+                self.vats.insert(vat, places)?;
+                Ok(())
+            }
         }
-        Ok(())
     }
 }

@@ -1,8 +1,7 @@
 -- For the code's contracts, and no part of the meaning: the tables that are kept of each vat and of all connections, and
 -- how its calls and views are named by them.
 use Rattle.std.specs.Prelude.{◌≡◌, ◌==◌, ◌+◌, ◌++◌, ◌∷◌, ℕ, List, [], true, false, Option, Some, None, if◌then◌else◌, IsSome, map, reverse, option_and_then, option_map, slice_get}
-use Rattle.std.specs.BTreeMap.{get}
-use Rattle.std.specs.Ordering.{nat_cmp}
+use Rattle.rising_table.specs.Entries.{entry_at}
 use Rattle.call_trace.specs.declared.records.call_names.CallNames.{CallNames}
 use Rattle.call_trace.specs.declared.records.vat_ledger.VatLedger.{VatLedger}
 use Rattle.call_trace.specs.Naming.{Naming, message_of_step, call_named, cap_at}
@@ -26,7 +25,7 @@ use Rattle.run_model.specs.declared.step.Step.TheVariants as step
 
 -- the name that the table has of a call
 abbrev pub name_at : CallNames → ℕ → Option Name
-name_at table c = get nat_cmp table.entries c
+name_at table c = entry_at table.entries c
 
 -- the step of the record of this number, by the numbers of the steps
 abbrev pub step_in : List Step → List ℕ → ℕ → Option Step

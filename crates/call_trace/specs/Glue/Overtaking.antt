@@ -5,6 +5,8 @@ use Rattle.std.specs.List.{list_any}
 use Rattle.std.specs.Ordering.{nat_cmp, ordering_then}
 use Rattle.std.specs.declared.cmp.Ordering.{Ordering}
 use Rattle.std.specs.BTreeMap.{get}
+use Rattle.std.specs.Option.{option_map}
+use Rattle.rising_table.specs.Entries.{entry_at}
 use Rattle.run_model.specs.Early.{overtakes}
 use Rattle.run_model.specs.Legal.{delivers_call}
 use Rattle.run_model.specs.declared.step.Step.TheVariants.{Deliver}
@@ -15,9 +17,13 @@ use Rattle.call_trace.specs.declared.latest.Latest.{Latest}
 abbrev pub key_cmp : ℕ × ℕ → ℕ × ℕ → Ordering
 key_cmp x y = ordering_then (nat_cmp x.0 y.0) (nat_cmp x.1 y.1)
 
+-- the place that a vat's table has of a number
+abbrev pub place_in : List (ℕ × ℕ) → ℕ → ℕ
+place_in places number = unwrap_or (entry_at places number) 0
+
 -- the latest place that was noted for a number of a vat
 abbrev pub latest_of : Latest → ℕ → ℕ → ℕ
-latest_of table vat number = unwrap_or (get key_cmp table.entries (vat, number)) 0
+latest_of table vat number = unwrap_or (option_map (λ places. place_in places number) (get nat_cmp table.vats vat)) 0
 
 -- one place was noted
 abbrev pub IsRaised : ℕ → ℕ → ℕ → Latest → Latest → Type 0

@@ -3,14 +3,14 @@
 ghost use Rattle.std.specs.Prelude.{◌≡◌, ◌==◌, ℕ, Some, None, OnOk, if◌then◌else◌};
 ghost use Rattle.call_trace.specs.Glue.Ledgers.{name_at};
 
+use rising_table::RisingTable;
 use run_model::Name;
 use std::alloc::{AllocError, Global};
-use std::collections::BTreeMap;
 
-/// The name of each call that a vat's records bind, by the vat's own number of it.
+/// The name of each call that a vat's records bind, by the vat's own number of it. Most calls are bound by rising numbers.
 #[derive(Drop)]
 pub(crate) struct CallNames {
-    entries: BTreeMap<u64, Name>,
+    entries: RisingTable<Name>,
 }
 
 impl CallNames {
@@ -19,7 +19,7 @@ impl CallNames {
         ensures { (c : ℕ) → name_at result c ≡ None }
     {
         CallNames {
-            entries: BTreeMap::new(alloc),
+            entries: RisingTable::new(alloc),
         }
     }
 
@@ -27,7 +27,7 @@ impl CallNames {
     pub(crate) fn of(&self, call: u64) -> Option<Name>
         ensures { result ≡ name_at self.now call }
     {
-        self.entries.get(&call).copied()
+        self.entries.get(call).copied()
     }
 
     /// This call has this name.
@@ -35,7 +35,6 @@ impl CallNames {
         ensures { OnOk result ((c : ℕ)
             → name_at self.new c ≡ (if call == c then Some name else name_at self.old c)) }
     {
-        self.entries.insert(call, name)?;
-        Ok(())
+        self.entries.put(call, name)
     }
 }

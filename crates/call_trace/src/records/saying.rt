@@ -78,7 +78,7 @@ fn given_at(caps: &[Cap], path: &Path, index: u32) -> Result<Option<(Path, Cap)>
 fn caps_at_paths(alloc: Global, caps: &[Cap], fields: &[(Path, u32)]) -> Result<Results, AllocError>
     ensures { IfOk result (λ results. results ≡ caps_at_paths caps.now fields.now) }
 {
-    let mut results = Vec::new(alloc);
+    let mut results = Vec::with_capacity(alloc, fields.len())?;
     for (path, index) in fields {
         if let Some(found) = given_at(caps, path, *index)? {
             results.push(found)?;

@@ -1,4 +1,4 @@
-use Rattle.std.proofs.Common.{arith, ◌∙◌, ◌<◌, List, sym, subst, length}
+use Rattle.std.proofs.Common.{arith, ◌∙◌, ◌<◌, List, None, sym, subst, length}
 use Rattle.run_model.specs.Early.{IsOrderFault}
 use Rattle.run_model.specs.Steps.{steps_of}
 use Rattle.call_trace.specs.Types.{Step}
@@ -41,6 +41,9 @@ loop-index-preserved c =
             (fault_same run at s c.in_ok-until.until c.loop-index.fault c.loop-index-test.true c.index-steps-index.is c.in_ok-until.ensures (sym c.is_early.ensures ∙ w.if-is_early.false) c.loop-index.invariant.1)
       ],
     )
+
+pub returns-then-not-is_any_early : goal.returns-then-not-is_any_early
+returns-then-not-is_any_early c = subst (λ (l : List Step). IsOrderFault l None) c.steps-steps.ensures (c.is_any_early.ensures c.if-not-is_any_early.true)
 
 pub returns : goal.returns
 returns c =

@@ -3,6 +3,5 @@ pub mod Judging
 pub mod Firsts
 pub mod Unique
 pub mod Once
-pub mod Own
 pub mod Entries
 pub mod Editions

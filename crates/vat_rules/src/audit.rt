@@ -1,26 +1,22 @@
 //! The audit of one log.
 
-ghost use Rattle.std.specs.Prelude.{◌≡◌, ◌∷◌, [], ◌++◌, false, IfOk, OnOk, MatchOption, count_by, length, reverse};
+ghost use Rattle.std.specs.Prelude.{◌≡◌, ◌∷◌, [], ◌++◌, IfOk, OnOk, MatchOption, count_by, length, reverse};
 ghost use Rattle.std.specs.Arc.{arc_value};
 ghost use Rattle.vat_view.specs.Sound.{IsSound};
-ghost use Rattle.vat_rules.specs.Rules.{rules};
-ghost use Rattle.vat_rules.specs.Judged.{IsGoodBy, BreaksFirst};
-ghost use Rattle.vat_rules.specs.Telling.{seen_of, seen_references, is_delivery};
+ghost use Rattle.vat_rules.specs.Telling.{seen_of, is_delivery};
 ghost use Rattle.vat_rules.specs.Events.{past_at};
 ghost use Rattle.vat_rules.specs.First.{AllGood};
 ghost use Rattle.vat_rules.specs.Audit.{IsTrueOf, reads_by, edition_of};
-ghost use Rattle.vat_rules.specs.Glue.Facts.{is_wire, seen_back, entries_with};
+ghost use Rattle.vat_rules.specs.Glue.Facts.{standing_of, seen_back, entries_with};
 
 use crate::decode::event_of;
 use crate::facts::compact::RecordFacts;
 use crate::facts::lookup::{standing_of, views_of_references};
 use crate::facts::meanings::Meanings;
 use crate::facts::story::Story;
-use crate::facts::view_list::ViewList;
 use crate::finding::VatFinding;
 use crate::judge::rule_broken;
 use crate::outcome::Outcome;
-use crate::rule::Rule;
 use rpc_view::{Edition, Limits};
 use std::alloc::{AllocError, Global};
 use std::sync::Arc;
@@ -48,104 +44,28 @@ fn deliveries(events: &[DecodedRecord]) -> u64
     delivered
 }
 
-/// Whether a record sends or receives a frame.
-fn is_wire(event: &DecodedRecord) -> bool
-    ensures { result ≡ is_wire event.now }
-{
-    matches!(event, DecodedRecord::Wire { .. })
-}
-
-/// Applies a good record, which has this number in the log, and answers what its references stand for.
+/// Applies a good record, and puts what is seen of it behind what was seen of those before.
 fn apply_good(
     alloc: Global,
     state: &mut VatState,
-    number: usize,
+    seen: &mut Vec<RecordFacts>,
     event: DecodedRecord,
-) -> Result<ViewList, AllocError>
+    standing: Meanings,
+) -> Result<(), AllocError>
     requires sound { IsSound state.old event }
-    requires number { number ≡ length state.old }
+    requires as_many { length state.old ≡ length seen.old.items }
+    requires standing { standing ≡ standing_of state.old event }
     ensures state { OnOk result (state.new ≡ event ∷ state.old) }
-    ensures references { IfOk result (λ views. views ≡ seen_references state.old event) }
+    ensures seen { OnOk result
+        (seen.new.items ≡ seen.old.items ++ seen_of state.old event ∷ []) }
 {
     state.apply(event)?;
-    let Some(event) = state.event_at(number) else {
+    let Some(event) = state.event_at(seen.len()) else {
         unreachable!()
     };
-    views_of_references(alloc, state, event)
-}
-
-/// Judges a record with a frame by an edition and by those before it, and applies it where it is good: then what its
-/// numbers stand for is put behind what was seen before.
-fn judge_frame(
-    alloc: Global,
-    edition: Edition,
-    state: &mut VatState,
-    seen: &mut Vec<RecordFacts>,
-    event: DecodedRecord,
-) -> Result<Option<Rule>, AllocError>
-    requires { length state.old ≡ length seen.old.items }
-    ensures { IfOk result (λ r. MatchOption r
-        (IsGoodBy edition state.old event × (state.new ≡ event ∷ state.old)
-        × (seen.new.items ≡ seen.old.items ++ seen_of state.old event ∷ []))
-        (λ rule. BreaksFirst edition rules state.old event rule)) }
-{
-    let standing = standing_of(alloc, state, &event)?;
-    match rule_broken(alloc, edition, state, &event, &standing)? {
-        Some(rule) => Ok(Some(rule)),
-        None => {
-            let references = apply_good(alloc, state, seen.len(), event)?;
-            seen.push(RecordFacts::new(alloc, references, standing)?)?;
-            Ok(None)
-        }
-    }
-}
-
-/// The same of a record without a frame, which has no numbers apart from its references.
-fn judge_own(
-    alloc: Global,
-    edition: Edition,
-    state: &mut VatState,
-    seen: &mut Vec<RecordFacts>,
-    event: DecodedRecord,
-) -> Result<Option<Rule>, AllocError>
-    requires as_many { length state.old ≡ length seen.old.items }
-    requires own { is_wire event ≡ false }
-    ensures { IfOk result (λ r. MatchOption r
-        (IsGoodBy edition state.old event × (state.new ≡ event ∷ state.old)
-        × (seen.new.items ≡ seen.old.items ++ seen_of state.old event ∷ []))
-        (λ rule. BreaksFirst edition rules state.old event rule)) }
-{
-    let standing = Meanings::nothing(alloc);
-    match rule_broken(alloc, edition, state, &event, &standing)? {
-        Some(rule) => Ok(Some(rule)),
-        None => {
-            let references = apply_good(alloc, state, seen.len(), event)?;
-            seen.push(RecordFacts::of_references(references))?;
-            Ok(None)
-        }
-    }
-}
-
-/// Judges a record by an edition and by those before it, and applies it where it is good: then what its numbers stand for
-/// is put behind what was seen before.
-fn judge_next(
-    alloc: Global,
-    edition: Edition,
-    state: &mut VatState,
-    seen: &mut Vec<RecordFacts>,
-    event: DecodedRecord,
-) -> Result<Option<Rule>, AllocError>
-    requires { length state.old ≡ length seen.old.items }
-    ensures { IfOk result (λ r. MatchOption r
-        (IsGoodBy edition state.old event × (state.new ≡ event ∷ state.old)
-        × (seen.new.items ≡ seen.old.items ++ seen_of state.old event ∷ []))
-        (λ rule. BreaksFirst edition rules state.old event rule)) }
-{
-    if is_wire(&event) {
-        judge_frame(alloc, edition, state, seen, event)
-    } else {
-        judge_own(alloc, edition, state, seen, event)
-    }
+    let references = views_of_references(alloc, state, event)?;
+    seen.push(RecordFacts::new(alloc, references, standing)?)?;
+    Ok(())
 }
 
 /// What records tell that were applied, with what was seen of each.
@@ -201,12 +121,13 @@ fn judge_each(
             Ok(event) => event,
             Err(why) => return Ok(Some(Outcome::Outside { at: at as u64, why })),
         };
-        match judge_next(alloc, edition, state, seen, event)? {
+        let standing = standing_of(alloc, state, &event)?;
+        match rule_broken(alloc, edition, state, &event, &standing)? {
             Some(rule) => {
                 let at = at as u64;
                 return Ok(Some(Outcome::Broken { at, rule }));
             }
-            None => {}
+            None => apply_good(alloc, state, seen, event, standing)?,
         }
     }
     Ok(None)

@@ -51,7 +51,7 @@ pub(crate) fn rule_broken(
     if !state.uses_numbers(event) {
         return Ok(Some(Rule::XUse));
     }
-    if !goes_to_goal(state, event, standing.target.as_ref())? {
+    if !goes_to_goal(state, event, standing.target())? {
         return Ok(Some(Rule::Goal));
     }
     if !may_answer(state, event) {
@@ -72,7 +72,7 @@ pub(crate) fn rule_broken(
     if !binds_each(state, event) {
         return Ok(Some(Rule::RecvRef));
     }
-    if !keeps_embargo(edition, state, event, standing.target.as_ref()) {
+    if !keeps_embargo(edition, state, event, standing.target()) {
         return Ok(Some(Rule::Emb));
     }
     Ok(None)

@@ -244,13 +244,13 @@ pub(crate) fn describes(
     if event.descriptors().is_empty() {
         return Ok(true);
     }
-    if standing.late {
+    if standing.is_late() {
         return Ok(true);
     }
     if sent && !is_light_without_caps(event) {
         return Ok(false);
     }
-    if sent && !notes_each_view(alloc, state, event, standing.caps.as_slice())? {
+    if sent && !notes_each_view(alloc, state, event, standing.caps())? {
         return Ok(false);
     }
     state.keeps_kinds(event)

@@ -65,11 +65,7 @@ fn resolves_to(state: &VatState, event: &DecodedRecord, standing: &Meanings) -> 
         → LeadsOnTo state.now standing.now.promise (view_of_descriptor state.now event.now 0)) }
 {
     if is_cap_at(event.descriptors().get(0)) {
-        leads_on_to(
-            state,
-            standing.promise.as_ref(),
-            view_at(standing.caps.as_slice(), 0),
-        )
+        leads_on_to(state, standing.promise(), view_at(standing.caps(), 0))
     } else {
         true
     }

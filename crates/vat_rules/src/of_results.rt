@@ -156,9 +156,9 @@ pub(crate) fn returns_known(
     let question = Number::Answer(*answer).on(*connection);
     match outcome {
         Outcome::Canceled => Ok(state.is_finished(question)),
-        _ if standing.late => Ok(true),
+        _ if standing.is_late() => Ok(true),
         Outcome::Results(payload) => {
-            let caps = standing.caps.as_slice();
+            let caps = standing.caps();
             returns_results(state, event, caps, payload.fields.as_slice(), question)
         }
         Outcome::Elsewhere => Ok(state.is_tail(question)),

@@ -3,23 +3,14 @@ use Rattle.std.specs.Prelude.{List, [], ◌∷◌, false, Option, Some, None}
 use Rattle.vat_rules.specs.Types.{View}
 use Rattle.vat_rules.specs.LogFacts.{Sight}
 use Rattle.vat_rules.specs.Glue.Facts.{sight_with}
-use Rattle.vat_rules.specs.declared.facts.meanings.Meanings.{Meanings}
-use Rattle.vat_rules.specs.declared.facts.compact.Role.{Role}
-use Rattle.vat_rules.specs.declared.facts.compact.Role.TheVariants as role
+use Rattle.vat_rules.specs.Glue.Standing.{Standing, standing_by}
+use Rattle.vat_rules.specs.declared.facts.role.Role.{Role}
+use Rattle.vat_rules.specs.declared.facts.role.Role.TheVariants as role
 use Rattle.vat_rules.specs.declared.facts.compact.Lists.{Lists}
 use Rattle.vat_rules.specs.declared.facts.compact.Shape.{Shape}
 use Rattle.vat_rules.specs.declared.facts.compact.Shape.TheVariants as shape
 use Rattle.vat_rules.specs.declared.facts.compact.Compact.{Compact}
 use Rattle.vat_rules.specs.declared.facts.compact.Compact.TheVariants as kept
-
--- the view of the number that is in this role
-abbrev pub view_in_role : Option (Role × View) → Role → Option View
-view_in_role None wanted = None
-view_in_role (Some (role.Question, v)) role.Question = Some v
-view_in_role (Some (role.Promise, v)) role.Promise = Some v
-view_in_role (Some (role.Target, v)) role.Target = Some v
-view_in_role (Some (role.Released, v)) role.Released = Some v
-view_in_role (Some _) wanted = None
 
 -- what is seen of the number in a role
 abbrev pub in_role : Role → Sight → Option View
@@ -29,20 +20,11 @@ in_role role.Target seen = seen.target
 in_role role.Released seen = seen.released
 
 -- descriptors, with one number in a role or none, of a record that takes no results
-abbrev pub standing_with : Option (Role × View) → List (Option View) → Meanings
-standing_with number caps = record {
-  question = view_in_role number role.Question;
-  taken = None;
-  promise = view_in_role number role.Promise;
-  target = view_in_role number role.Target;
-  released = view_in_role number role.Released;
-  caps = caps;
-  late = false;
-}
+abbrev pub standing_with : Option (Role × View) → List (Option View) → Standing
+standing_with number caps = standing_by number None caps false
 
 -- references and descriptors that are kept so
 abbrev pub lists_of : Shape → Lists
-lists_of shape.Nothing = record { references = []; caps = [] }
 lists_of (shape.Both v) = record { references = v ∷ []; caps = v ∷ [] }
 lists_of (shape.Listed lists) = lists
 

@@ -9,11 +9,11 @@ use Rattle.vat_view.specs.Past.{Past}
 use Rattle.vat_view.specs.Views.{view_of_target, views_of_descriptors}
 use Rattle.vat_view.specs.Questions.{is_late}
 use Rattle.vat_rules.specs.Telling.{seen_question, seen_taken, seen_promise, seen_released, seen_of}
-use Rattle.vat_rules.specs.declared.facts.meanings.Meanings.{Meanings}
+use Rattle.vat_rules.specs.Glue.Standing.{Standing}
 use Rattle.vat_rules.specs.LogFacts.{Sight, Entry}
 
 -- what the numbers of a record stand for, apart from its references
-abbrev pub standing_of : Past → DecodedRecord → Meanings
+abbrev pub standing_of : Past → DecodedRecord → Standing
 standing_of before e = record {
   question = seen_question before e;
   taken = seen_taken before e;
@@ -38,7 +38,7 @@ abbrev pub entries_with : List DecodedRecord → List Sight → List Entry
 entries_with events seen = map (λ p. record { event = p.0; seen = p.1 }) (zip events seen)
 
 -- what the references of a record and its other numbers stand for
-abbrev pub sight_with : List (Option View) → Meanings → Sight
+abbrev pub sight_with : List (Option View) → Standing → Sight
 sight_with references standing = record {
   references = references;
   question = standing.question;
@@ -49,11 +49,6 @@ sight_with references standing = record {
   caps = standing.caps;
   late = standing.late;
 }
-
--- a record sends or receives a frame
-abbrev pub is_wire : DecodedRecord → Bool
-is_wire (Wire sent connection call references message) = true
-is_wire _ = false
 
 -- a stored record has a frame
 abbrev pub has_frame : Body → Bool

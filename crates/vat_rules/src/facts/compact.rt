@@ -1,31 +1,19 @@
 //! How what is seen of a record is kept, in little room.
 
-ghost use Rattle.std.specs.Prelude.{◌≡◌, [], Some, None, IfOk, IfErr};
+ghost use Rattle.std.specs.Prelude.{◌≡◌, [], Some, None, IfOk};
 ghost use Rattle.std.specs.Option.{option_copied};
 ghost use Rattle.vat_rules.specs.Glue.Facts.{sight_with};
-ghost use Rattle.vat_rules.specs.Glue.Compact.{view_in_role, in_role, standing_with, lists_of, sight_in, sight_of};
+ghost use Rattle.vat_rules.specs.Glue.Compact.{in_role, standing_with, lists_of, sight_in, sight_of};
 
 use crate::facts::alike::are_one;
 use crate::facts::meanings::Meanings;
+use crate::facts::role::{Role, view_in_role};
 use crate::facts::view_list::ViewList;
 use std::alloc::{AllocError, Global};
 use std::fmt::{self, Debug, Formatter, Write};
 use std::marker::Model;
 use std::slice;
 use vat_view::View;
-
-/// Which number of a record stands for a view, where it is neither a reference nor a descriptor.
-#[derive(Clone, Copy)]
-enum Role {
-    /// The question that it returns or finishes.
-    Question,
-    /// The promise that it resolves.
-    Promise,
-    /// Its target.
-    Target,
-    /// The number that it releases.
-    Released,
-}
 
 /// What a record's references stand for, and its descriptors.
 #[derive(Drop)]
@@ -34,11 +22,9 @@ struct Lists {
     caps: ViewList,
 }
 
-/// The same, where these are one reference and one descriptor or none.
+/// The same, where these may be one reference and one descriptor.
 #[derive(Drop)]
 enum Shape {
-    /// There are none.
-    Nothing,
     /// One reference and one descriptor, which stand for the same.
     Both(Option<View>),
     /// Others.
@@ -108,47 +94,11 @@ impl Debug for RecordFacts {
     }
 }
 
-/// The number in a role, if there is one, and the descriptors; or else all of it, where there are several, or the record is
-/// a Return that is late or takes results.
-fn role_and_caps(standing: Meanings) -> Result<(Option<(Role, View)>, ViewList), Meanings>
-    ensures parts { IfOk result (λ parts. standing ≡ standing_with parts.0 parts.1) }
-    ensures all { IfErr result (λ all. all ≡ standing) }
-{
-    let Meanings {
-        question,
-        taken,
-        promise,
-        target,
-        released,
-        caps,
-        late,
-    } = standing;
-    match (question, taken, promise, target, released, late) {
-        (None, None, None, None, None, false) => Ok((None, caps)),
-        (Some(view), None, None, None, None, false) => Ok((Some((Role::Question, view)), caps)),
-        (None, None, Some(view), None, None, false) => Ok((Some((Role::Promise, view)), caps)),
-        (None, None, None, Some(view), None, false) => Ok((Some((Role::Target, view)), caps)),
-        (None, None, None, None, Some(view), false) => Ok((Some((Role::Released, view)), caps)),
-        (question, taken, promise, target, released, late) => Err(Meanings {
-            question,
-            taken,
-            promise,
-            target,
-            released,
-            caps,
-            late,
-        }),
-    }
-}
-
 /// How references and descriptors are kept.
 fn shape_of(lists: Lists) -> Shape
     ensures { lists_of result ≡ lists }
 {
     let Lists { references, caps } = lists;
-    if references.is_empty() && caps.is_empty() {
-        return Shape::Nothing;
-    }
     if !are_one(references.as_slice(), caps.as_slice()) {
         return Shape::Listed(Lists { references, caps });
     }
@@ -182,7 +132,6 @@ fn kept_lists(alloc: Global, lists: Lists) -> Result<Compact, AllocError>
         return Ok(kept_references(lists.references));
     }
     match shape_of(lists) {
-        Shape::Nothing => Ok(Compact::Nothing),
         Shape::Both(both) => Ok(Compact::Both(both)),
         Shape::Listed(lists) => Ok(Compact::Listed(Box::new(alloc, lists)?)),
     }
@@ -193,8 +142,10 @@ fn kept_with(alloc: Global, number: (Role, View), lists: Lists) -> Result<Compac
     ensures { IfOk result (λ kept. sight_of kept ≡ sight_in (Some number) lists) }
 {
     let (role, view) = number;
+    if lists.references.is_empty() && lists.caps.is_empty() {
+        return Ok(Compact::Alone(role, view));
+    }
     match shape_of(lists) {
-        Shape::Nothing => Ok(Compact::Alone(role, view)),
         Shape::Both(both) => Ok(Compact::WithBoth(role, view, Box::new(alloc, both)?)),
         Shape::Listed(lists) => Ok(Compact::WithLists(role, view, Box::new(alloc, lists)?)),
     }
@@ -214,31 +165,6 @@ fn kept_parts(
     }
 }
 
-/// The view of the number in a role, if it is in this one.
-fn view_in_role(role: Role, view: &View, wanted: Role) -> Option<&View>
-    ensures { option_copied result ≡ view_in_role (Some (role, view.now)) wanted }
-{
-    match (role, wanted) {
-        (Role::Question, Role::Question) => Some(view),
-        (Role::Promise, Role::Promise) => Some(view),
-        (Role::Target, Role::Target) => Some(view),
-        (Role::Released, Role::Released) => Some(view),
-        _ => None,
-    }
-}
-
-/// The view of the number in a role, of several.
-fn named_of(standing: &Meanings, wanted: Role) -> Option<&View>
-    ensures { option_copied result ≡ in_role wanted (sight_with [] standing.now) }
-{
-    match wanted {
-        Role::Question => standing.question.as_ref(),
-        Role::Promise => standing.promise.as_ref(),
-        Role::Target => standing.target.as_ref(),
-        Role::Released => standing.released.as_ref(),
-    }
-}
-
 impl RecordFacts {
     /// What the references of a record and its other numbers stand for.
     pub(crate) fn new(
@@ -248,7 +174,7 @@ impl RecordFacts {
     ) -> Result<RecordFacts, AllocError>
         ensures { IfOk result (λ seen. seen ≡ sight_with references standing) }
     {
-        let kept = match role_and_caps(standing) {
+        let kept = match standing.number_and_caps() {
             Ok((number, caps)) => kept_parts(alloc, number, Lists { references, caps })?,
             Err(standing) => {
                 let parts = Parts {
@@ -259,15 +185,6 @@ impl RecordFacts {
             }
         };
         Ok(RecordFacts { kept })
-    }
-
-    /// What the references stand for of a record that has no other numbers.
-    pub(crate) fn of_references(references: ViewList) -> RecordFacts
-        ensures { result ≡ sight_with references (standing_with None []) }
-    {
-        RecordFacts {
-            kept: kept_references(references),
-        }
     }
 
     /// What the references stand for that the record binds or names, in its order, with the record counted.
@@ -293,7 +210,7 @@ impl RecordFacts {
             Compact::Alone(role, view) => view_in_role(*role, view, wanted),
             Compact::WithBoth(role, view, _) => view_in_role(*role, view, wanted),
             Compact::WithLists(role, view, _) => view_in_role(*role, view, wanted),
-            Compact::Several(parts) => named_of(&parts.standing, wanted),
+            Compact::Several(parts) => parts.standing.in_role(wanted),
             _ => None,
         }
     }
@@ -310,7 +227,7 @@ impl RecordFacts {
         ensures { option_copied result ≡ self.now.taken }
     {
         match &self.kept {
-            Compact::Several(parts) => parts.standing.taken.as_ref(),
+            Compact::Several(parts) => parts.standing.taken(),
             _ => None,
         }
     }
@@ -347,7 +264,7 @@ impl RecordFacts {
             Compact::Both(view) => slice::from_ref(view),
             Compact::WithBoth(_, _, both) => slice::from_ref(&**both),
             Compact::Listed(lists) | Compact::WithLists(_, _, lists) => lists.caps.as_slice(),
-            Compact::Several(parts) => parts.standing.caps.as_slice(),
+            Compact::Several(parts) => parts.standing.caps(),
         }
     }
 
@@ -357,7 +274,7 @@ impl RecordFacts {
         ensures { result ≡ self.now.late }
     {
         match &self.kept {
-            Compact::Several(parts) => parts.standing.late,
+            Compact::Several(parts) => parts.standing.is_late(),
             _ => false,
         }
     }

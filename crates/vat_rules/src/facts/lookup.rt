@@ -2,11 +2,14 @@
 
 ghost use Rattle.std.specs.Prelude.{◌≡◌, ◌++◌, map, IfOk};
 ghost use Rattle.vat_view.specs.Bindings.{new_references, named_references};
-ghost use Rattle.vat_view.specs.Views.{view_of_reference, views_of_descriptors};
+ghost use Rattle.vat_view.specs.Views.{view_of_reference, view_of_target, views_of_descriptors};
 ghost use Rattle.vat_rules.specs.Telling.{seen_question, seen_taken, seen_promise, seen_released};
 ghost use Rattle.vat_rules.specs.Glue.Facts.{standing_of};
+ghost use Rattle.vat_rules.specs.Glue.Standing.{view_in_role};
+ghost use Rattle.vat_rules.specs.declared.facts.role.Role.TheVariants.{Question, Promise, Target, Released};
 
 use crate::facts::meanings::Meanings;
+use crate::facts::role::Role;
 use crate::facts::view_list::ViewList;
 use cap_frame::Path;
 use rpc_view::{Outcome, RpcMessage};
@@ -132,6 +135,41 @@ fn views_of_descriptors(
     Ok(ViewList::new(state.views_of_descriptors(event)?))
 }
 
+/// The number in a role of a record that may be applied next, with what it stands for.
+fn number_in_role(
+    alloc: Global,
+    state: &VatState,
+    event: &DecodedRecord,
+) -> Result<Option<(Role, View)>, AllocError>
+    ensures question { IfOk result
+        (λ n. view_in_role n Question ≡ seen_question state.now event.now) }
+    ensures promise { IfOk result
+        (λ n. view_in_role n Promise ≡ seen_promise state.now event.now) }
+    ensures target { IfOk result
+        (λ n. view_in_role n Target ≡ view_of_target state.now event.now) }
+    ensures released { IfOk result
+        (λ n. view_in_role n Released ≡ seen_released state.now event.now) }
+{
+    let DecodedRecord::Wire { message, .. } = event else {
+        return Ok(None);
+    };
+    let (role, view) = match message {
+        RpcMessage::Call { .. } | RpcMessage::Disembargo { .. } => {
+            (Role::Target, state.view_of_target(event)?)
+        }
+        RpcMessage::Return { .. } | RpcMessage::Finish { .. } => {
+            (Role::Question, seen_question(alloc, state, event)?)
+        }
+        RpcMessage::Resolve { .. } => (Role::Promise, seen_promise(alloc, state, event)?),
+        RpcMessage::Release { .. } => (Role::Released, seen_released(alloc, state, event)?),
+        _ => return Ok(None),
+    };
+    match view {
+        Some(view) => Ok(Some((role, view))),
+        None => Ok(None),
+    }
+}
+
 /// What the numbers of a record stand for that may be applied next, apart from its references.
 pub(crate) fn standing_of(
     alloc: Global,
@@ -140,15 +178,13 @@ pub(crate) fn standing_of(
 ) -> Result<Meanings, AllocError>
     ensures { IfOk result (λ standing. standing ≡ standing_of state.now event.now) }
 {
-    Ok(Meanings {
-        question: seen_question(alloc, state, event)?,
-        taken: seen_taken(alloc, state, event)?,
-        promise: seen_promise(alloc, state, event)?,
-        target: state.view_of_target(event)?,
-        released: seen_released(alloc, state, event)?,
-        caps: views_of_descriptors(alloc, state, event)?,
-        late: state.is_late(event),
-    })
+    let DecodedRecord::Wire { .. } = event else {
+        return Ok(Meanings::nothing(alloc));
+    };
+    let number = number_in_role(alloc, state, event)?;
+    let taken = seen_taken(alloc, state, event)?;
+    let caps = views_of_descriptors(alloc, state, event)?;
+    Ok(Meanings::new(number, taken, caps, state.is_late(event)))
 }
 
 /// What references stand for.

@@ -4,5 +4,6 @@ pub(crate) mod alike;
 pub(crate) mod compact;
 pub(crate) mod lookup;
 pub(crate) mod meanings;
+pub(crate) mod role;
 pub(crate) mod story;
 pub(crate) mod view_list;

@@ -49,8 +49,7 @@ pub fn read_all<R: Read + Drop>(
     ensures whole { IfOk result (λ bytes. IfSome (R.remaining reader) (λ all. bytes ≡ all)) }
 {
     let mut bytes = Vec::new(alloc);
-    let mut reader = reader.take(LIMIT as u64 + 1);
-    match io::copy(&mut reader, &mut bytes) {
+    match reader.take(LIMIT as u64 + 1).read_to_end(&mut bytes) {
         Ok(_) => within_limit(bytes, why),
         Err(error) => Err(refused(error, why)),
     }

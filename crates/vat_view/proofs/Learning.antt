@@ -1,17 +1,26 @@
 -- All tables after a record.
-use Rattle.std.proofs.Common.{◌≡◌, ◌∙◌, ap, ap₂, ℕ, List, ◌∷◌, length, map, Bool, true, false, None, if◌then◌else◌}
-use Rattle.std.specs.Prelude.{Result, Ok, Err, OnErr, is_err}
+use Rattle.std.proofs.Common.{◌≡◌, ◌==◌, ◌<◌, refl, sym, ◌∙◌, ap, ap₂, ℕ, List, [], ◌∷◌, length, map, Bool, true, false, Option, None, if◌then◌else◌, arith}
+use Rattle.std.specs.Prelude.{Result, Ok, Err, OnErr, is_err, count_by}
+use Rattle.std.specs.List.{filter_map}
+use Rattle.std.specs.Option.{option_or}
 use Rattle.std.proofs.lemmas.Bool.{false≢true}
 use Rattle.vat_view.specs.declared.tables.questions.Questions.{Questions}
 use Rattle.vat_view.specs.declared.tables.exports_imports.ExportsImports.{ExportsImports}
 use Rattle.vat_view.specs.declared.record.introduced.Introduced.{Introduced}
+use Rattle.vat_view.specs.declared.record.introduced.Introduced.TheVariants.{Nothing}
+use Rattle.vat_view.specs.declared.record.origin.Origin.{Origin}
+use Rattle.vat_view.specs.declared.tables.question.Question.{Question}
 use Rattle.vat_view.specs.declared.tables.references.BoundReferences.{BoundReferences}
-use Rattle.vat_view.specs.Types.{DecodedRecord, View}
-use Rattle.vat_view.specs.Past.{Past}
+use Rattle.vat_view.specs.Types.{DecodedRecord, Wire, View, TableKey}
+use Rattle.vat_view.specs.Past.{Past, same_id}
 use Rattle.vat_view.specs.Uses.{UsesQuestions}
+use Rattle.vat_view.specs.Questions.{question_opened, is_late}
+use Rattle.vat_view.specs.Lives.{descriptors, number_introduced, introductions, GivesBackHeld}
 use Rattle.vat_view.specs.Bindings.{contains, new_references}
-use Rattle.vat_view.specs.Glue.Tables.{question_at, late_by, bound_at, bound_by, origins_if, origins, first_in, AreBegun, bindings, IsTabled, AreTabled, IsFit}
+use Rattle.vat_view.specs.Glue.Plain.{has_message, own_bindings, received_bindings}
+use Rattle.vat_view.specs.Glue.Tables.{question_at, noted_by, given_back_by, count_released, late_by, bound_at, bound_by, bound_from, view_by, count_at, origin_at, origins_from, origins_if, origins, first_in, AreBegun, bindings, IsTabled, AreTabled, IsFit}
 use Rattle.vat_view.proofs.Knowing.{late_known}
+use Rattle.vat_view.proofs.Stepping.{tabled_close}
 use Rattle.vat_view.proofs.Arriving.{all_bound, keys_new, bindings_apart, restored}
 
 pub err_gives : {T E P : Type 0} (r : Result T E) → is_err r ≡ true → OnErr r P → P
@@ -23,6 +32,13 @@ pub begun_now : (before : Past) (e : DecodedRecord) (questions : Questions) (liv
     late ≡ late_by (question_at questions) e → number ≡ length before → AreBegun (origins_if late number e) begun → AreBegun (origins before e) begun
 begun_now before e questions lives begun late number tabled uses is_late place starts i =
     starts i ∙ ap₂ (λ b n. first_in i (origins_if b n e)) (is_late ∙ late_known (question_at questions) before tabled.known e uses) place
+
+-- a message binds references where it is received alone
+pub received_all : (named : ℕ → Option View) (lives : ExportsImports) (begun : Introduced) (known : TableKey → Option Question) (e : DecodedRecord) → has_message e ≡ true →
+    received_bindings named lives begun known e ≡ bindings named lives begun known e
+received_all named lives begun known (Wire false k c rs m) h = refl
+received_all named lives begun known (Wire true k c rs m) h = refl
+received_all named lives begun known _ h = absurd (false≢true h)
 
 module _ (before : Past) (e : DecodedRecord) (questions : Questions) (lives : ExportsImports) (begun : Introduced) (bound : BoundReferences) (kept : AreTabled before questions lives bound) (fit : IsFit before e)
     (starts : AreBegun (origins before e) begun) (list : List (ℕ × View)) (listed : list ≡ bindings (bound_at bound) lives begun (question_at questions) e) where
@@ -53,3 +69,78 @@ module _ (before : Past) (e : DecodedRecord) (questions : Questions) (lives : Ex
       (q : ℕ) → contains q (new_references e) ≡ false → bound_at more q ≡ bound_at bound q
   bound_apart_from more bind q old = bind q ∙ ap (λ l. bound_by q l (bound_at bound q)) listed
       ∙ bindings_apart (bound_at bound) lives begun (question_at questions) e q (bound_at bound q) old
+
+-- a record without a message opens no question, and introduces and gives back nothing
+own_opens : (e : DecodedRecord) → has_message e ≡ false → question_opened e ≡ None
+own_opens (Wire s k c rs m) h = absurd (false≢true (sym h))
+own_opens _ h = refl
+
+own_introduces : (before : Past) (e : DecodedRecord) → has_message e ≡ false → ([] ≡ introductions before e) × ([] ≡ origins before e)
+own_introduces before (Wire s k c rs m) h = absurd (false≢true (sym h))
+own_introduces before _ h = (refl, refl)
+
+own_notes : (q : TableKey) (known : Option Question) (e : DecodedRecord) → has_message e ≡ false → known ≡ noted_by e [] q known
+own_notes q known (Wire s k c rs m) h = absurd (false≢true (sym h))
+own_notes q known _ h = refl
+
+own_gives : (known : TableKey → Option Question) (i : TableKey) (e : DecodedRecord) → has_message e ≡ false → (count_by (same_id i) (given_back_by known e) ≡ 0) × (count_released i e ≡ 0)
+own_gives known i (Wire s k c rs m) h = absurd (false≢true (sym h))
+own_gives known i _ h = (refl, refl)
+
+as_it_was : (b : Bool) (o : Option Origin) → o ≡ (if b then option_or None o else o)
+as_it_was true o = refl
+as_it_was false o = refl
+
+own_tabled : (before : Past) (e : DecodedRecord) (questions : Questions) (lives : ExportsImports) → has_message e ≡ false → IsTabled before questions lives → UsesQuestions before e → GivesBackHeld before e →
+    IsTabled (e ∷ before) questions lives
+own_tabled before e questions lives own tabled uses gives =
+    let none = own_introduces before e own in
+    tabled_close before e questions questions lives lives tabled uses gives [] none.0 [] none.1 (λ i. as_it_was (count_at lives i == 0) (origin_at lives i)) (own_opens e own) (λ q. own_notes q (question_at questions q) e own)
+    (λ i. let less = own_gives (question_at questions) i e own in let back = less.0 in let released = less.1 in omega (arith, back, released))
+
+-- the references that it binds
+own_listed : (named : ℕ → Option View) (lives : ExportsImports) (known : TableKey → Option Question) (e : DecodedRecord) → has_message e ≡ false →
+    own_bindings e ≡ bindings named lives Nothing known e
+own_listed named lives known (Wire s k c rs m) h = absurd (false≢true (sym h))
+own_listed named lives known _ h = refl
+
+-- it introduces nothing
+own_begun : (before : Past) (e : DecodedRecord) → has_message e ≡ false → AreBegun (origins before e) Nothing
+own_begun before (Wire s k c rs m) h i = absurd (false≢true (sym h))
+own_begun before _ h i = refl
+
+module _ (before : Past) (e : DecodedRecord) (questions : Questions) (lives : ExportsImports) (bound more : BoundReferences) (own : has_message e ≡ false) (kept : AreTabled before questions lives bound)
+    (fit : IsFit before e) where
+  pub own_learned : ((q : ℕ) → bound_at more q ≡ bound_by q (own_bindings e) (bound_at bound q)) → AreTabled (e ∷ before) questions lives more
+  own_learned bind = learned before e questions lives Nothing bound kept fit (own_begun before e own) (own_bindings e) (own_listed (bound_at bound) lives (question_at questions) e own) questions lives more
+      (own_tabled before e questions lives own kept.tabled fit.uses fit.gives) bind
+
+-- a record without descriptors introduces nothing
+either : {A : Type 0} (b : Bool) (x : A) → x ≡ (if b then x else x)
+either true x = refl
+either false x = refl
+
+module _ (before : Past) (e : DecodedRecord) (plain : descriptors e ≡ []) where
+  pub introduces_none : [] ≡ introductions before e
+  introduces_none = either (is_late before e) [] ∙ ap (λ l. if is_late before e then [] else filter_map (number_introduced e) l) (sym plain)
+
+  pub begins_none : [] ≡ origins before e
+  begins_none = either (is_late before e) [] ∙ ap (λ l. if is_late before e then [] else origins_from (length before) e 0 0 l) (sym plain)
+
+-- it binds nothing, where it has a message
+plain_listed : (named : ℕ → Option View) (lives : ExportsImports) (begun : Introduced) (known : TableKey → Option Question) (e : DecodedRecord) → has_message e ≡ true → descriptors e ≡ [] →
+    [] ≡ bindings named lives begun known e
+plain_listed named lives begun known (Wire false k c rs m) h plain = ap (λ l. bound_from (view_by named lives begun known (Wire false k c rs m)) rs 0 l) (sym plain)
+plain_listed named lives begun known (Wire true k c rs m) h plain = refl
+plain_listed named lives begun known _ h plain = absurd (false≢true h)
+
+module _ (before : Past) (e : DecodedRecord) (questions : Questions) (lives : ExportsImports) (bound : BoundReferences) (has : has_message e ≡ true) (plain : descriptors e ≡ [])
+    (kept : AreTabled before questions lives bound) (fit : IsFit before e) where
+  pub plain_learned : (told : Questions) (counted : ExportsImports) → IsTabled (e ∷ before) told counted → AreTabled (e ∷ before) told counted bound
+  plain_learned told counted tabled = learned before e questions lives Nothing bound kept fit (λ i. ap (λ l. first_in i l) (begins_none before e plain)) []
+      (plain_listed (bound_at bound) lives Nothing (question_at questions) e has plain) told counted bound tabled (λ q. refl)
+
+-- a list with fewer than one
+pub none_below : {A : Type 0} (xs : List A) → length xs < 1 → xs ≡ []
+none_below [] h = refl
+none_below (x ∷ xs) h = absurd (omega (arith, h))

@@ -41,3 +41,4 @@ pub mod Holding
 pub mod Receiving
 pub mod Hopping
 pub mod Ahead
+pub mod Owning

@@ -7,10 +7,11 @@ use Rattle.vat_view.specs.declared.tables.exports_imports.ExportsImports.{Export
 use Rattle.vat_view.specs.declared.tables.references.BoundReferences.{BoundReferences}
 use Rattle.vat_view.specs.declared.tables.calls.Calls.{Calls}
 use Rattle.vat_view.specs.declared.tables.waiting_calls.Receipt.{Receipt}
+use Rattle.vat_view.specs.declared.tables.waiting_calls.WaitingCalls.{WaitingCalls}
+use Rattle.vat_view.specs.declared.tables.question.Question.{Question}
 use Rattle.vat_view.specs.declared.tables.loopbacks.Unechoed.{Unechoed}
 use Rattle.vat_view.specs.declared.tables.embargoes.Embargoes.{Embargoes}
-use Rattle.vat_view.specs.declared.tables.embargoes.Change.{Change}
-use Rattle.vat_view.specs.Types.{Return, Exception, Canceled, Elsewhere, TakeFrom, DecodedRecord, Wire, TableKey}
+use Rattle.vat_view.specs.Types.{Return, Exception, Canceled, Elsewhere, TakeFrom, Disembargo, Sender, DecodedRecord, Wire, View, TableKey}
 use Rattle.vat_view.specs.Past.{Past, Point, point, id, is, names, record_index}
 use Rattle.vat_view.specs.Questions.{call_at, opening}
 use Rattle.vat_view.specs.Views.{view_of_target}
@@ -21,7 +22,7 @@ use Rattle.vat_view.specs.Glue.Tables.{bound_at, question_at}
 use Rattle.vat_view.specs.Glue.Asking.{opening_call_in, targeted_by}
 use Rattle.vat_view.specs.Glue.Kept.{AreKept}
 use Rattle.vat_view.specs.Glue.Queues.{queued_at, is_queued, has_joined}
-use Rattle.vat_view.specs.Glue.LoopTables.{loopback_at, loopback_target_in, looped_at, put_by, receipt_of, receipt_here, receipt_at, call_received_by, call_taken_by, put_call, queued_by, change_by, AreQueued, Holding, SaysSame, IsChangedBy, AreWaiting}
+use Rattle.vat_view.specs.Glue.LoopTables.{Change, change_of_calls, change_of_loopbacks, looped_by, loopback_at, loopback_target_in, looped_at, put_by, receipt_of, receipt_here, receipt_at, call_received_by, call_taken_by, put_call, queued_by, change_by, AreQueued, Holding, SaysSame, IsChangedBy, AreWaiting}
 use Rattle.vat_view.proofs.Answering.{targeted_known, opening_call_known}
 use Rattle.vat_view.proofs.Called.{goal_known}
 use Rattle.vat_view.proofs.Receiving.{goal_stays, goal_received, received_step, received_since, passed_since}
@@ -192,3 +193,36 @@ module _ (past : Past) (questions : Questions) (lives : ExportsImports) (bound :
     λ so. absurd (false≢true so),
     λ held. absurd (none_some (sym nothing ∙ embargoed_view.looped i ∙ ap (λ o. option_map looped_at o) held.1)),
   )
+
+-- ---- the two kinds of changes
+
+-- a record that asks for an echo echoes nothing, receives no call and takes none
+asks_alone : (opened : TableKey → Option ℕ) (number : ℕ) (e : DecodedRecord) → is_some (sender_loopback e) ≡ true →
+    (receiver_loopback e ≡ None) × (call_received_by number e ≡ None) × (call_taken_by opened e ≡ None)
+asks_alone opened number (Wire true k c rs (Disembargo n Sender target)) h = (refl, refl, refl)
+asks_alone opened number (Wire false k c rs (Disembargo n Sender target)) h = (refl, refl, refl)
+asks_alone opened number _ h = absurd (false≢true h)
+
+nothing_there : {A : Type 0} (o : Option A) → is_some o ≡ false → o ≡ None
+nothing_there (Some x) h = absurd (false≢true (sym h))
+nothing_there None h = refl
+
+module _ (named : ℕ → Option View) (lives : ExportsImports) (known : TableKey → Option Question) (number : ℕ) (e : DecodedRecord) where
+  pub changes_loopbacks : is_some (sender_loopback e) ≡ true → (looped : Option (TableKey × Unechoed)) → looped ≡ looped_by named lives known number e →
+      change_of_loopbacks looped ≡ change_by named lives known number e
+  changes_loopbacks asks looped is_looped =
+      let others = asks_alone (λ q. opening_call_in (known q)) number e asks in
+      ap (λ o. change_of_loopbacks o) is_looped
+      ∙ ap₂ (λ x y. record { looped = looped_by named lives known number e; echoed = x; received = y; taken = None }) (sym others.0) (sym others.1)
+      ∙ ap (λ x. record { looped = looped_by named lives known number e; echoed = receiver_loopback e; received = call_received_by number e; taken = x }) (sym others.2)
+
+  pub queues_nothing : is_some (sender_loopback e) ≡ true → (waits : WaitingCalls) → has_joined waits (queued_by named lives known number e) ≡ true
+  queues_nothing asks waits =
+      ap (λ o. has_joined waits (option_map (λ x. queued_at x.0 x.1 (targeted_by named lives known e)) o)) (asks_alone (λ q. opening_call_in (known q)) number e asks).1
+
+  pub changes_calls : is_some (sender_loopback e) ≡ false → (taken : Option ℕ) → taken ≡ call_taken_by (λ q. opening_call_in (known q)) e →
+      change_of_calls number e taken ≡ change_by named lives known number e
+  changes_calls asks taken is_taken =
+      ap (λ o. change_of_calls number e o) is_taken
+      ∙ ap (λ o. record { looped = option_map (λ i. (i, record { number = number; target = targeted_by named lives known e })) o; echoed = receiver_loopback e; received = call_received_by number e; taken = call_taken_by (λ q. opening_call_in (known q)) e })
+      (sym (nothing_there (sender_loopback e) asks))

@@ -7,9 +7,11 @@ pub mod Kept
 pub mod KindTables
 pub mod LentSides
 pub mod LoopTables
+pub mod Plain
 pub mod Queues
 pub mod Seen
 pub mod ShortLists
 pub mod Sides
 pub mod Tables
 pub mod TurnTables
+pub mod Whole

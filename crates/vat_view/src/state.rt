@@ -1,8 +1,9 @@
 //! The state of a vat's numbers after some records of its log.
 
-ghost use Rattle.std.specs.Prelude.{◌≡◌, ◌↔◌, [], ◌∷◌, Decides, IfOk, OnOk, OnErr, IsTrue, MatchOption, option_map, is_some, reverse};
+ghost use Rattle.std.specs.Prelude.{◌≡◌, ◌<◌, ◌↔◌, [], ◌∷◌, ◌++◌, Decides, IfOk, OnOk, OnErr, IsTrue, MatchOption, option_map, is_some, reverse};
 ghost use Rattle.vat_view.specs.declared.view.View.{View};
 ghost use Rattle.std.specs.Option.{option_copied};
+ghost use Rattle.std.specs.Vec.{vec_len, vec_capacity};
 ghost use Rattle.vat_view.specs.Past.{record_at};
 ghost use Rattle.vat_view.specs.Numbers.{number_held, number_stands};
 ghost use Rattle.vat_view.specs.Questions.{is_free, is_unfinished, is_finished, is_unreturned, is_tail, is_taken, call_at, call_of, opening, is_late};
@@ -15,26 +16,19 @@ ghost use Rattle.vat_view.specs.Connections.{is_aborted, is_aborted_here, LeadsO
 ghost use Rattle.vat_view.specs.Calls.{request_of, goal_of, is_at_vat, is_served, is_settled, is_known, answered_by};
 ghost use Rattle.vat_view.specs.Borrowed.{as_view};
 ghost use Rattle.vat_view.specs.Loopbacks.{loopback_of, embargoed_view, IsHeldUp};
+ghost use Rattle.vat_view.specs.Sound.{IsSound};
+ghost use Rattle.vat_view.specs.Glue.Whole.{AreWhole};
 
-use crate::apply::apply_record::apply_record;
 use crate::apply::tables;
 use crate::asked::Asked;
 use crate::borrowed_view::BorrowedView;
-use crate::lookups::settling::settling_of;
 use crate::lookups::{meaning, table_answers};
 use crate::preconditions::kinds;
+use crate::record::bindings;
 use crate::record::decoded::DecodedRecord;
 use crate::record::number::Number;
 use crate::record::table_key::TableKey;
-use crate::record::{bindings, effects};
-use crate::tables::calls::Calls;
-use crate::tables::connections::Connections;
-use crate::tables::embargoes::Embargoes;
-use crate::tables::exports_imports::ExportsImports;
-use crate::tables::questions::Questions;
-use crate::tables::references::BoundReferences;
-use crate::tables::resolves::Resolves;
-use crate::tables::settlements::Settlements;
+use crate::tables::all_tables::AllTables;
 use crate::view::View;
 use crate::walks::hops;
 use crate::walks::reachable::{Sought, leads_to};
@@ -42,7 +36,7 @@ use crate::walks::shortcuts::{
     WayOn, shorten, shorten_calls, view_of_number, way_after, way_from, way_from_reference,
 };
 use cap_frame::Path;
-use rpc_view::{Edition, Loopback, Outcome, RpcMessage, Target};
+use rpc_view::{Edition, Loopback, Outcome, Payload, RpcMessage, Target};
 use std::alloc::{AllocError, Global};
 use std::fmt::{self, Debug, Formatter, Write};
 use std::marker::Model;
@@ -52,35 +46,19 @@ use std::marker::Model;
 #[derive(Drop)]
 pub struct VatState {
     events: Vec<DecodedRecord>,
-    questions: Questions,
-    lives: ExportsImports,
-    bound: BoundReferences,
-    calls: Calls,
-    resolves: Resolves,
-    turns: Settlements,
-    connections: Connections,
-    waits: Embargoes,
+    tables: AllTables,
 }
 
 impl Model for VatState {
     ghost use Rattle.std.specs.Prelude.{List, reverse};
     ghost use Rattle.vat_view.specs.declared.record.decoded.DecodedRecord.{DecodedRecord};
-    ghost use Rattle.vat_view.specs.Glue.KindTables.{AreResolved};
-    ghost use Rattle.vat_view.specs.Glue.Kept.{AreKept};
-    ghost use Rattle.vat_view.specs.Glue.TurnTables.{AreSettled, HaveAhead};
-    ghost use Rattle.vat_view.specs.Glue.ConnectionTables.{AreConnected};
-    ghost use Rattle.vat_view.specs.Glue.LoopTables.{AreWaiting};
+    ghost use Rattle.vat_view.specs.Glue.Whole.{AreWhole};
 
     ghost Value = { List DecodedRecord };
 
     ghost view = { λ state. reverse state.events.items };
 
-    ghost invariant = { λ state. AreKept (reverse state.events.items) state.questions state.lives state.bound state.calls
-        × AreResolved (reverse state.events.items) state.resolves
-        × AreSettled (reverse state.events.items) state.turns
-        × AreConnected (reverse state.events.items) state.connections
-        × AreWaiting (reverse state.events.items) state.waits
-        × HaveAhead state.events.items state.turns state.bound };
+    ghost invariant = { λ state. AreWhole state.events.items state.tables };
 }
 
 impl Debug for VatState {
@@ -98,14 +76,7 @@ impl VatState {
     {
         VatState {
             events: Vec::new(alloc),
-            questions: Questions::new(alloc),
-            lives: ExportsImports::new(alloc),
-            bound: BoundReferences::new(alloc),
-            calls: Calls::new(alloc),
-            resolves: Resolves::new(alloc),
-            turns: Settlements::new(alloc),
-            connections: Connections::new(alloc),
-            waits: Embargoes::new(alloc),
+            tables: AllTables::new(alloc),
         }
     }
 
@@ -115,7 +86,10 @@ impl VatState {
         ensures { result ≡ number_held connection number self.now }
     {
         match number {
-            Number::Export(_) | Number::Import(_) => self.lives.count_of(number.on(connection)),
+            Number::Export(_) | Number::Import(_) => self
+                .tables
+                .lives
+                .count_of(number.on(connection)),
             Number::Question(_) | Number::Answer(_) => 0,
         }
     }
@@ -128,7 +102,7 @@ impl VatState {
     pub fn view_of_reference(&self, reference: u64) -> Result<Option<View>, AllocError>
         ensures { IfOk result (λ view. view ≡ view_of_reference self.now reference) }
     {
-        meaning::view_of_reference(&self.bound, reference)
+        meaning::view_of_reference(&self.tables.bound, reference)
     }
 
     /// What a number of a connection stands for: an export or import in life for the view with which its life began, a
@@ -149,10 +123,10 @@ impl VatState {
         let id = number.on(connection);
         match number {
             Number::Export(_) | Number::Import(_) => {
-                meaning::view_of_number(&self.bound, &self.lives, id)
+                meaning::view_of_number(&self.tables.bound, &self.tables.lives, id)
             }
             Number::Question(_) | Number::Answer(_) => {
-                meaning::field_of(&self.questions, id, path)
+                meaning::field_of(&self.tables.questions, id, path)
             }
         }
     }
@@ -169,7 +143,11 @@ impl VatState {
     pub fn stays(&self, view: &View) -> bool
         ensures { IsTrue result ↔ (next self.now view.now ≡ stays) }
     {
-        hops::stays(self.events.as_slice(), &self.turns, BorrowedView::of(view))
+        hops::stays(
+            self.events.as_slice(),
+            &self.tables.turns,
+            BorrowedView::of(view),
+        )
     }
 
     /// Whether a view leads to another, by 0 or more turns. Each of its walks, four at most, comes to at most as many views
@@ -180,8 +158,8 @@ impl VatState {
     {
         hops::leads(
             self.events.as_slice(),
-            &self.turns,
-            &self.bound,
+            &self.tables.turns,
+            &self.tables.bound,
             BorrowedView::of(from),
             BorrowedView::of(to),
         )
@@ -193,8 +171,8 @@ impl VatState {
     {
         hops::leads_by_turns(
             self.events.as_slice(),
-            &self.turns,
-            &self.bound,
+            &self.tables.turns,
+            &self.tables.bound,
             BorrowedView::of(from),
             BorrowedView::of(to),
         )
@@ -207,7 +185,12 @@ impl VatState {
             (λ end. IsEnd self.now view.now (as_view end)) }
     {
         let view = BorrowedView::of(view);
-        hops::end(self.events.as_slice(), &self.turns, &self.bound, view)
+        hops::end(
+            self.events.as_slice(),
+            &self.tables.turns,
+            &self.tables.bound,
+            view,
+        )
     }
 
     /// Applies a record, which keeps the rules that are named after those applied.
@@ -225,7 +208,9 @@ impl VatState {
         ensures err { OnErr result (self.new ≡ self.old) }
     {
         self.shorten(&event);
-        self.append(event)
+        tell(&mut self.events, &mut self.tables, &event)?;
+        self.events.push_reserved(event);
+        Ok(())
     }
 
     /// The records that were applied, in their order, the oldest first. It takes no memory.
@@ -237,53 +222,39 @@ impl VatState {
     }
 }
 
-/// How a record is applied.
-impl VatState {
-    /// Puts a record behind those applied.
-    fn append(&mut self, event: DecodedRecord) -> Result<(), AllocError>
-        requires refers { Refers self.old event }
-        requires uses { UsesQuestions self.old event }
-        requires numbers { UsesNumbers self.old event }
-        requires gives { GivesBackHeld self.old event }
-        requires notes { NotesEach self.old event }
-        ensures ok { OnOk result (self.new ≡ event ∷ self.old) }
-        ensures err { OnErr result (self.new ≡ self.old) }
-    {
-        self.events.reserve(1)?;
-        let number = self.events.len();
-        let settling = settling_of(&self.questions, &self.lives, &self.bound, &event);
-        self.turns.make_room(settling, number)?;
-        let promise = effects::promise_resolved(&event);
-        self.resolves.room_for(promise)?;
-        self.connections.grow_for(&event)?;
-        let change = self
-            .waits
-            .prepare(&self.bound, &self.lives, &self.questions, number, &event)?;
-        apply_record(
-            number,
-            &mut self.questions,
-            &mut self.lives,
-            &mut self.bound,
-            &mut self.calls,
-            &event,
-        )?;
-        let again = self.turns.has(settling);
-        self.bound.drop_ahead(again);
-        self.turns.drop_calls_ahead(again);
-        self.turns.note(settling, number);
-        self.resolves.note_resolve(promise, number);
-        self.connections.note_event(&event);
-        self.waits.change(&self.calls, change);
-        self.events.push_reserved(event);
-        Ok(())
-    }
+/// Tells the tables of one more record, and makes room for it behind these. Where memory is refused, the tables are of
+/// these alone.
+fn tell(
+    events: &mut Vec<DecodedRecord>,
+    tables: &mut AllTables,
+    event: &DecodedRecord,
+) -> Result<(), AllocError>
+    ensures same { events.new.items ≡ events.old.items }
+    ensures room { OnOk result (vec_len events.new < vec_capacity events.new) }
+    ensures ok { OnOk result
+        (AreWhole events.old.items tables.old → IsSound (reverse events.old.items) event.now
+        → AreWhole (events.old.items ++ event.now ∷ []) tables.new) }
+    ensures err { OnErr result
+        (AreWhole events.old.items tables.old → IsSound (reverse events.old.items) event.now
+        → AreWhole events.old.items tables.new) }
+{
+    events.reserve(1)?;
+    tables.tell(events.len(), event)
+}
 
+/// How walks are made shorter before a record is applied.
+impl VatState {
     /// Makes the walk from this reference shorter.
     fn shorten_from(&mut self, reference: u64)
         ensures { self.new ≡ self.old }
     {
         let events = self.events.as_slice();
-        shorten(events, &self.turns, &mut self.bound, reference);
+        shorten(
+            events,
+            &self.tables.turns,
+            &mut self.tables.bound,
+            reference,
+        );
     }
 
     /// Makes the walks from the fields of this call shorter.
@@ -291,7 +262,7 @@ impl VatState {
         ensures { self.new ≡ self.old }
     {
         let events = self.events.as_slice();
-        shorten_calls(events, &mut self.turns, &self.bound, call);
+        shorten_calls(events, &mut self.tables.turns, &self.tables.bound, call);
     }
 
     /// Makes a walk shorter that goes on so.
@@ -311,14 +282,19 @@ impl VatState {
 
     /// Where a walk by 1 or more turns goes on from what this number stands for.
     fn way_of_number(&self, number: TableKey) -> Option<WayOn> {
-        let view = view_of_number(&self.bound, &self.lives, number)?;
-        way_after(self.events.as_slice(), &self.turns, &self.bound, view)
+        let view = view_of_number(&self.tables.bound, &self.tables.lives, number)?;
+        way_after(
+            self.events.as_slice(),
+            &self.tables.turns,
+            &self.tables.bound,
+            view,
+        )
     }
 
     /// Where a walk goes on from the goal of a call.
     fn way_of_goal(&self, call: u64) -> Option<WayOn> {
-        let goal = BorrowedView::of(self.calls.goal(call)?);
-        Some(way_from(self.events.as_slice(), &self.turns, goal))
+        let goal = BorrowedView::of(self.tables.calls.goal(call)?);
+        Some(way_from(self.events.as_slice(), &self.tables.turns, goal))
     }
 
     /// Makes the walks from these references shorter.
@@ -327,7 +303,12 @@ impl VatState {
     {
         for reference in references {
             let events = self.events.as_slice();
-            let way = way_from_reference(events, &self.turns, &self.bound, *reference);
+            let way = way_from_reference(
+                events,
+                &self.tables.turns,
+                &self.tables.bound,
+                *reference,
+            );
             self.shorten_way(way);
         }
     }
@@ -339,7 +320,7 @@ impl VatState {
         for (path, _) in fields {
             let events = self.events.as_slice();
             let field = BorrowedView::Field(call, path.as_slice());
-            let way = way_after(events, &self.turns, &self.bound, field);
+            let way = way_after(events, &self.tables.turns, &self.tables.bound, field);
             self.shorten_way(way);
         }
     }
@@ -349,20 +330,20 @@ impl VatState {
         let view = match target {
             Target::Imported(n) => {
                 let number = TableKey::of_receiver(sent, connection, *n);
-                view_of_number(&self.bound, &self.lives, number)?
+                view_of_number(&self.tables.bound, &self.tables.lives, number)?
             }
             Target::Promised(q, path) => {
                 let call = self.opening_call(TableKey::of_sender(sent, connection, *q))?;
                 BorrowedView::Field(call, path.as_slice())
             }
         };
-        Some(way_from(self.events.as_slice(), &self.turns, view))
+        Some(way_from(self.events.as_slice(), &self.tables.turns, view))
     }
 
     /// Where a walk goes on from what the target of the senderLoopback stood for that waits under this number.
     fn way_of_waiting(&self, number: TableKey) -> Option<WayOn> {
-        let view = BorrowedView::of(self.waits.loopbacks.embargoed_view(number)?);
-        Some(way_from(self.events.as_slice(), &self.turns, view))
+        let view = BorrowedView::of(self.tables.waits.loopbacks.embargoed_view(number)?);
+        Some(way_from(self.events.as_slice(), &self.tables.turns, view))
     }
 
     /// Makes the walk shorter that the rules ask for on a Disembargo: of one that asks for an echo from its target, and
@@ -370,53 +351,59 @@ impl VatState {
     fn shorten_embargo(&mut self, sent: bool, connection: u32, message: &RpcMessage)
         ensures { self.new ≡ self.old }
     {
-        let way = match message {
+        match message {
             RpcMessage::Disembargo {
                 loopback: Loopback::Sender,
                 target,
                 ..
-            } => self.way_of_target(sent, connection, target),
+            } => {
+                let way = self.way_of_target(sent, connection, target);
+                self.shorten_way(way);
+            }
             RpcMessage::Disembargo {
                 number,
                 loopback: Loopback::Receiver,
                 ..
-            } if sent => self.way_of_waiting(TableKey::of_receiver(sent, connection, *number)),
-            _ => None,
-        };
-        self.shorten_way(way);
-    }
-
-    /// Makes the walks shorter that the rules ask for on sent results.
-    fn shorten_results(&mut self, connection: u32, message: &RpcMessage)
-        ensures { self.new ≡ self.old }
-    {
-        let RpcMessage::Return {
-            answer,
-            outcome: Outcome::Results(payload),
-            ..
-        } = message
-        else {
-            return;
-        };
-        let question = Number::Answer(*answer).on(connection);
-        if let Some(call) = self.opening_call(question) {
-            self.shorten_fields(call, payload.fields.as_slice());
+            } if sent => {
+                let number = TableKey::of_receiver(sent, connection, *number);
+                let way = self.way_of_waiting(number);
+                self.shorten_way(way);
+            }
+            _ => {}
         }
     }
 
-    /// Makes the walks shorter that the rules ask for on a sent message: from what its number or question stands for.
+    /// Makes the walks shorter that the rules ask for on sent results, of the call of this question.
+    fn shorten_results(&mut self, question: TableKey, results: &Payload)
+        ensures { self.new ≡ self.old }
+    {
+        if let Some(call) = self.opening_call(question) {
+            self.shorten_fields(call, results.fields.as_slice());
+        }
+    }
+
+    /// Makes the walks shorter that the rules ask for on a sent message: from what its target, number or question stands
+    /// for.
     fn shorten_message(&mut self, connection: u32, call: u64, message: &RpcMessage)
         ensures { self.new ≡ self.old }
     {
-        let way = match message {
-            RpcMessage::Call { .. } => self.way_of_goal(call),
-            RpcMessage::Resolve { promise, .. } => {
-                self.way_of_number(Number::Export(*promise).on(connection))
+        match message {
+            RpcMessage::Call { .. } => {
+                let way = self.way_of_goal(call);
+                self.shorten_way(way);
             }
-            _ => None,
-        };
-        self.shorten_way(way);
-        self.shorten_results(connection, message);
+            RpcMessage::Return {
+                answer,
+                outcome: Outcome::Results(results),
+                ..
+            } => self.shorten_results(Number::Answer(*answer).on(connection), results),
+            RpcMessage::Resolve { promise, .. } => {
+                let way = self.way_of_number(Number::Export(*promise).on(connection));
+                self.shorten_way(way);
+            }
+            RpcMessage::Disembargo { .. } => self.shorten_embargo(true, connection, message),
+            _ => {}
+        }
     }
 
     /// Makes the walks shorter that the rules ask for on a record: from the goal of its call, from the references noted
@@ -439,7 +426,6 @@ impl VatState {
             } => {
                 self.shorten_references(references.as_slice());
                 self.shorten_message(*connection, *call, message);
-                self.shorten_embargo(true, *connection, message);
             }
             DecodedRecord::Wire {
                 sent: false,
@@ -467,28 +453,28 @@ impl VatState {
     pub(crate) fn is_free(&self, question: TableKey) -> bool
         ensures { result ≡ is_free question self.now }
     {
-        table_answers::is_free(&self.questions, question)
+        table_answers::is_free(&self.tables.questions, question)
     }
 
     /// Whether a question is opened and no Finish has passed since (rpc.capnp, `Finish.questionId`).
     pub(crate) fn is_unfinished(&self, question: TableKey) -> bool
         ensures { result ≡ is_unfinished question self.now }
     {
-        table_answers::is_unfinished(&self.questions, question)
+        table_answers::is_unfinished(&self.tables.questions, question)
     }
 
     /// Whether a Finish of a question has passed since its last opening.
     pub fn is_finished(&self, question: TableKey) -> bool
         ensures { result ≡ is_finished question self.now }
     {
-        table_answers::is_finished(&self.questions, question)
+        table_answers::is_finished(&self.tables.questions, question)
     }
 
     /// Whether a question is opened and no Return has passed since (rpc.capnp, `Return.answerId`).
     pub(crate) fn is_unreturned(&self, question: TableKey) -> bool
         ensures { result ≡ is_unreturned question self.now }
     {
-        table_answers::is_unreturned(&self.questions, question)
+        table_answers::is_unreturned(&self.tables.questions, question)
     }
 
     /// Whether a question's last opening is a Call whose results are to be sent elsewhere, as in a tail call (rpc.capnp,
@@ -496,7 +482,7 @@ impl VatState {
     pub fn is_tail(&self, question: TableKey) -> bool
         ensures { result ≡ is_tail (opening question self.now) }
     {
-        table_answers::is_tail(&self.questions, question)
+        table_answers::is_tail(&self.tables.questions, question)
     }
 
     /// Whether a Return that takes a question's results has passed since its last opening, late or not (rpc.capnp,
@@ -504,7 +490,7 @@ impl VatState {
     pub(crate) fn is_taken(&self, question: TableKey) -> bool
         ensures { result ≡ is_taken question self.now }
     {
-        table_answers::is_taken(&self.questions, question)
+        table_answers::is_taken(&self.tables.questions, question)
     }
 
     /// The call for which a question stands: that of its last opening, until both Return and Finish have passed, also
@@ -513,14 +499,14 @@ impl VatState {
     pub fn call_of(&self, question: TableKey) -> Option<u64>
         ensures { result ≡ call_of question self.now }
     {
-        meaning::call_of(&self.questions, question)
+        meaning::call_of(&self.tables.questions, question)
     }
 
     /// The call of a question's last opening, over or not, if it was ever opened.
     pub fn opening_call(&self, question: TableKey) -> Option<u64>
         ensures { result ≡ call_at (opening question self.now) }
     {
-        table_answers::opening_call(&self.questions, question)
+        table_answers::opening_call(&self.tables.questions, question)
     }
 
     /// Whether a record is a late Return: a Finish with releaseResultCaps true has passed before it, for the same
@@ -528,21 +514,21 @@ impl VatState {
     pub fn is_late(&self, event: &DecodedRecord) -> bool
         ensures { result ≡ is_late self.now event.now }
     {
-        tables::is_late(&self.questions, event)
+        tables::is_late(&self.tables.questions, event)
     }
 
     /// Whether an export or import number is in life: whether it is held (rpc.capnp, the comment of `Release`).
     pub(crate) fn is_in_life(&self, number: TableKey) -> bool
         ensures { result ≡ is_in_life number self.now }
     {
-        self.lives.count_of(number) > 0
+        self.tables.lives.count_of(number) > 0
     }
 
     /// Whether the present life of an export or import number began with a senderPromise, where it is in life.
     pub fn began_promised(&self, number: TableKey) -> Option<bool>
         ensures { result ≡ option_map began_promised (birth number self.now) }
     {
-        match self.lives.origin_of(number) {
+        match self.tables.lives.origin_of(number) {
             Some(origin) => Some(kinds::promised_at(&self.events, origin)),
             None => None,
         }
@@ -552,14 +538,17 @@ impl VatState {
     pub fn is_resolved(&self, number: TableKey) -> bool
         ensures { result ≡ is_resolved number self.now }
     {
-        kinds::resolved_since(self.lives.origin_of(number), self.resolves.of(number))
+        kinds::resolved_since(
+            self.tables.lives.origin_of(number),
+            self.tables.resolves.of(number),
+        )
     }
 
     /// Whether a reference is bound.
     pub(crate) fn is_bound(&self, reference: u64) -> bool
         ensures { result ≡ is_bound self.now reference }
     {
-        self.bound.has(reference)
+        self.tables.bound.has(reference)
     }
 
     /// What the target of a record stands for that may be applied next, if it has one.
@@ -570,7 +559,12 @@ impl VatState {
     pub fn view_of_target(&self, event: &DecodedRecord) -> Result<Option<View>, AllocError>
         ensures { IfOk result (λ view. view ≡ view_of_target self.now event.now) }
     {
-        table_answers::view_of_target(&self.bound, &self.lives, &self.questions, event)
+        table_answers::view_of_target(
+            &self.tables.bound,
+            &self.tables.lives,
+            &self.tables.questions,
+            event,
+        )
     }
 
     /// What the descriptors of a record stand for that may be applied next, by place.
@@ -585,14 +579,14 @@ impl VatState {
         ensures { IfOk result (λ views. views.items ≡ views_of_descriptors self.now event.now) }
     {
         let alloc = *self.events.allocator();
-        let late = tables::is_late(&self.questions, event);
+        let late = tables::is_late(&self.tables.questions, event);
         let begun = bindings::introduced_by(alloc, late, self.events.len(), event)?;
         table_answers::views_of_descriptors(
             alloc,
-            &self.bound,
-            &self.lives,
+            &self.tables.bound,
+            &self.tables.lives,
             &begun,
-            &self.questions,
+            &self.tables.questions,
             event,
         )
     }
@@ -606,7 +600,7 @@ impl VatState {
         ensures { IfOk result (λ held. Decides held (GivesBackHeld self.now event.now)) }
     {
         let alloc = *self.events.allocator();
-        table_answers::gives_back_held(alloc, &self.questions, &self.lives, event)
+        table_answers::gives_back_held(alloc, &self.tables.questions, &self.tables.lives, event)
     }
 
     /// Whether each number that a record introduces has the kind of its life's first descriptor, with the record itself
@@ -620,9 +614,15 @@ impl VatState {
         ensures { IfOk result (λ keeps. Decides keeps (KeepsKinds self.now event.now)) }
     {
         let alloc = *self.events.allocator();
-        let late = tables::is_late(&self.questions, event);
+        let late = tables::is_late(&self.tables.questions, event);
         let begun = bindings::introduced_by(alloc, late, self.events.len(), event)?;
-        Ok(kinds::keeps_kinds(&self.events, &self.lives, &begun, &self.resolves, event))
+        Ok(kinds::keeps_kinds(
+            &self.events,
+            &self.tables.lives,
+            &begun,
+            &self.tables.resolves,
+            event,
+        ))
     }
 }
 
@@ -632,7 +632,7 @@ impl VatState {
     pub(crate) fn is_bound_call(&self, call: u64) -> bool
         ensures { result ≡ is_bound_call self.now call }
     {
-        self.calls.has(call)
+        self.tables.calls.has(call)
     }
 
     /// What a call asked for when it came to the vat, by MAKE or by a received Call; nothing of one that didn't come.
@@ -643,7 +643,7 @@ impl VatState {
     pub fn request_of(&self, call: u64) -> Result<Option<Asked>, AllocError>
         ensures { IfOk result (λ asks. asks ≡ request_of call self.now) }
     {
-        self.calls.request_of(call)
+        self.tables.calls.request_of(call)
     }
 
     /// A call's goal, if it came to the vat with one: what the reference of its MAKE, or the target of its received
@@ -655,7 +655,7 @@ impl VatState {
     pub fn goal_of(&self, call: u64) -> Result<Option<View>, AllocError>
         ensures { IfOk result (λ goal. goal ≡ goal_of call self.now) }
     {
-        self.calls.goal_of(call)
+        self.tables.calls.goal_of(call)
     }
 
     /// Whether a call is at the vat: it came, and wasn't delivered, faulted, sent on, or answered by a sent Return with
@@ -663,21 +663,21 @@ impl VatState {
     pub fn is_at_vat(&self, call: u64) -> bool
         ensures { result ≡ is_at_vat call self.now }
     {
-        self.calls.is_at_vat(call)
+        self.tables.calls.is_at_vat(call)
     }
 
     /// Whether a call was delivered here, or is that of a received Bootstrap.
     pub fn is_served(&self, call: u64) -> bool
         ensures { result ≡ is_served call self.now }
     {
-        self.calls.is_served(call)
+        self.tables.calls.is_served(call)
     }
 
     /// Whether a call has an answer or fault.
     pub fn is_settled(&self, call: u64) -> bool
         ensures { result ≡ is_settled call self.now }
     {
-        self.calls.is_settled(call)
+        self.tables.calls.is_settled(call)
     }
 
     /// The call by whose results a call was answered last, if it was: by ANSWERBY, or by a received Return that isn't
@@ -685,7 +685,7 @@ impl VatState {
     pub fn answered_by(&self, call: u64) -> Option<u64>
         ensures { result ≡ answered_by call self.now }
     {
-        match self.turns.handover_of(call) {
+        match self.tables.turns.handover_of(call) {
             Some(handover) => Some(handover.by),
             None => None,
         }
@@ -696,7 +696,7 @@ impl VatState {
     pub fn is_known(&self, call: u64) -> bool
         ensures { result ≡ is_known call self.now }
     {
-        self.calls.is_known(call)
+        self.tables.calls.is_known(call)
     }
 }
 
@@ -706,7 +706,7 @@ impl VatState {
     pub fn is_aborted(&self, connection: u32) -> bool
         ensures { result ≡ is_aborted connection self.now }
     {
-        self.connections.is_aborted(connection)
+        self.tables.connections.is_aborted(connection)
     }
 
     /// Whether this vat sent an abort on a connection. One that answers a received abort is in order in a log of the later
@@ -714,7 +714,7 @@ impl VatState {
     pub fn is_aborted_here(&self, connection: u32) -> bool
         ensures { result ≡ is_aborted_here connection self.now }
     {
-        self.connections.is_aborted_here(connection)
+        self.tables.connections.is_aborted_here(connection)
     }
 
     /// Whether a view leads, by 0 or more turns, to one that is reached over this connection: an import that came in
@@ -726,9 +726,9 @@ impl VatState {
         let sought = Sought::Over(connection);
         leads_to(
             events,
-            &self.turns,
-            &self.bound,
-            &self.connections,
+            &self.tables.turns,
+            &self.tables.bound,
+            &self.tables.connections,
             BorrowedView::of(from),
             sought,
         )
@@ -745,9 +745,9 @@ impl VatState {
         let sought = Sought::Elsewhere(connection, edition);
         leads_to(
             events,
-            &self.turns,
-            &self.bound,
-            &self.connections,
+            &self.tables.turns,
+            &self.tables.bound,
+            &self.tables.connections,
             BorrowedView::of(from),
             sought,
         )
@@ -761,7 +761,7 @@ impl VatState {
     pub fn awaits_echo(&self, number: TableKey) -> bool
         ensures { result ≡ is_some (loopback_of number self.now) }
     {
-        self.waits.loopbacks.has(number)
+        self.tables.waits.loopbacks.has(number)
     }
 
     /// What the target of the senderLoopback that waits for its echo under a number stood for then, if one waits and
@@ -769,7 +769,7 @@ impl VatState {
     pub fn embargoed_view(&self, number: TableKey) -> Option<&View>
         ensures { option_copied result ≡ embargoed_view number self.now }
     {
-        self.waits.loopbacks.embargoed_view(number)
+        self.tables.waits.loopbacks.embargoed_view(number)
     }
 
     /// Whether the echo is held up of the senderLoopback that waits under a number: whether a call that was received on
@@ -779,10 +779,10 @@ impl VatState {
     pub fn is_held_up(&self, number: TableKey) -> bool
         ensures { Decides result (IsHeldUp number self.now) }
     {
-        match self.waits.loopbacks.of(number) {
+        match self.tables.waits.loopbacks.of(number) {
             Some(looped) => {
-                let inbox = &self.waits.inbox;
-                inbox.holds_up(&self.calls, number.connection, looped)
+                let inbox = &self.tables.waits.inbox;
+                inbox.holds_up(&self.tables.calls, number.connection, looped)
             }
             None => false,
         }

@@ -12,7 +12,6 @@ use Rattle.vat_view.specs.declared.tables.queued_call.QueuedCall.{QueuedCall}
 use Rattle.vat_view.specs.declared.tables.loopbacks.Unechoed.{Unechoed}
 use Rattle.vat_view.specs.declared.tables.loopbacks.Loopbacks.{Loopbacks}
 use Rattle.vat_view.specs.declared.tables.embargoes.Embargoes.{Embargoes}
-use Rattle.vat_view.specs.declared.tables.embargoes.Change.{Change}
 use Rattle.vat_view.specs.Types.{Call, Return, Exception, Canceled, Elsewhere, TakeFrom, DecodedRecord, Deliver, Fault, Wire, View, Object, Promise, FieldOf, Import, TableKey}
 use Rattle.vat_view.specs.Past.{Past, Point, id, is, same_id, names, record_index, last_answer}
 use Rattle.vat_view.specs.Views.{view_of_target}
@@ -148,6 +147,14 @@ Holding table calls k looped =
 
 -- ---- both tables
 
+-- what a record changes of what waits: the loopback for which it asks, the number that it echoes, the call that it
+-- receives and the call that it takes from the vat
+pub record Change : Type 0 where
+  pub looped : Option (TableKey × Unechoed)
+  pub echoed : Option TableKey
+  pub received : Option (ℕ × Receipt)
+  pub taken : Option ℕ
+
 -- what a record of this number changes, by the tables before it
 abbrev pub change_by : (ℕ → Option View) → ExportsImports → (TableKey → Option Question) → ℕ → DecodedRecord → Change
 change_by named lives known number e = record {
@@ -156,6 +163,14 @@ change_by named lives known number e = record {
   received = call_received_by number e;
   taken = call_taken_by (λ q. opening_call_in (known q)) e;
 }
+
+-- what a record of this number changes that asks for no echo and takes this call from the vat
+abbrev pub change_of_calls : ℕ → DecodedRecord → Option ℕ → Change
+change_of_calls number e taken = record { looped = None; echoed = receiver_loopback e; received = call_received_by number e; taken = taken }
+
+-- what a record changes that asks for the echo of this loopback
+abbrev pub change_of_loopbacks : Option (TableKey × Unechoed) → Change
+change_of_loopbacks looped = record { looped = looped; echoed = None; received = None; taken = None }
 
 -- they say the same
 pub record SaysSame (old : Embargoes) (new : Embargoes) : Type 0 where

@@ -1,19 +1,21 @@
 //! What one record tells the tables.
 
-ghost use Rattle.std.specs.Prelude.{◌≡◌, ◌+◌, ◌-◌, ◌<◌, ◌∷◌, length, count_by, OnOk, OnErr};
+ghost use Rattle.std.specs.Prelude.{◌≡◌, ◌+◌, ◌-◌, ◌<◌, [], ◌∷◌, ℕ, true, length, count_by, OnOk, OnErr};
 ghost use Rattle.vat_view.specs.Types.{TableKey};
 ghost use Rattle.vat_view.specs.Past.{Past, same_id, names};
 ghost use Rattle.vat_view.specs.Questions.{noted_call, asks_elsewhere, question_taken};
-ghost use Rattle.vat_view.specs.Lives.{GivesBackHeld};
+ghost use Rattle.vat_view.specs.Lives.{descriptors, GivesBackHeld};
 ghost use Rattle.vat_view.specs.Uses.{UsesQuestions};
 ghost use Rattle.vat_view.specs.Glue.TurnTables.{IsOwnOrOld};
-ghost use Rattle.vat_view.specs.Glue.Tables.{question_at, late_by, given_back_by, count_at, origin_at, raised_origin, count_released, just_opened, with_taken, changed_if, ended_by, noted_by, IsPut, IsSameQuestions, IsTabled, AreTabled, IsFit};
+ghost use Rattle.vat_view.specs.Glue.Plain.{has_message, own_bindings};
+ghost use Rattle.vat_view.specs.Glue.Tables.{bound_at, bound_by, question_at, late_by, given_back_by, count_at, origin_at, raised_origin, count_released, just_opened, with_taken, changed_if, ended_by, noted_by, IsPut, IsSameQuestions, IsTabled, AreTabled, IsFit};
 
-use crate::record::bindings::{bindings, introduced_by, new_references};
+use crate::record::bindings::{introduced_by, new_references, received_bindings};
 use crate::record::decoded::DecodedRecord;
 use crate::record::effects::{
-    asks_elsewhere, introductions, noted_call, origins, question_finished, question_opened,
-    question_released, question_returned, question_returned_lightly, question_taken,
+    asks_elsewhere, descriptors, has_message, introductions, noted_call, origins,
+    question_finished, question_opened, question_released, question_returned,
+    question_returned_lightly, question_taken,
 };
 use crate::record::origin::Origin;
 use crate::record::table_key::TableKey;
@@ -22,6 +24,7 @@ use crate::tables::exports_imports::ExportsImports;
 use crate::tables::question::Question;
 use crate::tables::questions::Questions;
 use crate::tables::references::BoundReferences;
+use crate::view::View;
 use rpc_view::RpcMessage;
 use std::alloc::{AllocError, Global};
 
@@ -227,8 +230,85 @@ pub(crate) fn count_numbers(
     }
 }
 
+/// Tells the tables of one record that has no descriptors. Where memory is refused, they are of the records before.
+fn count_plain(
+    questions: &mut Questions,
+    lives: &mut ExportsImports,
+    event: &DecodedRecord,
+) -> Result<(), AllocError>
+    requires { descriptors event.now ≡ [] }
+    ensures ok { OnOk result
+        ((before : Past) → IsTabled before questions.old lives.old
+        → UsesQuestions before event.now → GivesBackHeld before event.now
+        → IsTabled (event.now ∷ before) questions.new lives.new) }
+    ensures err { OnErr result
+        ((before : Past) → IsTabled before questions.old lives.old
+        → IsTabled before questions.new lives.new) }
+{
+    let none = TableKeys::none();
+    match question_opened(event) {
+        Some(question) => apply_opening(questions, lives, event, question, none, &[]),
+        None => apply_other(questions, lives, event, none, &[]),
+    }
+}
+
+/// Tells all tables of one record that has descriptors, and this number in the log. Where memory is refused, they are
+/// of the records before.
+fn bind_described(
+    alloc: Global,
+    number: usize,
+    questions: &mut Questions,
+    lives: &mut ExportsImports,
+    bound: &mut BoundReferences,
+    event: &DecodedRecord,
+) -> Result<(), AllocError>
+    requires { has_message event.now ≡ true }
+    ensures ok { OnOk result
+        ((before : Past) → number ≡ length before
+        → AreTabled before questions.old lives.old bound.old → IsFit before event.now
+        → AreTabled (event.now ∷ before) questions.new lives.new bound.new) }
+    ensures err { OnErr result
+        ((before : Past) → number ≡ length before
+        → AreTabled before questions.old lives.old bound.old → IsFit before event.now
+        → AreTabled before questions.new lives.new bound.new) }
+    ensures ahead { IsOwnOrOld bound.old bound.new }
+{
+    let late = is_late(questions, event);
+    let begun = introduced_by(alloc, late, number, event)?;
+    let list = received_bindings(alloc, bound, lives, &begun, questions, event)?;
+    if bound.bind_each(list).is_err() {
+        bound.unbind_each(new_references(event));
+        return Err(AllocError);
+    }
+    if count_numbers(alloc, late, number, questions, lives, event).is_err() {
+        bound.unbind_each(new_references(event));
+        return Err(AllocError);
+    }
+    Ok(())
+}
+
+/// Binds the reference that a record without a message binds, if it binds one. Where memory is refused, nothing changes.
+fn bind_own(bound: &mut BoundReferences, event: &DecodedRecord) -> Result<(), AllocError>
+    ensures ok { OnOk result
+        ((q : ℕ) → bound_at bound.new q
+        ≡ bound_by q (own_bindings event.now) (bound_at bound.old q)) }
+    ensures err { OnErr result ((q : ℕ) → bound_at bound.new q ≡ bound_at bound.old q) }
+    ensures ahead { IsOwnOrOld bound.old bound.new }
+{
+    match event {
+        DecodedRecord::Host { reference, object } => bound.bind(*reference, View::Object(*object)),
+        DecodedRecord::Vow { reference } => bound.bind(*reference, View::Promise(*reference)),
+        DecodedRecord::Field {
+            reference,
+            call,
+            path,
+        } => bound.bind(*reference, View::Field(*call, path.copy()?)),
+        _ => Ok(()),
+    }
+}
+
 /// Tells all tables of one record, which has this number in the log. Where memory is refused, they are of the records
-/// before.
+/// before. Records without descriptors are told first, since they are many and there is little to tell.
 pub(crate) fn bind_and_count(
     alloc: Global,
     number: usize,
@@ -247,16 +327,11 @@ pub(crate) fn bind_and_count(
         → AreTabled before questions.new lives.new bound.new) }
     ensures ahead { IsOwnOrOld bound.old bound.new }
 {
-    let late = is_late(questions, event);
-    let begun = introduced_by(alloc, late, number, event)?;
-    let list = bindings(alloc, bound, lives, &begun, questions, event)?;
-    if bound.bind_each(list).is_err() {
-        bound.unbind_each(new_references(event));
-        return Err(AllocError);
+    if !has_message(event) {
+        return bind_own(bound, event);
     }
-    if count_numbers(alloc, late, number, questions, lives, event).is_err() {
-        bound.unbind_each(new_references(event));
-        return Err(AllocError);
+    match descriptors(event) {
+        [] => count_plain(questions, lives, event),
+        _ => bind_described(alloc, number, questions, lives, bound, event),
     }
-    Ok(())
 }

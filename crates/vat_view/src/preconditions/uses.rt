@@ -10,7 +10,7 @@ ghost use Rattle.vat_view.specs.Bindings.{NotesEach};
 ghost use Rattle.vat_view.specs.Glue.Asking.{passes_if};
 
 use crate::record::decoded::DecodedRecord;
-use crate::record::effects::is_cap;
+use crate::record::effects::{has_message, is_cap};
 use crate::record::table_key::TableKey;
 use crate::state::VatState;
 
@@ -107,7 +107,34 @@ fn describes_in_life(state: &VatState, event: &DecodedRecord) -> bool
     ))
 }
 
-/// What a record that may be applied next names and uses.
+/// What a message uses, as a record that may be applied next.
+impl VatState {
+    /// Whether each question that it uses is opened and not finished, one that it returns is opened and not returned,
+    /// and one whose results it takes was opened by a Call whose results are to be sent elsewhere, and they weren't
+    /// taken since.
+    fn message_uses_questions(&self, event: &DecodedRecord) -> bool
+        ensures { Decides result (UsesQuestions self.now event.now) }
+    {
+        all_three(
+            returns_once(self, event),
+            takes_once(self, event),
+            uses_unfinished(self, event),
+        )
+    }
+
+    /// Whether each export or import number that it uses is in life.
+    fn message_uses_numbers(&self, event: &DecodedRecord) -> bool
+        ensures { Decides result (UsesNumbers self.now event.now) }
+    {
+        all_three(
+            is_in_life(self, event.number_targeted()),
+            describes_in_life(self, event),
+            is_in_life(self, event.number_released()),
+        )
+    }
+}
+
+/// What a record that may be applied next names and uses. One without a message uses nothing.
 impl VatState {
     /// Whether a question number that it opens is free (rpc.capnp, `Call.questionId` and `Return.noFinishNeeded`).
     pub fn opens_free(&self, event: &DecodedRecord) -> bool
@@ -126,11 +153,10 @@ impl VatState {
     pub fn uses_questions(&self, event: &DecodedRecord) -> bool
         ensures { Decides result (UsesQuestions self.now event.now) }
     {
-        all_three(
-            returns_once(self, event),
-            takes_once(self, event),
-            uses_unfinished(self, event),
-        )
+        if !has_message(event) {
+            return true;
+        }
+        self.message_uses_questions(event)
     }
 
     /// Whether each export or import number that it uses is in life (rpc.capnp, `MessageTarget.importedCap`,
@@ -138,11 +164,10 @@ impl VatState {
     pub fn uses_numbers(&self, event: &DecodedRecord) -> bool
         ensures { Decides result (UsesNumbers self.now event.now) }
     {
-        all_three(
-            is_in_life(self, event.number_targeted()),
-            describes_in_life(self, event),
-            is_in_life(self, event.number_released()),
-        )
+        if !has_message(event) {
+            return true;
+        }
+        self.message_uses_numbers(event)
     }
 
     /// Whether one reference is noted beside it for each descriptor that isn't none, and none beside a late Return.

@@ -4,7 +4,8 @@ ghost use Rattle.std.specs.Prelude.{◌≡◌, IfOk};
 ghost use Rattle.vat_view.specs.Lives.{descriptors};
 ghost use Rattle.vat_view.specs.Views.{references};
 ghost use Rattle.vat_view.specs.Bindings.{new_references};
-ghost use Rattle.vat_view.specs.Glue.Tables.{bound_at, question_at, origins_if, AreBegun, sender_view, view_by, reference_by, bound_one, bound_from, bindings};
+ghost use Rattle.vat_view.specs.Glue.Plain.{received_bindings};
+ghost use Rattle.vat_view.specs.Glue.Tables.{bound_at, question_at, origins_if, AreBegun, sender_view, view_by, reference_by, bound_one, bound_from};
 
 use crate::lookups::meaning::{field_of, view_from, view_of_number};
 use crate::record::decoded::DecodedRecord;
@@ -190,8 +191,8 @@ fn bound_descriptors(
     }
 }
 
-/// The references that a record binds, with their views.
-pub(crate) fn bindings(
+/// The references that a received message binds, with their views.
+pub(crate) fn received_bindings(
     alloc: Global,
     bound: &BoundReferences,
     lives: &ExportsImports,
@@ -201,20 +202,10 @@ pub(crate) fn bindings(
 ) -> Result<ShortList<(u64, View)>, AllocError>
     ensures { IfOk result
         (λ list. list
-        ≡ bindings (bound_at bound.now) lives.now begun.now (question_at questions.now) event.now) }
+        ≡ received_bindings (bound_at bound.now) lives.now begun.now
+        (question_at questions.now) event.now) }
 {
     match event {
-        DecodedRecord::Host { reference, object } => {
-            Ok(ShortList::one((*reference, View::Object(*object))))
-        }
-        DecodedRecord::Vow { reference } => {
-            Ok(ShortList::one((*reference, View::Promise(*reference))))
-        }
-        DecodedRecord::Field {
-            reference,
-            call,
-            path,
-        } => Ok(ShortList::one((*reference, View::Field(*call, path.copy()?)))),
         DecodedRecord::Wire { sent: false, .. } => bound_descriptors(
             alloc, bound, lives, begun, questions, event,
         ),

@@ -6,6 +6,7 @@ ghost use Rattle.vat_view.specs.Questions.{question_opened, question_returned, q
 ghost use Rattle.vat_view.specs.Lives.{descriptors, number_introduced, promise_resolved};
 ghost use Rattle.vat_view.specs.Views.{references};
 ghost use Rattle.vat_view.specs.Glue.Tables.{is_cap, origin_by, origins_from};
+ghost use Rattle.vat_view.specs.Glue.Plain.{has_message};
 
 use crate::record::decoded::DecodedRecord;
 use crate::record::origin::Origin;
@@ -164,6 +165,13 @@ pub(crate) fn noted_call(event: &DecodedRecord) -> u64
         DecodedRecord::Wire { call, .. } => *call,
         _ => 0,
     }
+}
+
+/// Whether a record has a message.
+pub(crate) fn has_message(event: &DecodedRecord) -> bool
+    ensures { result ≡ has_message event.now }
+{
+    matches!(event, DecodedRecord::Wire { .. })
 }
 
 /// The descriptors of a record, by place; a Resolve's stands at place 0.

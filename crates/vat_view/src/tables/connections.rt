@@ -154,8 +154,8 @@ impl Connections {
         self.asked.put(call, None)
     }
 
-    /// Makes room for what a record asks or aborts. What the table says stays as it is, where memory is refused too.
-    pub(crate) fn grow_for(&mut self, event: &DecodedRecord) -> Result<(), AllocError>
+    /// Makes room for what a message asks or aborts. What the table says stays as it is, where memory is refused too.
+    fn grow_for_message(&mut self, event: &DecodedRecord) -> Result<(), AllocError>
         ensures asked { (c : ℕ) → asked_at self.new c ≡ asked_at self.old c }
         ensures aborted { (k : ℕ) → aborted_at self.new k ≡ aborted_at self.old k }
         ensures aborted_here { (k : ℕ) → aborted_here_at self.new k ≡ aborted_here_at self.old k }
@@ -168,6 +168,44 @@ impl Connections {
         self.room_for_asked(call_sent_on(event))?;
         make_room(&mut self.aborted, connection_aborted(event))?;
         make_room(&mut self.aborted_here, abort_sent_on(event))
+    }
+
+    /// Makes room for what a record asks or aborts. What the table says stays as it is, where memory is refused too.
+    pub(crate) fn grow_for(&mut self, event: &DecodedRecord) -> Result<(), AllocError>
+        ensures asked { (c : ℕ) → asked_at self.new c ≡ asked_at self.old c }
+        ensures aborted { (k : ℕ) → aborted_at self.new k ≡ aborted_at self.old k }
+        ensures aborted_here { (k : ℕ) → aborted_here_at self.new k ≡ aborted_here_at self.old k }
+        ensures room_asked { OnOk result (IsTrue (has_asked self.new (call_sent_on event.now))) }
+        ensures room_aborted { OnOk result
+            (IsTrue (has_room self.new.aborted (aborted_by event.now))) }
+        ensures room_aborted_here { OnOk result
+            (IsTrue (has_room self.new.aborted_here (abort_sent_on event.now))) }
+    {
+        match event {
+            DecodedRecord::Wire {
+                message: RpcMessage::Bootstrap { .. } | RpcMessage::Call { .. } | RpcMessage::Abort,
+                ..
+            } => self.grow_for_message(event),
+            _ => Ok(()),
+        }
+    }
+
+    /// A message passed, for which there is room.
+    fn note_message(&mut self, event: &DecodedRecord)
+        requires asked { IsTrue (has_asked self.old (call_sent_on event.now)) }
+        requires aborted { IsTrue (has_room self.old.aborted (aborted_by event.now)) }
+        requires aborted_here { IsTrue
+            (has_room self.old.aborted_here (abort_sent_on event.now)) }
+        ensures asked { (c : ℕ) → asked_at self.new c
+            ≡ option_or (on_for c (call_sent_on event.now)) (asked_at self.old c) }
+        ensures aborted { (k : ℕ) → aborted_at self.new k
+            ≡ (is k (aborted_by event.now) || aborted_at self.old k) }
+        ensures aborted_here { (k : ℕ) → aborted_here_at self.new k
+            ≡ (is k (abort_sent_on event.now) || aborted_here_at self.old k) }
+    {
+        self.note_asked(call_sent_on(event));
+        mark(&mut self.aborted, connection_aborted(event));
+        mark(&mut self.aborted_here, abort_sent_on(event));
     }
 
     /// A record passed, for which there is room.
@@ -183,9 +221,13 @@ impl Connections {
         ensures aborted_here { (k : ℕ) → aborted_here_at self.new k
             ≡ (is k (abort_sent_on event.now) || aborted_here_at self.old k) }
     {
-        self.note_asked(call_sent_on(event));
-        mark(&mut self.aborted, connection_aborted(event));
-        mark(&mut self.aborted_here, abort_sent_on(event));
+        if let DecodedRecord::Wire {
+            message: RpcMessage::Bootstrap { .. } | RpcMessage::Call { .. } | RpcMessage::Abort,
+            ..
+        } = event
+        {
+            self.note_message(event);
+        }
     }
 
     /// A call is asked, for which there is room.

@@ -4,7 +4,7 @@ ghost use Rattle.std.specs.Prelude.{◌≡◌, None, OnOk, IfOk, IsTrue, is_some
 ghost use Rattle.std.specs.Option.{option_copied};
 ghost use Rattle.vat_view.specs.declared.record.table_key.TableKey.{TableKey};
 ghost use Rattle.vat_view.specs.Past.{names};
-ghost use Rattle.vat_view.specs.Loopbacks.{receiver_loopback};
+ghost use Rattle.vat_view.specs.Loopbacks.{sender_loopback, receiver_loopback};
 ghost use Rattle.vat_view.specs.Glue.Tables.{bound_at, question_at};
 ghost use Rattle.vat_view.specs.Glue.LoopTables.{loopback_at, loopback_target_in, put_by, room_at, looped_by};
 
@@ -26,6 +26,22 @@ pub(crate) struct Unechoed {
     pub(crate) number: usize,
     /// What its target stood for then.
     pub(crate) target: Option<View>,
+}
+
+/// Whether a record asks for an echo.
+pub(crate) fn asks_for_echo(event: &DecodedRecord) -> bool
+    ensures { result ≡ is_some (sender_loopback event.now) }
+{
+    matches!(
+        event,
+        DecodedRecord::Wire {
+            message: RpcMessage::Disembargo {
+                loopback: Loopback::Sender,
+                ..
+            },
+            ..
+        }
+    )
 }
 
 /// The loopback for which a record asks, which has this number in the log, by the tables before it.

@@ -123,7 +123,7 @@ impl BoundReferences {
     }
 
     /// This reference has this view. Where memory is refused, nothing changes.
-    fn bind(&mut self, reference: u64, view: View) -> Result<(), AllocError>
+    pub(crate) fn bind(&mut self, reference: u64, view: View) -> Result<(), AllocError>
         ensures ok { OnOk result
             ((q : ℕ) → bound_at self.new q
             ≡ (if reference == q then Some view else bound_at self.old q)) }

@@ -1,24 +1,22 @@
 //! The table of received calls that are at the vat.
 
-ghost use Rattle.std.specs.Prelude.{◌≡◌, ◌==◌, ℕ, None, OnOk, IfOk, IsTrue, Decides, nat_lt, ◌&&◌, if◌then◌else◌};
+ghost use Rattle.std.specs.Prelude.{◌≡◌, ◌==◌, ℕ, None, Some, OnOk, IsTrue, Decides, nat_lt, ◌&&◌, if◌then◌else◌};
 ghost use Rattle.std.specs.List.{list_any};
 ghost use Rattle.std.specs.BTreeMap.Range.{entries_between};
 ghost use Rattle.vat_view.specs.Past.{is};
-ghost use Rattle.vat_view.specs.Glue.Tables.{bound_at, question_at};
+ghost use Rattle.vat_view.specs.Glue.Tables.{question_at};
 ghost use Rattle.vat_view.specs.Glue.Asking.{opening_call_in};
 ghost use Rattle.vat_view.specs.Glue.Queues.{queued_cmp, from_first, up_to, has_joined, Stay, OthersStay};
-ghost use Rattle.vat_view.specs.Glue.LoopTables.{receipt_at, put_call, space_at, call_received_by, call_taken_by, queued_by, held_by, SameSpace, AreQueued, HasLeft, Holding};
+ghost use Rattle.vat_view.specs.Glue.LoopTables.{receipt_at, put_call, space_at, call_received_by, call_taken_by, held_by, SameSpace, AreQueued, HasLeft, Holding};
 
-use crate::lookups::table_answers::{opening_call, view_of_target};
+use crate::lookups::table_answers::opening_call;
 use crate::record::decoded::DecodedRecord;
 use crate::record::table_key::TableKey;
 use crate::tables::calls::Calls;
-use crate::tables::exports_imports::ExportsImports;
 use crate::tables::goal_key::goal_key_of;
 use crate::tables::loopbacks::Unechoed;
 use crate::tables::questions::Questions;
 use crate::tables::queued_call::QueuedCall;
-use crate::tables::references::BoundReferences;
 use rpc_view::{Outcome, RpcMessage};
 use std::alloc::{AllocError, Global};
 use std::collections::BTreeMap;
@@ -51,27 +49,6 @@ pub(crate) fn call_received_by(number: usize, event: &DecodedRecord) -> Option<(
             },
         )),
         _ => None,
-    }
-}
-
-/// Where the call joins the queue that a record receives, which has this number in the log, by the tables before it.
-pub(crate) fn queued_by(
-    bound: &BoundReferences,
-    lives: &ExportsImports,
-    questions: &Questions,
-    number: usize,
-    event: &DecodedRecord,
-) -> Result<Option<QueuedCall>, AllocError>
-    ensures { IfOk result
-        (λ queued. queued
-        ≡ queued_by (bound_at bound.now) lives.now (question_at questions.now) number event.now) }
-{
-    match call_received_by(number, event) {
-        Some((call, receipt)) => {
-            let goal = view_of_target(bound, lives, questions, event)?;
-            Ok(Some(QueuedCall::new(call, receipt, goal.as_ref())))
-        }
-        None => Ok(None),
     }
 }
 
@@ -203,15 +180,13 @@ impl WaitingCalls {
     }
 
     /// This call joins the queue. What the table says of calls stays as it is, where memory is refused too.
-    pub(crate) fn join(&mut self, queued: Option<QueuedCall>) -> Result<(), AllocError>
+    pub(crate) fn join(&mut self, queued: QueuedCall) -> Result<(), AllocError>
         ensures same { (c : ℕ) → receipt_at self.new c ≡ receipt_at self.old c }
         ensures stay { Stay self.old self.new }
         ensures space { SameSpace self.old self.new }
-        ensures joins { OnOk result (IsTrue (has_joined self.new queued)) }
+        ensures joins { OnOk result (IsTrue (has_joined self.new (Some queued))) }
     {
-        if let Some(queued) = queued {
-            self.queue.insert(queued, ())?;
-        }
+        self.queue.insert(queued, ())?;
         Ok(())
     }
 

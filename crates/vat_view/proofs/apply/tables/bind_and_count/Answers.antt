@@ -1,36 +1,37 @@
-use Rattle.std.proofs.Common.{sym, ◌∙◌}
-use Rattle.vat_view.proofs.Raising.{ok_gives}
-use Rattle.vat_view.proofs.Learning.{err_gives, begun_now, learned, unlearned, refused, bound_apart_from}
+use Rattle.std.proofs.Common.{◌≡◌, sym, ◌∙◌, []}
+use Rattle.std.specs.Prelude.{Result, Ok, Err, OnOk, OnErr}
+use Rattle.vat_view.specs.Lives.{descriptors}
+use Rattle.vat_view.proofs.Learning.{own_learned, plain_learned, none_below}
 use Rattle.vat_view.proofs.apply.tables.bind_and_count.Goals as goal
 
-pub returns-then-is_err-clause-err : goal.returns-then-is_err-clause-err
-returns-then-is_err-clause-err c = λ before place kept fit.
-    unlearned before c.args.event.now c.args.questions.now c.args.lives.now c.in_ok-begun.begun c.args.bound.now kept fit
-    (begun_now before c.args.event.now c.args.questions.now c.args.lives.now c.in_ok-begun.begun c.is_late-late.result c.args.number kept.tabled fit.uses c.is_late-late.ensures place c.in_ok-begun.ensures)
-    c.in_ok-list.list c.in_ok-list.ensures
-    c.args.questions.now c.args.lives.now c.bind_each.new.self c.unbind_each.new.self c.new_references.result.now c.new_references.ensures kept.tabled c.unbind_each.ensures.views
-    (refused before c.args.event.now c.args.questions.now c.args.lives.now c.in_ok-begun.begun c.args.bound.now kept fit
-    (begun_now before c.args.event.now c.args.questions.now c.args.lives.now c.in_ok-begun.begun c.is_late-late.result c.args.number kept.tabled fit.uses c.is_late-late.ensures place c.in_ok-begun.ensures)
-    c.in_ok-list.list c.in_ok-list.ensures
-    c.bind_each.new.self (err_gives c.bind_each.result (sym c.is_err.ensures.value ∙ c.if-is_err.true) c.bind_each.ensures.err))
+-- what is so where it is done, and where it is refused
+ok_then : {T E P Q : Type 0} (r : Result T E) → (P → Q) → OnOk r P → OnOk r Q
+ok_then (Ok x) f p = f p
+ok_then (Err e) f p = p
 
-pub returns-then-is_err-2-clause-err : goal.returns-then-is_err-2-clause-err
-returns-then-is_err-2-clause-err c = λ before place kept fit.
-    unlearned before c.args.event.now c.args.questions.now c.args.lives.now c.in_ok-begun.begun c.args.bound.now kept fit
-    (begun_now before c.args.event.now c.args.questions.now c.args.lives.now c.in_ok-begun.begun c.is_late-late.result c.args.number kept.tabled fit.uses c.is_late-late.ensures place c.in_ok-begun.ensures)
-    c.in_ok-list.list c.in_ok-list.ensures
-    c.count_numbers.new.questions c.count_numbers.new.lives c.bind_each.new.self c.unbind_each-then-is_err-2.new.self c.new_references-then-is_err-2.result.now c.new_references-then-is_err-2.ensures
-    (err_gives c.count_numbers.result (sym c.is_err-2.ensures.value ∙ c.if-is_err-2.true) c.count_numbers.ensures.err before kept.tabled) c.unbind_each-then-is_err-2.ensures.views
-    (bound_apart_from before c.args.event.now c.args.questions.now c.args.lives.now c.in_ok-begun.begun c.args.bound.now kept fit
-    (begun_now before c.args.event.now c.args.questions.now c.args.lives.now c.in_ok-begun.begun c.is_late-late.result c.args.number kept.tabled fit.uses c.is_late-late.ensures place c.in_ok-begun.ensures)
-    c.in_ok-list.list c.in_ok-list.ensures
-    c.bind_each.new.self (ok_gives c.bind_each.result (sym c.is_err.ensures.value ∙ c.if-is_err.false) c.bind_each.ensures.ok))
+err_then : {T E P Q : Type 0} (r : Result T E) → (P → Q) → OnErr r P → OnErr r Q
+err_then (Ok x) f p = p
+err_then (Err e) f p = f p
 
-pub returns-clause-ok : goal.returns-clause-ok
-returns-clause-ok c = λ before place kept fit.
-    learned before c.args.event.now c.args.questions.now c.args.lives.now c.in_ok-begun.begun c.args.bound.now kept fit
-    (begun_now before c.args.event.now c.args.questions.now c.args.lives.now c.in_ok-begun.begun c.is_late-late.result c.args.number kept.tabled fit.uses c.is_late-late.ensures place c.in_ok-begun.ensures)
-    c.in_ok-list.list c.in_ok-list.ensures
-    c.count_numbers.new.questions c.count_numbers.new.lives c.bind_each.new.self
-    (ok_gives c.count_numbers.result (sym c.is_err-2.ensures.value ∙ c.if-is_err-2.false) c.count_numbers.ensures.ok before place kept.tabled fit.uses fit.gives)
-    (ok_gives c.bind_each.result (sym c.is_err.ensures.value ∙ c.if-is_err.false) c.bind_each.ensures.ok)
+pub returns-then-not-has_message-clause-ok : goal.returns-then-not-has_message-clause-ok
+returns-then-not-has_message-clause-ok c = ok_then c.bind_own.result
+    (λ bind before place kept fit. own_learned before c.args.event.now c.args.questions.now c.args.lives.now c.args.bound.now c.bind_own.new.bound (sym c.if-not-has_message.ensures) kept fit bind)
+    c.bind_own.ensures.ok
+
+pub returns-then-not-has_message-clause-err : goal.returns-then-not-has_message-clause-err
+returns-then-not-has_message-clause-err c = err_then c.bind_own.result
+    (λ same before place kept fit. record { tabled = kept.tabled; bounds = λ q. same q ∙ kept.bounds q })
+    c.bind_own.ensures.err
+
+pub returns-in-empty-clause-ok : goal.returns-in-empty-clause-ok
+returns-in-empty-clause-ok c = ok_then c.count_plain.result
+    (λ tabled before place kept fit.
+    let plain : descriptors c.args.event.now ≡ [] = sym c.descriptors.ensures ∙ none_below c.descriptors.result.now c.in-empty.len_below in
+    plain_learned before c.args.event.now c.args.questions.now c.args.lives.now c.args.bound.now (sym c.if-not-has_message.ensures) plain kept fit c.count_plain.new.questions c.count_plain.new.lives
+    (tabled before kept.tabled fit.uses fit.gives))
+    c.count_plain.ensures.ok
+
+pub returns-in-empty-clause-err : goal.returns-in-empty-clause-err
+returns-in-empty-clause-err c = err_then c.count_plain.result
+    (λ tabled before place kept fit. record { tabled = tabled before kept.tabled; bounds = kept.bounds })
+    c.count_plain.ensures.err

@@ -9,9 +9,9 @@ use Rattle.vat_view.proofs.state.VatState.leads_by_turns.Goals as goal
 
 pub returns : goal.returns
 returns c =
-    let going : View → Next = λ v. goes_by c.as_slice.result.now c.self.inside.turns (bound_at c.self.inside.bound) v in
+    let going : View → Next = λ v. goes_by c.as_slice.result.now c.self.inside.tables.turns (bound_at c.self.inside.tables.bound) v in
     let same : (v : View) → going v ≡ next c.args.self.now v =
-    goes_so c.self.inside.events.items c.as_slice.result.now c.args.self.now c.self.inside.questions c.self.inside.lives c.self.inside.bound c.self.inside.turns
+    goes_so c.self.inside.events.items c.as_slice.result.now c.args.self.now c.self.inside.tables.questions c.self.inside.tables.lives c.self.inside.tables.bound c.self.inside.tables.turns
     c.self.view_is c.as_slice.ensures.value c.self.invariant.0.tabled c.self.invariant.2 in
     subst (λ v. IsTrue c.leads_by_turns.result ↔ LeadsByTurns c.args.self.now v c.args.to.now) c.of.ensures
     (subst (λ v. IsTrue c.leads_by_turns.result ↔ LeadsByTurns c.args.self.now (as_view c.of.result) v) c.of-2.ensures

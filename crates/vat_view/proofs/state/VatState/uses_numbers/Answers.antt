@@ -1,15 +1,9 @@
-use Rattle.std.proofs.Common.{◌≡◌, ◌∙◌, sym}
-use Rattle.std.specs.List.{list_all}
-use Rattle.vat_view.specs.Lives.{descriptors, is_in_life}
-use Rattle.vat_view.specs.Uses.{number_targeted, number_described, number_released, numbers_used}
-use Rattle.vat_view.proofs.Using.{joined}
+use Rattle.std.proofs.Common.{refl, sym}
+use Rattle.vat_view.proofs.Owning.{own_uses_numbers}
 use Rattle.vat_view.proofs.state.VatState.uses_numbers.Goals as goal
 
-pub returns : goal.returns
-returns c =
-    let e = c.args.event.now in
-    let all : c.all_three.result ≡ list_all (λ i. is_in_life i c.args.self.now) (numbers_used e) =
-    joined (λ i. is_in_life i c.args.self.now) c.number_targeted.result (number_targeted e) c.number_released.result (number_released e) (number_described e) (descriptors e)
-    c.all_three.result c.is_in_life.result c.describes_in_life.result c.is_in_life-2.result
-    c.all_three.ensures c.is_in_life.ensures c.number_targeted.ensures c.describes_in_life.ensures c.is_in_life-2.ensures c.number_released.ensures in
-    (λ so. sym all ∙ so, λ so. all ∙ so)
+pub returns-then-not-has_message : goal.returns-then-not-has_message
+returns-then-not-has_message c = (
+  (λ so. own_uses_numbers c.args.self.now c.args.event.now (sym c.if-not-has_message.ensures)),
+  (λ uses. refl),
+)

@@ -1,7 +1,9 @@
-use Rattle.vat_view.proofs.Using.{uses_from}
+use Rattle.std.proofs.Common.{refl, sym}
+use Rattle.vat_view.proofs.Owning.{own_uses_questions}
 use Rattle.vat_view.proofs.state.VatState.uses_questions.Goals as goal
 
-pub returns : goal.returns
-returns c =
-    uses_from c.args.self.now c.args.event.now c.all_three.result c.returns_once.result c.takes_once.result c.uses_unfinished.result
-    c.all_three.ensures c.returns_once.ensures c.takes_once.ensures c.uses_unfinished.ensures
+pub returns-then-not-has_message : goal.returns-then-not-has_message
+returns-then-not-has_message c = (
+  (λ so. own_uses_questions c.args.self.now c.args.event.now (sym c.if-not-has_message.ensures)),
+  (λ uses. refl),
+)

@@ -1,0 +1,15 @@
+-- A record without a message: what it uses and gives back is nothing.
+use Rattle.std.proofs.Common.{◌≡◌, refl, sym, false}
+use Rattle.std.proofs.lemmas.Bool.{false≢true}
+use Rattle.vat_view.specs.Types.{DecodedRecord, Wire}
+use Rattle.vat_view.specs.Past.{Past}
+use Rattle.vat_view.specs.Uses.{UsesQuestions, UsesNumbers}
+use Rattle.vat_view.specs.Glue.Plain.{has_message}
+
+pub own_uses_questions : (before : Past) (e : DecodedRecord) → has_message e ≡ false → UsesQuestions before e
+own_uses_questions before (Wire s k c rs m) h = absurd (false≢true (sym h))
+own_uses_questions before _ h = record { used = refl; returned_once = tt; taken_once = tt }
+
+pub own_uses_numbers : (before : Past) (e : DecodedRecord) → has_message e ≡ false → UsesNumbers before e
+own_uses_numbers before (Wire s k c rs m) h = absurd (false≢true (sym h))
+own_uses_numbers before _ h = refl

@@ -1,0 +1,84 @@
+use Rattle.std.proofs.Common.{◌≡◌, refl, sym, ◌∙◌, ◌∷◌, ◌++◌, []}
+use Rattle.std.specs.Prelude.{reverse}
+use Rattle.vat_view.specs.Glue.KindTables.{AreResolved}
+use Rattle.vat_view.specs.Glue.Kept.{AreKept}
+use Rattle.vat_view.proofs.Answering.{taken_from_known}
+use Rattle.vat_view.proofs.Binding.{any_err}
+use Rattle.vat_view.proofs.Keeping.{fits, next_number, at_the_end}
+use Rattle.vat_view.proofs.Settled.{says_then, settled_same, turns_applied}
+use Rattle.vat_view.proofs.Hopping.{calls_then}
+use Rattle.vat_view.proofs.Promising.{resolves_after}
+use Rattle.vat_view.proofs.Connecting.{connected_same, connected_applied}
+use Rattle.vat_view.proofs.Ahead.{kept_views, ahead_refused, ahead_unlearned, ahead_applied, again_same}
+use Rattle.vat_view.proofs.tables.all_tables.AllTables.note.Goals as goal
+
+pub returns-in_err-make_room-clause-err : goal.returns-in_err-make_room-clause-err
+returns-in_err-make_room-clause-err c = any_err c.from_residual.result (λ events place noted sound. (
+  noted.0,
+  noted.1,
+  settled_same (reverse events) c.args.self.now.turns c.make_room.new.self c.make_room.ensures.same noted.2,
+  noted.3,
+  ahead_refused events events c.args.self.now.turns c.make_room.new.self refl c.make_room.ensures.same c.args.self.now.bound c.make_room.ensures.ahead noted.4,
+))
+
+pub returns-in_err-room_for-clause-err : goal.returns-in_err-room_for-clause-err
+returns-in_err-room_for-clause-err c = any_err c.from_residual-in_err-room_for.result (λ events place noted sound. (
+  noted.0,
+  (λ i. c.room_for.ensures.same i ∙ noted.1 i),
+  settled_same (reverse events) c.args.self.now.turns c.make_room.new.self c.make_room.ensures.same noted.2,
+  noted.3,
+  ahead_refused events events c.args.self.now.turns c.make_room.new.self refl c.make_room.ensures.same c.args.self.now.bound c.make_room.ensures.ahead noted.4,
+))
+
+pub returns-in_err-grow_for-clause-err : goal.returns-in_err-grow_for-clause-err
+returns-in_err-grow_for-clause-err c = any_err c.from_residual-in_err-grow_for.result (λ events place noted sound. (
+  noted.0,
+  (λ i. c.room_for.ensures.same i ∙ noted.1 i),
+  settled_same (reverse events) c.args.self.now.turns c.make_room.new.self c.make_room.ensures.same noted.2,
+  connected_same (reverse events) c.args.self.now.connections c.grow_for.new.self
+      (record { asked = c.grow_for.ensures.asked; aborted = c.grow_for.ensures.aborted; aborted_here = c.grow_for.ensures.aborted_here }) noted.3,
+  ahead_refused events events c.args.self.now.turns c.make_room.new.self refl c.make_room.ensures.same c.args.self.now.bound c.make_room.ensures.ahead noted.4,
+))
+
+pub returns-in_err-apply_record-clause-err : goal.returns-in_err-apply_record-clause-err
+returns-in_err-apply_record-clause-err c = any_err c.from_residual-in_err-apply_record.result (λ events place noted sound.
+    let kept : AreKept (reverse events) c.apply_record.new.questions c.apply_record.new.lives c.apply_record.new.bound c.apply_record.new.calls =
+    c.in_err-apply_record.ensures.err (reverse events) (next_number events c.args.number place) noted.0 sound in (
+      kept,
+      (λ i. c.room_for.ensures.same i ∙ noted.1 i),
+      settled_same (reverse events) c.args.self.now.turns c.make_room.new.self c.make_room.ensures.same noted.2,
+      connected_same (reverse events) c.args.self.now.connections c.grow_for.new.self
+          (record { asked = c.grow_for.ensures.asked; aborted = c.grow_for.ensures.aborted; aborted_here = c.grow_for.ensures.aborted_here }) noted.3,
+      ahead_unlearned events events c.args.self.now.turns c.make_room.new.self refl c.make_room.ensures.same c.args.self.now.bound
+          c.apply_record.new.bound noted.0.tabled.bounds kept.tabled.bounds c.apply_record.ensures.ahead c.make_room.ensures.ahead noted.4,
+    ))
+
+pub returns-clause-ok : goal.returns-clause-ok
+returns-clause-ok c = λ events place noted sound.
+    let at = next_number events c.args.number place in
+    let kept : AreKept (c.args.event.now ∷ reverse events) c.apply_record.new.questions c.apply_record.new.lives c.apply_record.new.bound c.apply_record.new.calls =
+    c.in_ok-apply_record.ensures.ok (reverse events) at noted.0 sound in
+    let kept_last : AreKept (reverse (events ++ c.args.event.now ∷ [])) c.apply_record.new.questions c.apply_record.new.lives c.apply_record.new.bound c.apply_record.new.calls =
+    at_the_end events c.args.event.now (λ p. AreKept p c.apply_record.new.questions c.apply_record.new.lives c.apply_record.new.bound c.apply_record.new.calls) kept in (
+      kept_views (reverse (events ++ c.args.event.now ∷ [])) c.apply_record.new.questions c.apply_record.new.lives c.apply_record.new.bound c.drop_ahead.new.self c.apply_record.new.calls c.drop_ahead.ensures.views kept_last,
+      at_the_end events c.args.event.now (λ p. AreResolved p c.note_resolve.new.self)
+          (resolves_after (reverse events) c.args.event.now c.room_for.new.self c.note_resolve.new.self (λ i. c.room_for.ensures.same i ∙ noted.1 i) c.promise_resolved-promise.result
+          c.promise_resolved-promise.ensures c.args.number at c.note_resolve.ensures),
+      turns_applied events events (events ++ c.args.event.now ∷ []) c.args.event.now c.args.number c.settling_of-settling.result c.args.self.now.questions c.args.self.now.lives
+          c.args.self.now.bound c.args.self.now.turns c.drop_calls_ahead.new.self c.note.new.self refl place refl (fits (reverse events) c.args.event.now sound) noted.0.tabled noted.2
+          c.settling_of-settling.ensures.settled
+          (c.settling_of-settling.ensures.by
+          ∙ taken_from_known (reverse events) c.args.self.now.questions c.args.self.now.lives c.args.self.now.bound c.args.self.now.calls noted.0 c.args.event.now)
+          (says_then c.args.self.now.turns c.make_room.new.self c.drop_calls_ahead.new.self c.make_room.ensures.same c.drop_calls_ahead.ensures.same) c.note.ensures,
+      connected_applied events events (events ++ c.args.event.now ∷ []) c.args.event.now c.args.self.now.connections c.grow_for.new.self c.note_event.new.self refl refl
+          (record { asked = c.grow_for.ensures.asked; aborted = c.grow_for.ensures.aborted; aborted_here = c.grow_for.ensures.aborted_here })
+          (record { asked = c.note_event.ensures.asked; aborted = c.note_event.ensures.aborted; aborted_here = c.note_event.ensures.aborted_here }) noted.3,
+      ahead_applied events events (events ++ c.args.event.now ∷ []) c.args.event.now c.args.number c.settling_of-settling.result c.args.self.now.turns
+          c.drop_calls_ahead.new.self c.note.new.self refl refl
+          (says_then c.args.self.now.turns c.make_room.new.self c.drop_calls_ahead.new.self c.make_room.ensures.same c.drop_calls_ahead.ensures.same) c.note.ensures c.args.self.now.bound
+          c.apply_record.new.bound c.drop_ahead.new.self c.has-again.result
+          (again_same c.make_room.new.self c.drop_calls_ahead.new.self c.settling_of-settling.result.settled c.has-again.result c.drop_calls_ahead.ensures.same c.has-again.ensures)
+          sound.refers noted.0.tabled.bounds kept_last.tabled.bounds c.drop_ahead.ensures.views c.apply_record.ensures.ahead c.drop_ahead.ensures.ahead c.drop_ahead.ensures.own
+          (calls_then c.args.self.now.turns.handovers c.make_room.new.self.handovers c.drop_calls_ahead.new.self.handovers c.make_room.ensures.ahead c.drop_calls_ahead.ensures.ahead)
+          c.drop_calls_ahead.ensures.own noted.4,
+    )

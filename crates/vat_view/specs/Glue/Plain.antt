@@ -1,0 +1,26 @@
+-- For the code's contracts, and no part of the meaning: what records bind without a message and with one.
+use Rattle.std.specs.Prelude.{ℕ, List, [], ◌∷◌, Bool, true, false, Option}
+use Rattle.vat_view.specs.declared.tables.question.Question.{Question}
+use Rattle.vat_view.specs.declared.tables.exports_imports.ExportsImports.{ExportsImports}
+use Rattle.vat_view.specs.declared.record.introduced.Introduced.{Introduced}
+use Rattle.vat_view.specs.Types.{DecodedRecord, Host, Vow, Field, Wire, View, Object, Promise, FieldOf, TableKey}
+use Rattle.vat_view.specs.Lives.{descriptors}
+use Rattle.vat_view.specs.Glue.Tables.{view_by, bound_from}
+
+-- whether a record has a message
+abbrev pub has_message : DecodedRecord → Bool
+has_message (Wire sent k c rs m) = true
+has_message _ = false
+
+-- the reference that a record without a message binds, with its view, if it binds one
+abbrev pub own_bindings : DecodedRecord → List (ℕ × View)
+own_bindings (Host r object) = (r, Object object) ∷ []
+own_bindings (Vow r) = (r, Promise r) ∷ []
+own_bindings (Field r call path) = (r, FieldOf call path) ∷ []
+own_bindings _ = []
+
+-- the references that a received message binds, with their views
+abbrev pub received_bindings : (ℕ → Option View) → ExportsImports → Introduced → (TableKey → Option Question) → DecodedRecord → List (ℕ × View)
+received_bindings named lives begun known (Wire false k c rs m) =
+    bound_from (view_by named lives begun known (Wire false k c rs m)) rs 0 (descriptors (Wire false k c rs m))
+received_bindings named lives begun known _ = []

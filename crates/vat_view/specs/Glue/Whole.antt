@@ -1,0 +1,28 @@
+-- For the code's contracts, and no part of the meaning: every table of a point of a log.
+use Rattle.std.specs.Prelude.{List, reverse}
+use Rattle.vat_view.specs.declared.record.decoded.DecodedRecord.{DecodedRecord}
+use Rattle.vat_view.specs.declared.tables.all_tables.AllTables.{AllTables}
+use Rattle.vat_view.specs.Glue.KindTables.{AreResolved}
+use Rattle.vat_view.specs.Glue.Kept.{AreKept}
+use Rattle.vat_view.specs.Glue.TurnTables.{AreSettled, HaveAhead}
+use Rattle.vat_view.specs.Glue.ConnectionTables.{AreConnected}
+use Rattle.vat_view.specs.Glue.LoopTables.{AreWaiting}
+
+-- all but that of what waits have what looking back finds in these records, the oldest first
+abbrev pub AreNoted : List DecodedRecord → AllTables → Type 0
+AreNoted events tables =
+    AreKept (reverse events) tables.questions tables.lives tables.bound tables.calls
+    × AreResolved (reverse events) tables.resolves
+    × AreSettled (reverse events) tables.turns
+    × AreConnected (reverse events) tables.connections
+    × HaveAhead events tables.turns tables.bound
+
+-- all have it
+abbrev pub AreWhole : List DecodedRecord → AllTables → Type 0
+AreWhole events tables =
+    AreKept (reverse events) tables.questions tables.lives tables.bound tables.calls
+    × AreResolved (reverse events) tables.resolves
+    × AreSettled (reverse events) tables.turns
+    × AreConnected (reverse events) tables.connections
+    × AreWaiting (reverse events) tables.waits
+    × HaveAhead events tables.turns tables.bound

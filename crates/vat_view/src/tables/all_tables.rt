@@ -1,0 +1,147 @@
+//! All tables of a vat's numbers.
+
+ghost use Rattle.std.specs.Prelude.{◌≡◌, [], ◌∷◌, ◌++◌, List, length, reverse, false, is_some, IsTrue, OnOk, OnErr};
+ghost use Rattle.vat_view.specs.declared.record.decoded.DecodedRecord.{DecodedRecord};
+ghost use Rattle.vat_view.specs.Sound.{IsSound};
+ghost use Rattle.vat_view.specs.Loopbacks.{sender_loopback};
+ghost use Rattle.vat_view.specs.Glue.Whole.{AreNoted, AreWhole};
+
+use crate::apply::apply_record::apply_record;
+use crate::lookups::settling::settling_of;
+use crate::record::decoded::DecodedRecord;
+use crate::record::effects::promise_resolved;
+use crate::tables::calls::Calls;
+use crate::tables::connections::Connections;
+use crate::tables::embargoes::Embargoes;
+use crate::tables::exports_imports::ExportsImports;
+use crate::tables::loopbacks::{asks_for_echo, sender_loopback};
+use crate::tables::questions::Questions;
+use crate::tables::references::BoundReferences;
+use crate::tables::resolves::Resolves;
+use crate::tables::settlements::Settlements;
+use crate::tables::waiting_calls::call_taken_by;
+use std::alloc::{AllocError, Global};
+
+/// What is kept of the records that were applied, beside these themselves.
+#[derive(Drop)]
+pub(crate) struct AllTables {
+    pub(crate) questions: Questions,
+    pub(crate) lives: ExportsImports,
+    pub(crate) bound: BoundReferences,
+    pub(crate) calls: Calls,
+    pub(crate) resolves: Resolves,
+    pub(crate) turns: Settlements,
+    pub(crate) connections: Connections,
+    pub(crate) waits: Embargoes,
+}
+
+impl AllTables {
+    /// Before any record. It takes no memory.
+    pub(crate) fn new(alloc: Global) -> AllTables
+        ensures { AreWhole [] result }
+    {
+        AllTables {
+            questions: Questions::new(alloc),
+            lives: ExportsImports::new(alloc),
+            bound: BoundReferences::new(alloc),
+            calls: Calls::new(alloc),
+            resolves: Resolves::new(alloc),
+            turns: Settlements::new(alloc),
+            connections: Connections::new(alloc),
+            waits: Embargoes::new(alloc),
+        }
+    }
+
+    /// Tells one record, which has this number in the log, to all tables but that of what waits. Where memory is
+    /// refused, they are of the records before.
+    fn note(&mut self, number: usize, event: &DecodedRecord) -> Result<(), AllocError>
+        ensures ok { OnOk result
+            ((events : List DecodedRecord) → number ≡ length events → AreNoted events self.old
+            → IsSound (reverse events) event.now
+            → AreNoted (events ++ event.now ∷ []) self.new) }
+        ensures err { OnErr result
+            ((events : List DecodedRecord) → number ≡ length events → AreNoted events self.old
+            → IsSound (reverse events) event.now
+            → AreNoted events self.new) }
+        ensures waits { self.new.waits ≡ self.old.waits }
+    {
+        let settling = settling_of(&self.questions, &self.lives, &self.bound, event);
+        self.turns.make_room(settling, number)?;
+        let promise = promise_resolved(event);
+        self.resolves.room_for(promise)?;
+        self.connections.grow_for(event)?;
+        apply_record(
+            number,
+            &mut self.questions,
+            &mut self.lives,
+            &mut self.bound,
+            &mut self.calls,
+            event,
+        )?;
+        let again = self.turns.has(settling);
+        self.bound.drop_ahead(again);
+        self.turns.drop_calls_ahead(again);
+        self.turns.note(settling, number);
+        self.resolves.note_resolve(promise, number);
+        self.connections.note_event(event);
+        Ok(())
+    }
+
+    /// Tells the tables of a record that asks for an echo.
+    fn tell_loopback(&mut self, number: usize, event: &DecodedRecord) -> Result<(), AllocError>
+        requires { IsTrue (is_some (sender_loopback event.now)) }
+        ensures ok { OnOk result
+            ((events : List DecodedRecord) → number ≡ length events → AreWhole events self.old
+            → IsSound (reverse events) event.now
+            → AreWhole (events ++ event.now ∷ []) self.new) }
+        ensures err { OnErr result
+            ((events : List DecodedRecord) → number ≡ length events → AreWhole events self.old
+            → IsSound (reverse events) event.now
+            → AreWhole events self.new) }
+    {
+        let looped = sender_loopback(&self.bound, &self.lives, &self.questions, number, event)?;
+        self.waits.loopbacks.room_for(&looped)?;
+        self.note(number, event)?;
+        self.waits.begin(looped);
+        Ok(())
+    }
+
+    /// Tells the tables of a record that asks for no echo.
+    fn tell_other(&mut self, number: usize, event: &DecodedRecord) -> Result<(), AllocError>
+        requires { is_some (sender_loopback event.now) ≡ false }
+        ensures ok { OnOk result
+            ((events : List DecodedRecord) → number ≡ length events → AreWhole events self.old
+            → IsSound (reverse events) event.now
+            → AreWhole (events ++ event.now ∷ []) self.new) }
+        ensures err { OnErr result
+            ((events : List DecodedRecord) → number ≡ length events → AreWhole events self.old
+            → IsSound (reverse events) event.now
+            → AreWhole events self.new) }
+    {
+        let taken = call_taken_by(&self.questions, event);
+        self.waits
+            .expect(&self.bound, &self.lives, &self.questions, number, event)?;
+        self.note(number, event)?;
+        self.waits.note(&self.calls, number, event, taken);
+        Ok(())
+    }
+
+    /// Tells the tables of one record, which has this number in the log. Where memory is refused, they are of the records
+    /// before.
+    pub(crate) fn tell(&mut self, number: usize, event: &DecodedRecord) -> Result<(), AllocError>
+        ensures ok { OnOk result
+            ((events : List DecodedRecord) → number ≡ length events → AreWhole events self.old
+            → IsSound (reverse events) event.now
+            → AreWhole (events ++ event.now ∷ []) self.new) }
+        ensures err { OnErr result
+            ((events : List DecodedRecord) → number ≡ length events → AreWhole events self.old
+            → IsSound (reverse events) event.now
+            → AreWhole events self.new) }
+    {
+        if asks_for_echo(event) {
+            self.tell_loopback(number, event)
+        } else {
+            self.tell_other(number, event)
+        }
+    }
+}

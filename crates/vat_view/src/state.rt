@@ -26,6 +26,7 @@ use crate::lookups::{meaning, table_answers};
 use crate::preconditions::kinds;
 use crate::record::bindings;
 use crate::record::decoded::DecodedRecord;
+use crate::record::effects::has_message;
 use crate::record::number::Number;
 use crate::record::table_key::TableKey;
 use crate::tables::all_tables::AllTables;
@@ -599,6 +600,9 @@ impl VatState {
     pub fn gives_back_held(&self, event: &DecodedRecord) -> Result<bool, AllocError>
         ensures { IfOk result (λ held. Decides held (GivesBackHeld self.now event.now)) }
     {
+        if !has_message(event) {
+            return Ok(true);
+        }
         let alloc = *self.events.allocator();
         table_answers::gives_back_held(alloc, &self.tables.questions, &self.tables.lives, event)
     }

@@ -6,7 +6,7 @@ ghost use Rattle.vat_view.specs.Glue.Asking.{targeted_by};
 ghost use Rattle.vat_view.specs.Glue.Queues.{queued_at, has_joined};
 ghost use Rattle.vat_view.specs.Glue.LoopTables.{room_at, space_at, call_received_by, queued_by, change_of_calls, change_of_loopbacks, SaysSame, IsChangedBy, AreWaiting};
 
-use crate::lookups::table_answers::view_of_target;
+use crate::lookups::headings::heading_of_target;
 use crate::record::decoded::DecodedRecord;
 use crate::record::table_key::TableKey;
 use crate::tables::calls::Calls;
@@ -53,10 +53,13 @@ impl Embargoes {
             (targeted_by (bound_at bound.now) lives.now (question_at questions.now) event.now))))) }
     {
         self.inbox.room_for(Some(received))?;
-        let goal = view_of_target(bound, lives, questions, event)?;
         let (call, receipt) = received;
-        self.inbox
-            .join(QueuedCall::new(call, receipt, goal.as_ref()))
+        self.inbox.join(QueuedCall {
+            connection: receipt.connection,
+            heading: heading_of_target(bound, lives, questions, event),
+            number: receipt.number,
+            call,
+        })
     }
 
     /// Makes room for the call that a record receives, which has this number in the log, by the tables before it. What

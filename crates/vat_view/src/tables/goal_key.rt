@@ -33,7 +33,7 @@ fn digest_step(digest: u64, field: u16) -> u64
 }
 
 /// The digest of a path.
-fn digest(path: &[u16]) -> u64
+pub(crate) fn digest(path: &[u16]) -> u64
     ensures { result ≡ digest_of path.now }
 {
     path.iter()

@@ -26,6 +26,14 @@ ahead_bound table r q some = inner (entry_at table.entries r) some
     inner None e = absurd (none_some q e)
     inner (Some b) e = (b.view, refl)
 
+-- and what is bound has one
+pub bound_ahead : (table : BoundReferences) (r : ℕ) (v : View) → bound_at table r ≡ Some v → (q : Shortcut) × (ahead_at table r ≡ Some q)
+bound_ahead table r v some = inner (entry_at table.entries r) some
+  where
+    inner : (o : Option Binding) → option_map (λ binding. binding.view) o ≡ Some v → (q : Shortcut) × (option_map (λ binding. ahead_in table.dropped r binding) o ≡ Some q)
+    inner None e = absurd (none_some v e)
+    inner (Some b) e = (ahead_in table.dropped r b, refl)
+
 -- a reference is ahead of itself
 pub own_ahead : (turn : View → Option View) (table : BoundReferences) (r : ℕ) (q : Shortcut) → ahead_at table r ≡ Some q → q ≡ own_leap r → IsAhead turn table r q
 own_ahead turn table r q some own =
@@ -120,6 +128,24 @@ further_ahead events table bound ahead r next count near far lands is_near is_fa
       reached_at f near.turns (suc far.turns) count (Some first.0) (omega (arith, sum)) ∙ ap (λ o. after_turns f (suc far.turns) o) first.4
           ∙ ap (λ o. after_turns f far.turns o) turn ∙ second.4,
     )
+
+-- where another reference's one ahead is remembered, the one ahead of this lands where it did
+pub onward_kept : (events : List DecodedRecord) (table : Settlements) (old new : BoundReferences) (reference : ℕ) (leap : Shortcut) → ((r : ℕ) → bound_at new r ≡ bound_at old r) →
+    ((r : ℕ) (q : Shortcut) → ahead_at new r ≡ Some q → (ahead_at old r ≡ Some q) ⊎ ((r ≡ reference) × (q ≡ leap))) → (r after : ℕ) → (r ≡ reference → ⊥) →
+    onward_by events table old r ≡ Some after → onward_by events table new r ≡ Some after
+onward_kept events table old new reference leap views kept r after apart lands = elim (cases_option (ahead_at old r)) [
+  | inl none ↦ absurd (none_some after (ap (λ o. option_and_then (reference_by events table) (option_and_then (λ l. bound_at old l.to) o)) (sym none) ∙ lands))
+  | inr near ↦
+      let it = ahead_bound old r near.0 near.1 in
+      let now = bound_ahead new r it.0 (views r ∙ it.1) in
+      let same : ahead_at new r ≡ ahead_at old r = elim (kept r now.0 now.1) [
+        | inl was ↦ now.1 ∙ sym was
+        | inr here ↦ absurd (apart here.0)
+      ] in
+      ap (λ o. option_and_then (reference_by events table) (option_and_then (λ l. bound_at new l.to) o)) (same ∙ near.1)
+      ∙ ap (λ o. option_and_then (reference_by events table) o) (views near.0.to)
+      ∙ ap (λ o. option_and_then (reference_by events table) (option_and_then (λ l. bound_at old l.to) o)) (sym near.1) ∙ lands
+]
 
 -- ---- counted walks
 

@@ -5,9 +5,9 @@ ghost use Rattle.std.specs.Prelude.{◌≡◌, ◌<◌, ◌≤◌, length, IfErr
 use bytes::Bytes;
 use case_files::{RememberingSource, Source, SourceError};
 use std::alloc::{AllocError, Global};
-use std::io::{ErrorKind, Read};
+use std::fs::{self, OpenFile};
+use std::io::{self, ErrorKind, Read};
 use std::rt::Files;
-use std::{fs, io};
 
 /// How many bytes a file that is read may have, at most.
 const LIMIT: usize = 1_073_741_824;
@@ -38,17 +38,27 @@ fn refused(error: io::Error, why: &mut Option<io::Error>) -> SourceError {
     fault
 }
 
-/// All bytes of a reader, where they are at most the limit; one more is read, to see that there are no more. Where they
-/// can't be read the reason is told.
+/// For how many bytes room is made before a file is read: for as many as it says that it has, at most the limit, and
+/// one more, so that its end is seen without more room. A file that doesn't say it, as a pipe, is read without.
+fn room_for<F: OpenFile>(file: &F) -> usize {
+    match file.metadata() {
+        Ok(metadata) => metadata.len().min(LIMIT as u64) as usize + 1,
+        Err(_) => 0,
+    }
+}
+
+/// All bytes of a reader, where they are at most the limit; one more is read, to see that there are no more. Room for so
+/// many is made before. Where they can't be read the reason is told.
 pub fn read_all<R: Read + Drop>(
     alloc: Global,
     reader: R,
+    room: usize,
     why: &mut Option<io::Error>,
 ) -> Result<Bytes, SourceError>
     ensures limit { IfOk result (λ bytes. length bytes ≤ LIMIT) }
     ensures whole { IfOk result (λ bytes. IfSome (R.remaining reader) (λ all. bytes ≡ all)) }
 {
-    let mut bytes = Vec::new(alloc);
+    let mut bytes = Vec::with_capacity(alloc, room)?;
     match reader.take(LIMIT as u64 + 1).read_to_end(&mut bytes) {
         Ok(_) => within_limit(bytes, why),
         Err(error) => Err(refused(error, why)),
@@ -63,10 +73,13 @@ fn read_named<R: Files + Input + AllocGlobal>(
 ) -> Result<Bytes, SourceError> {
     let alloc = rt.alloc();
     if name == "-" {
-        return read_all(alloc, rt.reader(), why);
+        return read_all(alloc, rt.reader(), 0, why);
     }
     match fs::open(rt, name) {
-        Ok(file) => read_all(alloc, file, why),
+        Ok(file) => {
+            let room = room_for(&file);
+            read_all(alloc, file, room, why)
+        }
         Err(error) => Err(refused(error, why)),
     }
 }

@@ -322,6 +322,10 @@ ahead_at table r = option_map (λ binding. ahead_in table.dropped r binding) (en
 abbrev pub IsOwnOrOld : BoundReferences → BoundReferences → Type 0
 IsOwnOrOld before after = (r : ℕ) (q : Shortcut) → ahead_at after r ≡ Some q → (ahead_at before r ≡ Some q) ⊎ (q ≡ own_leap r)
 
+-- the view of the reference ahead of this one, and by how many turns
+abbrev pub view_ahead_at : BoundReferences → ℕ → Option (View × ℕ)
+view_ahead_at table r = option_and_then (λ leap. option_map (λ v. (v, leap.turns)) (bound_at table leap.to)) (ahead_at table r)
+
 -- where the reference ahead of this one lands
 abbrev pub onward_by : List DecodedRecord → Settlements → BoundReferences → ℕ → Option ℕ
 onward_by events table bound r = option_and_then (reference_by events table) (option_and_then (λ leap. bound_at bound leap.to) (ahead_at bound r))
@@ -365,6 +369,10 @@ EndsBy goes a end = Reaches (λ v. turned_to (goes v)) a end × (goes end ≡ st
 -- a reference is ahead of another: the other's view leads, by exactly so many of these turns, to its view
 abbrev pub IsAhead : (View → Option View) → BoundReferences → ℕ → Shortcut → Type 0
 IsAhead turn table r q = (a : View) × (b : View) × (bound_at table r ≡ Some a) × (bound_at table q.to ≡ Some b) × (after_turns turn q.turns (Some a) ≡ Some b)
+
+-- what is ahead of a reference and what is ahead of the next, joined
+abbrev pub IsJoined : BoundReferences → ℕ → ℕ → Shortcut → Type 0
+IsJoined table r next leap = (near : Shortcut) × (far : Shortcut) × (ahead_at table r ≡ Some near) × (ahead_at table next ≡ Some far) × (leap ≡ joined near far)
 
 -- what the table has beside each bound reference is ahead of it
 abbrev pub AreAhead : (View → Option View) → BoundReferences → Type 0

@@ -1,11 +1,11 @@
 //! The table of references.
 
-ghost use Rattle.std.specs.Prelude.{◌≡◌, ◌==◌, ◌⊎◌, ℕ, None, Some, OnOk, OnErr, true, false, map, is_some, if◌then◌else◌, IsTrue};
+ghost use Rattle.std.specs.Prelude.{◌≡◌, ◌==◌, ◌⊎◌, ℕ, None, Some, OnOk, OnErr, true, false, map, is_some, option_map, if◌then◌else◌, IsTrue};
 ghost use Rattle.std.specs.Option.{option_copied};
 ghost use Rattle.vat_view.specs.declared.tables.references.Shortcut.{Shortcut};
 ghost use Rattle.vat_view.specs.Bindings.{contains};
 ghost use Rattle.vat_view.specs.Glue.Tables.{bound_at, bound_by};
-ghost use Rattle.vat_view.specs.Glue.TurnTables.{bound_len, own_leap, ahead_at, IsOwnOrOld};
+ghost use Rattle.vat_view.specs.Glue.TurnTables.{bound_len, own_leap, ahead_at, view_ahead_at, IsOwnOrOld};
 
 use crate::record::short_list::ShortList;
 use crate::view::View;
@@ -79,6 +79,21 @@ impl BoundReferences {
             Some(binding) => Some(binding.ahead),
             None => None,
         }
+    }
+
+    /// The view of the reference that is ahead of this one, if this one is bound, and by how many turns.
+    pub(crate) fn view_ahead(&self, reference: u64) -> Option<(&View, u64)>
+        ensures { option_map (λ there. (there.0.now, there.1)) result ≡ view_ahead_at self.now reference }
+    {
+        let binding = self.entries.get(reference)?;
+        if self.dropped {
+            return Some((&binding.view, 0));
+        }
+        let Shortcut { to, turns } = binding.ahead;
+        if to == reference {
+            return Some((&binding.view, turns));
+        }
+        Some((self.of(to)?, turns))
     }
 
     /// From now on this is ahead of a reference, if that one is bound.

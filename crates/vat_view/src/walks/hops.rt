@@ -131,9 +131,8 @@ fn hop<'a>(
 {
     match landed_by(events, turns, view)? {
         Landing::Reference(reference) => {
-            let leap = bound.ahead(reference)?;
-            let next = view_of(bound, leap.to)?;
-            Some((next, leap.turns))
+            let (next, turns) = bound.view_ahead(reference)?;
+            Some((BorrowedView::of(next), turns))
         }
         Landing::Call(call) => {
             let leap = turns.call_ahead(call);

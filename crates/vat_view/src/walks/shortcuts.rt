@@ -2,7 +2,7 @@
 
 ghost use Rattle.std.specs.Prelude.{◌≡◌, ℕ, Some, IfSome};
 ghost use Rattle.vat_view.specs.Glue.Tables.{bound_at};
-ghost use Rattle.vat_view.specs.Glue.TurnTables.{turns_of, onward_by, call_onward_by, joined, SaysSameTurns, HaveAhead, IsAhead, IsCallAhead};
+ghost use Rattle.vat_view.specs.Glue.TurnTables.{turns_of, onward_by, call_onward_by, joined, IsJoined, SaysSameTurns, HaveAhead, IsAhead, IsCallAhead};
 
 use crate::borrowed_view::BorrowedView;
 use crate::record::decoded::DecodedRecord;
@@ -36,30 +36,17 @@ fn onward(
 ) -> Option<u64>
     ensures { result ≡ onward_by events.now turns.now bound.now reference }
 {
-    let near = bound.ahead(reference)?;
-    let view = bound.of(near.to)?;
+    let (view, _) = bound.view_ahead(reference)?;
     reference_by(events, turns, BorrowedView::of(view))
 }
 
-/// What is further ahead of a reference than the one now ahead of it, which lands on `next`: what is ahead of `next`. A
-/// reference passes by those alone that don't stand higher, and only once these pass by all that they can.
-fn longer(
-    events: &[DecodedRecord],
-    turns: &Settlements,
-    bound: &BoundReferences,
-    reference: u64,
-    next: u64,
-) -> Option<Shortcut>
-    requires ahead { HaveAhead events.now turns.now bound.now }
-    requires lands { onward_by events.now turns.now bound.now reference ≡ Some next }
+/// What is ahead of `next`, as it is ahead of a reference whose one ahead lands on `next`, which itself lands on `after`.
+/// A reference passes by those alone that don't stand higher, and only once these pass by all that they can.
+fn longer(bound: &BoundReferences, reference: u64, next: u64, after: u64) -> Option<Shortcut>
     ensures { IfSome result
-        (λ leap. IsAhead (turns_of events.now turns.now bound.now) bound.now reference leap) }
+        (λ leap. (next ≡ reference → ⊥) × IsJoined bound.now reference next leap) }
 {
-    if level(next) > level(reference) {
-        return None;
-    }
-    let after = onward(events, turns, bound, next)?;
-    if level(after) <= level(next) {
+    if next == reference || level(next) > level(reference) || level(after) <= level(next) {
         return None;
     }
     let near = bound.ahead(reference)?;
@@ -69,23 +56,26 @@ fn longer(
 }
 
 /// Remembers of a reference what is further ahead of it than the one now ahead of it, which lands on `next`, if there is
-/// one that suits it.
+/// one that suits it. Answers where the reference ahead of `next` lands.
 fn lengthen(
     events: &[DecodedRecord],
     turns: &Settlements,
     bound: &mut BoundReferences,
     reference: u64,
     next: u64,
-)
+) -> Option<u64>
     requires ahead { HaveAhead events.now turns.now bound.old }
     requires lands { onward_by events.now turns.now bound.old reference ≡ Some next }
     ensures views { (r : ℕ) → bound_at bound.new r ≡ bound_at bound.old r }
     ensures ahead { HaveAhead events.now turns.now bound.new }
+    ensures after { IfSome result
+        (λ after. onward_by events.now turns.now bound.new next ≡ Some after) }
 {
-    let Some(leap) = longer(events, turns, bound, reference, next) else {
-        return;
-    };
-    bound.remember(reference, leap);
+    let after = onward(events, turns, bound, next)?;
+    if let Some(leap) = longer(bound, reference, next, after) {
+        bound.remember(reference, leap);
+    }
+    Some(after)
 }
 
 /// Makes the walk from this reference shorter: on its way each reference where it lands is given one that is further
@@ -102,13 +92,16 @@ pub(crate) fn shorten(
     ensures views { (r : ℕ) → bound_at bound.new r ≡ bound_at bound.old r }
     ensures ahead { HaveAhead events.now turns.now bound.new }
 {
+    let Some(first) = onward(events, turns, bound, from) else {
+        return;
+    };
     let mut reference = from;
+    let mut next = first;
     let mut mark = from;
     for step in 0..bound.len() {
-        let Some(next) = onward(events, turns, bound, reference) else {
+        let Some(after) = lengthen(events, turns, bound, reference, next) else {
             return;
         };
-        lengthen(events, turns, bound, reference, next);
         if next == mark {
             return;
         }
@@ -116,6 +109,7 @@ pub(crate) fn shorten(
             mark = next;
         }
         reference = next;
+        next = after;
     }
 }
 

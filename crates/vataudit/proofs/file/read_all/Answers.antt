@@ -23,6 +23,6 @@ whole_of known limit start got (Err fault) none small same is = tt
 
 pub returns-in-Ok-clause-whole : goal.returns-in-Ok-clause-whole
 returns-in-Ok-clause-whole g c =
-    whole_of (g.R.Read.remaining c.args.reader) LIMIT c.new-bytes.result.items c.read_to_end.new.buf.items c.within_limit.result
-    c.new-bytes.ensures.items c.within_limit.ensures.limit c.within_limit.ensures.whole
+    whole_of (g.R.Read.remaining c.args.reader) LIMIT c.in_ok-bytes.bytes.items c.read_to_end.new.buf.items c.within_limit.result
+    c.in_ok-bytes.ensures.items c.within_limit.ensures.limit c.within_limit.ensures.whole
     (rw (c.take.ensures.limit, c.take.ensures.inner) at c.in-Ok.ensures.bytes)

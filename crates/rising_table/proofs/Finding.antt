@@ -111,6 +111,24 @@ module _ {X : Type 0} where
         greater_after = λ j le l. absurd (let no : ⊥ = omega (arith, le, l) in no);
       }
 
+  -- any number is below all of none
+  pub below_none : (k : ℕ) → IsGapFor {X = X} [] k 0
+  below_none k = record { in_range = omega arith; smaller_before = λ j l. absurd (let no : ⊥ = omega (arith, l) in no); greater_after = λ j le l. absurd (let no : ⊥ = omega (arith, l) in no) }
+
+  -- a number below the first one is below all
+  pub below_first : (es : List (ℕ × X)) → AreRising es → (k : ℕ) (first : ℕ × X) → Some first ≡ slice_get es 0 → k < first.0 → IsGapFor es k 0
+  below_first [] rising k first is_first lt = below_none k
+  below_first (e ∷ es) rising k first is_first lt =
+      let whole = e ∷ es in
+      let bottom : key_at whole 0 ≡ first.0 = key_of whole 0 first (omega arith) ∙ ap (λ x. x.0) (get_or_from_slice_get whole 0 first first (sym is_first)) in record {
+        in_range = omega arith;
+        smaller_before = λ j l. absurd (let no : ⊥ = omega (arith, l) in no);
+        greater_after = λ j le l. elim (cases_lt 0 j) [
+          | inl after ↦ let more = rises whole rising 0 j after l in omega (arith, more, bottom, lt)
+          | inr there ↦ let place : j ≡ 0 = omega (arith, there) in omega (arith, ap (λ i. key_at whole i) place, bottom, lt)
+        ];
+      }
+
   -- behind an entry with a smaller number, where all after it have greater ones
   pub gap_behind : (es : List (ℕ × X)) → AreRising es → (k i n : ℕ) → i < length es → key_at es i ≡ n → n < k → ((j : ℕ) → i < j → j < length es → k < key_at es j) → IsGapFor es k (i + 1)
   gap_behind es rising k i n within is less above = record {

@@ -52,6 +52,17 @@ fn is_above<V>(row: &[(u64, V)], key: u64) -> bool
     }
 }
 
+/// Whether a number is below all of a row.
+fn is_below<V>(row: &[(u64, V)], key: u64) -> bool
+    requires { AreRising row.now }
+    ensures { IsTrue result → IsGapFor row.now key 0 }
+{
+    match row.first() {
+        Some((first, _)) => key < *first,
+        None => true,
+    }
+}
+
 /// How many of a row's last entries are asked one by one.
 const LAST: usize = 8;
 
@@ -90,7 +101,8 @@ fn search_from_end<V>(row: &[(u64, V)], key: u64) -> Result<usize, usize>
     row.binary_search_by_key(&key, |entry| entry.0)
 }
 
-/// Where a number is in a row, or where it would go. Mostly it is where it would be if none were left out before it.
+/// Where a number is in a row, or where it would go. Mostly it is where it would be if none were left out before it. One
+/// below all of the row is in the tree, as those of a connection are whose first number came late.
 fn search<V>(row: &[(u64, V)], key: u64) -> Result<usize, usize>
     requires { AreRising row.now }
     ensures found { IfOk result (IsAt row.now key) }
@@ -98,6 +110,7 @@ fn search<V>(row: &[(u64, V)], key: u64) -> Result<usize, usize>
 {
     match place_by_count(row, key) {
         Some(place) => Ok(place),
+        None if is_below(row, key) => Err(0),
         None => search_from_end(row, key),
     }
 }

@@ -196,7 +196,7 @@ module _ (past : Past) (questions : Questions) (lives : ExportsImports) (bound :
       starts i ∙ ap₂ (λ b n. first_in i (origins_if b n e)) (is_late ∙ late_is e) (place ∙ sym (length-reverse items) ∙ ap (λ l. length l) view_is)
 
   module _ (e : DecodedRecord) (begun : Introduced) (starts : AreBegun (origins past e) begun) where
-    each_known : (d : Descriptor) → view_by (bound_at bound) lives begun (question_at questions) e d ≡ descriptor_view (view_of_reference past) past e d
+    pub each_known : (d : Descriptor) → view_by (bound_at bound) lives begun (question_at questions) e d ≡ descriptor_view (view_of_reference past) past e d
     each_known d = described_known past questions lives bound kept.tabled.tabled kept.tabled.bounds begun e starts d
 
     pub descriptors_known : map (view_by (bound_at bound) lives begun (question_at questions) e) (descriptors e) ≡ views_of_descriptors past e

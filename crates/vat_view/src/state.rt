@@ -9,7 +9,7 @@ ghost use Rattle.vat_view.specs.Numbers.{number_held, number_stands};
 ghost use Rattle.vat_view.specs.Questions.{is_free, is_unfinished, is_finished, is_unreturned, is_tail, is_taken, call_at, call_of, opening, is_late};
 ghost use Rattle.vat_view.specs.Lives.{GivesBackHeld, KeepsKinds, birth, began_promised, is_in_life, is_resolved};
 ghost use Rattle.vat_view.specs.Uses.{UsesQuestions, UsesNumbers};
-ghost use Rattle.vat_view.specs.Views.{view_of_reference, view_of_target, views_of_descriptors};
+ghost use Rattle.vat_view.specs.Views.{view_of_reference, view_of_target, descriptor_view, views_of_descriptors};
 ghost use Rattle.vat_view.specs.Walks.{next, stays, Leads, LeadsByTurns, IsEnd};
 ghost use Rattle.vat_view.specs.Bindings.{Refers, NotesEach, is_bound, is_bound_call};
 ghost use Rattle.vat_view.specs.Connections.{is_aborted, is_aborted_here, LeadsOver, LeadsElsewhere};
@@ -37,7 +37,7 @@ use crate::walks::shortcuts::{
     WayOn, shorten, shorten_calls, view_of_number, way_after, way_from, way_from_reference,
 };
 use cap_frame::Path;
-use rpc_view::{Edition, Loopback, Outcome, Payload, RpcMessage, Target};
+use rpc_view::{Descriptor, Edition, Loopback, Outcome, Payload, RpcMessage, Target};
 use std::alloc::{AllocError, Global};
 use std::fmt::{self, Debug, Formatter, Write};
 use std::marker::Model;
@@ -565,6 +565,32 @@ impl VatState {
             &self.tables.lives,
             &self.tables.questions,
             event,
+        )
+    }
+
+    /// What a descriptor of a record stands for that may be applied next.
+    ///
+    /// # Errors
+    ///
+    /// Out of memory.
+    pub fn view_of_descriptor(
+        &self,
+        event: &DecodedRecord,
+        descriptor: &Descriptor,
+    ) -> Result<Option<View>, AllocError>
+        ensures { IfOk result (λ view. view
+            ≡ descriptor_view (view_of_reference self.now) self.now event.now descriptor.now) }
+    {
+        let alloc = *self.events.allocator();
+        let late = tables::is_late(&self.tables.questions, event);
+        let begun = bindings::introduced_by(alloc, late, self.events.len(), event)?;
+        bindings::view_by(
+            &self.tables.bound,
+            &self.tables.lives,
+            &begun,
+            &self.tables.questions,
+            event,
+            descriptor,
         )
     }
 

@@ -179,9 +179,23 @@ fn are_held(alloc: Global, lives: &ExportsImports, numbers: &[TableKey]) -> Resu
         (λ held. Decides held
         ((i : TableKey) → count_by (same_id i) numbers.now ≤ count_at lives.now i)) }
 {
-    if let [number] = numbers {
-        return Ok(is_held(lives, *number));
+    match numbers {
+        [] => Ok(true),
+        [number] => Ok(is_held(lives, *number)),
+        _ => are_several_held(alloc, lives, numbers),
     }
+}
+
+/// The same where they may be several.
+fn are_several_held(
+    alloc: Global,
+    lives: &ExportsImports,
+    numbers: &[TableKey],
+) -> Result<bool, AllocError>
+    ensures { IfOk result
+        (λ held. Decides held
+        ((i : TableKey) → count_by (same_id i) numbers.now ≤ count_at lives.now i)) }
+{
     let mut tally = KeyCounts::new(alloc);
     for number in numbers {
         if tally.count(*number)? > lives.count_of(*number) {

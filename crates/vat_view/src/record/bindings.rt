@@ -1,6 +1,6 @@
 //! Which references a record binds, and to which views.
 
-ghost use Rattle.std.specs.Prelude.{◌≡◌, IfOk};
+ghost use Rattle.std.specs.Prelude.{◌≡◌, false, IfOk};
 ghost use Rattle.vat_view.specs.Lives.{descriptors};
 ghost use Rattle.vat_view.specs.Views.{references};
 ghost use Rattle.vat_view.specs.Bindings.{new_references};
@@ -21,6 +21,20 @@ use rpc_view::Descriptor;
 use std::alloc::{AllocError, Global};
 use std::slice;
 
+/// What a record of this number introduces that isn't a late Return, as a table with the place of the first of each.
+fn tabled_introductions<'a>(
+    alloc: Global,
+    number: usize,
+    event: &'a DecodedRecord,
+) -> Result<Introduced<'a>, AllocError>
+    ensures { IfOk result (λ begun. AreBegun (origins_if false number event.now) begun) }
+{
+    let origins = origins(alloc, false, number, event)?;
+    let mut begun = ExportsImports::new(alloc);
+    begun.raise_each(origins.as_slice())?;
+    Ok(Introduced::Many(begun))
+}
+
 /// What a record of this number introduces, with the place of the first of each; a late Return's introductions aren't
 /// counted.
 pub(crate) fn introduced_by<'a>(
@@ -37,10 +51,7 @@ pub(crate) fn introduced_by<'a>(
     if descriptors(event).len() <= FEW {
         return Ok(Introduced::Few(number, event));
     }
-    let origins = origins(alloc, late, number, event)?;
-    let mut begun = ExportsImports::new(alloc);
-    begun.raise_each(origins.as_slice())?;
-    Ok(Introduced::Many(begun))
+    tabled_introductions(alloc, number, event)
 }
 
 /// What a number of the sender stands for with a record counted: its life began before, or begins there.

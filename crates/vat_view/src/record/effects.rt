@@ -212,6 +212,21 @@ pub(crate) fn number_introduced(event: &DecodedRecord, descriptor: &Descriptor) 
     }
 }
 
+/// The numbers that a record introduces, in the order of their places, where its descriptors may be several.
+fn several_introductions(alloc: Global, event: &DecodedRecord) -> Result<TableKeys, AllocError>
+    ensures { IfOk result
+        (λ ids. ids ≡ filter_map (number_introduced event.now) (descriptors event.now)) }
+{
+    let described = descriptors(event);
+    let mut ids = Vec::new(alloc);
+    for descriptor in described {
+        if let Some(id) = number_introduced(event, descriptor) {
+            ids.push(id)?;
+        }
+    }
+    TableKeys::new(alloc, ids)
+}
+
 /// The numbers that a record introduces, in the order of their places; those of a late Return aren't counted.
 pub(crate) fn introductions(
     alloc: Global,
@@ -225,20 +240,14 @@ pub(crate) fn introductions(
     if late {
         return Ok(TableKeys::none());
     }
-    let described = descriptors(event);
-    if let [descriptor] = described {
-        return Ok(match number_introduced(event, descriptor) {
+    match descriptors(event) {
+        [] => Ok(TableKeys::none()),
+        [descriptor] => Ok(match number_introduced(event, descriptor) {
             Some(id) => TableKeys::one(id),
             None => TableKeys::none(),
-        });
+        }),
+        _ => several_introductions(alloc, event),
     }
-    let mut ids = Vec::new(alloc);
-    for descriptor in described {
-        if let Some(id) = number_introduced(event, descriptor) {
-            ids.push(id)?;
-        }
-    }
-    TableKeys::new(alloc, ids)
 }
 
 /// The references noted beside a record.

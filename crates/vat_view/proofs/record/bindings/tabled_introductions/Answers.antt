@@ -1,7 +1,7 @@
 use Rattle.std.proofs.Common.{◌∙◌}
 use Rattle.vat_view.specs.Glue.Tables.{count_at, origin_at}
 use Rattle.vat_view.proofs.Describing.{begun_from}
-use Rattle.vat_view.proofs.record.bindings.introduced_by.Goals as goal
+use Rattle.vat_view.proofs.record.bindings.tabled_introductions.Goals as goal
 
 pub returns : goal.returns
 returns c = λ i.

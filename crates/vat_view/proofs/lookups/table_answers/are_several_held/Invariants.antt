@@ -3,7 +3,7 @@ use Rattle.vat_view.specs.Types.{TableKey}
 use Rattle.vat_view.specs.Past.{same_id}
 use Rattle.vat_view.specs.Glue.Tables.{count_at}
 use Rattle.vat_view.specs.Glue.Asking.{tally_at}
-use Rattle.vat_view.proofs.lookups.table_answers.are_held.Given as goal
+use Rattle.vat_view.proofs.lookups.table_answers.are_several_held.Given as goal
 
 abbrev pub invariant-loop-number : goal.invariant-loop-number
 invariant-loop-number l = record {

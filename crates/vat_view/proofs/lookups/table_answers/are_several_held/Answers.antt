@@ -5,7 +5,7 @@ use Rattle.vat_view.specs.Types.{TableKey}
 use Rattle.vat_view.specs.Past.{same_id}
 use Rattle.vat_view.specs.Glue.Tables.{count_at}
 use Rattle.vat_view.proofs.Tallying.{count_more, still_held, too_many}
-use Rattle.vat_view.proofs.lookups.table_answers.are_held.Goals as goal
+use Rattle.vat_view.proofs.lookups.table_answers.are_several_held.Goals as goal
 
 pub returns-then-branch-count_of : goal.returns-then-branch-count_of
 returns-then-branch-count_of c =

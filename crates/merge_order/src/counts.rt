@@ -43,11 +43,23 @@ impl Counts {
         ensures err { OnErr result (HasSameCounts self.old self.new) }
     {
         match self.counts.get_mut(&connection) {
-            Some(count) => *count += 1,
-            None => {
-                self.counts.insert(connection, 1)?;
+            Some(count) => {
+                *count += 1;
+                Ok(())
             }
+            None => self.begin(connection),
         }
+    }
+
+    /// This connection came up for the first time. Where memory is refused, nothing changes.
+    #[cold]
+    #[inline(never)]
+    fn begin(&mut self, connection: u32) -> Result<(), AllocError>
+        requires { count_on self.old connection ≡ 0 }
+        ensures ok { OnOk result (IsRaisedByOne connection self.old self.new) }
+        ensures err { OnErr result (HasSameCounts self.old self.new) }
+    {
+        self.counts.insert(connection, 1)?;
         Ok(())
     }
 }

@@ -18,6 +18,8 @@ use vat_log::{Body, VatLog};
 pub struct Progress {
     cursors: Vec<Cursor>,
     totals: Counts,
+    /// The place of the cursor that went on last: mostly the next one that is asked for.
+    last: usize,
 }
 
 impl Model for Progress {
@@ -49,6 +51,7 @@ impl Progress {
         Ok(Progress {
             cursors,
             totals: Counts::new(alloc),
+            last: 0,
         })
     }
 
@@ -57,9 +60,13 @@ impl Progress {
         ensures { MatchOption result (part_of vat self.now ≡ None) (λ at. (at < length self.now)
             × ((default : Part) → (slice_index_or self.now at default).log.vat ≡ vat)) }
     {
-        self.cursors
-            .binary_search_by_key(&vat, |cursor| cursor.vat())
-            .ok()
+        match self.cursors.get(self.last) {
+            Some(cursor) if cursor.vat() == vat => Some(self.last),
+            _ => self
+                .cursors
+                .binary_search_by_key(&vat, |cursor| cursor.vat())
+                .ok(),
+        }
     }
 
     /// This vat's cursor.
@@ -142,6 +149,7 @@ impl Progress {
         let Some(at) = self.place_of(vat) else {
             unreachable!()
         };
+        self.last = at;
         match self.cursors[at].go_on(&mut self.totals) {
             Ok(sent) => Ok(sent),
             Err(error) => {

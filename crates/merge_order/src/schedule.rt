@@ -102,6 +102,21 @@ impl Schedule {
         Ok(None)
     }
 
+    /// The first vat that may come. Mostly it is the smallest one that is ready; else those that are ready are tried.
+    fn first_to_come(
+        progress: &Progress,
+        ready: &mut ReadyVats,
+        waiting: &mut WaitingVats,
+    ) -> Result<Option<u32>, AllocError>
+        requires { IsQueued progress.now ready.old waiting.old }
+        ensures { IfOk result (IsScheduled progress.now ready.new waiting.new) }
+    {
+        match ready.least() {
+            Some(vat) if progress.may_come(vat) => Ok(Some(vat)),
+            _ => Schedule::settle(progress, ready, waiting),
+        }
+    }
+
     /// A step of this vat, which may come, and the vat whose next record may come then.
     fn step(
         progress: &mut Progress,
@@ -119,7 +134,7 @@ impl Schedule {
     {
         let sent = progress.take(vat)?;
         Schedule::wake(sent, ready, waiting)?;
-        Schedule::settle(progress, ready, waiting)
+        Schedule::first_to_come(progress, ready, waiting)
     }
 
     /// The smallest vat number whose next record may come.

@@ -4,8 +4,8 @@ use Rattle.merge_order.specs.Waits.{IsQueued, IsWoken}
 use Rattle.merge_order.proofs.Scheduling.{queued_after}
 use Rattle.merge_order.proofs.schedule.Schedule.step.Goals as goal
 
-pub settle-requires : goal.settle-requires
-settle-requires c =
+pub first_to_come-requires : goal.first_to_come-requires
+first_to_come-requires c =
     let ready = c.args.ready.now in
     let waiting = c.args.waiting.now in
     let woken = subst (λ (sent : Option ℕ). IsWoken sent ready c.wake.new.ready waiting c.wake.new.waiting) c.in_ok-sent.ensures.sent c.in_ok-wake.ensures in

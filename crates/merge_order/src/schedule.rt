@@ -38,7 +38,7 @@ impl Model for Schedule {
 impl Schedule {
     ghost use Rattle.merge_order.specs.Fits.{IsRising, begin, may_come, after, used_up};
     ghost use Rattle.merge_order.specs.Glue.{came_by_all};
-    ghost use Rattle.merge_order.specs.Waits.{IsQueued, IsPutOff, IsWoken, IsScheduled};
+    ghost use Rattle.merge_order.specs.Waits.{is_ready, ready_count, IsQueued, IsPutOff, IsWoken, IsScheduled};
 
     /// Before the first step.
     pub fn new(alloc: Global, logs: &[Arc<VatLog>]) -> Result<Schedule, AllocError>
@@ -83,6 +83,24 @@ impl Schedule {
         Ok(())
     }
 
+    /// This vat, which was ready, may not come yet and waits.
+    fn let_wait(
+        progress: &Progress,
+        vat: u32,
+        ready: &mut ReadyVats,
+        waiting: &mut WaitingVats,
+    ) -> Result<(), AllocError>
+        requires queued { IsQueued progress.now ready.old waiting.old }
+        requires ready { is_ready ready.old vat ≡ true }
+        requires not_yet { may_come progress.now vat ≡ false }
+        ensures queued { OnOk result (IsQueued progress.now ready.new waiting.new) }
+        ensures fewer { OnOk result (ready_count ready.new < ready_count ready.old) }
+    {
+        Schedule::put_off(progress, vat, waiting)?;
+        ready.remove(vat);
+        Ok(())
+    }
+
     /// Lets each ready vat that may not come yet wait, up to the first that may come, which it answers.
     fn settle(
         progress: &Progress,
@@ -96,8 +114,7 @@ impl Schedule {
             if progress.may_come(vat) {
                 return Ok(Some(vat));
             }
-            Schedule::put_off(progress, vat, waiting)?;
-            ready.remove(vat);
+            Schedule::let_wait(progress, vat, ready, waiting)?;
         }
         Ok(None)
     }
@@ -111,10 +128,14 @@ impl Schedule {
         requires { IsQueued progress.now ready.old waiting.old }
         ensures { IfOk result (IsScheduled progress.now ready.new waiting.new) }
     {
-        match ready.least() {
-            Some(vat) if progress.may_come(vat) => Ok(Some(vat)),
-            _ => Schedule::settle(progress, ready, waiting),
+        let Some(vat) = ready.least() else {
+            return Ok(None);
+        };
+        if progress.may_come(vat) {
+            return Ok(Some(vat));
         }
+        Schedule::let_wait(progress, vat, ready, waiting)?;
+        Schedule::settle(progress, ready, waiting)
     }
 
     /// A step of this vat, which may come, and the vat whose next record may come then.

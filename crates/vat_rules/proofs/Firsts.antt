@@ -81,7 +81,7 @@ same_entries (e ∷ before) =
     ∙ sym (reverse-append (entry_of before e ∷ []) (entries_back before))
 
 -- a record is read as what its body gives
-read_at : (P : Body → Type 0) (log : List Body) (at : ℕ) (b : Body) → slice_get log at ≡ Some b → P b → IsSomeAnd (slice_get log at) P
+pub read_at : (P : Body → Type 0) (log : List Body) (at : ℕ) (b : Body) → slice_get log at ≡ Some b → P b → IsSomeAnd (slice_get log at) P
 read_at P log at b here p = rw here p
 
 -- the first bad record

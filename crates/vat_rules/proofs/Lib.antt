@@ -1,6 +1,8 @@
 pub mod Placing
 pub mod Judging
+pub mod Messages
 pub mod Firsts
+pub mod Taken
 pub mod Unique
 pub mod Once
 pub mod Entries

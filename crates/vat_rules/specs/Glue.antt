@@ -2,4 +2,5 @@
 pub mod Compact
 pub mod Facts
 pub mod Standing
+pub mod Taking
 pub mod Viewed

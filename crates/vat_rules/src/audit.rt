@@ -1,22 +1,19 @@
 //! The audit of one log.
 
-ghost use Rattle.std.specs.Prelude.{◌≡◌, ◌∷◌, [], ◌++◌, IfOk, OnOk, MatchOption, count_by, length, reverse};
+ghost use Rattle.std.specs.Prelude.{◌≡◌, [], IfOk, MatchOption, count_by, length, reverse};
 ghost use Rattle.std.specs.Arc.{arc_value};
-ghost use Rattle.vat_view.specs.Sound.{IsSound};
-ghost use Rattle.vat_rules.specs.Telling.{seen_of, is_delivery};
+ghost use Rattle.vat_rules.specs.Telling.{is_delivery};
 ghost use Rattle.vat_rules.specs.Events.{past_at};
 ghost use Rattle.vat_rules.specs.First.{AllGood};
 ghost use Rattle.vat_rules.specs.Audit.{IsTrueOf, reads_by, edition_of};
-ghost use Rattle.vat_rules.specs.Glue.Facts.{standing_of, seen_back, entries_with};
+ghost use Rattle.vat_rules.specs.Glue.Facts.{seen_back, entries_with};
+ghost use Rattle.vat_rules.specs.Glue.Taking.{refused_at};
 
-use crate::decode::event_of;
 use crate::facts::compact::RecordFacts;
-use crate::facts::lookup::{standing_of, views_of_references};
-use crate::facts::meanings::Meanings;
 use crate::facts::story::Story;
 use crate::finding::VatFinding;
-use crate::judge::rule_broken;
 use crate::outcome::Outcome;
+use crate::taking::{Refusal, take};
 use rpc_view::{Edition, Limits};
 use std::alloc::{AllocError, Global};
 use std::sync::Arc;
@@ -44,30 +41,6 @@ fn deliveries(events: &[DecodedRecord]) -> u64
     delivered
 }
 
-/// Applies a good record, and puts what is seen of it behind what was seen of those before.
-fn apply_good(
-    alloc: Global,
-    state: &mut VatState,
-    seen: &mut Vec<RecordFacts>,
-    event: DecodedRecord,
-    standing: Meanings,
-) -> Result<(), AllocError>
-    requires sound { IsSound state.old event }
-    requires as_many { length state.old ≡ length seen.old.items }
-    requires standing { standing ≡ standing_of state.old event }
-    ensures state { OnOk result (state.new ≡ event ∷ state.old) }
-    ensures seen { OnOk result
-        (seen.new.items ≡ seen.old.items ++ seen_of state.old event ∷ []) }
-{
-    state.apply(event)?;
-    let Some(event) = state.event_at(seen.len()) else {
-        unreachable!()
-    };
-    let references = views_of_references(alloc, state, event)?;
-    seen.push(RecordFacts::new(alloc, references, standing)?)?;
-    Ok(())
-}
-
 /// What records tell that were applied, with what was seen of each.
 fn story_of(state: VatState, seen: Vec<RecordFacts>) -> Story
     requires { length state ≡ length seen.items }
@@ -90,6 +63,16 @@ pub fn edition_of(log: &VatLog) -> Edition
         Edition::Later
     } else {
         Edition::First
+    }
+}
+
+/// The outcome of a log whose first record that isn't good is this, for this reason.
+fn refused_at(at: u64, refusal: Refusal) -> Outcome
+    ensures { result ≡ refused_at at refusal }
+{
+    match refusal {
+        Refusal::Outside(why) => Outcome::Outside { at, why },
+        Refusal::Broken(rule) => Outcome::Broken { at, rule },
     }
 }
 
@@ -117,17 +100,8 @@ fn judge_each(
         let Some(stored) = log.get(at) else {
             unreachable!()
         };
-        let event = match event_of(alloc, stored.body(), limits, edition)? {
-            Ok(event) => event,
-            Err(why) => return Ok(Some(Outcome::Outside { at: at as u64, why })),
-        };
-        let standing = standing_of(alloc, state, &event)?;
-        match rule_broken(alloc, edition, state, &event, &standing)? {
-            Some(rule) => {
-                let at = at as u64;
-                return Ok(Some(Outcome::Broken { at, rule }));
-            }
-            None => apply_good(alloc, state, seen, event, standing)?,
+        if let Some(refusal) = take(alloc, edition, limits, state, seen, stored.body())? {
+            return Ok(Some(refused_at(at as u64, refusal)));
         }
     }
     Ok(None)

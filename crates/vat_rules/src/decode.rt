@@ -1,16 +1,45 @@
 //! From stored records to those that are judged.
 
-ghost use Rattle.std.specs.Prelude.{◌≡◌, false, Ok, IfOk};
-ghost use Rattle.vat_rules.specs.Events.{Reader, with_message, event_of};
-ghost use Rattle.vat_rules.specs.Glue.Facts.{has_frame};
-ghost use Rattle.vat_rules.specs.Audit.{why_outside, reads_by};
+ghost use Rattle.std.specs.Prelude.{◌≡◌, true, false, Ok, IfOk};
+ghost use Rattle.vat_rules.specs.Events.{Reader, event_of};
+ghost use Rattle.vat_rules.specs.Audit.{why_outside, why_of};
+ghost use Rattle.vat_rules.specs.Glue.Taking.{has_frame, frame_in, noted_beside, is_flat, is_own};
 
 use crate::outcome::Why;
 use bytes::Bytes;
-use rpc_view::{Edition, Limits, Outside, RpcMessage, ViewError, read_bytes};
-use std::alloc::{AllocError, Global};
+use rpc_view::{Outside, RpcMessage, ViewError};
+use std::alloc::AllocError;
 use vat_log::{Body, References};
 use vat_view::DecodedRecord;
+
+/// Whether a stored record has a frame.
+pub(crate) fn has_frame(body: &Body) -> bool
+    ensures { result ≡ has_frame body.now }
+{
+    matches!(body, Body::Send { .. } | Body::Receive { .. })
+}
+
+/// The frame of a stored record that has one.
+pub(crate) fn frame_in(body: &Body) -> &Bytes
+    requires { has_frame body.now ≡ true }
+    ensures { result.now ≡ frame_in body.now }
+{
+    match body {
+        Body::Send { frame, .. } | Body::Receive { frame, .. } => frame,
+        _ => unreachable!(),
+    }
+}
+
+/// The references noted beside the frame of a stored record that has one.
+pub(crate) fn noted_beside(body: &Body) -> Result<References, AllocError>
+    requires { has_frame body.now ≡ true }
+    ensures { IfOk result (λ noted. noted ≡ noted_beside body.now) }
+{
+    match body {
+        Body::Send { references, .. } | Body::Receive { references, .. } => references.copy(),
+        _ => unreachable!(),
+    }
+}
 
 /// Why a record is outside whose message is outside of what is read.
 fn why_outside(reason: Outside) -> Why
@@ -23,55 +52,58 @@ fn why_outside(reason: Outside) -> Why
     }
 }
 
-/// The message of a frame by an edition, or why its record is outside.
-fn message_of(
-    alloc: Global,
-    frame: &Bytes,
-    limits: Limits,
-    edition: Edition,
-) -> Result<Result<RpcMessage, Why>, AllocError>
-    ensures { IfOk result (λ r. r ≡ reads_by edition limits frame.now) }
+/// Why a record is outside whose frame isn't read as a message.
+pub(crate) fn why_of(error: ViewError) -> Why
+    ensures { result ≡ why_of error }
 {
-    match read_bytes(alloc, frame.clone()?, limits, edition) {
-        Ok(message) => Ok(Ok(message)),
-        Err(ViewError::OutOfMemory) => Err(AllocError),
-        Err(ViewError::Outside(reason)) => Ok(Err(why_outside(reason))),
-        Err(_) => Ok(Err(Why::Unread)),
+    match error {
+        ViewError::Outside(reason) => why_outside(reason),
+        _ => Why::Unread,
     }
 }
 
-/// The event of a frame that went out or came in, by the message that was read of it.
-fn wire(
-    sent: bool,
-    connection: u32,
-    call: u64,
-    references: &References,
-    message: Result<RpcMessage, Why>,
-) -> Result<Result<DecodedRecord, Why>, AllocError>
-    ensures { IfOk result (λ event.
-        event ≡ with_message (DecodedRecord.Wire sent connection call references.now) message) }
+/// The event of a stored record that has a frame, by the references noted beside it and the frame's message.
+pub(crate) fn wire(body: &Body, references: References, message: RpcMessage) -> DecodedRecord
+    requires frame { has_frame body.now ≡ true }
+    requires noted { references ≡ noted_beside body.now }
+    ensures is { (read : Reader) → read (frame_in body.now) ≡ Ok message
+        → event_of read body.now ≡ Ok result }
+    ensures message { is_own result ≡ false }
 {
-    match message {
-        Ok(message) => {
-            let references = references.copy()?;
-            Ok(Ok(DecodedRecord::Wire {
-                sent,
-                connection,
-                call,
-                references,
-                message,
-            }))
-        }
-        Err(why) => Ok(Err(why)),
+    match body {
+        Body::Send {
+            connection,
+            call,
+            ..
+        } => DecodedRecord::Wire {
+            sent: true,
+            connection: *connection,
+            call: *call,
+            references,
+            message,
+        },
+        Body::Receive {
+            connection,
+            call,
+            ..
+        } => DecodedRecord::Wire {
+            sent: false,
+            connection: *connection,
+            call: *call,
+            references,
+            message,
+        },
+        _ => unreachable!(),
     }
 }
 
-/// The event of a record that has no frame.
-fn own_event(body: &Body) -> Result<DecodedRecord, AllocError>
-    requires { has_frame body.now ≡ false }
-    ensures { IfOk result (λ event. (read : Reader) → event_of read body.now ≡ Ok event) }
+/// The event of a record that holds numbers alone.
+pub(crate) fn flat_event(body: &Body) -> DecodedRecord
+    requires { is_flat body.now ≡ true }
+    ensures is { (read : Reader) → event_of read body.now ≡ Ok result }
+    ensures own { is_own result ≡ true }
 {
-    Ok(match *body {
+    match *body {
         Body::Host { reference, object } => DecodedRecord::Host { reference, object },
         Body::Vow { reference } => DecodedRecord::Vow { reference },
         Body::Fulfil { reference, to } => DecodedRecord::Fulfil { reference, to },
@@ -87,54 +119,10 @@ fn own_event(body: &Body) -> Result<DecodedRecord, AllocError>
             interface,
             method,
         },
-        Body::Field {
-            reference,
-            call,
-            ref path,
-        } => DecodedRecord::Field {
-            reference,
-            call,
-            path: path.copy()?,
-        },
         Body::Deliver { call, object } => DecodedRecord::Deliver { call, object },
-        Body::Answer { call, ref results } => DecodedRecord::Answer {
-            call,
-            results: results.copy()?,
-        },
         Body::Fault { call } => DecodedRecord::Fault { call },
         Body::AnswerBy { call, by } => DecodedRecord::AnswerBy { call, by },
+        Body::Field { .. } | Body::Answer { .. } => unreachable!(),
         Body::Send { .. } | Body::Receive { .. } => unreachable!(),
-    })
-}
-
-/// A stored record as it is judged, with its message read by an edition, or why it is outside.
-pub(crate) fn event_of(
-    alloc: Global,
-    body: &Body,
-    limits: Limits,
-    edition: Edition,
-) -> Result<Result<DecodedRecord, Why>, AllocError>
-    ensures { IfOk result (λ r. r ≡ event_of (reads_by edition limits) body.now) }
-{
-    match body {
-        Body::Send {
-            connection,
-            call,
-            references,
-            frame,
-        } => {
-            let message = message_of(alloc, frame, limits, edition)?;
-            wire(true, *connection, *call, references, message)
-        }
-        Body::Receive {
-            connection,
-            call,
-            references,
-            frame,
-        } => {
-            let message = message_of(alloc, frame, limits, edition)?;
-            wire(false, *connection, *call, references, message)
-        }
-        _ => Ok(Ok(own_event(body)?)),
     }
 }

@@ -1,23 +1,24 @@
-//! The first rule that a record breaks.
+//! The first rule that a record with a message breaks.
 
-ghost use Rattle.std.specs.Prelude.{◌≡◌, IfOk, MatchOption};
+ghost use Rattle.std.specs.Prelude.{◌≡◌, false, IfOk, MatchOption};
 ghost use Rattle.vat_rules.specs.Rules.{rules};
 ghost use Rattle.vat_rules.specs.Judged.{IsGoodBy, BreaksFirst};
 ghost use Rattle.vat_rules.specs.Glue.Facts.{standing_of};
+ghost use Rattle.vat_rules.specs.Glue.Taking.{is_own};
 
 use crate::facts::meanings::Meanings;
-use crate::of_calls::{goes_to_goal, is_here, may_answer};
+use crate::of_calls::{goes_to_goal, is_here};
 use crate::of_caps::{binds_each, describes};
 use crate::of_connections::{is_open, keeps_embargo};
-use crate::of_promises::{keeps_vow, resolves_promise};
+use crate::of_promises::resolves_promise;
 use crate::of_results::returns_known;
 use crate::rule::Rule;
 use rpc_view::Edition;
 use std::alloc::{AllocError, Global};
 use vat_view::{DecodedRecord, VatState};
 
-/// The first rule of an edition that a record breaks, if it breaks one, by the state of the records before it and by what
-/// its numbers stand for.
+/// The first rule of an edition that a record with a message breaks, if it breaks one, by the state of the records before
+/// it and by what its numbers stand for.
 pub(crate) fn rule_broken(
     alloc: Global,
     edition: Edition,
@@ -25,7 +26,8 @@ pub(crate) fn rule_broken(
     event: &DecodedRecord,
     standing: &Meanings,
 ) -> Result<Option<Rule>, AllocError>
-    requires { standing.now ≡ standing_of state.now event.now }
+    requires message { is_own event.now ≡ false }
+    requires standing { standing.now ≡ standing_of state.now event.now }
     ensures { IfOk result (λ r.
         MatchOption r (IsGoodBy edition state.now event.now)
         (λ rule. BreaksFirst edition rules state.now event.now rule)) }
@@ -35,9 +37,6 @@ pub(crate) fn rule_broken(
     }
     if !state.refers(event)? {
         return Ok(Some(Rule::Ref));
-    }
-    if !keeps_vow(state, event)? {
-        return Ok(Some(Rule::Vow));
     }
     if !is_here(state, event) {
         return Ok(Some(Rule::Here));
@@ -53,9 +52,6 @@ pub(crate) fn rule_broken(
     }
     if !goes_to_goal(state, event, standing.target())? {
         return Ok(Some(Rule::Goal));
-    }
-    if !may_answer(state, event) {
-        return Ok(Some(Rule::Answer));
     }
     if !describes(alloc, state, event, standing)? {
         return Ok(Some(Rule::Desc));

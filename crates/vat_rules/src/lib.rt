@@ -24,7 +24,9 @@ mod of_connections;
 mod of_promises;
 mod of_results;
 mod outcome;
+mod own;
 mod rule;
+mod taking;
 
 pub use audit::{audit_vat, edition_of};
 pub use facts::compact::RecordFacts;

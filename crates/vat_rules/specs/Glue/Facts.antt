@@ -1,10 +1,8 @@
 -- For the code's contracts, and no part of the meaning: what a record's numbers stand for
 -- before it is applied, looked up at once.
-use Rattle.std.specs.Prelude.{ℕ, List, [], ◌∷◌, map, Bool, true, false, Option, Some, None, slice_get, unwrap_or}
+use Rattle.std.specs.Prelude.{ℕ, List, [], ◌∷◌, map, Option, Some, None, slice_get, unwrap_or}
 use Rattle.std.specs.List.{zip}
-use Rattle.vat_log.specs.declared.body.Body.{Body}
-use Rattle.vat_log.specs.declared.body.Body.TheVariants as body
-use Rattle.vat_rules.specs.Types.{DecodedRecord, Wire, View}
+use Rattle.vat_rules.specs.Types.{DecodedRecord, View}
 use Rattle.vat_view.specs.Past.{Past}
 use Rattle.vat_view.specs.Views.{view_of_target, views_of_descriptors}
 use Rattle.vat_view.specs.Questions.{is_late}
@@ -49,9 +47,3 @@ sight_with references standing = record {
   caps = standing.caps;
   late = standing.late;
 }
-
--- a stored record has a frame
-abbrev pub has_frame : Body → Bool
-has_frame (body.Send connection call references frame) = true
-has_frame (body.Receive connection call references frame) = true
-has_frame _ = false

@@ -1,6 +1,6 @@
 //! How what is seen of a record is kept, in little room.
 
-ghost use Rattle.std.specs.Prelude.{◌≡◌, [], Some, None, IfOk};
+ghost use Rattle.std.specs.Prelude.{◌≡◌, ◌∷◌, [], Some, None, IfOk};
 ghost use Rattle.std.specs.Option.{option_copied};
 ghost use Rattle.vat_rules.specs.Glue.Facts.{sight_with};
 ghost use Rattle.vat_rules.specs.Glue.Compact.{in_role, standing_with, lists_of, sight_in, sight_of};
@@ -166,6 +166,33 @@ fn kept_parts(
 }
 
 impl RecordFacts {
+    /// Of a record of whose numbers none stands for anything.
+    pub(crate) fn nothing() -> RecordFacts
+        ensures { result ≡ sight_with [] (standing_with None []) }
+    {
+        RecordFacts {
+            kept: Compact::Nothing,
+        }
+    }
+
+    /// What the only number of a record stands for, a reference.
+    pub(crate) fn of_reference(view: Option<View>) -> RecordFacts
+        ensures { result ≡ sight_with (view ∷ []) (standing_with None []) }
+    {
+        RecordFacts {
+            kept: Compact::Reference(view),
+        }
+    }
+
+    /// What the references of a record stand for that has no other numbers.
+    pub(crate) fn of_references(references: ViewList) -> RecordFacts
+        ensures { result ≡ sight_with references (standing_with None []) }
+    {
+        RecordFacts {
+            kept: kept_references(references),
+        }
+    }
+
     /// What the references of a record and its other numbers stand for.
     pub(crate) fn new(
         alloc: Global,

@@ -1,13 +1,16 @@
 //! What the numbers of a record stand for.
 
-ghost use Rattle.std.specs.Prelude.{◌≡◌, ◌++◌, map, IfOk};
+ghost use Rattle.std.specs.Prelude.{◌≡◌, ◌++◌, [], true, None, map, IfOk};
 ghost use Rattle.vat_view.specs.Bindings.{new_references, named_references};
 ghost use Rattle.vat_view.specs.Views.{view_of_reference, view_of_target, views_of_descriptors};
 ghost use Rattle.vat_rules.specs.Telling.{seen_question, seen_taken, seen_promise, seen_released};
-ghost use Rattle.vat_rules.specs.Glue.Facts.{standing_of};
+ghost use Rattle.vat_rules.specs.Glue.Facts.{standing_of, sight_with};
 ghost use Rattle.vat_rules.specs.Glue.Standing.{view_in_role};
+ghost use Rattle.vat_rules.specs.Glue.Compact.{standing_with};
+ghost use Rattle.vat_rules.specs.Glue.Taking.{is_own};
 ghost use Rattle.vat_rules.specs.declared.facts.role.Role.TheVariants.{Question, Promise, Target, Released};
 
+use crate::facts::compact::RecordFacts;
 use crate::facts::meanings::Meanings;
 use crate::facts::role::Role;
 use crate::facts::view_list::ViewList;
@@ -241,5 +244,33 @@ pub(crate) fn views_of_references(
             ..
         } => views_of(alloc, state, references.as_slice()),
         _ => views_of(alloc, state, event.new_references()),
+    }
+}
+
+/// What the references stand for that a record without a message binds or names, which has no other numbers.
+pub(crate) fn own_facts(
+    alloc: Global,
+    state: &VatState,
+    event: &DecodedRecord,
+) -> Result<RecordFacts, AllocError>
+    requires { is_own event.now ≡ true }
+    ensures { IfOk result (λ seen. seen ≡ sight_with
+        (map (view_of_reference state.now) (new_references event.now ++ named_references event.now))
+        (standing_with None [])) }
+{
+    match event {
+        DecodedRecord::Host { reference, .. }
+        | DecodedRecord::Vow { reference }
+        | DecodedRecord::Break { reference }
+        | DecodedRecord::Make { reference, .. }
+        | DecodedRecord::Field { reference, .. } => {
+            let view = state.view_of_reference(*reference)?;
+            Ok(RecordFacts::of_reference(view))
+        }
+        DecodedRecord::Fulfil { .. } | DecodedRecord::Answer { .. } => {
+            let references = views_of_references(alloc, state, event)?;
+            Ok(RecordFacts::of_references(references))
+        }
+        _ => Ok(RecordFacts::nothing()),
     }
 }

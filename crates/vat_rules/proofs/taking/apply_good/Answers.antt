@@ -1,4 +1,4 @@
-use Rattle.vat_rules.proofs.audit.apply_good.Goals as goal
+use Rattle.vat_rules.proofs.taking.apply_good.Goals as goal
 
 pub apply-requires-clause-refers : goal.apply-requires-clause-refers
 apply-requires-clause-refers c = c.requires.sound.refers

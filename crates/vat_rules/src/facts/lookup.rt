@@ -124,7 +124,7 @@ fn seen_released(
     state.stands_for(*connection, number, &Path::new(Vec::new(alloc))?)
 }
 
-/// What the descriptors of a record stand for that may be applied next. Most records have none.
+/// What the descriptors of a record stand for that may be applied next. Most records have one at most.
 fn views_of_descriptors(
     alloc: Global,
     state: &VatState,
@@ -132,10 +132,11 @@ fn views_of_descriptors(
 ) -> Result<ViewList, AllocError>
     ensures { IfOk result (λ views. views ≡ views_of_descriptors state.now event.now) }
 {
-    if event.descriptors().is_empty() {
-        return Ok(ViewList::new(Vec::new(alloc)));
+    match event.descriptors() {
+        [] => Ok(ViewList::new(Vec::new(alloc))),
+        [descriptor] => Ok(ViewList::one(state.view_of_descriptor(event, descriptor)?)),
+        _ => Ok(ViewList::new(state.views_of_descriptors(event)?)),
     }
-    Ok(ViewList::new(state.views_of_descriptors(event)?))
 }
 
 /// The number in a role of a record that may be applied next, with what it stands for.

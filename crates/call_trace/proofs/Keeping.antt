@@ -1,9 +1,10 @@
 -- What is kept of a vat is that of its records and their steps, and names its calls and views as they do.
-use Rattle.std.proofs.Common.{◌≡◌, refl, sym, ◌∙◌, ap, ap₂, subst, ℕ, zero, suc, ◌==◌, List, [], ◌∷◌, ◌++◌, length, map, reverse, Bool, true, false, not, Option, Some, None, if◌then◌else◌, option_and_then, option_map, slice_get, append-nil, arith, eqb-true, inl, inr}
+use Rattle.std.proofs.Common.{◌≡◌, refl, sym, ◌∙◌, ap, ap₂, subst, ℕ, zero, suc, ◌==◌, List, [], ◌∷◌, ◌++◌, length, map, reverse, set, get_or, Bool, true, false, not, Option, Some, None, if◌then◌else◌, option_and_then, option_map, slice_get, append-nil, arith, eqb-true, inl, inr}
 use Rattle.std.specs.Option.{option_or}
 use Rattle.std.specs.Prelude.{IsSome, Result, Ok, Err, OnOk}
 use Rattle.std.proofs.lemmas.Bool.{cases_Bool, false≢true, eq-eqb}
 use Rattle.std.proofs.lemmas.List.{reverse-append, reverse-reverse, length-reverse}
+use Rattle.std.proofs.Math.Seq.{set-append_seam}
 use Rattle.vat_view.specs.Past.{Past}
 use Rattle.vat_view.specs.Views.{view_of_reference}
 use Rattle.vat_rules.specs.OfCaps.{is_received}
@@ -15,7 +16,7 @@ use Rattle.call_trace.specs.Naming.{Naming, naming, cap_at, names_call, call_nam
 use Rattle.call_trace.specs.Part.{reference_named, step_said}
 use Rattle.call_trace.specs.Running.{step_received, step_of}
 use Rattle.call_trace.specs.Said.{all_there}
-use Rattle.call_trace.specs.Glue.Ledgers.{step_message_in, call_name_in, cap_in, names_in, call_bound_by, bound_call, named_said, with_bound, received_step, step_by, IsBound, IsNoted, IsKept, IsTaken}
+use Rattle.call_trace.specs.Glue.Ledgers.{step_message_in, call_name_in, cap_in, names_in, call_bound_by, bound_call, named_said, with_bound, received_step, step_by, pushed, IsBound, IsNoted, IsKept, HasStep, IsTaken}
 use Rattle.call_trace.proofs.Naming.{message_within}
 use Rattle.call_trace.proofs.Seeing.{step_as}
 use Rattle.run_model.specs.Has.{call_in_message}
@@ -47,6 +48,10 @@ get_longer (z ∷ xs) x (suc i) y h = get_longer xs x i y h
 pub get_last : {A : Type 0} (xs : List A) (x : A) → slice_get (xs ++ x ∷ []) (length xs) ≡ Some x
 get_last [] x = refl
 get_last (z ∷ xs) x = get_last xs x
+
+get_or_last : {A : Type 0} (xs : List A) (x d : A) → get_or (xs ++ x ∷ []) (length xs) d ≡ x
+get_or_last [] x d = refl
+get_or_last (z ∷ xs) x d = get_or_last xs x d
 
 get_others : {A : Type 0} (xs : List A) (x : A) (i : ℕ) → (length xs ≡ i → ⊥) → slice_get (xs ++ x ∷ []) i ≡ slice_get xs i
 get_others [] x zero apart = absurd (apart refl)
@@ -320,12 +325,22 @@ pub own_none : (v : ℕ) (es : Past) (own before run : List Step) (e : DecodedRe
 own_none v es own before run e seen old bound kept mine is b says =
     sym (says ∙ own_step_is v es own run before e seen old bound kept mine is (subst (λ w. IsBound (call_bound_by w e None) old bound) kept.vat b))
 
-last_one : {A : Type 0} (xs ys : List A) (x y : A) → xs ++ x ∷ [] ≡ ys ++ y ∷ [] → (xs ≡ ys) × (x ≡ y)
-last_one xs ys x y e =
-    let turned : x ∷ reverse xs ≡ y ∷ reverse ys = sym (reverse-append xs (x ∷ [])) ∙ ap reverse e ∙ reverse-append ys (y ∷ []) in
-    let heads : x ≡ y = cc in
-    let tails : reverse xs ≡ reverse ys = cc in
-    (sym (reverse-reverse xs) ∙ ap reverse tails ∙ reverse-reverse ys, heads)
+-- it has one, by the tables
+pub own_some : (run : List Step) (e : DecodedRecord) (seen : Sight) (old bound : VatLedger) → HasStep (λ v es own before. step_of v es own before e) e seen run old →
+    is_received e ≡ false → IsBound (call_bound_by old.vat e None) old bound → IsSome (step_by (names_in run bound) seen e)
+own_some run e seen old bound has mine is =
+    some_if _ (λ none. not_none _ has.there (own_none has.vat has.past has.own has.before run e seen old bound has.kept mine has.sight is (sym none)))
+
+-- it took its step, where that stands behind those before
+pub own_pushed : (v : ℕ) (es : Past) (own before run taken : List Step) (e : DecodedRecord) (seen : Sight) (number : ℕ) (old bound new : VatLedger) →
+    IsKept v es own run old → is_received e ≡ false → seen ≡ seen_of es e → IsBound (call_bound_by old.vat e None) old bound →
+    IsSome (step_by (names_in run bound) seen e) → taken ≡ pushed (step_by (names_in run bound) seen e) run → IsNoted number bound new → number ≡ length run →
+    IsTaken v es e own (step_of v es own before e) run taken new
+own_pushed v es own before run taken e seen number old bound new kept mine is b there more n long = at (step_by (names_in run bound) seen e) refl there more
+  where
+    at : (o : Option Step) → o ≡ step_by (names_in run bound) seen e → IsSome o → taken ≡ pushed o run → IsTaken v es e own (step_of v es own before e) run taken new
+    at (Some s) says some more = own_taken v es own before run taken e seen number old bound new s kept mine is b says n long more
+    at None says some more = absurd (let no : ⊥ = cc in no)
 
 -- what a received record is bound to by the tables, where its step stands last and binds nothing yet
 received_said : (v : ℕ) (es : Past) (own run pushed : List Step) (k c : ℕ) (references : List ℕ) (m : RpcMessage) (message : Message) (seen : Sight) (number : ℕ)
@@ -346,18 +361,17 @@ received_said v es own run pushed k c references m message seen number old bound
     (all, received_binds v es own pushed k c references m message seen new (subst (λ xs. IsKept v (e ∷ es) (step.Receive v k message [] ∷ own) xs new) (sym all) (keeps [])) is, keeps)
 
 -- a received record took its step
-pub received_taken : (v : ℕ) (es : Past) (own run pushed rest taken : List Step) (k c : ℕ) (references : List ℕ) (m : RpcMessage) (message : Message) (seen : Sight)
-    (number : ℕ) (old bound new : VatLedger) (w : ℕ) (caps : List Cap) (last : Step) → let e = Wire false k c references m in
+pub received_taken : (v : ℕ) (es : Past) (own run pushed taken : List Step) (k c : ℕ) (references : List ℕ) (m : RpcMessage) (message : Message) (seen : Sight)
+    (number : ℕ) (old bound new : VatLedger) (w : ℕ) (caps : List Cap) → let e = Wire false k c references m in
     IsKept v es own run old → seen ≡ seen_of es e → IsBound (call_bound_by old.vat e (Some message)) old bound → IsNoted number bound new → number ≡ length run →
     w ≡ new.vat → pushed ≡ run ++ step.Receive w k message [] ∷ [] → Some caps ≡ named_said (names_in pushed new) seen.references →
-    pushed ≡ rest ++ last ∷ [] → taken ≡ rest ++ with_bound caps last ∷ [] →
+    taken ≡ run ++ step.Receive w k message caps ∷ [] →
     IsTaken v es e own (step_received v es own e k references message) run taken new
-received_taken v es own run pushed rest taken k c references m message seen number old bound new w caps last kept is b n at whose more says popped again =
+received_taken v es own run pushed taken k c references m message seen number old bound new w caps kept is b n at whose more says again =
     let e = Wire false k c references m in
     let s : Step = step.Receive v k message caps in
     let said = received_said v es own run pushed k c references m message seen number old bound new w kept is b n at whose more in
-    let one = last_one run rest (step.Receive v k message []) last (sym said.0 ∙ popped) in
-    let all : taken ≡ run ++ s ∷ [] = again ∙ ap₂ (λ xs x. xs ++ with_bound caps x ∷ []) (sym one.0) (sym one.1) in
+    let all : taken ≡ run ++ s ∷ [] = again ∙ ap (λ u. run ++ step.Receive u k message caps ∷ []) (whose ∙ n.vat ∙ b.vat ∙ kept.vat) in
     (s, sym said.1 ∙ ap (option_map (λ l. step.Receive v k message l)) (sym says), all, subst (λ xs. IsKept v (e ∷ es) (s ∷ own) xs new) (sym all) (said.2 caps))
 
 -- it has none
@@ -372,18 +386,26 @@ received_none v es own run pushed k c references m message seen number old bound
 
 -- the same of a record of either way that is known to be received
 abbrev Takes : DecodedRecord → ℕ → Type 0
-Takes e k = (v : ℕ) (es : Past) (own run pushed rest taken : List Step) (message : Message) (seen : Sight) (number : ℕ) (old bound new : VatLedger) (w : ℕ) (caps : List Cap)
-    (last : Step) → IsKept v es own run old → seen ≡ seen_of es e → IsBound (call_bound_by old.vat e (Some message)) old bound → IsNoted number bound new →
+Takes e k = (v : ℕ) (es : Past) (own run pushed taken : List Step) (message : Message) (seen : Sight) (number : ℕ) (old bound new : VatLedger) (w : ℕ) (caps : List Cap)
+    → IsKept v es own run old → seen ≡ seen_of es e → IsBound (call_bound_by old.vat e (Some message)) old bound → IsNoted number bound new →
     number ≡ length run → w ≡ new.vat → pushed ≡ run ++ step.Receive w k message [] ∷ [] → Some caps ≡ named_said (names_in pushed new) seen.references →
-    pushed ≡ rest ++ last ∷ [] → taken ≡ rest ++ with_bound caps last ∷ [] → IsTaken v es e own (received_step v es own e message) run taken new
+    taken ≡ run ++ step.Receive w k message caps ∷ [] → IsTaken v es e own (received_step v es own e message) run taken new
 
 pub takes : (e : DecodedRecord) → is_received e ≡ true → (sent : Bool) (k c : ℕ) (references : List ℕ) (m : RpcMessage) → Wire sent k c references m ≡ e → Takes e k
 takes e h sent k c references m is = subst (λ e. is_received e ≡ true → Takes e k) is (at sent) h
   where
     at : (sent : Bool) → is_received (Wire sent k c references m) ≡ true → Takes (Wire sent k c references m) k
     at true h = absurd (let none : ⊥ = cc in none)
-    at false h = λ v es own run pushed rest taken message seen number old bound new w caps last.
-        received_taken v es own run pushed rest taken k c references m message seen number old bound new w caps last
+    at false h = λ v es own run pushed taken message seen number old bound new w caps.
+        received_taken v es own run pushed taken k c references m message seen number old bound new w caps
+
+-- the step that stands last has these bound now
+pub last_bound : (run pushed taken : List Step) (w k : ℕ) (message : Message) (caps : List Cap) (number : ℕ) (was new : Step) → pushed ≡ run ++ step.Receive w k message [] ∷ [] →
+    number ≡ length run → was ≡ get_or pushed number was → new ≡ with_bound caps was → taken ≡ set pushed number new → taken ≡ run ++ step.Receive w k message caps ∷ []
+last_bound run pushed taken w k message caps number was new more at stood is all =
+    let s = step.Receive w k message [] in
+    let here : was ≡ s = stood ∙ ap₂ (λ xs n. get_or xs n was) more at ∙ get_or_last run s was in
+    all ∙ ap₂ (λ xs n. set xs n new) more at ∙ set-append_seam run s [] new ∙ ap (λ x. run ++ x ∷ []) (is ∙ ap (with_bound caps) here)
 
 abbrev TakesNone : DecodedRecord → ℕ → Type 0
 TakesNone e k = (v : ℕ) (es : Past) (own run pushed : List Step) (message : Message) (seen : Sight) (number : ℕ) (old bound new : VatLedger) (w : ℕ) →

@@ -1,5 +1,5 @@
 -- The steps so far and what they sent, one record further.
-use Rattle.std.proofs.Common.{◌≡◌, refl, sym, ◌∙◌, ap, subst, ℕ, List, ◌∷◌, map, reverse, Bool, true, false, Option, Some, None, option_and_then, option_map}
+use Rattle.std.proofs.Common.{◌≡◌, refl, sym, ◌∙◌, ap, subst, ℕ, List, ◌∷◌, map, reverse, Bool, true, false, Option, Some, None, option_and_then, option_map, slice_get}
 use Rattle.std.specs.Prelude.{IsSome}
 use Rattle.agree.specs.Rows.{Row, log_of_vat}
 use Rattle.vat_rules.specs.LogFacts.{Sight}
@@ -11,7 +11,7 @@ use Rattle.call_trace.specs.declared.steps.channels.Channels.{Channels}
 use Rattle.call_trace.specs.declared.steps.run_builder.RunBuilder.{RunBuilder}
 use Rattle.call_trace.specs.Types.{RpcMessage, DecodedRecord, Host, Vow, Fulfil, Break, Make, Field, Deliver, Answer, AnswerBy, Fault, Wire, Cap, Message, Step}
 use Rattle.call_trace.specs.Glue.Ledgers.{IsKept, HasStep, IsTaken, received_step}
-use Rattle.call_trace.specs.Glue.Channels.{AreLines}
+use Rattle.call_trace.specs.Glue.Channels.{message_by, AreLines}
 use Rattle.call_trace.specs.Naming.{naming, message_of_step}
 use Rattle.call_trace.specs.Part.{result_named, promise_in}
 use Rattle.call_trace.specs.Running.{coming_next, step_received, step_of, steps_by, steps_of_row}
@@ -154,6 +154,12 @@ nothing_taken e h sent k c references m is = subst (λ e. is_received e ≡ true
     at : (sent : Bool) → is_received (Wire sent k c references m) ≡ true → NoneBy (Wire sent k c references m) k
     at true h = absurd (let none : ⊥ = cc in none)
     at false h = λ v row before. none_comes v k c references m row before
+
+-- what comes next is the message of this step, which stands in the trail
+pub comes_at : (v k : ℕ) (before steps : List Step) (o : Option ℕ) (number : ℕ) (m : Option Message) → coming_next v k before ≡ option_and_then (message_by before) o → o ≡ Some number →
+    steps ≡ reverse before → m ≡ option_and_then message_of_step (slice_get steps number) → coming_next v k before ≡ m
+comes_at v k before steps o number m next some is at =
+    next ∙ ap (option_and_then (message_by before)) some ∙ ap (λ xs. option_and_then message_of_step (slice_get xs number)) (sym is) ∙ sym at
 
 -- the steps before, as they stand in the trail
 pub with_steps : (v : ℕ) (es : Past) (e : DecodedRecord) (own run before : List Step) (o : Option Step) (taken_run : List Step) (ledger : VatLedger) → run ≡ reverse before →

@@ -143,16 +143,29 @@ of_call_said v call _ = None
 abbrev pub answer_by_said : ℕ → (ℕ → Option Name) → ℕ → ℕ → Option Step
 answer_by_said v call c by = option_and_then (λ name. option_map (λ by. step.AnswerBy v name by) (call by)) (call c)
 
+-- the step that makes a call
+abbrev pub make_said : Naming → Sight → DecodedRecord → Option Step
+make_said names seen (Make c r interface method) =
+    option_map (λ to. step.Make names.vat c to r interface method) (option_and_then names.cap (seen_at seen.references 0))
+make_said names seen _ = None
+
+-- the step that sends a message
+abbrev pub send_said : Naming → Sight → ℕ → ℕ → RpcMessage → Option Step
+send_said names seen k c m = option_map (λ sent_message. step.Send names.vat k sent_message) (sent_said names seen c m)
+
+-- the step that answers a call with results
+abbrev pub answer_said : Naming → Sight → ℕ → List (ℕ × List ℕ) → Option Step
+answer_said names seen c results =
+    option_and_then (λ name. option_map (λ caps. step.Answer names.vat name caps) (results_said names seen.references results)) (names.call c)
+
 -- the step of another record of what the vat makes by itself
 abbrev pub own_said : Naming → Sight → DecodedRecord → Option Step
 own_said names seen (Host r object) = Some (step.Host names.vat object)
 own_said names seen (Vow r) = Some (step.Vow names.vat r)
 own_said names seen (Fulfil r to) = fulfil_said names seen
 own_said names seen (Break r) = option_map (λ p. step.Break names.vat p) (promise_in (seen_at seen.references 0))
-own_said names seen (Make c r interface method) =
-    option_map (λ to. step.Make names.vat c to r interface method) (option_and_then names.cap (seen_at seen.references 0))
-own_said names seen (Answer c results) =
-    option_and_then (λ name. option_map (λ caps. step.Answer names.vat name caps) (results_said names seen.references results)) (names.call c)
+own_said names seen (Make c r interface method) = make_said names seen (Make c r interface method)
+own_said names seen (Answer c results) = answer_said names seen c results
 own_said names seen _ = None
 
 -- the step that a record says, by what its numbers stand for
@@ -161,8 +174,13 @@ step_by names seen (Field r c path) = of_call_said names.vat names.call (Field r
 step_by names seen (Deliver c object) = of_call_said names.vat names.call (Deliver c object)
 step_by names seen (AnswerBy c by) = answer_by_said names.vat names.call c by
 step_by names seen (Fault c) = of_call_said names.vat names.call (Fault c)
-step_by names seen (Wire sent k c references m) = option_map (λ sent_message. step.Send names.vat k sent_message) (sent_said names seen c m)
+step_by names seen (Wire sent k c references m) = send_said names seen k c m
 step_by names seen e = own_said names seen e
+
+-- these steps, and behind them this one, if it is there
+abbrev pub pushed : Option Step → List Step → List Step
+pushed None run = run
+pushed (Some s) run = run ++ s ∷ []
 
 -- the call to which a record gives a name, and the name: a call that the vat makes or boots is its own, one that it receives
 -- has the name that the message has

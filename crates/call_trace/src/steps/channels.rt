@@ -2,7 +2,7 @@
 //!
 //! A send is looked at twice for each vat that uses its connection, so a step takes a look-up or two, however long the run.
 
-ghost use Rattle.std.specs.Prelude.{◌≡◌, ◌==◌, ◌≤◌, ◌<◌, ◌∷◌, ◌++◌, ◌≢◌, ℕ, List, [], Some, length, take, get_or, option_and_then, if◌then◌else◌, OnOk, OnErr};
+ghost use Rattle.std.specs.Prelude.{◌≡◌, ◌==◌, ◌&&◌, ◌≤◌, ◌<◌, ◌∷◌, ◌++◌, ◌≢◌, ℕ, List, [], Some, length, take, get_or, option_and_then, if◌then◌else◌, IfOk, OnOk, OnErr};
 ghost use Rattle.call_trace.specs.Glue.Channels.{sends_on, passed_on, by_others, message_by, AreLines};
 ghost use Rattle.call_trace.specs.Running.{coming_next};
 ghost use Rattle.call_trace.specs.Types.{Message, Cap, Step};
@@ -96,30 +96,31 @@ impl Channels {
         self.push(connection, (vat, step))
     }
 
-    /// The number of the step whose message comes next to this vat on this connection.
-    pub(crate) fn next(&self, vat: u32, connection: u32) -> Option<usize>
-        ensures { (before : List Step) → AreLines before self.now
-            → coming_next vat connection before ≡ option_and_then (message_by before) result }
+    /// This vat has so many of the sends on this connection behind it.
+    fn pass(&mut self, vat: u32, connection: u32, count: usize) -> Result<(), AllocError>
+        ensures sends { (k : ℕ) → sends_on self.new k ≡ sends_on self.old k }
+        ensures passed { OnOk result ((v k : ℕ) → passed_on self.new v k
+            ≡ (if (vat == v) && (connection == k) then count else passed_on self.old v k)) }
     {
-        let sends = self.on(connection);
-        let place = first_of_others(sends, self.passed_by(vat, connection), vat);
-        let (_, step) = sends.get(place)?;
-        Some(*step)
+        self.passed.insert((vat, connection), count)?;
+        Ok(())
     }
 
-    /// This vat receives now what comes next to it on this connection. Where memory is refused, all stays as it was.
-    pub(crate) fn note_received(&mut self, vat: u32, connection: u32) -> Result<(), AllocError>
-        ensures ok { OnOk result ((before : List Step) (m : Message) (bound : List Cap)
+    /// This vat receives now what comes next to it on this connection, which is the message of the step of this number.
+    pub(crate) fn receive(&mut self, vat: u32, connection: u32) -> Result<Option<usize>, AllocError>
+        ensures next { IfOk result (λ number. (before : List Step) → AreLines before self.old
+            → coming_next vat connection before ≡ option_and_then (message_by before) number) }
+        ensures received { OnOk result ((before : List Step) (m : Message) (bound : List Cap)
             → coming_next vat connection before ≡ Some m → AreLines before self.old
             → AreLines (Receive vat connection m bound ∷ before) self.new) }
-        ensures err { OnErr result ((before : List Step) → AreLines before self.old
-            → AreLines before self.new) }
     {
         let sends = self.on(connection);
         let place = first_of_others(sends, self.passed_by(vat, connection), vat);
-        if place < sends.len() {
-            self.passed.insert((vat, connection), place + 1)?;
-        }
-        Ok(())
+        let Some((_, step)) = sends.get(place) else {
+            return Ok(None);
+        };
+        let step = *step;
+        self.pass(vat, connection, place + 1)?;
+        Ok(Some(step))
     }
 }

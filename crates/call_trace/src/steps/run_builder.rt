@@ -17,11 +17,18 @@ use std::alloc::{AllocError, Global};
 use vat_rules::RecordFacts;
 use vat_view::DecodedRecord;
 
-/// The message of the step of this number.
-fn message_at(steps: &[Step], number: usize) -> Option<&Message>
-    ensures { option_copied result ≡ option_and_then message_of_step (slice_get steps.now number) }
+/// A copy of the message of the step of this number.
+fn message_at(steps: &[Step], number: usize) -> Result<Option<Message>, AllocError>
+    ensures { IfOk result
+        (λ message. message ≡ option_and_then message_of_step (slice_get steps.now number)) }
 {
-    message_of(steps.get(number)?)
+    let Some(step) = steps.get(number) else {
+        return Ok(None);
+    };
+    match message_of(step) {
+        Some(message) => Ok(Some(message.copy()?)),
+        None => Ok(None),
+    }
 }
 
 /// The steps that all vats took so far, and what they sent.
@@ -42,21 +49,6 @@ impl RunBuilder {
         })
     }
 
-    /// A copy of the message that comes next to a vat on a connection.
-    fn coming_next(&self, vat: u32, connection: u32) -> Result<Option<Message>, AllocError>
-        ensures { IfOk result
-            (λ message. (before : List Steps) → IsTrail before self.now
-            → coming_next vat connection before ≡ message) }
-    {
-        let Some(number) = self.lines.next(vat, connection) else {
-            return Ok(None);
-        };
-        match message_at(&self.steps, number) {
-            Some(message) => Ok(Some(message.copy()?)),
-            None => Ok(None),
-        }
-    }
-
     /// A record that is received takes its step.
     fn take_coming(
         &mut self,
@@ -75,12 +67,13 @@ impl RunBuilder {
         let DecodedRecord::Wire { connection, .. } = event else {
             unreachable!()
         };
-        let vat = ledger.vat;
-        let Some(message) = self.coming_next(vat, *connection)? else {
+        let Some(number) = self.lines.receive(ledger.vat, *connection)? else {
             unreachable!()
         };
-        take_received(alloc, &mut self.steps, ledger, event, seen, message)?;
-        self.lines.note_received(vat, *connection)
+        let Some(message) = message_at(&self.steps, number)? else {
+            unreachable!()
+        };
+        take_received(alloc, &mut self.steps, ledger, event, seen, message)
     }
 
     /// A record takes its step.

@@ -2,7 +2,7 @@
 
 ghost use Rattle.std.specs.Prelude.{◌≡◌, ℕ, List, None, true, false, IfOk, OnOk};
 ghost use Rattle.std.specs.Option.{option_copied};
-ghost use Rattle.call_trace.specs.Glue.Ledgers.{call_bound_by, received_step, with_bound, names_in, step_by, IsBound, IsNoted, IsKept, HasStep, IsTaken};
+ghost use Rattle.call_trace.specs.Glue.Ledgers.{call_bound_by, received_step, with_bound, IsBound, IsNoted, IsKept, HasStep, IsTaken};
 ghost use Rattle.call_trace.specs.Running.{step_of};
 ghost use Rattle.call_trace.specs.Types.{Step as Steps};
 ghost use Rattle.vat_rules.specs.OfCaps.{is_received};
@@ -10,7 +10,7 @@ ghost use Rattle.vat_rules.specs.Telling.{seen_of};
 ghost use Rattle.vat_view.specs.Past.{Past};
 ghost use Rattle.run_model.specs.Has.{call_in_message};
 
-use crate::records::saying::{named_said, step_said};
+use crate::records::saying::{named_said, push_said};
 use crate::records::vat_ledger::VatLedger;
 use rpc_view::RpcMessage;
 use run_model::{Caps, Message, Name, Step};
@@ -83,23 +83,6 @@ impl VatLedger {
     }
 }
 
-/// The step of a record that isn't received, by what is kept of its vat, with the call named that the record binds.
-fn own_step(
-    alloc: Global,
-    steps: &[Step],
-    ledger: &mut VatLedger,
-    event: &DecodedRecord,
-    seen: &RecordFacts,
-) -> Result<Option<Step>, AllocError>
-    ensures step { IfOk result
-        (λ step. step ≡ step_by (names_in steps.now ledger.new) seen.now event.now) }
-    ensures named { OnOk result
-        (IsBound (call_bound_by ledger.old.vat event.now None) ledger.old ledger.new) }
-{
-    ledger.bind(call_bound_by(ledger.vat, event, None))?;
-    step_said(alloc, ledger, steps, seen, event)
-}
-
 /// A record that isn't received takes its step.
 pub(crate) fn take_own(
     alloc: Global,
@@ -117,31 +100,18 @@ pub(crate) fn take_own(
         → IsTaken v es event.now own
         (step_of v es own before event.now) steps.old.items steps.new.items ledger.new) }
 {
-    let Some(step) = own_step(alloc, steps, ledger, event, seen)? else {
-        unreachable!()
-    };
-    ledger.note(steps.len())?;
-    steps.push(step)?;
-    Ok(())
+    let number = steps.len();
+    ledger.bind(call_bound_by(ledger.vat, event, None))?;
+    push_said(alloc, ledger, steps, seen, event)?;
+    ledger.note(number)
 }
 
-/// A step that receives, with these bound.
-fn with_bound(step: Step, bound: Caps) -> Step
-    ensures { result ≡ with_bound bound step }
+/// A step that receives has these bound now.
+fn bind_caps(step: &mut Step, caps: Caps)
+    ensures { step.new ≡ with_bound caps step.old }
 {
-    match step {
-        Step::Receive {
-            vat,
-            connection,
-            message,
-            ..
-        } => Step::Receive {
-            vat,
-            connection,
-            message,
-            bound,
-        },
-        step => step,
+    if let Step::Receive { bound, .. } = step {
+        *bound = caps;
     }
 }
 
@@ -178,9 +148,6 @@ pub(crate) fn take_received(
     let Some(bound) = named_said(alloc, ledger, steps, seen.references())? else {
         unreachable!()
     };
-    let Some(step) = steps.pop() else {
-        unreachable!()
-    };
-    steps.push(with_bound(step, bound))?;
+    bind_caps(&mut steps[number], bound);
     Ok(())
 }

@@ -19,10 +19,4 @@ AreNoted events tables =
 
 -- all have it
 abbrev pub AreWhole : List DecodedRecord → AllTables → Type 0
-AreWhole events tables =
-    AreKept (reverse events) tables.questions tables.lives tables.bound tables.calls
-    × AreResolved (reverse events) tables.resolves
-    × AreSettled (reverse events) tables.turns
-    × AreConnected (reverse events) tables.connections
-    × AreWaiting (reverse events) tables.waits
-    × HaveAhead events tables.turns tables.bound
+AreWhole events tables = AreNoted events tables × AreWaiting (reverse events) tables.waits

@@ -4,7 +4,7 @@ ghost use Rattle.std.specs.Prelude.{◌≡◌, ◌==◌, ◌<◌, ◌^◌, ◌�
 ghost use Rattle.rising_table.specs.Entries.{entry_at};
 ghost use Rattle.vat_view.specs.declared.record.unsettled.Unsettled.{Unsettled};
 ghost use Rattle.vat_view.specs.declared.tables.references.Shortcut.{Shortcut};
-ghost use Rattle.vat_view.specs.declared.record.unsettled.Unsettled.TheVariants.{Import as ImportToResolve};
+ghost use Rattle.vat_view.specs.declared.record.unsettled.Unsettled.TheVariants.{Promise as PromiseToKeep, Import as ImportToResolve};
 ghost use Rattle.vat_view.specs.Glue.TurnTables.{settler_at, number_in, has_room_to_settle, is_this, handed_call, handover_at, handover_after, handovers_len, has_room_for_handover, call_behind_by, call_ahead_in, own_leap, IsOwnOrOldCall, SaysSameTurns, IsNoted};
 
 use crate::record::unsettled::Unsettled;
@@ -89,12 +89,19 @@ impl Settlements {
         }
     }
 
+    /// The number of the record that settled this promise, if one did.
+    pub(crate) fn of_promise(&self, promise: u64) -> Option<usize>
+        ensures { result ≡ settler_at self.now (PromiseToKeep promise) }
+    {
+        number_in(&self.promises, promise)
+    }
+
     /// The number of the record that settled this, if one did.
     pub(crate) fn of(&self, pending: Unsettled) -> Option<usize>
         ensures { result ≡ settler_at self.now pending }
     {
         match pending {
-            Unsettled::Promise(promise) => number_in(&self.promises, promise),
+            Unsettled::Promise(promise) => self.of_promise(promise),
             Unsettled::Results(call) => number_in(&self.results, call),
             Unsettled::Import(..) => match self.imports.get(&pending) {
                 Some(number) => *number,

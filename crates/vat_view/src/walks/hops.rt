@@ -2,7 +2,8 @@
 
 ghost use Rattle.std.specs.Prelude.{◌≡◌, ◌↔◌, ◌<◌, ◌^◌, IsTrue, Some, IfSome, MatchOption, None, if◌then◌else◌, is_none, option_map, slice_get};
 ghost use Rattle.std.specs.Option.{option_copied};
-ghost use Rattle.vat_view.specs.Types.{View};
+ghost use Rattle.vat_view.specs.Types.{View, Promise};
+ghost use Rattle.vat_view.specs.declared.walks.turn_target.Landing.TheVariants.{Reference as ToReference};
 ghost use Rattle.vat_view.specs.Borrowed.{as_view};
 ghost use Rattle.vat_view.specs.Glue.Tables.{bound_at};
 ghost use Rattle.vat_view.specs.Glue.TurnTables.{Settler, awaited_by, settler_by, goes_by, turn_by, landed_by, reference_by, turns_of, most_turns, after_turns, Reaches, TurnsAndThen, TurnsOn, ReachesByTurns, EndsBy, HaveAhead};
@@ -12,7 +13,7 @@ use crate::record::decoded::DecodedRecord;
 use crate::record::unsettled::Unsettled;
 use crate::tables::references::BoundReferences;
 use crate::tables::settlements::Settlements;
-use crate::walks::turn_target::{Landing, landing_of};
+use crate::walks::turn_target::{Landing, landing_of, turn_target};
 
 /// What a view waits for.
 fn awaited_by(view: BorrowedView<'_>) -> Option<Unsettled>
@@ -55,7 +56,16 @@ pub(crate) fn stays(events: &[DecodedRecord], turns: &Settlements, view: Borrowe
     settler(events, turns, view).is_none()
 }
 
-/// Where a view lands: the reference or call to which the record that settled it, if one did, turns it.
+/// The reference to which the record that settled an own promise, if one did, turns it.
+fn promise_turned_to(events: &[DecodedRecord], turns: &Settlements, promise: u64) -> Option<u64>
+    ensures { option_map ToReference result ≡ landed_by events.now turns.now (Promise promise) }
+{
+    let number = turns.of_promise(promise)?;
+    turn_target(&[], event_at(events, number)?)
+}
+
+/// Where a view lands: the reference or call to which the record that settled it, if one did, turns it. Own promises are
+/// most of what a long walk passes, and no call stands behind their settling.
 pub(crate) fn landed_by(
     events: &[DecodedRecord],
     turns: &Settlements,
@@ -63,6 +73,9 @@ pub(crate) fn landed_by(
 ) -> Option<Landing>
     ensures { result ≡ landed_by events.now turns.now (as_view view.entry) }
 {
+    if let BorrowedView::Promise(promise) = view {
+        return promise_turned_to(events, turns, promise).map(Landing::Reference);
+    }
     let (event, by) = settler(events, turns, view)?;
     landing_of(view.path(), event, by)
 }
@@ -114,6 +127,12 @@ pub(crate) fn most_turns(turns: &Settlements, bound: &BoundReferences) -> u128
     let references = bound.len() as u128;
     let calls = turns.handovers_len() as u128;
     calls * (references + 1) + references
+}
+
+/// How many hops are counted at most: as many as the turns of a walk that doesn't go in a circle, and all that have a
+/// number of 64 bits where these are more.
+fn most_hops(turns: &Settlements, bound: &BoundReferences) -> u64 {
+    u64::try_from(most_turns(turns, bound)).unwrap_or(u64::MAX)
 }
 
 /// Follows one turn to a reference or a call, then that one's shortcut. Answers the view reached and how many turns the
@@ -192,7 +211,7 @@ fn remaining<'a>(
     let mut at = view;
     let mut mark = view;
     let mut made: u64 = 0;
-    for hops in 0..most_turns(turns, bound) {
+    for hops in 0..most_hops(turns, bound) {
         let Some((next, more)) = hop(events, turns, bound, at) else {
             return Some((at, made));
         };

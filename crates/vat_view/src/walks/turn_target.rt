@@ -73,7 +73,7 @@ fn returned_at(event: &DecodedRecord, payload: &Payload, path: &[u16]) -> Option
 }
 
 /// The reference to which a record turns a view of this path that it settles.
-fn turn_target(path: &[u16], event: &DecodedRecord) -> Option<u64>
+pub(crate) fn turn_target(path: &[u16], event: &DecodedRecord) -> Option<u64>
     ensures { result ≡ turn_target path.now event.now }
 {
     match event {

@@ -12,7 +12,7 @@ known : (items : List DecodedRecord) (past : Past) (table : Settlements) (call :
 known items past table call view_is kept = ap (λ o. option_map (λ h. h.by) o) (kept.handed call) ∙ answered_known call (reverse items) ∙ ap (λ p. answered_by call p) view_is
 
 pub returns-in-Some : goal.returns-in-Some
-returns-in-Some c = ap (λ o. option_map (λ h. h.by) o) c.in-Some.ensures ∙ known c.self.inside.events.items c.args.self.now c.self.inside.tables.turns c.args.call c.self.view_is c.self.invariant.2
+returns-in-Some c = ap (λ o. option_map (λ h. h.by) o) c.in-Some.ensures ∙ known c.self.inside.events.items c.args.self.now c.self.inside.tables.turns c.args.call c.self.view_is c.self.invariant.0.2
 
 pub returns-in-None : goal.returns-in-None
-returns-in-None c = ap (λ o. option_map (λ h. h.by) o) c.in-None.ensures ∙ known c.self.inside.events.items c.args.self.now c.self.inside.tables.turns c.args.call c.self.view_is c.self.invariant.2
+returns-in-None c = ap (λ o. option_map (λ h. h.by) o) c.in-None.ensures ∙ known c.self.inside.events.items c.args.self.now c.self.inside.tables.turns c.args.call c.self.view_is c.self.invariant.0.2

@@ -3,4 +3,4 @@ use Rattle.vat_view.specs.Glue.ConnectionTables.{AreConnected}
 use Rattle.vat_view.proofs.state.VatState.is_aborted_here.Goals as goal
 
 pub returns : goal.returns
-returns c = c.is_aborted_here.ensures ∙ (subst (λ p. AreConnected p c.self.inside.tables.connections) c.self.view_is c.self.invariant.3).aborted_here c.args.connection
+returns c = c.is_aborted_here.ensures ∙ (subst (λ p. AreConnected p c.self.inside.tables.connections) c.self.view_is c.self.invariant.0.3).aborted_here c.args.connection

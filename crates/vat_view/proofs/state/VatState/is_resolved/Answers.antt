@@ -6,7 +6,7 @@ use Rattle.vat_view.proofs.state.VatState.is_resolved.Goals as goal
 
 pub returns : goal.returns
 returns c =
-    let kept = subst (λ p. AreKept p c.self.inside.tables.questions c.self.inside.tables.lives c.self.inside.tables.bound c.self.inside.tables.calls) c.self.view_is c.self.invariant.0 in
+    let kept = subst (λ p. AreKept p c.self.inside.tables.questions c.self.inside.tables.lives c.self.inside.tables.bound c.self.inside.tables.calls) c.self.view_is c.self.invariant.0.0 in
     c.resolved_since.ensures ∙ ap₂ (λ o n. resolved_since o n) c.origin_of.ensures c.of.ensures
     ∙ resolved_known c.args.self.now c.self.inside.tables.questions c.self.inside.tables.lives c.self.inside.tables.resolves kept.tabled.tabled
-    (subst (λ p. AreResolved p c.self.inside.tables.resolves) c.self.view_is c.self.invariant.1) c.args.number
+    (subst (λ p. AreResolved p c.self.inside.tables.resolves) c.self.view_is c.self.invariant.0.1) c.args.number

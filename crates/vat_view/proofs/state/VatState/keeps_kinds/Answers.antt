@@ -11,9 +11,9 @@ use Rattle.vat_view.proofs.state.VatState.keeps_kinds.Goals as goal
 pub returns : goal.returns
 returns c =
     let place : c.len.result ≡ length c.self.inside.events.items = grind (arith, common_steps) in
-    let kept = subst (λ p. AreKept p c.self.inside.tables.questions c.self.inside.tables.lives c.self.inside.tables.bound c.self.inside.tables.calls) c.self.view_is c.self.invariant.0 in
+    let kept = subst (λ p. AreKept p c.self.inside.tables.questions c.self.inside.tables.lives c.self.inside.tables.bound c.self.inside.tables.calls) c.self.view_is c.self.invariant.0.0 in
     keeps_decided c.args.self.now c.self.inside.events.items c.self.view_is c.args.event.now c.self.inside.tables.questions c.self.inside.tables.lives c.self.inside.tables.bound c.self.inside.tables.calls kept
-    c.self.inside.tables.resolves (subst (λ p. AreResolved p c.self.inside.tables.resolves) c.self.view_is c.self.invariant.1) c.in_ok-begun.begun
+    c.self.inside.tables.resolves (subst (λ p. AreResolved p c.self.inside.tables.resolves) c.self.view_is c.self.invariant.0.1) c.in_ok-begun.begun
     (begun_next c.args.self.now c.self.inside.tables.questions c.self.inside.tables.lives c.self.inside.tables.bound c.self.inside.tables.calls kept c.args.event.now c.in_ok-begun.begun c.is_late-late.result c.len.result
     c.self.inside.events.items c.is_late-late.ensures place c.self.view_is c.in_ok-begun.ensures)
     c.keeps_kinds.result

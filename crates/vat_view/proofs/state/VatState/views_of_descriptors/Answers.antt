@@ -8,7 +8,7 @@ pub returns : goal.returns
 returns c =
     let place : c.len.result ≡ length c.self.inside.events.items = grind (arith, common_steps) in
     if_ok c.views_of_descriptors.result (λ v same. same ∙ descriptors_known c.args.self.now c.self.inside.tables.questions c.self.inside.tables.lives c.self.inside.tables.bound c.self.inside.tables.calls
-    (subst (λ p. AreKept p c.self.inside.tables.questions c.self.inside.tables.lives c.self.inside.tables.bound c.self.inside.tables.calls) c.self.view_is c.self.invariant.0) c.args.event.now c.in_ok-begun.begun
+    (subst (λ p. AreKept p c.self.inside.tables.questions c.self.inside.tables.lives c.self.inside.tables.bound c.self.inside.tables.calls) c.self.view_is c.self.invariant.0.0) c.args.event.now c.in_ok-begun.begun
     (begun_next c.args.self.now c.self.inside.tables.questions c.self.inside.tables.lives c.self.inside.tables.bound c.self.inside.tables.calls
-    (subst (λ p. AreKept p c.self.inside.tables.questions c.self.inside.tables.lives c.self.inside.tables.bound c.self.inside.tables.calls) c.self.view_is c.self.invariant.0) c.args.event.now c.in_ok-begun.begun c.is_late-late.result c.len.result c.self.inside.events.items
+    (subst (λ p. AreKept p c.self.inside.tables.questions c.self.inside.tables.lives c.self.inside.tables.bound c.self.inside.tables.calls) c.self.view_is c.self.invariant.0.0) c.args.event.now c.in_ok-begun.begun c.is_late-late.result c.len.result c.self.inside.events.items
     c.is_late-late.ensures place c.self.view_is c.in_ok-begun.ensures)) c.views_of_descriptors.ensures

@@ -1,0 +1,107 @@
+//! Where views lead.
+
+ghost use Rattle.std.specs.Prelude.{◌≡◌, ◌<◌, ◌↔◌, Decides, IsTrue, MatchOption};
+ghost use Rattle.vat_view.specs.declared.view.View.{View};
+ghost use Rattle.vat_view.specs.Walks.{next, stays, Leads, LeadsByTurns, IsEnd};
+ghost use Rattle.vat_view.specs.Connections.{LeadsOver, LeadsElsewhere};
+ghost use Rattle.vat_view.specs.Borrowed.{as_view};
+
+use crate::borrowed_view::BorrowedView;
+use crate::state::VatState;
+use crate::view::View;
+use crate::walks::hops;
+use crate::walks::reachable::{Sought, leads_to};
+use rpc_view::Edition;
+
+/// What can be asked of walks from view to view.
+impl VatState {
+    /// Whether a view goes on nowhere: it has neither turned nor stopped. It takes no memory.
+    pub fn stays(&self, view: &View) -> bool
+        ensures { IsTrue result ↔ (next self.now view.now ≡ stays) }
+    {
+        hops::stays(
+            self.events.as_slice(),
+            &self.tables.turns,
+            BorrowedView::of(view),
+        )
+    }
+
+    /// Whether a view leads to another, by 0 or more turns. Each of its walks, four at most, comes to at most as many views
+    /// as one more than the references bound, times one more than the calls that were answered by others. It takes no
+    /// memory.
+    pub fn leads(&self, from: &View, to: &View) -> bool
+        ensures { IsTrue result ↔ Leads self.now from.now to.now }
+    {
+        hops::leads(
+            self.events.as_slice(),
+            &self.tables.turns,
+            &self.tables.bound,
+            BorrowedView::of(from),
+            BorrowedView::of(to),
+        )
+    }
+
+    /// Whether a view leads to another by 1 or more turns; a view of a circle leads so to itself. It takes no memory.
+    pub fn leads_by_turns(&self, from: &View, to: &View) -> bool
+        ensures { IsTrue result ↔ LeadsByTurns self.now from.now to.now }
+    {
+        hops::leads_by_turns(
+            self.events.as_slice(),
+            &self.tables.turns,
+            &self.tables.bound,
+            BorrowedView::of(from),
+            BorrowedView::of(to),
+        )
+    }
+
+    /// The end of a view: the view to which it leads and which goes on nowhere. It has none where its walk stops or
+    /// goes in a circle. It takes no memory.
+    pub fn end<'a>(&'a self, view: &'a View) -> Option<BorrowedView<'a>>
+        ensures { MatchOption result ((end : View) → IsEnd self.now view.now end → ⊥)
+            (λ end. IsEnd self.now view.now (as_view end)) }
+    {
+        let view = BorrowedView::of(view);
+        hops::end(
+            self.events.as_slice(),
+            &self.tables.turns,
+            &self.tables.bound,
+            view,
+        )
+    }
+
+    /// Whether a view leads, by 0 or more turns, to one that is reached over this connection: an import that came in
+    /// over it, or a field of a call that this vat asked on it. It takes no memory.
+    pub fn leads_over(&self, from: &View, connection: u32) -> bool
+        ensures { Decides result (LeadsOver self.now from.now connection) }
+    {
+        let events = self.events.as_slice();
+        let sought = Sought::Over(connection);
+        leads_to(
+            events,
+            &self.tables.turns,
+            &self.tables.bound,
+            &self.tables.connections,
+            BorrowedView::of(from),
+            sought,
+        )
+    }
+
+    /// Whether a view leads, by 0 or more turns, to one that is elsewhere than over this connection: to an own object or
+    /// promise, or to one that is reached over another connection. In a log of the later edition every view is elsewhere
+    /// that isn't reached over this connection, so the field of a call that was never asked is too (rpc.capnp, the
+    /// comments of `Disembargo`). It takes no memory.
+    pub fn leads_elsewhere(&self, from: &View, connection: u32, edition: Edition) -> bool
+        ensures { Decides result (LeadsElsewhere edition self.now from.now connection) }
+    {
+        let events = self.events.as_slice();
+        let sought = Sought::Elsewhere(connection, edition);
+        leads_to(
+            events,
+            &self.tables.turns,
+            &self.tables.bound,
+            &self.tables.connections,
+            BorrowedView::of(from),
+            sought,
+        )
+    }
+}

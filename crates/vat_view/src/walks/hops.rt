@@ -56,12 +56,26 @@ pub(crate) fn stays(events: &[DecodedRecord], turns: &Settlements, view: Borrowe
     settler(events, turns, view).is_none()
 }
 
-/// The reference to which the record that settled an own promise, if one did, turns it.
+/// The reference to which the record that settled an own promise, if one did, turns it: mostly a FULFIL.
 fn promise_turned_to(events: &[DecodedRecord], turns: &Settlements, promise: u64) -> Option<u64>
     ensures { option_map ToReference result ≡ landed_by events.now turns.now (Promise promise) }
 {
-    let number = turns.of_promise(promise)?;
-    turn_target(&[], event_at(events, number)?)
+    match event_at(events, turns.of_promise(promise)?)? {
+        DecodedRecord::Fulfil { to, .. } => Some(*to),
+        event => turn_target(&[], event),
+    }
+}
+
+/// Where a view lands, of whatever kind it is.
+fn landed_by_settler(
+    events: &[DecodedRecord],
+    turns: &Settlements,
+    view: BorrowedView<'_>,
+) -> Option<Landing>
+    ensures { result ≡ landed_by events.now turns.now (as_view view.entry) }
+{
+    let (event, by) = settler(events, turns, view)?;
+    landing_of(view.path(), event, by)
 }
 
 /// Where a view lands: the reference or call to which the record that settled it, if one did, turns it. Own promises are
@@ -73,11 +87,12 @@ pub(crate) fn landed_by(
 ) -> Option<Landing>
     ensures { result ≡ landed_by events.now turns.now (as_view view.entry) }
 {
-    if let BorrowedView::Promise(promise) = view {
-        return promise_turned_to(events, turns, promise).map(Landing::Reference);
+    match view {
+        BorrowedView::Promise(promise) => {
+            promise_turned_to(events, turns, promise).map(Landing::Reference)
+        }
+        _ => landed_by_settler(events, turns, view),
     }
-    let (event, by) = settler(events, turns, view)?;
-    landing_of(view.path(), event, by)
 }
 
 /// The reference where a view lands, where it lands on one.

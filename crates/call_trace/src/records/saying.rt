@@ -1,12 +1,11 @@
-//! What the records say that a vat makes by itself, and the messages that it sends: by what is kept of the vat, and by what
+//! What the messages that a vat sends say, and what stands at references and paths: by what is kept of the vat, and by what
 //! was seen of each record.
 
-ghost use Rattle.std.specs.Prelude.{◌≡◌, List, Option, IfOk, OnOk, slice_get, option_map};
+ghost use Rattle.std.specs.Prelude.{◌≡◌, Option, IfOk, option_map};
 ghost use Rattle.std.specs.Option.{option_copied};
 ghost use Rattle.call_trace.specs.Naming.{cap_at};
-ghost use Rattle.call_trace.specs.Part.{promise_in};
-ghost use Rattle.call_trace.specs.Said.{all_there, caps_at_paths, say_call, say_return, say_taken, say_resolve};
-ghost use Rattle.call_trace.specs.Glue.Ledgers.{names_in, view_in, call_name_in, cap_said, caps_said, call_of_question, seen_at, answered_in, resolve_said, return_said, message_said, sent_said, results_said, named_said, fulfil_said, answer_by_said, of_call_said, make_said, answer_said, send_said, own_said, step_by, pushed};
+ghost use Rattle.call_trace.specs.Said.{caps_at_paths, say_call, say_return, say_taken, say_resolve};
+ghost use Rattle.call_trace.specs.Glue.Ledgers.{names_in, view_in, call_name_in, cap_said, caps_said, call_of_question, seen_at, answered_in, resolve_said, return_said, message_said, sent_said, results_said, named_said};
 ghost use Rattle.vat_view.specs.Lives.{descriptors_of};
 
 use crate::records::vat_ledger::VatLedger;
@@ -15,10 +14,10 @@ use rpc_view::{Descriptor, Outcome, Payload, Resolution, RpcMessage};
 use run_model::{Cap, Caps, Message, Name, Plain, Results, Step};
 use std::alloc::{AllocError, Global};
 use vat_rules::RecordFacts;
-use vat_view::{DecodedRecord, View};
+use vat_view::View;
 
 /// The view of these at a place, if one is there.
-fn seen_at(views: &[Option<View>], place: usize) -> Option<&View>
+pub(crate) fn seen_at(views: &[Option<View>], place: usize) -> Option<&View>
     ensures { option_copied result ≡ seen_at views.now place }
 {
     views.get(place)?.as_ref()
@@ -270,7 +269,7 @@ fn message_said(
 }
 
 /// The same, with what the descriptors of the message stand for looked up.
-fn sent_said(
+pub(crate) fn sent_said(
     alloc: Global,
     ledger: &VatLedger,
     steps: &[Step],
@@ -286,7 +285,7 @@ fn sent_said(
 }
 
 /// The results of a call, where each has a name.
-fn results_said(
+pub(crate) fn results_said(
     alloc: Global,
     ledger: &VatLedger,
     steps: &[Step],
@@ -325,221 +324,4 @@ pub(crate) fn named_said(
         }
     }
     Ok(Some(Caps::new(caps)))
-}
-
-/// The own promise that a view is.
-fn promise_in(view: Option<&View>) -> Option<u64>
-    ensures { result ≡ promise_in (option_copied view.entry) }
-{
-    match view {
-        Some(View::Promise(reference)) => Some(*reference),
-        _ => None,
-    }
-}
-
-/// The step that keeps a promise comes behind these, where both have names.
-fn push_fulfil(
-    ledger: &VatLedger,
-    steps: &mut Vec<Step>,
-    seen: &RecordFacts,
-) -> Result<(), AllocError>
-    ensures { OnOk result (steps.new.items
-        ≡ pushed (fulfil_said (names_in steps.old.items ledger.now) seen.now) steps.old.items) }
-{
-    let vat = ledger.vat;
-    let promise = promise_in(seen_at(seen.references(), 0));
-    let to = ledger.name_of_view(steps, seen_at(seen.references(), 1))?;
-    if let (Some(promise), Some(to)) = (promise, to) {
-        steps.push(Step::Fulfil { vat, promise, to })?;
-    }
-    Ok(())
-}
-
-/// The step of a record that names a call and no other capability comes behind these, where the call has a name.
-fn push_of_call(
-    ledger: &VatLedger,
-    steps: &mut Vec<Step>,
-    event: &DecodedRecord,
-) -> Result<(), AllocError>
-    ensures { OnOk result (steps.new.items
-        ≡ pushed (of_call_said ledger.now.vat (call_name_in ledger.now) event.now) steps.old.items) }
-{
-    let vat = ledger.vat;
-    let (DecodedRecord::Field { call, .. }
-    | DecodedRecord::Deliver { call, .. }
-    | DecodedRecord::Fault { call }) = event
-    else {
-        return Ok(());
-    };
-    let Some(call) = ledger.call(*call) else {
-        return Ok(());
-    };
-    match event {
-        DecodedRecord::Field { path, .. } => {
-            let cap = Cap::Field(call, path.copy()?);
-            steps.push(Step::Name { vat, cap })?;
-        }
-        DecodedRecord::Deliver { object, .. } => {
-            let object = *object;
-            steps.push(Step::Deliver { vat, call, object })?;
-        }
-        _ => steps.push(Step::Fault { vat, call })?,
-    }
-    Ok(())
-}
-
-/// The step that answers a call by another, where both have names.
-fn answer_by_said(ledger: &VatLedger, call: u64, by: u64) -> Option<Step>
-    ensures { result ≡ answer_by_said ledger.now.vat (call_name_in ledger.now) call by }
-{
-    Some(Step::AnswerBy {
-        vat: ledger.vat,
-        call: ledger.call(call)?,
-        by: ledger.call(by)?,
-    })
-}
-
-/// The step that makes a call comes behind these, where its target has a name.
-fn push_make(
-    ledger: &VatLedger,
-    steps: &mut Vec<Step>,
-    seen: &RecordFacts,
-    event: &DecodedRecord,
-) -> Result<(), AllocError>
-    ensures { OnOk result (steps.new.items
-        ≡ pushed (make_said (names_in steps.old.items ledger.now) seen.now event.now) steps.old.items) }
-{
-    let DecodedRecord::Make {
-        call,
-        reference,
-        interface,
-        method,
-    } = event
-    else {
-        return Ok(());
-    };
-    if let Some(cap) = ledger.name_of_view(steps, seen_at(seen.references(), 0))? {
-        steps.push(Step::Make {
-            vat: ledger.vat,
-            number: *call,
-            cap,
-            reference: *reference,
-            interface: *interface,
-            method: *method,
-        })?;
-    }
-    Ok(())
-}
-
-/// The step that answers a call with results comes behind these, where all that it names has a name.
-fn push_answer(
-    alloc: Global,
-    ledger: &VatLedger,
-    steps: &mut Vec<Step>,
-    seen: &RecordFacts,
-    call: u64,
-    results: &[(u64, Path)],
-) -> Result<(), AllocError>
-    ensures { OnOk result (steps.new.items
-        ≡ pushed (answer_said (names_in steps.old.items ledger.now) seen.now call results.now)
-        steps.old.items) }
-{
-    let said = results_said(alloc, ledger, steps, seen, results)?;
-    if let (Some(call), Some(results)) = (ledger.call(call), said) {
-        let vat = ledger.vat;
-        steps.push(Step::Answer { vat, call, results })?;
-    }
-    Ok(())
-}
-
-/// The step that sends a message comes behind these, where all that it names has a name. `noted` is the connection, and the
-/// call that is noted beside the message.
-fn push_sent(
-    alloc: Global,
-    ledger: &VatLedger,
-    steps: &mut Vec<Step>,
-    seen: &RecordFacts,
-    noted: (u32, u64),
-    message: &RpcMessage,
-) -> Result<(), AllocError>
-    ensures { OnOk result (steps.new.items
-        ≡ pushed (send_said (names_in steps.old.items ledger.now) seen.now noted.0 noted.1 message.now)
-        steps.old.items) }
-{
-    let (connection, call) = noted;
-    if let Some(message) = sent_said(alloc, ledger, steps, seen, call, message)? {
-        let vat = ledger.vat;
-        steps.push(Step::Send {
-            vat,
-            connection,
-            message,
-        })?;
-    }
-    Ok(())
-}
-
-/// The step that a record of what the vat makes by itself says comes behind these, where all that it names has a name.
-fn push_own(
-    alloc: Global,
-    ledger: &VatLedger,
-    steps: &mut Vec<Step>,
-    seen: &RecordFacts,
-    event: &DecodedRecord,
-) -> Result<(), AllocError>
-    ensures { OnOk result (steps.new.items
-        ≡ pushed (own_said (names_in steps.old.items ledger.now) seen.now event.now) steps.old.items) }
-{
-    let vat = ledger.vat;
-    match event {
-        DecodedRecord::Host { object, .. } => {
-            let object = *object;
-            steps.push(Step::Host { vat, object })?;
-        }
-        DecodedRecord::Vow { reference } => {
-            let promise = *reference;
-            steps.push(Step::Vow { vat, promise })?;
-        }
-        DecodedRecord::Fulfil { .. } => push_fulfil(ledger, steps, seen)?,
-        DecodedRecord::Break { .. } => {
-            if let Some(promise) = promise_in(seen_at(seen.references(), 0)) {
-                steps.push(Step::Break { vat, promise })?;
-            }
-        }
-        DecodedRecord::Make { .. } => push_make(ledger, steps, seen, event)?,
-        DecodedRecord::Answer { call, results } => {
-            push_answer(alloc, ledger, steps, seen, *call, results.as_slice())?;
-        }
-        _ => {}
-    }
-    Ok(())
-}
-
-/// The step that a record says that isn't received comes behind these, where all that it names has a name.
-pub(crate) fn push_said(
-    alloc: Global,
-    ledger: &VatLedger,
-    steps: &mut Vec<Step>,
-    seen: &RecordFacts,
-    event: &DecodedRecord,
-) -> Result<(), AllocError>
-    ensures { OnOk result (steps.new.items
-        ≡ pushed (step_by (names_in steps.old.items ledger.now) seen.now event.now) steps.old.items) }
-{
-    match event {
-        DecodedRecord::Wire {
-            connection,
-            call,
-            message,
-            ..
-        } => push_sent(alloc, ledger, steps, seen, (*connection, *call), message)?,
-        DecodedRecord::Field { .. } | DecodedRecord::Deliver { .. } | DecodedRecord::Fault { .. } =>
-            { push_of_call(ledger, steps, event)? }
-        DecodedRecord::AnswerBy { call, by } => {
-            if let Some(step) = answer_by_said(ledger, *call, *by) {
-                steps.push(step)?;
-            }
-        }
-        _ => push_own(alloc, ledger, steps, seen, event)?,
-    }
-    Ok(())
 }

@@ -10,7 +10,8 @@ ghost use Rattle.vat_rules.specs.Telling.{seen_of};
 ghost use Rattle.vat_view.specs.Past.{Past};
 ghost use Rattle.run_model.specs.Has.{call_in_message};
 
-use crate::records::saying::{named_said, push_said};
+use crate::records::pushing::push_said;
+use crate::records::saying::named_said;
 use crate::records::vat_ledger::VatLedger;
 use rpc_view::RpcMessage;
 use run_model::{Caps, Message, Name, Step};

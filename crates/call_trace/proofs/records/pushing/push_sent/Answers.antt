@@ -1,7 +1,7 @@
 use Rattle.std.proofs.Common.{◌≡◌, ◌∙◌, sym, ap, Some, option_map}
 use Rattle.run_model.specs.declared.step.Step.TheVariants as step
 use Rattle.call_trace.specs.Glue.Ledgers.{names_in, sent_said, pushed}
-use Rattle.call_trace.proofs.records.saying.push_sent.Goals as goal
+use Rattle.call_trace.proofs.records.pushing.push_sent.Goals as goal
 
 pub returns-in_ok-push : goal.returns-in_ok-push
 returns-in_ok-push c =

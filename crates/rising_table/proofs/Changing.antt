@@ -2,7 +2,7 @@
 use Rattle.std.proofs.Common.{◌≡◌, ℕ, zero, suc, ◌+◌, ◌<◌, ◌≢◌, List, [], ◌∷◌, ◌++◌, length, get_or, set, inl, inr, Some, None, Option, Bool, true, false, refl, sym, ap, subst, ◌∙◌, ◌==◌, if◌then◌else◌, arith}
 use Rattle.std.specs.Prelude.{is_some, MatchOption}
 use mathlib.Core.Bool.{true≢false}
-use Rattle.std.specs.List.{remove, AllByRecursion}
+use Rattle.std.specs.List.{insert, remove, AllByRecursion}
 use Rattle.std.specs.List.Sorted.{IsStrictlySortedBy}
 use Rattle.std.specs.Ordering.{nat_cmp, is_eq}
 use Rattle.std.specs.declared.cmp.Ordering.TheVariants.{Less}
@@ -127,6 +127,43 @@ module _ {X : Type 0} where
   pub rising_push : (es : List (ℕ × X)) → AreRising es → (k i : ℕ) (v : X) → IsGapFor es k i → i ≡ length es → AreRising (es ++ (k, v) ∷ [])
   rising_push es rising k i v gap last = rising_above es rising k v (λ j lt. gap.smaller_before j (omega (arith, lt, last)))
 
+  plain_insert : (es : List (ℕ × X)) (k i : ℕ) (v : X) → plain es k ≡ None → (q : ℕ) → plain (insert es i (k, v)) q ≡ (if k == q then Some v else plain es q)
+  plain_insert es k zero v absent q = refl
+  plain_insert [] k (suc i) v absent q = refl
+  plain_insert (e ∷ es) k (suc i) v absent q = at (e.0 == k) refl absent (λ none. plain_insert es k i v none q)
+    where
+      at : (b : Bool) → (e.0 == k) ≡ b → (if b then Some e.1 else plain es k) ≡ None
+          → (plain es k ≡ None → plain (insert es i (k, v)) q ≡ (if k == q then Some v else plain es q))
+          → (if e.0 == q then Some e.1 else plain (insert es i (k, v)) q) ≡ (if k == q then Some v else (if e.0 == q then Some e.1 else plain es q))
+      at true same found more = absurd (none_some found)
+      at false other none more = grind (arith, nat_tests, other, more none)
+
+  pub puts_insert : (es : List (ℕ × X)) (k i : ℕ) (v : X) → entry_at es k ≡ None → Puts es (insert es i (k, v)) k (Some v)
+  puts_insert es k i v absent q =
+      entry_plain (insert es i (k, v)) q ∙ plain_insert es k i v (sym (entry_plain es k) ∙ absent) q ∙ ap (λ o. if k == q then Some v else o) (sym (entry_plain es q))
+
+  all_insert : (P : ℕ → Type 0) (es : List (ℕ × X)) (k i : ℕ) (v : X) → AllByRecursion P (keys_of es) → P k → AllByRecursion P (keys_of (insert es i (k, v)))
+  all_insert P es k zero v all one = (one, all)
+  all_insert P [] k (suc i) v all one = (one, tt)
+  all_insert P (e ∷ es) k (suc i) v all one = (all.0, all_insert P es k i v all.1 one)
+
+  all_greater : (es : List (ℕ × X)) (k : ℕ) → ((j : ℕ) → j < length es → k < key_at es j) → AllByRecursion (λ y. nat_cmp k y ≡ Less) (keys_of es)
+  all_greater [] k greater = tt
+  all_greater (e ∷ es) k greater = (sym (nat_cmp_is k e.0 Less (greater 0 (omega arith))), all_greater es k (λ j lt. greater (suc j) (omega (arith, lt))))
+
+  pub rising_insert : (es : List (ℕ × X)) → AreRising es → (k i : ℕ) (v : X) → IsGapFor es k i → AreRising (insert es i (k, v))
+  unfolding IsStrictlySortedBy
+  rising_insert es rising k zero v gap = (all_greater es k (λ j lt. gap.greater_after j (omega arith) lt), rising)
+  rising_insert [] rising k (suc i) v gap = (tt, tt)
+  rising_insert (e ∷ es) rising k (suc i) v gap = (
+    all_insert (λ y. nat_cmp e.0 y ≡ Less) es k i v rising.0 (sym (nat_cmp_is e.0 k Less (gap.smaller_before 0 (omega arith)))),
+    rising_insert es rising.1 k i v (record {
+      in_range = omega (arith, gap.in_range);
+      smaller_before = λ j lt. gap.smaller_before (suc j) (omega (arith, lt));
+      greater_after = λ j le lt. gap.greater_after (suc j) (omega (arith, le)) (omega (arith, lt));
+    }),
+  )
+
   plain_remove : (es : List (ℕ × X)) (k i : ℕ) → i < length es → key_at es i ≡ k → ((j : ℕ) → j < length es → j ≢ i → key_at es j ≢ k)
       → (q : ℕ) → plain (remove es i) q ≡ (if k == q then None else plain es q)
   plain_remove [] k i lt same others q = absurd (omega (arith, lt))
@@ -181,6 +218,11 @@ module _ {X : Type 0} where
     put_last v gap pushed is_pushed =
         seen (pushed ++ rest) (Some v)
         (puts_before row pushed rest k v (subst (λ es. Puts row es k (Some v)) (sym is_pushed) (puts_push row k v (missing row k i gap))))
+
+    pub put_within : (v : X) → IsGapFor row k i → (more : List (ℕ × X)) → more ≡ insert row i (k, v) → Puts old (more ++ rest) k (Some v)
+    put_within v gap more is_more =
+        seen (more ++ rest) (Some v)
+        (puts_before row more rest k v (subst (λ es. Puts row es k (Some v)) (sym is_more) (puts_insert row k i v (missing row k i gap))))
 
     pub put_behind : (w : Option X) → IsGapFor row k i → (more : List (ℕ × X))
         → ((q : ℕ) → entry_at more q ≡ (if is_eq (nat_cmp k q) then w else entry_at rest q)) → Puts old (row ++ more) k w

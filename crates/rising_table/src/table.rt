@@ -13,7 +13,8 @@ use std::marker::Model;
 use std::mem;
 
 /// Values by numbers. Those whose number is above all before it lie in one row, which is filled up; a tree's nodes stay
-/// half empty where numbers rise. Contracts see it as the list of its entries.
+/// half empty where numbers rise. The first few lie there too, in whatever order they come. Contracts see it as the list of
+/// its entries.
 #[derive(Debug, Drop)]
 pub struct RisingTable<V> {
     row: Vec<(u64, V)>,
@@ -65,6 +66,9 @@ fn is_below<V>(row: &[(u64, V)], key: u64) -> bool
 
 /// How many of a row's last entries are asked one by one.
 const LAST: usize = 8;
+
+/// A row with fewer entries takes each number in its place, at the cost of moving those behind it.
+const SHORT: usize = 8;
 
 /// Where a number is among the last entries of a row, or where it would go there.
 fn near_the_end<V>(row: &[(u64, V)], key: u64) -> Option<Result<usize, usize>>
@@ -164,6 +168,7 @@ impl<V: Drop> RisingTable<V> {
         match search_from_end(&self.row, key) {
             Ok(place) => self.row[place] = (key, value),
             Err(place) if place == self.row.len() => self.row.push((key, value))?,
+            Err(place) if self.row.len() < SHORT => self.row.insert(place, (key, value))?,
             Err(_) => {
                 self.rest.insert(key, value)?;
             }

@@ -1,8 +1,7 @@
-use Rattle.std.proofs.Common.{◌≡◌, sym, subst, Some, ◌++◌, rules}
+use Rattle.std.proofs.Common.{sym, subst, Some, rules}
 use Rattle.rising_table.specs.Glue.{IsAt, IsGapFor, AreRising}
-use Rattle.rising_table.proofs.Changing.{Puts, put_over, put_last, put_behind, rising_set, rising_push}
+use Rattle.rising_table.proofs.Changing.{put_over, put_last, put_within, put_behind, rising_set, rising_push, rising_insert}
 use Rattle.rising_table.proofs.table.RisingTable.put.Goals as goal
-use Rattle.rising_table.proofs.table.RisingTable.put.Goals.{in-Some-1, in-None-1}
 
 -- the number was in the row, and its entry is written over
 pub invariant_of-self : goal.invariant_of-self
@@ -27,12 +26,23 @@ returns-in_ok-push-in-Err-clause-ok g c =
     put_last c.self.inside.row.items c.self.inside.rest.entries c.args.self.now c.self.view_is c.args.key c.in-Err.place c.args.value gap
     c.push.new.self.items c.in_ok-push-in-Err.ensures.items
 
--- it isn't in the row, and goes into the rest
+-- the row is short, and takes it in its place
+pub invariant_of-self-then-len-lt-SHORT : goal.invariant_of-self-then-len-lt-SHORT
+invariant_of-self-then-len-lt-SHORT g c =
+    let gap = subst (λ es. IsGapFor es c.args.key c.in-Err.place) c.deref.ensures.value c.in-Err.ensures.absent in
+    subst (λ es. AreRising es) (sym c.in_ok-insert-in-Err-2.ensures.items)
+    (rising_insert c.self.inside.row.items c.self.invariant c.args.key c.in-Err.place c.args.value gap)
+
 pub returns-in_ok-insert-in-Err-2-clause-ok : goal.returns-in_ok-insert-in-Err-2-clause-ok
 returns-in_ok-insert-in-Err-2-clause-ok g c =
+    let gap = subst (λ es. IsGapFor es c.args.key c.in-Err.place) c.deref.ensures.value c.in-Err.ensures.absent in
+    put_within c.self.inside.row.items c.self.inside.rest.entries c.args.self.now c.self.view_is c.args.key c.in-Err.place c.args.value gap
+    c.insert.new.self.items c.in_ok-insert-in-Err-2.ensures.items
+
+-- it isn't in the row, and goes into the rest
+pub returns-in_ok-insert-in-Err-3-clause-ok : goal.returns-in_ok-insert-in-Err-3-clause-ok
+returns-in_ok-insert-in-Err-3-clause-ok g c =
     let row = c.self.inside.row.items in
-    let gap = subst (λ es. IsGapFor es c.args.key c.in-Err-2.field-0) c.deref.ensures.value c.in-Err-2.ensures.absent in
-    let same : c.match-branch-3.self ≡ row ++ c.insert.new.self.entries = elim c.match-branch-3.branch [ in-Some-1 w ↦ w.self-is | in-None-1 w ↦ w.self-is ] in
-    subst (λ new. Puts c.args.self.now new c.args.key (Some c.args.value)) (sym same)
-    (put_behind row c.self.inside.rest.entries c.args.self.now c.self.view_is c.args.key c.in-Err-2.field-0 (Some c.args.value) gap
-    c.insert.new.self.entries c.in_ok-insert-in-Err-2.ensures.updates.0)
+    let gap = subst (λ es. IsGapFor es c.args.key c.in-Err-3.field-0) c.deref.ensures.value c.in-Err-3.ensures.absent in
+    put_behind row c.self.inside.rest.entries c.args.self.now c.self.view_is c.args.key c.in-Err-3.field-0 (Some c.args.value) gap
+    c.insert-in-Err-3.new.self.entries c.in_ok-insert-in-Err-3.ensures.updates.0

@@ -5,13 +5,14 @@ use std::alloc::Global;
 use worked_cases::{Refused, is_so};
 
 /// Numbers in the order in which they come.
-const COME: [&[u64]; 6] = [
+const COME: [&[u64]; 7] = [
     &[],
     &[1, 2, 3],
     &[3, 2, 1],
     &[2, 9, 4, 9, 3, 10],
     &[0, u64::MAX, 5],
     &[1, 3, 5, 9, 11, 13, 15, 17, 19, 21, 23, 25, 26, 6],
+    &[40, 41, 42, 43, 44, 45, 46, 47, 4, 2, 4, 3],
 ];
 
 /// A table in which each number has its place among these, counted from 0, with the last place where it comes twice.

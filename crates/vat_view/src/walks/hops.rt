@@ -6,7 +6,7 @@ ghost use Rattle.vat_view.specs.Types.{View, Promise};
 ghost use Rattle.vat_view.specs.declared.walks.turn_target.Landing.TheVariants.{Reference as ToReference};
 ghost use Rattle.vat_view.specs.Borrowed.{as_view};
 ghost use Rattle.vat_view.specs.Glue.Tables.{bound_at};
-ghost use Rattle.vat_view.specs.Glue.TurnTables.{Settler, awaited_by, settler_by, goes_by, turn_by, landed_by, reference_by, turns_of, most_turns, after_turns, Reaches, TurnsAndThen, TurnsOn, ReachesByTurns, EndsBy, HaveAhead};
+ghost use Rattle.vat_view.specs.Glue.TurnTables.{Settler, awaited_by, settler_by, goes_by, turn_by, landed_by, reference_by, turns_of, most_turns, after_turns, Reaches, TurnsAndThen, TurnsOn, ReachesByTurns, EndsBy, HaveAhead, view_ahead_at};
 
 use crate::borrowed_view::BorrowedView;
 use crate::record::decoded::DecodedRecord;
@@ -103,7 +103,10 @@ pub(crate) fn reference_by(
 ) -> Option<u64>
     ensures { result ≡ reference_by events.now turns.now (as_view view.entry) }
 {
-    match landed_by(events, turns, view) {
+    if let BorrowedView::Promise(promise) = view {
+        return promise_turned_to(events, turns, promise);
+    }
+    match landed_by_settler(events, turns, view) {
         Some(Landing::Reference(reference)) => Some(reference),
         _ => None,
     }
@@ -150,6 +153,15 @@ fn most_hops(turns: &Settlements, bound: &BoundReferences) -> u64 {
     u64::try_from(most_turns(turns, bound)).unwrap_or(u64::MAX)
 }
 
+/// The view to which a reference's shortcut leads, if it is bound, and how many turns the shortcut skips.
+fn leap_from(bound: &BoundReferences, reference: u64) -> Option<(BorrowedView<'_>, u64)>
+    ensures { option_map (λ there. (as_view there.0, there.1)) result
+        ≡ view_ahead_at bound.now reference }
+{
+    let (next, turns) = bound.view_ahead(reference)?;
+    Some((BorrowedView::of(next), turns))
+}
+
 /// Follows one turn to a reference or a call, then that one's shortcut. Answers the view reached and how many turns the
 /// shortcut skipped.
 fn hop<'a>(
@@ -163,11 +175,11 @@ fn hop<'a>(
         (λ made. TurnsAndThen
         (turns_of events.now turns.now bound.now) (as_view view.entry) made.1 (as_view made.0)) }
 {
-    match landed_by(events, turns, view)? {
-        Landing::Reference(reference) => {
-            let (next, turns) = bound.view_ahead(reference)?;
-            Some((BorrowedView::of(next), turns))
-        }
+    if let BorrowedView::Promise(promise) = view {
+        return leap_from(bound, promise_turned_to(events, turns, promise)?);
+    }
+    match landed_by_settler(events, turns, view)? {
+        Landing::Reference(reference) => leap_from(bound, reference),
         Landing::Call(call) => {
             let leap = turns.call_ahead(call);
             Some((BorrowedView::Field(leap.to, view.path()), leap.turns))

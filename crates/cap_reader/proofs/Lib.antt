@@ -14,3 +14,4 @@ pub mod Visited
 pub mod Deep
 pub mod Instance
 pub mod Memory
+pub mod Near

@@ -12,9 +12,9 @@ ghost use Rattle.cap_reader.specs.Fields.{fields_in, capability_at};
 ghost use Rattle.cap_reader.specs.Places.{sections_at};
 ghost use Rattle.cap_reader.specs.Laws.{paths_of};
 
-use crate::extent::extent;
+use crate::extent::{extent, word_or_zero};
 use crate::field_list::Fields;
-use crate::following::follow;
+use crate::following::follow_near;
 use crate::limits::Limits;
 use crate::place::StructAt;
 use crate::pointee::Pointee;
@@ -52,7 +52,7 @@ fn judge_list(
     start: Option<u64>,
     element_size: u8,
     count: u32,
-    depth: u8,
+    depth: u32,
 ) -> Result<(), ReadError>
     ensures { (path : List ℕ) → Gives (λ _. []) result
         (fields_in path (list_there
@@ -86,7 +86,7 @@ fn add_fields(
     frame: &Frame,
     segment: u32,
     at: u64,
-    depth: u8,
+    depth: u32,
     path: &Path,
     found: &mut Vec<(Path, u32)>,
     limits: &mut Limits,
@@ -100,7 +100,10 @@ fn add_fields(
     ensures words { limits.new.words ≤ limits.old.words }
     ensures depth { limits.new.depth ≡ limits.old.depth }
 {
-    match follow(frame, segment, at)? {
+    if word_or_zero(frame, segment, at) == 0 {
+        return Ok(());
+    }
+    match follow_near(frame, segment, at)? {
         Pointee::Null => Ok(()),
         Pointee::Capability { index } => {
             put(found, path.copy()?, index)?;

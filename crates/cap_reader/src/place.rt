@@ -10,7 +10,7 @@ pub struct StructAt {
     pub(crate) start: u32,
     pub(crate) data_words: u16,
     pub(crate) pointer_count: u16,
-    pub(crate) below: u8,
+    pub(crate) below: u32,
 }
 
 impl StructAt {
@@ -37,6 +37,6 @@ pub struct ListAt {
     pub(crate) count: u32,
     pub(crate) data_words: u16,
     pub(crate) pointer_count: u16,
-    pub(crate) depth: u8,
+    pub(crate) depth: u32,
     ghost within: { start + count * (data_words + pointer_count) < 2 ^ 32 },
 }

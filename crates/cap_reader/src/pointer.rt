@@ -1,6 +1,6 @@
 //! What a pointer's word says.
 
-ghost use Rattle.std.specs.Prelude.{◌≡◌, ◌<◌, ◌^◌};
+ghost use Rattle.std.specs.Prelude.{◌≡◌, ◌<◌, ◌^◌, ◌/◌, ◌%◌};
 ghost use Rattle.cap_reader.specs.Pointers.{offset_bits, data_bits, pointer_bits, high_bits, start_from};
 
 /// What a pointer's word says, by the encoding specification ("Structs", "Lists", "Inter-Segment Pointers",
@@ -64,6 +64,20 @@ pub fn pointers_of(word: u64) -> u16
     ((word >> 48) % SIZES) as u16
 }
 
+/// The element size of a list, which 3 bits say.
+pub fn element_size_of(word: u64) -> u8
+    ensures { result ≡ (word / 2 ^ 32) % 8 }
+{
+    ((word >> 32) % 8) as u8
+}
+
+/// How many elements a list has, and of a composite list how many words.
+pub fn count_of(word: u64) -> u32
+    ensures { result ≡ (word / 2 ^ 35) % 2 ^ 29 }
+{
+    ((word >> 35) % (1 << 29)) as u32
+}
+
 /// Bits 32 to 63.
 fn high_of(word: u64) -> u32
     ensures { result ≡ high_bits word }
@@ -90,8 +104,8 @@ impl Pointer {
             },
             1 => Pointer::List {
                 offset: offset_of(word),
-                element_size: ((word >> 32) % 8) as u8,
-                count: ((word >> 35) % (1 << 29)) as u32,
+                element_size: element_size_of(word),
+                count: count_of(word),
             },
             2 => Pointer::Far {
                 two_words: (word >> 2) % 2 == 1,

@@ -14,7 +14,7 @@ use crate::following::follow;
 use crate::limits::Limits;
 use crate::place::{ListAt, StructAt};
 use crate::pointee::Pointee;
-use crate::pointer::{data_of, offset_of, pointers_of};
+use crate::pointer::{count_of, data_of, element_size_of, offset_of, pointers_of, start_of};
 use crate::read_error::ReadError;
 use cap_frame::Frame;
 
@@ -31,7 +31,7 @@ struct Spot {
 }
 
 /// The struct at a place where so many structs may stand within one another, after paying for the visit.
-fn visit(spot: Spot, depth: u8, limits: &mut Limits) -> Result<StructAt, ReadError>
+fn visit(spot: Spot, depth: u32, limits: &mut Limits) -> Result<StructAt, ReadError>
     ensures value { (segments : List (List ℕ)) → Runs
         (λ place. Some (sections_at segments place)) result limits.new.words
         (run (structure_in
@@ -65,7 +65,7 @@ pub fn enter(
     segment: u32,
     start: Option<u64>,
     sizes: (u16, u16),
-    depth: u8,
+    depth: u32,
     limits: &mut Limits,
 ) -> Result<StructAt, ReadError>
     ensures value { Runs (λ place. Some (sections_at frame.now place)) result limits.new.words
@@ -93,14 +93,15 @@ pub fn enter(
     }
 }
 
-/// The struct at the pointer at a place, None where it is null.
+/// The struct at the pointer at a place, None where it is null, by all that a pointer may say.
 #[tactic(auto, using(crate::proofs::OtherKinds::list_is_no_structure), unfolding(crate::specs::Tree::tree_behind, crate::specs::Reading::pay_for))]
-#[inline(always)]
-fn struct_at(
+#[cold]
+#[inline(never)]
+fn struct_behind(
     frame: &Frame,
     segment: u32,
     at: u64,
-    depth: u8,
+    depth: u32,
     limits: &mut Limits,
 ) -> Result<Option<StructAt>, ReadError>
     requires { at < 2 ^ 40 }
@@ -125,6 +126,34 @@ fn struct_at(
     }
 }
 
+/// The struct at the pointer at a place, None where it is null. Most pointers to structs are null or lead into their own
+/// segment, which their word tells at once.
+#[tactic(auto, using(crate::proofs::Near::null_word, crate::proofs::Near::struct_word), unfolding(crate::specs::Tree::tree_behind, crate::specs::Reading::pay_for))]
+fn struct_at(
+    frame: &Frame,
+    segment: u32,
+    at: u64,
+    depth: u32,
+    limits: &mut Limits,
+) -> Result<Option<StructAt>, ReadError>
+    requires { at < 2 ^ 40 }
+    ensures value { Runs (λ found. option_map (sections_at frame.now) found) result limits.new.words
+        (run (structure_in (tree_at depth frame.now segment at)) limits.old.words) }
+    ensures depth { limits.new.depth ≡ limits.old.depth }
+{
+    let word = word_or_zero(frame, segment, at);
+    if word == 0 {
+        return Ok(None);
+    }
+    if word % 4 != 0 {
+        return struct_behind(frame, segment, at, depth, limits);
+    }
+    let start = start_of(at, offset_of(word));
+    let sizes = (data_of(word), pointers_of(word));
+    let place = enter(frame, segment, start, sizes, depth, limits)?;
+    Ok(Some(place))
+}
+
 /// The list of structs to which a composite list pointer leads, whose content has so many words behind its tag.
 #[tactic(auto, unfolding(crate::specs::Tree::elements_behind))]
 pub fn composite(
@@ -132,7 +161,7 @@ pub fn composite(
     segment: u32,
     start: Option<u64>,
     size: u32,
-    depth: u8,
+    depth: u32,
 ) -> Result<ListAt, ReadError>
     ensures { Gives (λ list. Some (elements_at frame.now list)) result
         (elements_in (composite_there (structure_at depth frame.now segment) frame.now segment size
@@ -165,10 +194,16 @@ pub fn composite(
     })
 }
 
-/// The list of structs at the pointer at a place, None where it is null.
+/// The list of structs at the pointer at a place, None where it is null, by all that a pointer may say.
 #[tactic(auto, using(crate::proofs::OtherKinds::structure_is_no_list), unfolding(crate::specs::Tree::tree_behind, crate::specs::Tree::list_there))]
-#[inline(always)]
-fn list_at(frame: &Frame, segment: u32, at: u64, depth: u8) -> Result<Option<ListAt>, ReadError>
+#[cold]
+#[inline(never)]
+fn list_behind(
+    frame: &Frame,
+    segment: u32,
+    at: u64,
+    depth: u32,
+) -> Result<Option<ListAt>, ReadError>
     requires { at < 2 ^ 40 }
     ensures { Gives (λ found. option_map (elements_at frame.now) found) result
         (elements_in (tree_at depth frame.now segment at)) }
@@ -189,6 +224,26 @@ fn list_at(frame: &Frame, segment: u32, at: u64, depth: u8) -> Result<Option<Lis
     }
 }
 
+/// The list of structs at the pointer at a place, None where it is null. Most pointers to lists of structs are null or
+/// lead into their own segment, which their word tells at once.
+#[tactic(auto, using(crate::proofs::Near::null_word, crate::proofs::Near::composite_word), unfolding(crate::specs::Tree::tree_behind, crate::specs::Tree::list_there))]
+fn list_at(frame: &Frame, segment: u32, at: u64, depth: u32) -> Result<Option<ListAt>, ReadError>
+    requires { at < 2 ^ 40 }
+    ensures { Gives (λ found. option_map (elements_at frame.now) found) result
+        (elements_in (tree_at depth frame.now segment at)) }
+{
+    let word = word_or_zero(frame, segment, at);
+    if word == 0 {
+        return Ok(None);
+    }
+    if word % 4 != 1 || element_size_of(word) != COMPOSITE {
+        return list_behind(frame, segment, at, depth);
+    }
+    let start = start_of(at, offset_of(word));
+    let list = composite(frame, segment, start, count_of(word), depth)?;
+    Ok(Some(list))
+}
+
 /// The root struct of a frame; where the root pointer is null, the empty struct, in which every field has its default.
 /// The root pointer is the first word of segment 0 (encoding specification, "Messages").
 ///
@@ -200,7 +255,7 @@ pub fn root(frame: &Frame, limits: &mut Limits) -> Result<StructAt, ReadError>
         (run (root_in (root_tree limits.old.depth frame.now)) limits.old.words) }
     ensures depth { limits.new.depth ≡ limits.old.depth }
 {
-    let depth = limits.depth;
+    let depth = u32::from(limits.depth);
     match struct_at(frame, 0, 0, depth, limits)? {
         Some(place) => Ok(place),
         None => Ok(StructAt {

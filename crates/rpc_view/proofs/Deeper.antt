@@ -1,5 +1,5 @@
 -- Higher limits never change a message: what is read of trees that are cut at some depth is read of the whole trees too.
-use Rattle.std.proofs.Common.{◌≡◌, ℕ, zero, suc, ◌+◌, ◌-◌, ◌≤◌, ◌∙◌, Bool, true, false, cond, List, [], ◌∷◌, ◌++◌, Option, Some, None, Result, Ok, Err, refl, sym, arith}
+use Rattle.std.proofs.Common.{◌≡◌, ℕ, zero, suc, ◌+◌, ◌≤◌, ◌∙◌, Bool, true, false, cond, List, [], ◌∷◌, ◌++◌, Option, Some, None, Result, Ok, Err, refl, sym, arith}
 use Rattle.std.specs.Prelude.{nat_lt, if◌then◌else◌}
 use Rattle.cap_frame.specs.declared.frame_error.FrameError.{FrameError}
 use Rattle.cap_reader.specs.declared.limits.Limits.{Limits}
@@ -14,7 +14,6 @@ use Rattle.cap_reader.specs.Fields.{fields_in}
 use Rattle.rpc_view.specs.declared.edition.Edition.{Edition}
 use Rattle.rpc_view.specs.declared.message.RpcMessage.{RpcMessage}
 use Rattle.rpc_view.specs.declared.view_error.ViewError.{ViewError}
-use Rattle.rpc_view.specs.declared.view_error.ViewError.TheVariants as errors
 use Rattle.rpc_view.specs.Reading.{part, struct_in, list_in, or_empty}
 use Rattle.rpc_view.specs.Layouts.{message_tag}
 use Rattle.rpc_view.specs.Message.{message_of, message_in_frame, message_in, body_in, bootstrap_in, unless_refused, call_in, called_in, return_in, returned_in, outcome_in, finish_in, resolve_in, release_in, disembargo_in, disembargoed_in, target_in, promised_in, operation_in, operations_in, payload_in, descriptors_in, descriptor_in, described_in}

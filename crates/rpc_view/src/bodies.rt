@@ -3,6 +3,7 @@
 ghost use Rattle.std.specs.Prelude.{◌≡◌};
 ghost use Rattle.rpc_view.specs.Reading.{run};
 ghost use Rattle.rpc_view.specs.Glue.{RunsInMemory, sections_of};
+ghost use Rattle.rpc_view.specs.Layouts.{return_tag};
 ghost use Rattle.rpc_view.specs.Message.{bootstrap_in, called_in, is_beyond, call_in, outcome_in, returned_in, return_in, finish_in, resolve_in, release_in, disembargoed_in, disembargo_in};
 
 use crate::edition::Edition;
@@ -15,7 +16,9 @@ use crate::layouts::{
 };
 use crate::message::{Loopback, Outcome, Resolution, RpcMessage};
 use crate::payload::payload;
-use crate::structs::{bit_of, struct_in, u16_of, u32_of, u64_of};
+use crate::structs::{
+    bit_of, bit_within, first_word, struct_in, u16_of, u16_within, u32_of, u32_within, u64_of,
+};
 use crate::table::descriptor;
 use crate::target::target;
 use crate::view_error::{Outside, ViewError};
@@ -39,26 +42,28 @@ pub fn bootstrap(
     })
 }
 
-/// What the pointers of a Call hold.
+/// What the pointers of a Call hold, whose first word was read.
 #[tactic(auto, using(crate::proofs::Running::run_then), unfolding(crate::specs::Message::called_in, cap_reader::specs::Reading::pay_for, cap_reader::specs::Reading::and_then))]
 fn read_call_parts(
     alloc: Global,
     frame: &Frame,
     call: &Option<StructAt>,
+    word: u64,
     limits: &mut Limits,
 ) -> Result<RpcMessage, ViewError>
+    requires { word ≡ (sections_of frame.now call.now).word 0 }
     ensures { RunsInMemory (λ found. found) result limits.new.words
         (run (called_in (sections_of frame.now call.now)) limits.old.words) }
 {
     let target = target(alloc, frame, call, CALL_TARGET, limits)?;
     let params = payload(alloc, frame, call, CALL_PARAMS, limits)?;
     Ok(RpcMessage::Call {
-        question: u32_of(frame, call, CALL_QUESTION),
+        question: u32_within(word, CALL_QUESTION),
         target,
         interface: u64_of(frame, call, CALL_INTERFACE),
-        method: u16_of(frame, call, CALL_METHOD),
+        method: u16_within(word, CALL_METHOD),
         params,
-        yourself: u16_of(frame, call, CALL_SEND_RESULTS_TO) == 1,
+        yourself: u16_within(word, CALL_SEND_RESULTS_TO) == 1,
     })
 }
 
@@ -85,7 +90,8 @@ pub fn call(
         (run (call_in edition ((sections_of frame.now message.now).child 0)) limits.old.words) }
 {
     let call = struct_in(frame, message, MESSAGE_BODY, limits)?;
-    let send_results_to = u16_of(frame, &call, CALL_SEND_RESULTS_TO);
+    let word = first_word(frame, &call);
+    let send_results_to = u16_within(word, CALL_SEND_RESULTS_TO);
     if send_results_to > 2 {
         return Err(ViewError::BadTag);
     }
@@ -95,21 +101,23 @@ pub fn call(
     if is_beyond(edition, bit_of(frame, &call, CALL_ONLY_PROMISE_PIPELINE)) {
         return Err(ViewError::Outside(Outside::LaterField));
     }
-    read_call_parts(alloc, frame, &call, limits)
+    read_call_parts(alloc, frame, &call, word, limits)
 }
 
-/// What a Return says of its call: results, or what stands in their place.
+/// What a Return of this tag says of its call: results, or what stands in their place.
 #[tactic(auto, using(crate::proofs::Running::run_then), unfolding(crate::specs::Message::outcome_in, cap_reader::specs::Reading::pay_for, cap_reader::specs::Reading::and_then))]
 fn outcome(
     alloc: Global,
     frame: &Frame,
     answer: &Option<StructAt>,
+    tag: u16,
     limits: &mut Limits,
 ) -> Result<Outcome, ViewError>
+    requires { tag ≡ return_tag (sections_of frame.now answer.now) }
     ensures { RunsInMemory (λ found. found) result limits.new.words
         (run (outcome_in (sections_of frame.now answer.now)) limits.old.words) }
 {
-    match u16_of(frame, answer, RETURN_TAG) {
+    match tag {
         0 => Ok(Outcome::Results(payload(alloc, frame, answer, RETURN_RESULTS, limits)?)),
         1 => Ok(Outcome::Exception),
         2 => Ok(Outcome::Canceled),
@@ -122,23 +130,25 @@ fn outcome(
     }
 }
 
-/// What the pointer of a Return holds.
+/// What the pointer of a Return holds, whose first word was read.
 #[tactic(auto, using(crate::proofs::Running::run_then), unfolding(crate::specs::Message::returned_in, cap_reader::specs::Reading::pay_for, cap_reader::specs::Reading::and_then))]
 fn read_return_parts(
     alloc: Global,
     frame: &Frame,
     answer: &Option<StructAt>,
+    word: u64,
     limits: &mut Limits,
 ) -> Result<RpcMessage, ViewError>
+    requires { word ≡ (sections_of frame.now answer.now).word 0 }
     ensures { RunsInMemory (λ found. found) result limits.new.words
         (run (returned_in (sections_of frame.now answer.now)) limits.old.words) }
 {
-    let outcome = outcome(alloc, frame, answer, limits)?;
+    let outcome = outcome(alloc, frame, answer, u16_within(word, RETURN_TAG), limits)?;
     Ok(RpcMessage::Return {
-        answer: u32_of(frame, answer, RETURN_ANSWER),
-        release_param_caps: !bit_of(frame, answer, RETURN_RELEASE_PARAM_CAPS),
+        answer: u32_within(word, RETURN_ANSWER),
+        release_param_caps: !bit_within(word, RETURN_RELEASE_PARAM_CAPS),
         outcome,
-        light: bit_of(frame, answer, RETURN_NO_FINISH_NEEDED),
+        light: bit_within(word, RETURN_NO_FINISH_NEEDED),
     })
 }
 
@@ -155,17 +165,18 @@ pub fn answer(
         (run (return_in edition ((sections_of frame.now message.now).child 0)) limits.old.words) }
 {
     let answer = struct_in(frame, message, MESSAGE_BODY, limits)?;
-    let tag = u16_of(frame, &answer, RETURN_TAG);
+    let word = first_word(frame, &answer);
+    let tag = u16_within(word, RETURN_TAG);
     if tag > 5 {
         return Err(ViewError::BadTag);
     }
     if tag == 5 {
         return Err(ViewError::Outside(Outside::Level));
     }
-    if is_beyond(edition, bit_of(frame, &answer, RETURN_NO_FINISH_NEEDED)) {
+    if is_beyond(edition, bit_within(word, RETURN_NO_FINISH_NEEDED)) {
         return Err(ViewError::Outside(Outside::LaterField));
     }
-    read_return_parts(alloc, frame, &answer, limits)
+    read_return_parts(alloc, frame, &answer, word, limits)
 }
 
 /// The Finish behind a Message's pointer.
@@ -179,9 +190,10 @@ pub fn finish(
         (run (finish_in ((sections_of frame.now message.now).child 0)) limits.old.words) }
 {
     let finish = struct_in(frame, message, MESSAGE_BODY, limits)?;
+    let word = first_word(frame, &finish);
     Ok(RpcMessage::Finish {
-        question: u32_of(frame, &finish, FINISH_QUESTION),
-        release_result_caps: !bit_of(frame, &finish, FINISH_RELEASE_RESULT_CAPS),
+        question: u32_within(word, FINISH_QUESTION),
+        release_result_caps: !bit_within(word, FINISH_RELEASE_RESULT_CAPS),
     })
 }
 
@@ -220,9 +232,10 @@ pub fn release(
         (run (release_in ((sections_of frame.now message.now).child 0)) limits.old.words) }
 {
     let release = struct_in(frame, message, MESSAGE_BODY, limits)?;
+    let word = first_word(frame, &release);
     Ok(RpcMessage::Release {
-        id: u32_of(frame, &release, RELEASE_ID),
-        count: u32_of(frame, &release, RELEASE_COUNT),
+        id: u32_within(word, RELEASE_ID),
+        count: u32_within(word, RELEASE_COUNT),
     })
 }
 

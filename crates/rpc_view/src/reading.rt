@@ -6,9 +6,8 @@ ghost use Rattle.cap_frame.specs.Segments.{segments_of};
 ghost use Rattle.cap_reader.specs.declared.read_error.ReadError.TheVariants.{OutOfMemory};
 ghost use Rattle.cap_reader.specs.Tree.{root_tree};
 ghost use Rattle.rpc_view.specs.Reading.{GivesInMemory, run};
-ghost use Rattle.rpc_view.specs.Glue.{RunsInMemory, sections_of};
-ghost use Rattle.rpc_view.specs.Message.{body_in, message_in, message_of, message_of_bytes, HasPrice};
-ghost use Rattle.rpc_view.specs.Layouts.{message_tag, message_body};
+ghost use Rattle.rpc_view.specs.Glue.{RunsInMemory};
+ghost use Rattle.rpc_view.specs.Message.{message_in, message_of, message_of_bytes, HasPrice};
 ghost use Rattle.rpc_view.specs.Spelling.{Spells};
 ghost use Rattle.rpc_view.specs.declared.message.RpcMessage.{RpcMessage};
 ghost use Rattle.rpc_view.specs.declared.view_error.ViewError.TheVariants.{Read, Frame as NoFrame};
@@ -21,39 +20,11 @@ use crate::structs::{root_struct, u16_of};
 use crate::view_error::{Outside, ViewError};
 use bytes::Bytes;
 use cap_frame::Frame;
-use cap_reader::{Limits, StructAt};
+use cap_reader::Limits;
 use std::alloc::Global;
 
-/// The body behind a Message's tag.
-#[tactic(auto, unfolding(crate::specs::Message::body_in, cap_reader::specs::Reading::pay_for))]
-fn body(
-    alloc: Global,
-    frame: &Frame,
-    message: &Option<StructAt>,
-    limits: &mut Limits,
-    edition: Edition,
-) -> Result<RpcMessage, ViewError>
-    ensures { RunsInMemory (λ found. found) result limits.new.words
-        (run (body_in edition (message_tag (sections_of frame.now message.now))
-        (message_body (sections_of frame.now message.now))) limits.old.words) }
-{
-    match u16_of(frame, message, MESSAGE_TAG) {
-        0 => Err(ViewError::Outside(Outside::Unimplemented)),
-        1 => Ok(RpcMessage::Abort),
-        2 => call(alloc, frame, message, limits, edition),
-        3 => answer(alloc, frame, message, limits, edition),
-        4 => finish(frame, message, limits),
-        5 => resolve(alloc, frame, message, limits),
-        6 => release(frame, message, limits),
-        8 => bootstrap(frame, message, limits),
-        13 => disembargo(alloc, frame, message, limits),
-        7..=12 => Err(ViewError::Outside(Outside::Level)),
-        _ => Err(ViewError::BadTag),
-    }
-}
-
 /// The message at the root pointer of a frame.
-#[tactic(auto, using(crate::proofs::Running::run_then), unfolding(crate::specs::Message::message_in, cap_reader::specs::Reading::pay_for, cap_reader::specs::Reading::and_then))]
+#[tactic(auto, using(crate::proofs::Running::run_then), unfolding(crate::specs::Message::message_in, crate::specs::Message::body_in, cap_reader::specs::Reading::pay_for, cap_reader::specs::Reading::and_then))]
 fn message(
     alloc: Global,
     frame: &Frame,
@@ -64,7 +35,19 @@ fn message(
         (run (message_in edition (root_tree limits.old.depth frame.now)) limits.old.words) }
 {
     let message = root_struct(frame, limits)?;
-    body(alloc, frame, &message, limits, edition)
+    match u16_of(frame, &message, MESSAGE_TAG) {
+        0 => Err(ViewError::Outside(Outside::Unimplemented)),
+        1 => Ok(RpcMessage::Abort),
+        2 => call(alloc, frame, &message, limits, edition),
+        3 => answer(alloc, frame, &message, limits, edition),
+        4 => finish(frame, &message, limits),
+        5 => resolve(alloc, frame, &message, limits),
+        6 => release(frame, &message, limits),
+        8 => bootstrap(frame, &message, limits),
+        13 => disembargo(alloc, frame, &message, limits),
+        7..=12 => Err(ViewError::Outside(Outside::Level)),
+        _ => Err(ViewError::BadTag),
+    }
 }
 
 /// The message of a frame, within limits: as rpc.capnp lays its structs out in this edition. A null root pointer reads

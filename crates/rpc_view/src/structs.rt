@@ -133,3 +133,36 @@ pub fn bit_of(frame: &Frame, place: &Option<StructAt>, bit: u32) -> bool
         None => false,
     }
 }
+
+/// The first word of the data section, in which most fields lie.
+pub fn first_word(frame: &Frame, place: &Option<StructAt>) -> u64
+    ensures { result ≡ (sections_of frame.now place.now).word 0 }
+{
+    u64_of(frame, place, 0)
+}
+
+/// The number of two bytes at a byte of a word.
+pub fn u16_within(word: u64, byte: u32) -> u16
+    requires aligned { byte % 2 ≡ 0 }
+    requires within { byte < 8 }
+    ensures { result ≡ u16_in byte (λ _. word) }
+{
+    ((word >> (8 * (byte % 8))) % (1 << 16)) as u16
+}
+
+/// The number of four bytes at a byte of a word.
+pub fn u32_within(word: u64, byte: u32) -> u32
+    requires aligned { byte % 4 ≡ 0 }
+    requires within { byte < 8 }
+    ensures { result ≡ u32_in byte (λ _. word) }
+{
+    ((word >> (8 * (byte % 8))) % (1 << 32)) as u32
+}
+
+/// Whether a bit of a word is set.
+pub fn bit_within(word: u64, bit: u32) -> bool
+    requires { bit < 64 }
+    ensures { result ≡ bit_in bit (λ _. word) }
+{
+    (word >> (bit % 64)) % 2 == 1
+}

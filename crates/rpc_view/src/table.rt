@@ -9,7 +9,7 @@ ghost use Rattle.rpc_view.specs.Message.{descriptor_in, described_in, descriptor
 use crate::layouts::{DESCRIPTOR_ANSWER, DESCRIPTOR_NUMBER, DESCRIPTOR_TAG};
 use crate::message::{Descriptor, Descriptors};
 use crate::promised::promised_answer;
-use crate::structs::{element_in, struct_in, u16_of, u32_of};
+use crate::structs::{element_in, first_word, struct_in, u16_within, u32_within};
 use crate::view_error::{Outside, ViewError};
 use cap_frame::Frame;
 use cap_reader::{Limits, ListAt, StructAt};
@@ -26,8 +26,9 @@ fn read_descriptor(
     ensures { RunsInMemory (λ found. found) result limits.new.words
         (run (described_in (sections_of frame.now place.now)) limits.old.words) }
 {
-    let number = u32_of(frame, place, DESCRIPTOR_NUMBER);
-    match u16_of(frame, place, DESCRIPTOR_TAG) {
+    let word = first_word(frame, place);
+    let number = u32_within(word, DESCRIPTOR_NUMBER);
+    match u16_within(word, DESCRIPTOR_TAG) {
         0 => Ok(Descriptor::NoCap),
         1 => Ok(Descriptor::SenderHosted(number)),
         2 => Ok(Descriptor::SenderPromise(number)),

@@ -7,7 +7,7 @@ ghost use Rattle.rpc_view.specs.Message.{target_in};
 use crate::layouts::{TARGET_IMPORTED, TARGET_PROMISED, TARGET_TAG};
 use crate::message::Target;
 use crate::promised::promised_answer;
-use crate::structs::{struct_in, u16_of, u32_of};
+use crate::structs::{first_word, struct_in, u16_within, u32_within};
 use crate::view_error::ViewError;
 use cap_frame::Frame;
 use cap_reader::{Limits, StructAt};
@@ -27,8 +27,9 @@ pub fn target(
         (run (target_in ((sections_of frame.now place.now).child n)) limits.old.words) }
 {
     let target = struct_in(frame, place, n, limits)?;
-    match u16_of(frame, &target, TARGET_TAG) {
-        0 => Ok(Target::Imported(u32_of(frame, &target, TARGET_IMPORTED))),
+    let word = first_word(frame, &target);
+    match u16_within(word, TARGET_TAG) {
+        0 => Ok(Target::Imported(u32_within(word, TARGET_IMPORTED))),
         1 => {
             let (question, path) = promised_answer(alloc, frame, &target, TARGET_PROMISED, limits)?;
             Ok(Target::Promised(question, path))

@@ -98,5 +98,6 @@ pub fn read_bytes(
     ensures memory { result ≢ Err (Read OutOfMemory) }
 {
     let frame = Frame::read(bytes)?;
-    read_message(alloc, &frame, limits, edition)
+    let mut limits = limits;
+    message(alloc, &frame, &mut limits, edition)
 }

@@ -7,8 +7,8 @@ use Rattle.vat_view.specs.declared.tables.exports_imports.ExportsImports.{Export
 use Rattle.vat_view.specs.declared.tables.references.BoundReferences.{BoundReferences}
 use Rattle.vat_view.specs.declared.tables.calls.Calls.{Calls}
 use Rattle.vat_view.specs.declared.tables.call_state.CallState.{CallState}
-use Rattle.vat_view.specs.declared.tables.call_state.CallEffect.{CallEffect}
-use Rattle.vat_view.specs.declared.tables.call_state.CallEffect.TheVariants.{Begins}
+use Rattle.vat_view.specs.Glue.CallTables.{CallEffect}
+use Rattle.vat_view.specs.Glue.CallTables.{Begins}
 use Rattle.vat_view.specs.Types.{DecodedRecord}
 use Rattle.vat_view.specs.Past.{Past}
 use Rattle.vat_view.specs.Questions.{is_late, call_at, opening}

@@ -7,7 +7,7 @@ use Rattle.std.proofs.lemmas.Bool.{and_parts, eqb-true, not-true}
 use Rattle.vat_view.specs.declared.tables.call_state.CallState.{CallState}
 use Rattle.vat_view.specs.declared.tables.call_state.CallChange.{CallChange}
 use Rattle.vat_view.specs.declared.tables.call_state.CallChange.TheVariants.{Left, Delivered, Faulted, Answered, Known}
-use Rattle.vat_view.specs.declared.tables.call_state.CallEffect.TheVariants.{Nothing, Begins}
+use Rattle.vat_view.specs.Glue.CallTables.{Nothing, Begins}
 use Rattle.vat_view.specs.Types.{Bootstrap, Call, Return, Results, Exception, Canceled, TakeFrom, DecodedRecord, Make, Deliver, Answer, AnswerBy, Fault, Wire, View, Asked, TableKey}
 use Rattle.vat_view.specs.Past.{Past, Point, point, id, is, last_answer, last_where, Each}
 use Rattle.vat_view.specs.Questions.{opening, call_at, is_late}

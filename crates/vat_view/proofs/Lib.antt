@@ -41,4 +41,6 @@ pub mod Holding
 pub mod Receiving
 pub mod Hopping
 pub mod Ahead
+pub mod Standing
+pub mod Parting
 pub mod Owning

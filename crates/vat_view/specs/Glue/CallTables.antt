@@ -1,6 +1,6 @@
 -- For the code's contracts, and no part of the meaning: the table of calls, and what looking back finds for each of
 -- them.
-use Rattle.std.specs.Prelude.{◌≡◌, ℕ, ◌==◌, Bool, true, false, Option, Some, None, if◌then◌else◌, is_some, option_map, option_and_then}
+use Rattle.std.specs.Prelude.{◌≡◌, ℕ, ◌==◌, Bool, true, false, not, Option, Some, None, if◌then◌else◌, is_some, option_map, option_and_then}
 use Rattle.rising_table.specs.Entries.{entry_at}
 use Rattle.vat_view.specs.declared.tables.question.Question.{Question}
 use Rattle.vat_view.specs.declared.tables.exports_imports.ExportsImports.{ExportsImports}
@@ -9,8 +9,6 @@ use Rattle.vat_view.specs.declared.tables.call_state.CallState.{CallState}
 use Rattle.vat_view.specs.declared.tables.call_state.CallEntry.{CallEntry}
 use Rattle.vat_view.specs.declared.tables.call_state.CallChange.{CallChange}
 use Rattle.vat_view.specs.declared.tables.call_state.CallChange.TheVariants.{Left, Delivered, Faulted, Answered, Known}
-use Rattle.vat_view.specs.declared.tables.call_state.CallEffect.{CallEffect}
-use Rattle.vat_view.specs.declared.tables.call_state.CallEffect.TheVariants.{Nothing, Begins, Moves}
 use Rattle.vat_view.specs.Types.{Bootstrap, Call, Return, Results, Exception, Canceled, TakeFrom, DecodedRecord, Make, Deliver, Answer, AnswerBy, Fault, Wire, View, Asked, TableKey}
 use Rattle.vat_view.specs.Past.{Past, id}
 use Rattle.vat_view.specs.Questions.{is_late, call_at, opening}
@@ -93,6 +91,12 @@ arriving_call goal interface method = record {
 abbrev pub bootstrap_call : Bool → CallState
 bootstrap_call received = record { asked = None; at_vat = false; served = received; settled = false; known = false }
 
+-- what a record tells of calls: nothing, that one begins, or that something happens to one
+pub data CallEffect : Type 0 where
+  Nothing : CallEffect
+  Begins : ℕ → CallState → CallEffect
+  Moves : ℕ → CallChange → CallEffect
+
 -- this happens to a call, if there is one
 abbrev pub change_of_call : CallChange → Option ℕ → CallEffect
 change_of_call step (Some c) = Moves c step
@@ -130,6 +134,67 @@ effect_from named target late taken opened _ = Nothing
 -- by the tables
 abbrev pub effect_by : (ℕ → Option View) → ExportsImports → (TableKey → Option Question) → DecodedRecord → CallEffect
 effect_by named lives known e = effect_from named (targeted_by named lives known e) (late_by known e) (taken_from_by known e) (λ q. opening_call_in (known q)) e
+
+-- ---- the same in two parts, as the code has it
+
+-- a record begins a call
+abbrev pub begins_call : DecodedRecord → Bool
+begins_call (Make c r interface method) = true
+begins_call (Wire sent k c rs (Bootstrap q)) = true
+begins_call (Wire sent k c rs (Call q target interface method params yourself)) = not sent
+begins_call _ = false
+
+-- the call that it begins, by the views of references and targets
+abbrev pub begun_from : (ℕ → Option View) → Option View → DecodedRecord → Option (ℕ × CallState)
+begun_from named target (Make c r interface method) = Some (c, arriving_call (named r) interface method)
+begun_from named target (Wire sent k c rs (Bootstrap q)) = Some (c, bootstrap_call (not sent))
+begun_from named target (Wire false k c rs (Call q t interface method params yourself)) = Some (c, arriving_call target interface method)
+begun_from named target _ = None
+
+-- by the tables
+abbrev pub begun_by : (ℕ → Option View) → ExportsImports → (TableKey → Option Question) → DecodedRecord → Option (ℕ × CallState)
+begun_by named lives known e = begun_from named (targeted_by named lives known e) e
+
+-- this happens to a call, if there is one
+abbrev pub moved : CallChange → Option ℕ → Option (ℕ × CallChange)
+moved step (Some c) = Some (c, step)
+moved step None = None
+
+-- what a sent record tells of a call that was begun before it
+abbrev pub sent_step : (TableKey → Option ℕ) → DecodedRecord → Option (ℕ × CallChange)
+sent_step opened (Wire true k c rs (Call q target interface method params yourself)) = Some (c, Left)
+sent_step opened (Wire true k c rs (Return q release Exception light)) = moved Left (opened (id k false q))
+sent_step opened (Wire true k c rs (Return q release Canceled light)) = moved Left (opened (id k false q))
+sent_step opened _ = None
+
+-- what a received record tells of a call that was begun before it
+abbrev pub received_step : Bool → Option ℕ → (TableKey → Option ℕ) → DecodedRecord → Option (ℕ × CallChange)
+received_step late taken opened (Wire false k c rs (Return q release (Results payload) light)) = if late then None else moved Known (opened (id k true q))
+received_step late taken opened (Wire false k c rs (Return q release (TakeFrom n) light)) = if is_some taken then moved Known (opened (id k true q)) else None
+received_step late taken opened _ = None
+
+-- what a record tells of a call that was begun before it
+abbrev pub step_from : Bool → Option ℕ → (TableKey → Option ℕ) → DecodedRecord → Option (ℕ × CallChange)
+step_from late taken opened (Deliver c object) = Some (c, Delivered)
+step_from late taken opened (Answer c results) = Some (c, Answered)
+step_from late taken opened (AnswerBy c by) = Some (c, Answered)
+step_from late taken opened (Fault c) = Some (c, Faulted)
+step_from late taken opened (Wire true k c rs m) = sent_step opened (Wire true k c rs m)
+step_from late taken opened (Wire false k c rs m) = received_step late taken opened (Wire false k c rs m)
+step_from late taken opened _ = None
+
+-- by the tables
+abbrev pub step_by : (TableKey → Option Question) → DecodedRecord → Option (ℕ × CallChange)
+step_by known e = step_from (late_by known e) (taken_from_by known e) (λ q. opening_call_in (known q)) e
+
+-- the whole by its parts
+abbrev pub begins_of : Option (ℕ × CallState) → CallEffect
+begins_of (Some begun) = Begins begun.0 begun.1
+begins_of None = Nothing
+
+abbrev pub moves_of : Option (ℕ × CallChange) → CallEffect
+moves_of (Some step) = Moves step.0 step.1
+moves_of None = Nothing
 
 -- by looking back
 abbrev pub effect_of : Past → DecodedRecord → CallEffect

@@ -102,6 +102,17 @@ settled_by named lives known (Wire false k c rs (Return q release outcome light)
 settled_by named lives known (Wire false k c rs (Resolve n resolution)) = import_by (held_origin lives (id k false n))
 settled_by named lives known _ = None
 
+-- whether a record may settle something or resolves a promise, by its kind
+abbrev pub may_turn : DecodedRecord → Bool
+may_turn (Fulfil r to) = true
+may_turn (Break r) = true
+may_turn (Answer c results) = true
+may_turn (AnswerBy c by) = true
+may_turn (Fault c) = true
+may_turn (Wire false k c rs (Return q release outcome light)) = true
+may_turn (Wire s k c rs (Resolve n resolution)) = true
+may_turn _ = false
+
 -- ---- where they turn it
 
 -- the reference noted for the descriptor at a place of a record

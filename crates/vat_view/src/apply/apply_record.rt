@@ -1,23 +1,89 @@
 //! What one record tells all tables.
 
-ghost use Rattle.std.specs.Prelude.{◌≡◌, ◌∷◌, length, OnOk, OnErr};
+ghost use Rattle.std.specs.Prelude.{◌≡◌, ◌∷◌, true, false, length, OnOk, OnErr};
 ghost use Rattle.vat_view.specs.Past.{Past};
 ghost use Rattle.vat_view.specs.Sound.{IsSound};
+ghost use Rattle.vat_view.specs.Glue.CallTables.{begins_call};
 ghost use Rattle.vat_view.specs.Glue.Kept.{AreKept};
 ghost use Rattle.vat_view.specs.Glue.TurnTables.{IsOwnOrOld};
 
-use crate::apply::calls::effect_of;
+use crate::apply::calls::{begins_call, call_begun, step_of};
 use crate::apply::tables::bind_and_count;
 use crate::record::decoded::DecodedRecord;
-use crate::tables::call_state::CallEffect;
 use crate::tables::calls::Calls;
 use crate::tables::exports_imports::ExportsImports;
 use crate::tables::questions::Questions;
 use crate::tables::references::BoundReferences;
 use std::alloc::AllocError;
 
-/// Tells all tables of one record, which has this number in the log. What it tells of calls is read before the other
-/// tables change. Where memory is refused, the tables are of the records before.
+/// Tells all tables of one record that begins a call, and has this number in the log. The target of the call is read
+/// before the other tables change. Where memory is refused, the tables are of the records before.
+fn apply_beginning(
+    number: usize,
+    questions: &mut Questions,
+    lives: &mut ExportsImports,
+    bound: &mut BoundReferences,
+    calls: &mut Calls,
+    event: &DecodedRecord,
+) -> Result<(), AllocError>
+    requires { begins_call event.now ≡ true }
+    ensures ok { OnOk result
+        ((before : Past) → number ≡ length before
+        → AreKept before questions.old lives.old bound.old calls.old → IsSound before event.now
+        → AreKept (event.now ∷ before) questions.new lives.new bound.new calls.new) }
+    ensures err { OnErr result
+        ((before : Past) → number ≡ length before
+        → AreKept before questions.old lives.old bound.old calls.old → IsSound before event.now
+        → AreKept before questions.new lives.new bound.new calls.new) }
+    ensures ahead { IsOwnOrOld bound.old bound.new }
+{
+    let alloc = lives.allocator();
+    match call_begun(bound, lives, questions, event)? {
+        Some((call, progress)) => {
+            calls.begin(call, progress)?;
+            if bind_and_count(alloc, number, questions, lives, bound, event).is_err() {
+                calls.forget(call);
+                return Err(AllocError);
+            }
+            Ok(())
+        }
+        None => bind_and_count(alloc, number, questions, lives, bound, event),
+    }
+}
+
+/// Tells all tables of one record that begins no call, and has this number in the log. What it tells of calls is read
+/// before the other tables change. Where memory is refused, the tables are of the records before.
+fn apply_following(
+    number: usize,
+    questions: &mut Questions,
+    lives: &mut ExportsImports,
+    bound: &mut BoundReferences,
+    calls: &mut Calls,
+    event: &DecodedRecord,
+) -> Result<(), AllocError>
+    requires { begins_call event.now ≡ false }
+    ensures ok { OnOk result
+        ((before : Past) → number ≡ length before
+        → AreKept before questions.old lives.old bound.old calls.old → IsSound before event.now
+        → AreKept (event.now ∷ before) questions.new lives.new bound.new calls.new) }
+    ensures err { OnErr result
+        ((before : Past) → number ≡ length before
+        → AreKept before questions.old lives.old bound.old calls.old → IsSound before event.now
+        → AreKept before questions.new lives.new bound.new calls.new) }
+    ensures ahead { IsOwnOrOld bound.old bound.new }
+{
+    let alloc = lives.allocator();
+    let step = step_of(questions, event);
+    bind_and_count(alloc, number, questions, lives, bound, event)?;
+    match step {
+        Some((call, change)) => calls.note(call, change),
+        None => {}
+    }
+    Ok(())
+}
+
+/// Tells all tables of one record, which has this number in the log. Where memory is refused, the tables are of the
+/// records before.
 pub(crate) fn apply_record(
     number: usize,
     questions: &mut Questions,
@@ -36,21 +102,9 @@ pub(crate) fn apply_record(
         → AreKept before questions.new lives.new bound.new calls.new) }
     ensures ahead { IsOwnOrOld bound.old bound.new }
 {
-    let alloc = lives.allocator();
-    match effect_of(bound, lives, questions, event)? {
-        CallEffect::Nothing => bind_and_count(alloc, number, questions, lives, bound, event),
-        CallEffect::Begins(call, progress) => {
-            calls.begin(call, progress)?;
-            if bind_and_count(alloc, number, questions, lives, bound, event).is_err() {
-                calls.forget(call);
-                return Err(AllocError);
-            }
-            Ok(())
-        }
-        CallEffect::Moves(call, step) => {
-            bind_and_count(alloc, number, questions, lives, bound, event)?;
-            calls.note(call, step);
-            Ok(())
-        }
+    if begins_call(event) {
+        apply_beginning(number, questions, lives, bound, calls, event)
+    } else {
+        apply_following(number, questions, lives, bound, calls, event)
     }
 }

@@ -3,7 +3,7 @@
 ghost use Rattle.std.specs.Prelude.{◌≡◌, IfOk};
 ghost use Rattle.vat_view.specs.Glue.Tables.{bound_at, question_at, late_by};
 ghost use Rattle.vat_view.specs.Glue.Asking.{opening_call_in, targeted_by, taken_from_by};
-ghost use Rattle.vat_view.specs.Glue.CallTables.{arriving_call, bootstrap_call, change_of_call, sent_effect, received_effect, effect_by};
+ghost use Rattle.vat_view.specs.Glue.CallTables.{arriving_call, bootstrap_call, begins_call, begun_by, moved, sent_step, received_step, step_by};
 
 use crate::apply::tables::is_late;
 use crate::asked::Asked;
@@ -12,7 +12,7 @@ use crate::lookups::settling::taken_from_by;
 use crate::lookups::table_answers::{opening_call, view_of_target};
 use crate::record::decoded::DecodedRecord;
 use crate::record::table_key::TableKey;
-use crate::tables::call_state::{CallChange, CallEffect, CallState};
+use crate::tables::call_state::{CallChange, CallState};
 use crate::tables::exports_imports::ExportsImports;
 use crate::tables::questions::Questions;
 use crate::tables::references::BoundReferences;
@@ -51,126 +51,30 @@ fn bootstrap_call(received: bool) -> CallState
     }
 }
 
-/// The change of a call, if there is one.
-fn step_of(step: CallChange, call: Option<u64>) -> CallEffect
-    ensures { result ≡ change_of_call step call }
+/// Whether a record begins a call: MAKE, a Bootstrap, and a received Call do.
+pub(crate) fn begins_call(event: &DecodedRecord) -> bool
+    ensures { result ≡ begins_call event.now }
 {
-    match call {
-        Some(call) => CallEffect::Moves(call, step),
-        None => CallEffect::Nothing,
+    match event {
+        DecodedRecord::Make { .. } => true,
+        DecodedRecord::Wire { sent, message, .. } => match message {
+            RpcMessage::Bootstrap { .. } => true,
+            RpcMessage::Call { .. } => !*sent,
+            _ => false,
+        },
+        _ => false,
     }
 }
 
-/// What a sent record tells of calls.
-fn sent_effect(questions: &Questions, event: &DecodedRecord) -> CallEffect
-    ensures { result ≡ sent_effect (λ q. opening_call_in (question_at questions.now q)) event.now }
-{
-    let DecodedRecord::Wire {
-        sent: true,
-        connection,
-        call,
-        message,
-        ..
-    } = event
-    else {
-        return CallEffect::Nothing;
-    };
-    match message {
-        RpcMessage::Bootstrap { .. } => CallEffect::Begins(*call, bootstrap_call(false)),
-        RpcMessage::Call { .. } => CallEffect::Moves(*call, CallChange::Left),
-        RpcMessage::Return {
-            answer: number,
-            outcome: Outcome::Exception | Outcome::Canceled,
-            ..
-        } => {
-            let question = TableKey {
-                connection: *connection,
-                ours: false,
-                number: *number,
-            };
-            step_of(CallChange::Left, opening_call(questions, question))
-        }
-        _ => CallEffect::Nothing,
-    }
-}
-
-/// What a received record tells of calls.
-fn received_effect(
+/// The call that a record begins, and how far it has come.
+pub(crate) fn call_begun(
     bound: &BoundReferences,
     lives: &ExportsImports,
     questions: &Questions,
     event: &DecodedRecord,
-) -> Result<CallEffect, AllocError>
+) -> Result<Option<(u64, CallState)>, AllocError>
     ensures { IfOk result
-        (λ news. news ≡ received_effect
-        (targeted_by (bound_at bound.now) lives.now (question_at questions.now) event.now)
-        (late_by (question_at questions.now) event.now)
-        (taken_from_by (question_at questions.now) event.now)
-        (λ q. opening_call_in (question_at questions.now q)) event.now) }
-{
-    let DecodedRecord::Wire {
-        sent: false,
-        connection,
-        call,
-        message,
-        ..
-    } = event
-    else {
-        return Ok(CallEffect::Nothing);
-    };
-    match message {
-        RpcMessage::Bootstrap { .. } => Ok(CallEffect::Begins(*call, bootstrap_call(true))),
-        RpcMessage::Call {
-            interface,
-            method,
-            ..
-        } => {
-            let goal = view_of_target(bound, lives, questions, event)?;
-            Ok(CallEffect::Begins(*call, arriving_call(goal, *interface, *method)))
-        }
-        RpcMessage::Return {
-            answer: number,
-            outcome: Outcome::Results(_),
-            ..
-        } => {
-            if is_late(questions, event) {
-                return Ok(CallEffect::Nothing);
-            }
-            let question = TableKey {
-                connection: *connection,
-                ours: true,
-                number: *number,
-            };
-            Ok(step_of(CallChange::Known, opening_call(questions, question)))
-        }
-        RpcMessage::Return {
-            answer: number,
-            outcome: Outcome::TakeFrom(_),
-            ..
-        } => {
-            if taken_from_by(questions, event).is_none() {
-                return Ok(CallEffect::Nothing);
-            }
-            let question = TableKey {
-                connection: *connection,
-                ours: true,
-                number: *number,
-            };
-            Ok(step_of(CallChange::Known, opening_call(questions, question)))
-        }
-        _ => Ok(CallEffect::Nothing),
-    }
-}
-
-/// What a record tells of calls.
-pub(crate) fn effect_of(
-    bound: &BoundReferences,
-    lives: &ExportsImports,
-    questions: &Questions,
-    event: &DecodedRecord,
-) -> Result<CallEffect, AllocError>
-    ensures { IfOk result
-        (λ news. news ≡ effect_by (bound_at bound.now) lives.now
+        (λ begun. begun ≡ begun_by (bound_at bound.now) lives.now
         (question_at questions.now) event.now) }
 {
     match event {
@@ -181,15 +85,136 @@ pub(crate) fn effect_of(
             method,
         } => {
             let goal = view_of_reference(bound, *reference)?;
-            Ok(CallEffect::Begins(*call, arriving_call(goal, *interface, *method)))
+            Ok(Some((*call, arriving_call(goal, *interface, *method))))
         }
-        DecodedRecord::Deliver { call, .. } => Ok(CallEffect::Moves(*call, CallChange::Delivered)),
+        DecodedRecord::Wire {
+            sent,
+            call,
+            message: RpcMessage::Bootstrap { .. },
+            ..
+        } => Ok(Some((*call, bootstrap_call(!*sent)))),
+        DecodedRecord::Wire {
+            sent: false,
+            call,
+            message: RpcMessage::Call {
+                interface,
+                method,
+                ..
+            },
+            ..
+        } => {
+            let goal = view_of_target(bound, lives, questions, event)?;
+            Ok(Some((*call, arriving_call(goal, *interface, *method))))
+        }
+        _ => Ok(None),
+    }
+}
+
+/// The change of a call, if there is one.
+fn moved(step: CallChange, call: Option<u64>) -> Option<(u64, CallChange)>
+    ensures { result ≡ moved step call }
+{
+    match call {
+        Some(call) => Some((call, step)),
+        None => None,
+    }
+}
+
+/// What a sent record tells of a call that was begun before.
+fn sent_step(questions: &Questions, event: &DecodedRecord) -> Option<(u64, CallChange)>
+    ensures { result ≡ sent_step (λ q. opening_call_in (question_at questions.now q)) event.now }
+{
+    let DecodedRecord::Wire {
+        sent: true,
+        connection,
+        call,
+        message,
+        ..
+    } = event
+    else {
+        return None;
+    };
+    match message {
+        RpcMessage::Call { .. } => Some((*call, CallChange::Left)),
+        RpcMessage::Return {
+            answer: number,
+            outcome: Outcome::Exception | Outcome::Canceled,
+            ..
+        } => {
+            let question = TableKey {
+                connection: *connection,
+                ours: false,
+                number: *number,
+            };
+            moved(CallChange::Left, opening_call(questions, question))
+        }
+        _ => None,
+    }
+}
+
+/// What a received record tells of a call that was begun before.
+fn received_step(questions: &Questions, event: &DecodedRecord) -> Option<(u64, CallChange)>
+    ensures { result ≡ received_step
+        (late_by (question_at questions.now) event.now)
+        (taken_from_by (question_at questions.now) event.now)
+        (λ q. opening_call_in (question_at questions.now q)) event.now }
+{
+    let DecodedRecord::Wire {
+        sent: false,
+        connection,
+        message,
+        ..
+    } = event
+    else {
+        return None;
+    };
+    match message {
+        RpcMessage::Return {
+            answer: number,
+            outcome: Outcome::Results(_),
+            ..
+        } => {
+            if is_late(questions, event) {
+                return None;
+            }
+            let question = TableKey {
+                connection: *connection,
+                ours: true,
+                number: *number,
+            };
+            moved(CallChange::Known, opening_call(questions, question))
+        }
+        RpcMessage::Return {
+            answer: number,
+            outcome: Outcome::TakeFrom(_),
+            ..
+        } => {
+            if taken_from_by(questions, event).is_none() {
+                return None;
+            }
+            let question = TableKey {
+                connection: *connection,
+                ours: true,
+                number: *number,
+            };
+            moved(CallChange::Known, opening_call(questions, question))
+        }
+        _ => None,
+    }
+}
+
+/// What a record tells of a call that was begun before.
+pub(crate) fn step_of(questions: &Questions, event: &DecodedRecord) -> Option<(u64, CallChange)>
+    ensures { result ≡ step_by (question_at questions.now) event.now }
+{
+    match event {
+        DecodedRecord::Deliver { call, .. } => Some((*call, CallChange::Delivered)),
         DecodedRecord::Answer { call, .. } | DecodedRecord::AnswerBy { call, .. } => {
-            Ok(CallEffect::Moves(*call, CallChange::Answered))
+            Some((*call, CallChange::Answered))
         }
-        DecodedRecord::Fault { call } => Ok(CallEffect::Moves(*call, CallChange::Faulted)),
-        DecodedRecord::Wire { sent: true, .. } => Ok(sent_effect(questions, event)),
-        DecodedRecord::Wire { sent: false, .. } => received_effect(bound, lives, questions, event),
-        _ => Ok(CallEffect::Nothing),
+        DecodedRecord::Fault { call } => Some((*call, CallChange::Faulted)),
+        DecodedRecord::Wire { sent: true, .. } => sent_step(questions, event),
+        DecodedRecord::Wire { sent: false, .. } => received_step(questions, event),
+        _ => None,
     }
 }

@@ -3,7 +3,7 @@
 ghost use Rattle.std.specs.Prelude.{◌≡◌, None, if◌then◌else◌};
 ghost use Rattle.vat_view.specs.Glue.Tables.{bound_at, question_at, held_origin};
 ghost use Rattle.vat_view.specs.Glue.Asking.{question_taken_here, named_answerer, call_taken_here, taken_from_by};
-ghost use Rattle.vat_view.specs.Glue.TurnTables.{promise_of, results_by, import_by, settled_by};
+ghost use Rattle.vat_view.specs.Glue.TurnTables.{promise_of, results_by, import_by, settled_by, may_turn};
 
 use crate::apply::tables::is_late;
 use crate::lookups::meaning::call_of;
@@ -16,6 +16,25 @@ use crate::tables::references::BoundReferences;
 use crate::tables::settlements::Settling;
 use crate::view::View;
 use rpc_view::{Outcome, RpcMessage};
+
+/// Whether a record may turn views, by its kind: whether it may settle something, or resolves a promise.
+pub(crate) fn may_turn(event: &DecodedRecord) -> bool
+    ensures { result ≡ may_turn event.now }
+{
+    match event {
+        DecodedRecord::Fulfil { .. }
+        | DecodedRecord::Break { .. }
+        | DecodedRecord::Answer { .. }
+        | DecodedRecord::AnswerBy { .. }
+        | DecodedRecord::Fault { .. } => true,
+        DecodedRecord::Wire { sent, message, .. } => match message {
+            RpcMessage::Return { .. } => !*sent,
+            RpcMessage::Resolve { .. } => true,
+            _ => false,
+        },
+        _ => false,
+    }
+}
 
 /// The own promise for which a reference stands.
 fn promise_of(bound: &BoundReferences, reference: u64) -> Option<Unsettled>

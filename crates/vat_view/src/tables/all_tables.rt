@@ -1,13 +1,14 @@
 //! All tables of a vat's numbers.
 
-ghost use Rattle.std.specs.Prelude.{◌≡◌, [], ◌∷◌, ◌++◌, List, length, reverse, false, is_some, IsTrue, OnOk, OnErr};
+ghost use Rattle.std.specs.Prelude.{◌≡◌, [], ◌∷◌, ◌++◌, List, length, reverse, true, false, is_some, IsTrue, OnOk, OnErr};
 ghost use Rattle.vat_view.specs.declared.record.decoded.DecodedRecord.{DecodedRecord};
 ghost use Rattle.vat_view.specs.Sound.{IsSound};
 ghost use Rattle.vat_view.specs.Loopbacks.{sender_loopback};
+ghost use Rattle.vat_view.specs.Glue.TurnTables.{may_turn};
 ghost use Rattle.vat_view.specs.Glue.Whole.{AreNoted, AreWhole};
 
 use crate::apply::apply_record::apply_record;
-use crate::lookups::settling::settling_of;
+use crate::lookups::settling::{may_turn, settling_of};
 use crate::record::decoded::DecodedRecord;
 use crate::record::effects::promise_resolved;
 use crate::tables::calls::Calls;
@@ -52,9 +53,11 @@ impl AllTables {
         }
     }
 
-    /// Tells one record, which has this number in the log, to all tables but that of what waits. Where memory is
-    /// refused, they are of the records before.
-    fn note(&mut self, number: usize, event: &DecodedRecord) -> Result<(), AllocError>
+    /// Tells one record that may turn views, which has this number in the log, to all tables but that of what waits.
+    /// None of these asks a question or aborts, so there is nothing to tell of connections. Where memory is refused,
+    /// the tables are of the records before.
+    fn note_turning(&mut self, number: usize, event: &DecodedRecord) -> Result<(), AllocError>
+        requires { may_turn event.now ≡ true }
         ensures ok { OnOk result
             ((events : List DecodedRecord) → number ≡ length events → AreNoted events self.old
             → IsSound (reverse events) event.now
@@ -69,7 +72,6 @@ impl AllTables {
         self.turns.make_room(settling, number)?;
         let promise = promise_resolved(event);
         self.resolves.room_for(promise)?;
-        self.connections.grow_for(event)?;
         apply_record(
             number,
             &mut self.questions,
@@ -83,8 +85,54 @@ impl AllTables {
         self.turns.drop_calls_ahead(again);
         self.turns.note(settling, number);
         self.resolves.note_resolve(promise, number);
+        Ok(())
+    }
+
+    /// Tells one record that turns no view, which has this number in the log, to all tables but that of what waits.
+    /// Where memory is refused, they are of the records before.
+    fn note_still(&mut self, number: usize, event: &DecodedRecord) -> Result<(), AllocError>
+        requires { may_turn event.now ≡ false }
+        ensures ok { OnOk result
+            ((events : List DecodedRecord) → number ≡ length events → AreNoted events self.old
+            → IsSound (reverse events) event.now
+            → AreNoted (events ++ event.now ∷ []) self.new) }
+        ensures err { OnErr result
+            ((events : List DecodedRecord) → number ≡ length events → AreNoted events self.old
+            → IsSound (reverse events) event.now
+            → AreNoted events self.new) }
+        ensures waits { self.new.waits ≡ self.old.waits }
+    {
+        self.connections.grow_for(event)?;
+        apply_record(
+            number,
+            &mut self.questions,
+            &mut self.lives,
+            &mut self.bound,
+            &mut self.calls,
+            event,
+        )?;
         self.connections.note_event(event);
         Ok(())
+    }
+
+    /// Tells one record, which has this number in the log, to all tables but that of what waits. Where memory is
+    /// refused, they are of the records before. Most records turn no view, and there is less to tell of these.
+    fn note(&mut self, number: usize, event: &DecodedRecord) -> Result<(), AllocError>
+        ensures ok { OnOk result
+            ((events : List DecodedRecord) → number ≡ length events → AreNoted events self.old
+            → IsSound (reverse events) event.now
+            → AreNoted (events ++ event.now ∷ []) self.new) }
+        ensures err { OnErr result
+            ((events : List DecodedRecord) → number ≡ length events → AreNoted events self.old
+            → IsSound (reverse events) event.now
+            → AreNoted events self.new) }
+        ensures waits { self.new.waits ≡ self.old.waits }
+    {
+        if may_turn(event) {
+            self.note_turning(number, event)
+        } else {
+            self.note_still(number, event)
+        }
     }
 
     /// Tells the tables of a record that asks for an echo.

@@ -128,14 +128,3 @@ pub(crate) enum CallChange {
     /// A received Return makes its results known.
     Known,
 }
-
-/// What a record tells of calls.
-#[derive(Drop)]
-pub(crate) enum CallEffect {
-    /// Nothing.
-    Nothing,
-    /// A call is newly bound.
-    Begins(u64, CallState),
-    /// Something happens to a call that is bound.
-    Moves(u64, CallChange),
-}

@@ -183,7 +183,12 @@ impl Connections {
     {
         match event {
             DecodedRecord::Wire {
-                message: RpcMessage::Bootstrap { .. } | RpcMessage::Call { .. } | RpcMessage::Abort,
+                sent: true,
+                message: RpcMessage::Bootstrap { .. } | RpcMessage::Call { .. },
+                ..
+            }
+            | DecodedRecord::Wire {
+                message: RpcMessage::Abort,
                 ..
             } => self.grow_for_message(event),
             _ => Ok(()),
@@ -221,12 +226,17 @@ impl Connections {
         ensures aborted_here { (k : ℕ) → aborted_here_at self.new k
             ≡ (is k (abort_sent_on event.now) || aborted_here_at self.old k) }
     {
-        if let DecodedRecord::Wire {
-            message: RpcMessage::Bootstrap { .. } | RpcMessage::Call { .. } | RpcMessage::Abort,
-            ..
-        } = event
-        {
-            self.note_message(event);
+        match event {
+            DecodedRecord::Wire {
+                sent: true,
+                message: RpcMessage::Bootstrap { .. } | RpcMessage::Call { .. },
+                ..
+            }
+            | DecodedRecord::Wire {
+                message: RpcMessage::Abort,
+                ..
+            } => self.note_message(event),
+            _ => {}
         }
     }
 

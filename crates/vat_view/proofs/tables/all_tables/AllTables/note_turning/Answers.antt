@@ -8,9 +8,10 @@ use Rattle.vat_view.proofs.Keeping.{fits, next_number, at_the_end}
 use Rattle.vat_view.proofs.Settled.{says_then, settled_same, turns_applied}
 use Rattle.vat_view.proofs.Hopping.{calls_then}
 use Rattle.vat_view.proofs.Promising.{resolves_after}
-use Rattle.vat_view.proofs.Connecting.{connected_same, connected_applied}
+use Rattle.vat_view.proofs.Connecting.{connected_applied, says_itself}
 use Rattle.vat_view.proofs.Ahead.{kept_views, ahead_refused, ahead_unlearned, ahead_applied, again_same}
-use Rattle.vat_view.proofs.tables.all_tables.AllTables.note.Goals as goal
+use Rattle.vat_view.proofs.Standing.{asks_none}
+use Rattle.vat_view.proofs.tables.all_tables.AllTables.note_turning.Goals as goal
 
 pub returns-in_err-make_room-clause-err : goal.returns-in_err-make_room-clause-err
 returns-in_err-make_room-clause-err c = any_err c.from_residual.result (λ events place noted sound. (
@@ -30,16 +31,6 @@ returns-in_err-room_for-clause-err c = any_err c.from_residual-in_err-room_for.r
   ahead_refused events events c.args.self.now.turns c.make_room.new.self refl c.make_room.ensures.same c.args.self.now.bound c.make_room.ensures.ahead noted.4,
 ))
 
-pub returns-in_err-grow_for-clause-err : goal.returns-in_err-grow_for-clause-err
-returns-in_err-grow_for-clause-err c = any_err c.from_residual-in_err-grow_for.result (λ events place noted sound. (
-  noted.0,
-  (λ i. c.room_for.ensures.same i ∙ noted.1 i),
-  settled_same (reverse events) c.args.self.now.turns c.make_room.new.self c.make_room.ensures.same noted.2,
-  connected_same (reverse events) c.args.self.now.connections c.grow_for.new.self
-      (record { asked = c.grow_for.ensures.asked; aborted = c.grow_for.ensures.aborted; aborted_here = c.grow_for.ensures.aborted_here }) noted.3,
-  ahead_refused events events c.args.self.now.turns c.make_room.new.self refl c.make_room.ensures.same c.args.self.now.bound c.make_room.ensures.ahead noted.4,
-))
-
 pub returns-in_err-apply_record-clause-err : goal.returns-in_err-apply_record-clause-err
 returns-in_err-apply_record-clause-err c = any_err c.from_residual-in_err-apply_record.result (λ events place noted sound.
     let kept : AreKept (reverse events) c.apply_record.new.questions c.apply_record.new.lives c.apply_record.new.bound c.apply_record.new.calls =
@@ -47,8 +38,7 @@ returns-in_err-apply_record-clause-err c = any_err c.from_residual-in_err-apply_
       kept,
       (λ i. c.room_for.ensures.same i ∙ noted.1 i),
       settled_same (reverse events) c.args.self.now.turns c.make_room.new.self c.make_room.ensures.same noted.2,
-      connected_same (reverse events) c.args.self.now.connections c.grow_for.new.self
-          (record { asked = c.grow_for.ensures.asked; aborted = c.grow_for.ensures.aborted; aborted_here = c.grow_for.ensures.aborted_here }) noted.3,
+      noted.3,
       ahead_unlearned events events c.args.self.now.turns c.make_room.new.self refl c.make_room.ensures.same c.args.self.now.bound
           c.apply_record.new.bound noted.0.tabled.bounds kept.tabled.bounds c.apply_record.ensures.ahead c.make_room.ensures.ahead noted.4,
     ))
@@ -70,9 +60,8 @@ returns-clause-ok c = λ events place noted sound.
           (c.settling_of-settling.ensures.by
           ∙ taken_from_known (reverse events) c.args.self.now.questions c.args.self.now.lives c.args.self.now.bound c.args.self.now.calls noted.0 c.args.event.now)
           (says_then c.args.self.now.turns c.make_room.new.self c.drop_calls_ahead.new.self c.make_room.ensures.same c.drop_calls_ahead.ensures.same) c.note.ensures,
-      connected_applied events events (events ++ c.args.event.now ∷ []) c.args.event.now c.args.self.now.connections c.grow_for.new.self c.note_event.new.self refl refl
-          (record { asked = c.grow_for.ensures.asked; aborted = c.grow_for.ensures.aborted; aborted_here = c.grow_for.ensures.aborted_here })
-          (record { asked = c.note_event.ensures.asked; aborted = c.note_event.ensures.aborted; aborted_here = c.note_event.ensures.aborted_here }) noted.3,
+      connected_applied events events (events ++ c.args.event.now ∷ []) c.args.event.now c.args.self.now.connections c.args.self.now.connections c.args.self.now.connections refl refl
+          (says_itself c.args.self.now.connections) (asks_none c.args.self.now.connections c.args.event.now c.requires) noted.3,
       ahead_applied events events (events ++ c.args.event.now ∷ []) c.args.event.now c.args.number c.settling_of-settling.result c.args.self.now.turns
           c.drop_calls_ahead.new.self c.note.new.self refl refl
           (says_then c.args.self.now.turns c.make_room.new.self c.drop_calls_ahead.new.self c.make_room.ensures.same c.drop_calls_ahead.ensures.same) c.note.ensures c.args.self.now.bound

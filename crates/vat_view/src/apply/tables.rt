@@ -167,6 +167,27 @@ pub(crate) fn apply_opening(
     Ok(())
 }
 
+/// A record that opens no question gives back what it does, and is noted at its question with the numbers that it
+/// introduced.
+fn give_back_and_note(
+    questions: &mut Questions,
+    lives: &mut ExportsImports,
+    event: &DecodedRecord,
+    numbers: TableKeys,
+)
+    ensures known { (q : TableKey) → question_at questions.new q
+        ≡ noted_by event.now numbers q (question_at questions.old q) }
+    ensures counted { (i : TableKey) → count_at lives.new i
+        ≡ count_at lives.old i
+        - count_by (same_id i) (given_back_by (question_at questions.old) event.now)
+        - count_released i event.now }
+    ensures born { (i : TableKey) → origin_at lives.new i ≡ origin_at lives.old i }
+{
+    lives.lower_each(given_back_by(questions, event));
+    release(lives, event);
+    note_on_question(questions, event, numbers);
+}
+
 /// A record that opens no question introduced these numbers. Where memory is refused, nothing changes but the origins
 /// of numbers that aren't held.
 pub(crate) fn apply_other(
@@ -196,9 +217,7 @@ pub(crate) fn apply_other(
         → origin_at lives.new i ≡ origin_at lives.old i) }
 {
     lives.raise_each(origins)?;
-    lives.lower_each(given_back_by(questions, event));
-    release(lives, event);
-    note_on_question(questions, event, numbers);
+    give_back_and_note(questions, lives, event, numbers);
     Ok(())
 }
 
@@ -248,7 +267,10 @@ fn count_plain(
     let none = TableKeys::none();
     match question_opened(event) {
         Some(question) => apply_opening(questions, lives, event, question, none, &[]),
-        None => apply_other(questions, lives, event, none, &[]),
+        None => {
+            give_back_and_note(questions, lives, event, none);
+            Ok(())
+        }
     }
 }
 

@@ -1,14 +1,17 @@
 -- Numbers of which none stands twice, and the rule REF from its parts.
-use Rattle.std.proofs.Common.{◌≡◌, ◌≢◌, ◌⊎◌, inl, inr, ℕ, ◌+◌, ◌==◌, ◌≤◌, length, arith, List, [], ◌∷◌, ◌++◌, take, drop, Bool, true, false, not, ◌&&◌, ◌||◌, if◌then◌else◌, refl, sym, ◌∙◌, ap}
+use Rattle.std.proofs.Common.{◌≡◌, ◌≢◌, ◌⊎◌, inl, inr, ℕ, ◌+◌, ◌==◌, ◌≤◌, length, arith, List, [], ◌∷◌, ◌++◌, take, drop, Bool, true, false, not, ◌&&◌, ◌||◌, if◌then◌else◌, refl, sym, ◌∙◌, ap, subst, None}
 use Rattle.std.specs.Prelude.{Decides}
+use Rattle.std.specs.Bool.{beq}
 use Rattle.std.specs.List.{list_all}
 use Rattle.std.proofs.lemmas.Bool.{false≢true, eqb-true, eq-eqb}
 use Rattle.std.proofs.lemmas.Bool.Decides.{eqb_tells}
 use Rattle.std.proofs.lemmas.List.{take-append-drop}
 use Rattle.std.proofs.lemmas.List.Folds.{list_any-append}
-use Rattle.vat_view.specs.Types.{DecodedRecord}
+use Rattle.vat_view.specs.Types.{RpcMessage, Bootstrap, Call, DecodedRecord, Wire}
 use Rattle.vat_view.specs.Past.{Past}
+use Rattle.vat_view.specs.Questions.{question_opened}
 use Rattle.vat_view.specs.Bindings.{Refers, contains, is_bound, is_bound_call, is_distinct, new_references, new_calls, named_references, named_calls, notes_call}
+use Rattle.vat_view.specs.Glue.Plain.{IsNotedAlone}
 
 both : (a b : Bool) → (a && b) ≡ true → (a ≡ true) × (b ≡ true)
 both true true e = (refl, refl)
@@ -124,3 +127,19 @@ pub short_distinct : (xs : List ℕ) → length xs ≤ 1 → is_distinct xs ≡ 
 short_distinct [] short = refl
 short_distinct (x ∷ []) short = refl
 short_distinct (x ∷ y ∷ xs) short = absurd (let no : ⊥ = omega (arith, short) in no)
+
+-- a message that opens no question, and has no references beside it, names nothing where it notes no call
+alone_noted : (b : Bool) → b ≡ beq b true
+alone_noted true = refl
+alone_noted false = refl
+
+alone : (before : Past) (s : Bool) (k c : ℕ) (rs : List ℕ) (m : RpcMessage) (b : Bool) → question_opened (Wire s k c rs m) ≡ None → b ≡ (c == 0) → Decides b (Refers before (Wire s k c [] m))
+alone before s k c rs (Bootstrap q) b opens is = absurd (let no : ⊥ = cc in no)
+alone before s k c rs (Call q t f m p yourself) b opens is = absurd (let no : ⊥ = cc in no)
+alone before true k c rs _ b opens is = refers_from before _ true true true true true b true b b refl refl refl refl refl (is ∙ alone_noted (c == 0)) refl refl refl
+alone before false k c rs _ b opens is = refers_from before _ true true true true true b true b b refl refl refl refl refl (is ∙ alone_noted (c == 0)) refl refl refl
+
+pub refers_alone : (before : Past) (e : DecodedRecord) (c : ℕ) (b : Bool) → IsNotedAlone c e → b ≡ (c == 0) → Decides b (Refers before e)
+refers_alone before (Wire s k d rs m) c b h is =
+    subst (λ l. Decides b (Refers before (Wire s k d l m))) (sym h.1) (alone before s k d rs m b h.2 (is ∙ ap (λ n. n == 0) h.3))
+refers_alone before _ c b h is = absurd (false≢true h.0)

@@ -1,16 +1,22 @@
 -- For the code's contracts, and no part of the meaning: what records bind without a message and with one.
-use Rattle.std.specs.Prelude.{ℕ, List, [], ◌∷◌, Bool, true, false, Option}
+use Rattle.std.specs.Prelude.{◌≡◌, ℕ, List, [], ◌∷◌, Bool, true, false, Option, None}
 use Rattle.vat_view.specs.declared.tables.question.Question.{Question}
 use Rattle.vat_view.specs.declared.tables.exports_imports.ExportsImports.{ExportsImports}
 use Rattle.vat_view.specs.declared.record.introduced.Introduced.{Introduced}
 use Rattle.vat_view.specs.Types.{DecodedRecord, Host, Vow, Field, Wire, View, Object, Promise, FieldOf, TableKey}
+use Rattle.vat_view.specs.Questions.{question_opened, noted_call}
 use Rattle.vat_view.specs.Lives.{descriptors}
+use Rattle.vat_view.specs.Views.{references}
 use Rattle.vat_view.specs.Glue.Tables.{view_by, bound_from}
 
 -- whether a record has a message
 abbrev pub has_message : DecodedRecord → Bool
 has_message (Wire sent k c rs m) = true
 has_message _ = false
+
+-- this call is noted beside a message that opens no question, and no reference is
+abbrev pub IsNotedAlone : ℕ → DecodedRecord → Type 0
+IsNotedAlone c e = (has_message e ≡ true) × (references e ≡ []) × (question_opened e ≡ None) × (c ≡ noted_call e)
 
 -- the reference that a record without a message binds, with its view, if it binds one
 abbrev pub own_bindings : DecodedRecord → List (ℕ × View)

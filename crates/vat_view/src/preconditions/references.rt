@@ -1,8 +1,9 @@
 //! Whether a record names things as it should (docs/FORMATS.md).
 
-ghost use Rattle.std.specs.Prelude.{◌≡◌, not, Decides, IfOk, option_to_list};
+ghost use Rattle.std.specs.Prelude.{◌≡◌, not, Decides, IfOk, IfSome, option_to_list};
 ghost use Rattle.std.specs.List.{list_all};
 ghost use Rattle.vat_view.specs.Bindings.{Refers, is_bound, is_bound_call, is_distinct, new_references, new_calls, named_references, named_calls, notes_call};
+ghost use Rattle.vat_view.specs.Glue.Plain.{IsNotedAlone};
 
 use crate::preconditions::reference_set::ReferenceSet;
 use crate::preconditions::uses::all_three;
@@ -117,6 +118,28 @@ fn notes_call(event: &DecodedRecord) -> bool
     }
 }
 
+/// The call noted beside a message that opens no question, where no references are noted beside it. Such a record names
+/// nothing of the vat's own.
+fn noted_alone(event: &DecodedRecord) -> Option<u64>
+    ensures { IfSome result (λ call. IsNotedAlone call event.now) }
+{
+    match event {
+        DecodedRecord::Wire {
+            call,
+            references,
+            message: RpcMessage::Return { .. }
+            | RpcMessage::Finish { .. }
+            | RpcMessage::Release { .. }
+            | RpcMessage::Disembargo { .. },
+            ..
+        } => match references.as_slice() {
+            [] => Some(*call),
+            _ => None,
+        },
+        _ => None,
+    }
+}
+
 impl VatState {
     /// Whether a record that may be applied next newly binds unused and distinct references and an unused call, names
     /// others that are bound, and notes a call just where its message opens a question.
@@ -127,6 +150,9 @@ impl VatState {
     pub fn refers(&self, event: &DecodedRecord) -> Result<bool, AllocError>
         ensures { IfOk result (λ refers. Decides refers (Refers self.now event.now)) }
     {
+        if let Some(call) = noted_alone(event) {
+            return Ok(call == 0);
+        }
         let distinct = is_distinct(self.allocator(), event.new_references())?;
         let binds = all_three(
             distinct,

@@ -1,8 +1,7 @@
 use Rattle.std.proofs.Common.{refl, sym, ◌∙◌, ap}
-use Rattle.std.specs.Prelude.{Result, Ok, Err, OnOk, Some, None}
 use Rattle.vat_view.specs.Glue.Tables.{bound_at, question_at, late_by}
 use Rattle.vat_view.specs.Glue.Asking.{opening_call_in, targeted_by, taken_from_by}
-use Rattle.vat_view.specs.Glue.CallTables.{Nothing, Begins, begins_of}
+use Rattle.vat_view.specs.Glue.CallTables.{Begins, begins_of}
 use Rattle.vat_view.proofs.Raising.{ok_gives}
 use Rattle.vat_view.proofs.Learning.{err_gives}
 use Rattle.vat_view.proofs.Keeping.{fits}

@@ -1,4 +1,4 @@
-use Rattle.std.proofs.Common.{◌≡◌, inl, refl, sym, ◌∙◌, ◌∷◌, ◌++◌, [], false}
+use Rattle.std.proofs.Common.{inl, refl, ◌∙◌, ◌∷◌, ◌++◌, [], false}
 use Rattle.std.specs.Prelude.{reverse}
 use Rattle.std.proofs.lemmas.Bool.{false≢true}
 use Rattle.vat_view.specs.Glue.KindTables.{AreResolved}

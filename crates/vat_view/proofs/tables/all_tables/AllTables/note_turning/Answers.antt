@@ -1,4 +1,4 @@
-use Rattle.std.proofs.Common.{◌≡◌, refl, sym, ◌∙◌, ◌∷◌, ◌++◌, []}
+use Rattle.std.proofs.Common.{refl, ◌∙◌, ◌∷◌, ◌++◌, []}
 use Rattle.std.specs.Prelude.{reverse}
 use Rattle.vat_view.specs.Glue.KindTables.{AreResolved}
 use Rattle.vat_view.specs.Glue.Kept.{AreKept}

@@ -11,7 +11,7 @@ use Rattle.vat_view.specs.Types.{RpcMessage, Bootstrap, Call, DecodedRecord, Wir
 use Rattle.vat_view.specs.Past.{Past}
 use Rattle.vat_view.specs.Questions.{question_opened}
 use Rattle.vat_view.specs.Bindings.{Refers, contains, is_bound, is_bound_call, is_distinct, new_references, new_calls, named_references, named_calls, notes_call}
-use Rattle.vat_view.specs.Glue.Plain.{IsNotedAlone}
+use Rattle.vat_view.specs.Glue.Plain.{IsNotedAlone, IsNamedAlone}
 
 both : (a b : Bool) → (a && b) ≡ true → (a ≡ true) × (b ≡ true)
 both true true e = (refl, refl)
@@ -143,3 +143,14 @@ pub refers_alone : (before : Past) (e : DecodedRecord) (c : ℕ) (b : Bool) → 
 refers_alone before (Wire s k d rs m) c b h is =
     subst (λ l. Decides b (Refers before (Wire s k d l m))) (sym h.1) (alone before s k d rs m b h.2 (is ∙ ap (λ n. n == 0) h.3))
 refers_alone before _ c b h is = absurd (false≢true h.0)
+
+-- a record that names one call and nothing else is as it should be where that is bound
+and_true : (b : Bool) → b ≡ (b && true)
+and_true true = refl
+and_true false = refl
+
+pub refers_named : (before : Past) (e : DecodedRecord) (c : ℕ) (b : Bool) → IsNamedAlone c e → b ≡ is_bound_call before c → Decides b (Refers before e)
+refers_named before e c b h is =
+    refers_from before e true true true true b true true b b (ap (λ l. is_distinct l) (sym h.0)) (ap (λ l. list_all (λ r. not (is_bound before r)) l) (sym h.0))
+    (ap (λ l. list_all (λ d. not (is_bound_call before d)) l) (sym h.1)) (ap (λ l. list_all (is_bound before) l) (sym h.2))
+    (is ∙ and_true (is_bound_call before c) ∙ ap (λ l. list_all (is_bound_call before) l) (sym h.3)) (sym h.4) refl (and_true b) refl

@@ -309,8 +309,8 @@ fn bind_described(
     Ok(())
 }
 
-/// Binds the reference that a record without a message binds, if it binds one. Where memory is refused, nothing changes.
-fn bind_own(bound: &mut BoundReferences, event: &DecodedRecord) -> Result<(), AllocError>
+/// Binds the reference that HOST, VOW or FIELD binds. Where memory is refused, nothing changes.
+fn bind_new(bound: &mut BoundReferences, event: &DecodedRecord) -> Result<(), AllocError>
     ensures ok { OnOk result
         ((q : ℕ) → bound_at bound.new q
         ≡ bound_by q (own_bindings event.now) (bound_at bound.old q)) }
@@ -325,6 +325,22 @@ fn bind_own(bound: &mut BoundReferences, event: &DecodedRecord) -> Result<(), Al
             call,
             path,
         } => bound.bind(*reference, View::Field(*call, path.copy()?)),
+        _ => Ok(()),
+    }
+}
+
+/// Binds the reference that a record without a message binds, if it binds one. Where memory is refused, nothing changes.
+fn bind_own(bound: &mut BoundReferences, event: &DecodedRecord) -> Result<(), AllocError>
+    ensures ok { OnOk result
+        ((q : ℕ) → bound_at bound.new q
+        ≡ bound_by q (own_bindings event.now) (bound_at bound.old q)) }
+    ensures err { OnErr result ((q : ℕ) → bound_at bound.new q ≡ bound_at bound.old q) }
+    ensures ahead { IsOwnOrOld bound.old bound.new }
+{
+    match event {
+        DecodedRecord::Host { .. } | DecodedRecord::Vow { .. } | DecodedRecord::Field { .. } => {
+            bind_new(bound, event)
+        }
         _ => Ok(()),
     }
 }

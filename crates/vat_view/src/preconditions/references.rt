@@ -3,7 +3,7 @@
 ghost use Rattle.std.specs.Prelude.{◌≡◌, not, Decides, IfOk, IfSome, option_to_list};
 ghost use Rattle.std.specs.List.{list_all};
 ghost use Rattle.vat_view.specs.Bindings.{Refers, is_bound, is_bound_call, is_distinct, new_references, new_calls, named_references, named_calls, notes_call};
-ghost use Rattle.vat_view.specs.Glue.Plain.{IsNotedAlone};
+ghost use Rattle.vat_view.specs.Glue.Plain.{IsNotedAlone, IsNamedAlone};
 
 use crate::preconditions::reference_set::ReferenceSet;
 use crate::preconditions::uses::all_three;
@@ -140,6 +140,16 @@ fn noted_alone(event: &DecodedRecord) -> Option<u64>
     }
 }
 
+/// The call that a record names, where that is all it names: that of DELIVER or FAULT.
+fn named_alone(event: &DecodedRecord) -> Option<u64>
+    ensures { IfSome result (λ call. IsNamedAlone call event.now) }
+{
+    match event {
+        DecodedRecord::Deliver { call, .. } | DecodedRecord::Fault { call } => Some(*call),
+        _ => None,
+    }
+}
+
 impl VatState {
     /// Whether a record that may be applied next newly binds unused and distinct references and an unused call, names
     /// others that are bound, and notes a call just where its message opens a question.
@@ -152,6 +162,9 @@ impl VatState {
     {
         if let Some(call) = noted_alone(event) {
             return Ok(call == 0);
+        }
+        if let Some(call) = named_alone(event) {
+            return Ok(self.is_bound_call(call));
         }
         let distinct = is_distinct(self.allocator(), event.new_references())?;
         let binds = all_three(

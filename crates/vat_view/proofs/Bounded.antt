@@ -1,10 +1,10 @@
 -- How many turns a walk makes at most that doesn't go in a circle.
-use Rattle.std.proofs.Common.{◌≡◌, ◌<◌, ◌≤◌, refl, sym, ◌∙◌, ap, ap₂, subst, ℕ, zero, suc, ◌+◌, ◌*◌, ◌/◌, ◌%◌, ◌==◌, inl, inr, List, [], ◌∷◌, length, map, cond, Bool, true, false, Option, Some, None, if◌then◌else◌, option_map, option_and_then, arith}
+use Rattle.std.proofs.Common.{◌≡◌, ◌<◌, refl, sym, ◌∙◌, ap, ap₂, subst, ℕ, zero, suc, ◌+◌, ◌*◌, ◌/◌, ◌%◌, ◌==◌, inl, inr, List, [], ◌∷◌, length, map, cond, Bool, true, false, Option, Some, None, if◌then◌else◌, option_map, option_and_then, arith}
 use Rattle.std.specs.Prelude.{slice_get, ◌||◌}
 use Rattle.std.specs.List.{list_any}
 use Rattle.std.specs.Ordering.{nat_cmp, is_eq}
 use Rattle.std.specs.Str.{bytes_eq as same_path}
-use Rattle.std.proofs.lemmas.Bool.{cases_Bool, false≢true, or_left, or_right, eqb-true}
+use Rattle.std.proofs.lemmas.Bool.{false≢true, or_left, or_right}
 use Rattle.std.proofs.lemmas.List.{length-map}
 use Rattle.std.proofs.lemmas.Nat.{mul-add-lt, div-mul-add, mod-mul-add}
 use Rattle.std.proofs.lemmas.Slice.Eq.{bytes_eq-Decides}

@@ -50,11 +50,6 @@ connected_more before e table other more kept = record {
 
 -- ---- the state, whose records stand with the oldest first
 
-pub connected_refused : (items other : List DecodedRecord) (table room : Connections) → other ≡ items → SaysSame table room → AreConnected (reverse items) table →
-    AreConnected (reverse other) room
-connected_refused items other table room same says kept =
-    connected_same (reverse other) table room says (subst (λ l. AreConnected (reverse l) table) (sym same) kept)
-
 pub connected_applied : (items other pushed : List DecodedRecord) (e : DecodedRecord) (table room more : Connections) → other ≡ items → pushed ≡ other ++ e ∷ [] →
     SaysSame table room → SaysMore e room more → AreConnected (reverse items) table → AreConnected (reverse pushed) more
 connected_applied items other pushed e table room more same is_pushed says adds kept =

@@ -1,5 +1,5 @@
 -- The calls that were answered by others.
-use Rattle.std.proofs.Common.{◌≡◌, ◌<◌, inl, inr, refl, sym, ◌∙◌, ap, ap₂, subst, ℕ, suc, ◌==◌, [], ◌∷◌, length, Bool, true, false, Option, Some, None, if◌then◌else◌, option_map, arith}
+use Rattle.std.proofs.Common.{◌≡◌, ◌<◌, inl, inr, refl, sym, ◌∙◌, ap, subst, ℕ, [], ◌∷◌, length, Bool, true, false, Option, Some, None, if◌then◌else◌, option_map, arith}
 use Rattle.std.specs.Option.{option_or}
 use Rattle.std.proofs.lemmas.Bool.{cases_Bool, eq-eqb, ne_eqb}
 use Rattle.vat_view.specs.declared.record.unsettled.Unsettled.TheVariants.{Results as ResultsOf}
@@ -8,7 +8,7 @@ use Rattle.vat_view.specs.Types.{Return, TakeFrom, DecodedRecord, AnswerBy, Wire
 use Rattle.vat_view.specs.Past.{Past, Point, point, id, record_index}
 use Rattle.vat_view.specs.Questions.{call_at, opening}
 use Rattle.vat_view.specs.Calls.{answerer, answered_by, call_taken_from}
-use Rattle.vat_view.specs.Glue.TurnTables.{is_this, settlement_of, settler, handing, handover_by, handover_of, by_handover}
+use Rattle.vat_view.specs.Glue.TurnTables.{is_this, settlement_of, settler, handing, handover_of, by_handover}
 use Rattle.vat_view.proofs.Landed.{is_results}
 
 none_some : {A : Type 0} {x : A} → None ≡ Some x → ⊥

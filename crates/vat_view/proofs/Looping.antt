@@ -11,7 +11,7 @@ use Rattle.vat_view.specs.declared.tables.waiting_calls.WaitingCalls.{WaitingCal
 use Rattle.vat_view.specs.declared.tables.question.Question.{Question}
 use Rattle.vat_view.specs.declared.tables.loopbacks.Unechoed.{Unechoed}
 use Rattle.vat_view.specs.declared.tables.embargoes.Embargoes.{Embargoes}
-use Rattle.vat_view.specs.Types.{Return, Exception, Canceled, Elsewhere, TakeFrom, Disembargo, Sender, DecodedRecord, Wire, View, TableKey}
+use Rattle.vat_view.specs.Types.{Return, Exception, Canceled, Disembargo, Sender, DecodedRecord, Wire, View, TableKey}
 use Rattle.vat_view.specs.Past.{Past, Point, point, id, is, names, record_index}
 use Rattle.vat_view.specs.Questions.{call_at, opening}
 use Rattle.vat_view.specs.Views.{view_of_target}

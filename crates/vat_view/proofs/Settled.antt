@@ -112,10 +112,6 @@ settled_first items table empty settlers handed = subst (λ l. AreSettled (rever
 
 -- the state, whose records stand with the oldest first
 
-pub turns_refused : (items other : List DecodedRecord) (table room : Settlements) → other ≡ items → SaysSameTurns table room →
-    AreSettled (reverse items) table → AreSettled (reverse other) room
-turns_refused items other table room same says kept = settled_same (reverse other) table room says (subst (λ l. AreSettled (reverse l) table) (sym same) kept)
-
 pub turns_applied : (items other pushed : List DecodedRecord) (e : DecodedRecord) (number : ℕ) (s : Settling) (questions : Questions) (lives : ExportsImports) (bound : BoundReferences) (table room more : Settlements) →
     other ≡ items → number ≡ length other → pushed ≡ other ++ e ∷ [] → IsFit (reverse items) e → AreTabled (reverse items) questions lives bound → AreSettled (reverse items) table →
     s.settled ≡ settled_by (bound_at bound) lives (question_at questions) e → s.by ≡ call_taken_from (reverse items) e → SaysSameTurns table room → IsNoted s number room more →

@@ -1,5 +1,5 @@
 -- What a change in the table of one side does to the tables of all sides.
-use Rattle.std.proofs.Common.{◌≡◌, ◌+◌, ◌*◌, inl, inr, refl, sym, ◌∙◌, ap, ap₂, ℕ, ◌==◌, List, Bool, true, false, ◌&&◌, Option, None, Some, if◌then◌else◌, arith}
+use Rattle.std.proofs.Common.{◌≡◌, ◌+◌, ◌*◌, inl, inr, refl, sym, ◌∙◌, ap, ap₂, ℕ, ◌==◌, List, Bool, true, false, ◌&&◌, Option, Some, if◌then◌else◌, arith}
 use Rattle.std.specs.Prelude.{option_and_then, option_map}
 use Rattle.std.specs.Bool.{beq}
 use Rattle.std.proofs.lemmas.Bool.{cases_Bool, eqb-true}

@@ -1,7 +1,7 @@
 -- Calls at the vat, what they ask for, and what is known of their results (rpc.capnp, the comments of Call and
 -- Return).
 use Rattle.std.specs.Prelude.{ℕ, ◌==◌, Bool, true, false, not, ◌&&◌, ◌||◌, Option, Some, None, if◌then◌else◌, option_and_then, unwrap_or, is_some}
-use Rattle.vat_view.specs.Types.{Bootstrap, Call, Return, Results, Exception, Canceled, Elsewhere, TakeFrom, DecodedRecord, Make, Deliver, Answer, AnswerBy, Fault, Wire, View, Asked}
+use Rattle.vat_view.specs.Types.{Bootstrap, Call, Return, Results, Exception, Canceled, TakeFrom, DecodedRecord, Make, Deliver, Answer, AnswerBy, Fault, Wire, View, Asked}
 use Rattle.vat_view.specs.Past.{Past, id, is, last_answer, last_where}
 use Rattle.vat_view.specs.Questions.{call_at, call_of, opening, is_late}
 use Rattle.vat_view.specs.Views.{view_of_reference, view_of_target}

@@ -12,7 +12,7 @@ use Rattle.vat_view.specs.declared.tables.queued_call.QueuedCall.{QueuedCall}
 use Rattle.vat_view.specs.declared.tables.loopbacks.Unechoed.{Unechoed}
 use Rattle.vat_view.specs.declared.tables.loopbacks.Loopbacks.{Loopbacks}
 use Rattle.vat_view.specs.declared.tables.embargoes.Embargoes.{Embargoes}
-use Rattle.vat_view.specs.Types.{Call, Return, Exception, Canceled, Elsewhere, TakeFrom, DecodedRecord, Deliver, Fault, Wire, View, Object, Promise, FieldOf, Import, TableKey}
+use Rattle.vat_view.specs.Types.{Call, Return, Exception, Canceled, DecodedRecord, Deliver, Fault, Wire, View, Object, Promise, FieldOf, Import, TableKey}
 use Rattle.vat_view.specs.Past.{Past, Point, id, is, same_id, names, record_index, last_answer}
 use Rattle.vat_view.specs.Views.{view_of_target}
 use Rattle.vat_view.specs.Calls.{goal_of, is_at_vat}

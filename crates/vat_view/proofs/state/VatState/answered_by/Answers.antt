@@ -1,4 +1,4 @@
-use Rattle.std.proofs.Common.{◌≡◌, ◌∙◌, ap, ℕ, Option, option_map}
+use Rattle.std.proofs.Common.{◌≡◌, ◌∙◌, ap, ℕ, option_map}
 use Rattle.std.specs.Prelude.{List, reverse}
 use Rattle.vat_view.specs.declared.tables.settlements.Settlements.{Settlements}
 use Rattle.vat_view.specs.Types.{DecodedRecord}

@@ -1,4 +1,4 @@
-use Rattle.std.proofs.Common.{◌≡◌, refl, ℕ, inl, Some}
+use Rattle.std.proofs.Common.{◌≡◌, refl, ℕ, Some}
 use Rattle.vat_view.specs.Types.{View}
 use Rattle.vat_view.specs.Glue.Tables.{bound_at}
 use Rattle.vat_view.specs.Glue.TurnTables.{turns_of}

@@ -1,7 +1,7 @@
-use Rattle.std.proofs.Common.{◌≡◌, sym, ◌∙◌, ap, subst, ◌∷◌, ◌++◌, [], refl}
-use Rattle.std.specs.Prelude.{reverse, IsTrue}
+use Rattle.std.proofs.Common.{sym, subst, refl}
+use Rattle.std.specs.Prelude.{reverse}
 use Rattle.vat_view.specs.Glue.Tables.{bound_at, question_at}
-use Rattle.vat_view.specs.Glue.LoopTables.{room_at, IsChangedBy, AreWaiting, SaysSame}
+use Rattle.vat_view.specs.Glue.LoopTables.{AreWaiting}
 use Rattle.vat_view.proofs.Binding.{any_err}
 use Rattle.vat_view.proofs.Keeping.{next_number, at_the_end}
 use Rattle.vat_view.proofs.Looping.{waits_same, waits_after, changes_loopbacks, queues_nothing}

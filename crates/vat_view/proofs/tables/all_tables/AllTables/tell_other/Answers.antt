@@ -1,5 +1,5 @@
-use Rattle.std.proofs.Common.{◌≡◌, sym, ◌∙◌, ap, subst, ◌∷◌, ◌++◌, [], refl, true}
-use Rattle.std.specs.Prelude.{reverse, IsTrue}
+use Rattle.std.proofs.Common.{◌≡◌, sym, subst, true}
+use Rattle.std.specs.Prelude.{reverse}
 use Rattle.vat_view.specs.Glue.Tables.{bound_at, question_at}
 use Rattle.vat_view.specs.Glue.Queues.{has_joined}
 use Rattle.vat_view.specs.Glue.LoopTables.{queued_by, AreWaiting}

@@ -7,3 +7,4 @@ pub mod Unique
 pub mod Once
 pub mod Entries
 pub mod Editions
+pub mod Asked

@@ -59,10 +59,10 @@ pub(crate) fn rule_broken(
     if !state.gives_back_held(event)? {
         return Ok(Some(Rule::Count));
     }
-    if !returns_known(edition, state, event, standing)? {
+    if !returns_known(edition, state, event, standing.is_late(), standing.caps())? {
         return Ok(Some(Rule::Result));
     }
-    if !resolves_promise(state, event, standing) {
+    if !resolves_promise(state, event, standing.promise(), standing.caps()) {
         return Ok(Some(Rule::Resolve));
     }
     if !binds_each(state, event) {

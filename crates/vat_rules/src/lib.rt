@@ -12,6 +12,7 @@
 #![tactic(auto)]
 
 mod audit;
+mod bare;
 mod decode;
 mod facts;
 mod finding;

@@ -4,13 +4,13 @@ ghost use Rattle.std.specs.Prelude.{◌≡◌, true, false, not, Decides, IfOk, 
 ghost use Rattle.vat_view.specs.Past.{id};
 ghost use Rattle.vat_view.specs.Numbers.{id_of};
 ghost use Rattle.vat_view.specs.Lives.{descriptors, is_in_life};
-ghost use Rattle.vat_view.specs.Views.{view_of_reference, view_of_descriptor};
+ghost use Rattle.std.specs.Option.{option_copied};
+ghost use Rattle.vat_view.specs.Views.{view_of_reference, view_of_descriptor, views_of_descriptors};
+ghost use Rattle.vat_rules.specs.Telling.{seen_promise};
 ghost use Rattle.vat_rules.specs.Ways.{LeadsOnTo};
 ghost use Rattle.vat_rules.specs.OfCaps.{is_cap_at};
 ghost use Rattle.vat_rules.specs.OfPromises.{IsUnkept, KeepsVow, is_unresolved, ResolvesPromise};
-ghost use Rattle.vat_rules.specs.Glue.Facts.{standing_of};
 
-use crate::facts::meanings::Meanings;
 use crate::leads::leads_on_to;
 use crate::of_caps::{is_cap_at, view_at};
 use rpc_view::RpcMessage;
@@ -59,13 +59,18 @@ fn is_gone(state: &VatState, connection: u32, number: u32) -> bool
 }
 
 /// Whether the promise of a sent Resolve leads on to what its descriptor stands for, if it has one that isn't none.
-fn resolves_to(state: &VatState, event: &DecodedRecord, standing: &Meanings) -> bool
-    requires { standing.now ≡ standing_of state.now event.now }
+fn resolves_to(
+    state: &VatState,
+    event: &DecodedRecord,
+    promise: Option<&View>,
+    caps: &[Option<View>],
+) -> bool
+    requires { caps.now ≡ views_of_descriptors state.now event.now }
     ensures { Decides result (is_cap_at (slice_get (descriptors event.now) 0) ≡ true
-        → LeadsOnTo state.now standing.now.promise (view_of_descriptor state.now event.now 0)) }
+        → LeadsOnTo state.now (option_copied promise.entry) (view_of_descriptor state.now event.now 0)) }
 {
     if is_cap_at(event.descriptors().get(0)) {
-        leads_on_to(state, standing.promise(), view_at(standing.caps(), 0))
+        leads_on_to(state, promise, view_at(caps, 0))
     } else {
         true
     }
@@ -73,8 +78,14 @@ fn resolves_to(state: &VatState, event: &DecodedRecord, standing: &Meanings) -> 
 
 /// Whether a Resolve is the first of a promise that is in life, and where it is sent says what the promise led on to;
 /// or it is received for a number that is out of life.
-pub(crate) fn resolves_promise(state: &VatState, event: &DecodedRecord, standing: &Meanings) -> bool
-    requires { standing.now ≡ standing_of state.now event.now }
+pub(crate) fn resolves_promise(
+    state: &VatState,
+    event: &DecodedRecord,
+    seen: Option<&View>,
+    caps: &[Option<View>],
+) -> bool
+    requires promise { option_copied seen ≡ seen_promise state.now event.now }
+    requires caps { caps.now ≡ views_of_descriptors state.now event.now }
     ensures { Decides result (ResolvesPromise state.now event.now) }
 {
     let DecodedRecord::Wire {
@@ -88,7 +99,7 @@ pub(crate) fn resolves_promise(state: &VatState, event: &DecodedRecord, standing
     };
     if *sent {
         is_unresolved(state, *connection, Number::Export(*promise))
-            && resolves_to(state, event, standing)
+            && resolves_to(state, event, seen, caps)
     } else {
         is_gone(state, *connection, *promise)
             || is_unresolved(state, *connection, Number::Import(*promise))

@@ -2,13 +2,11 @@
 
 ghost use Rattle.std.specs.Prelude.{◌≡◌, Some, Decides, IfOk, IsFalse, IsSomeAnd};
 ghost use Rattle.std.specs.List.{AllByRecursion};
-ghost use Rattle.vat_view.specs.Questions.{is_tail, opening, call_at, call_of};
+ghost use Rattle.vat_view.specs.Questions.{is_tail, is_late, opening, call_at, call_of};
 ghost use Rattle.vat_view.specs.Views.{views_of_descriptors};
 ghost use Rattle.vat_view.specs.Calls.{answered_by};
 ghost use Rattle.vat_rules.specs.OfResults.{ReturnsField, ReturnsFields, ReturnsTaken, ReturnsKnown};
-ghost use Rattle.vat_rules.specs.Glue.Facts.{standing_of};
 
-use crate::facts::meanings::Meanings;
 use crate::leads::leads_on_to;
 use crate::of_caps::{is_cap_at, view_at};
 use cap_frame::Path;
@@ -135,9 +133,11 @@ pub(crate) fn returns_known(
     edition: Edition,
     state: &VatState,
     event: &DecodedRecord,
-    standing: &Meanings,
+    late: bool,
+    caps: &[Option<View>],
 ) -> Result<bool, AllocError>
-    requires { standing.now ≡ standing_of state.now event.now }
+    requires late { late ≡ is_late state.now event.now }
+    requires caps { caps.now ≡ views_of_descriptors state.now event.now }
     ensures { IfOk result (λ b. Decides b (ReturnsKnown edition state.now event.now)) }
 {
     let DecodedRecord::Wire {
@@ -156,9 +156,8 @@ pub(crate) fn returns_known(
     let question = Number::Answer(*answer).on(*connection);
     match outcome {
         Outcome::Canceled => Ok(state.is_finished(question)),
-        _ if standing.is_late() => Ok(true),
+        _ if late => Ok(true),
         Outcome::Results(payload) => {
-            let caps = standing.caps();
             returns_results(state, event, caps, payload.fields.as_slice(), question)
         }
         Outcome::Elsewhere => Ok(state.is_tail(question)),

@@ -9,6 +9,7 @@ ghost use Rattle.vat_rules.specs.Audit.{reads_by};
 ghost use Rattle.vat_rules.specs.Glue.Facts.{standing_of, sight_with};
 ghost use Rattle.vat_rules.specs.Glue.Taking.{has_frame, is_own, IsTaken, IsRefused};
 
+use crate::bare::{is_bare, take_bare};
 use crate::decode::{flat_event, frame_in, noted_beside, why_of, wire};
 use crate::facts::compact::RecordFacts;
 use crate::facts::lookup::{standing_of, views_of_references};
@@ -112,7 +113,11 @@ fn take_framed(
     match read_bytes(alloc, frame_in(body).clone()?, limits, edition) {
         Ok(message) => {
             let event = wire(body, references, message);
-            take_message(alloc, edition, state, seen, event)
+            if is_bare(&event) {
+                take_bare(alloc, edition, state, seen, event)
+            } else {
+                take_message(alloc, edition, state, seen, event)
+            }
         }
         Err(ViewError::OutOfMemory) => Err(AllocError),
         Err(error) => Ok(Some(Refusal::Outside(why_of(error)))),

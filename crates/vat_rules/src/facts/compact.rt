@@ -3,6 +3,7 @@
 ghost use Rattle.std.specs.Prelude.{◌≡◌, ◌∷◌, [], Some, None, IfOk};
 ghost use Rattle.std.specs.Option.{option_copied};
 ghost use Rattle.vat_rules.specs.Glue.Facts.{sight_with};
+ghost use Rattle.vat_rules.specs.Glue.Bare.{standing_alone, standing_returned};
 ghost use Rattle.vat_rules.specs.Glue.Compact.{in_role, standing_with, lists_of, sight_in, sight_of};
 
 use crate::facts::alike::are_one;
@@ -182,6 +183,40 @@ impl RecordFacts {
         RecordFacts {
             kept: Compact::Reference(view),
         }
+    }
+
+    /// What the only number of a record stands for, one in this role.
+    pub(crate) fn of_number(role: Role, view: Option<View>) -> RecordFacts
+        ensures { result ≡ sight_with [] (standing_alone role view) }
+    {
+        let kept = match view {
+            Some(view) => Compact::Alone(role, view),
+            None => Compact::Nothing,
+        };
+        RecordFacts { kept }
+    }
+
+    /// What the numbers of a Return stand for that has no references and no descriptors: its question, and the one whose
+    /// results it takes.
+    pub(crate) fn of_return(
+        alloc: Global,
+        question: Option<View>,
+        taken: Option<View>,
+        late: bool,
+    ) -> Result<RecordFacts, AllocError>
+        ensures { IfOk result (λ seen. seen ≡ sight_with []
+            (standing_returned question taken late)) }
+    {
+        if taken.is_none() && !late {
+            return Ok(RecordFacts::of_number(Role::Question, question));
+        }
+        let parts = Parts {
+            references: ViewList::new(Vec::new(alloc)),
+            standing: Meanings::of_return(alloc, question, taken, late),
+        };
+        Ok(RecordFacts {
+            kept: Compact::Several(Box::new(alloc, parts)?),
+        })
     }
 
     /// What the references of a record stand for that has no other numbers.

@@ -2,12 +2,14 @@
 
 ghost use Rattle.std.specs.Prelude.{◌≡◌, ◌++◌, [], true, None, map, IfOk};
 ghost use Rattle.vat_view.specs.Bindings.{new_references, named_references};
-ghost use Rattle.vat_view.specs.Views.{view_of_reference, view_of_target, views_of_descriptors};
+ghost use Rattle.vat_view.specs.Views.{field_view, view_of_reference, view_of_target, views_of_descriptors};
 ghost use Rattle.vat_rules.specs.Telling.{seen_question, seen_taken, seen_promise, seen_released};
 ghost use Rattle.vat_rules.specs.Glue.Facts.{standing_of, sight_with};
 ghost use Rattle.vat_rules.specs.Glue.Standing.{view_in_role};
 ghost use Rattle.vat_rules.specs.Glue.Compact.{standing_with};
 ghost use Rattle.vat_rules.specs.Glue.Taking.{is_own};
+ghost use Rattle.vat_rules.specs.Glue.Bare.{IsBare, standing_alone, standing_returned};
+ghost use Rattle.vat_view.specs.Questions.{is_late};
 ghost use Rattle.vat_rules.specs.declared.facts.role.Role.TheVariants.{Question, Promise, Target, Released};
 
 use crate::facts::compact::RecordFacts;
@@ -17,7 +19,21 @@ use crate::facts::view_list::ViewList;
 use cap_frame::Path;
 use rpc_view::{Outcome, RpcMessage};
 use std::alloc::{AllocError, Global};
-use vat_view::{DecodedRecord, Number, VatState, View};
+use vat_view::{DecodedRecord, Number, TableKey, VatState, View};
+
+/// What a question stands for: its call, as the field at the empty path.
+fn view_of_question(
+    alloc: Global,
+    state: &VatState,
+    question: TableKey,
+) -> Result<Option<View>, AllocError>
+    ensures { IfOk result (λ v. v ≡ field_view question [] state.now) }
+{
+    match state.call_of(question) {
+        Some(call) => Ok(Some(View::Field(call, Path::new(Vec::new(alloc))?))),
+        None => Ok(None),
+    }
+}
 
 /// What the question stands for that a record returns or finishes.
 fn seen_question(
@@ -43,7 +59,7 @@ fn seen_question(
         RpcMessage::Finish { question, .. } => Number::Answer(*question),
         _ => return Ok(None),
     };
-    state.stands_for(*connection, number, &Path::new(Vec::new(alloc))?)
+    view_of_question(alloc, state, number.on(*connection))
 }
 
 /// What the question stands for whose results a record takes.
@@ -71,7 +87,7 @@ fn seen_taken(
     } else {
         Number::Answer(*taken)
     };
-    state.stands_for(*connection, number, &Path::new(Vec::new(alloc))?)
+    view_of_question(alloc, state, number.on(*connection))
 }
 
 /// What the promise stands for that a record resolves.
@@ -189,6 +205,90 @@ pub(crate) fn standing_of(
     let taken = seen_taken(alloc, state, event)?;
     let caps = views_of_descriptors(alloc, state, event)?;
     Ok(Meanings::new(number, taken, caps, state.is_late(event)))
+}
+
+/// What the numbers of a Return stand for that has no references and no descriptors.
+fn facts_of_return(
+    alloc: Global,
+    state: &VatState,
+    event: &DecodedRecord,
+) -> Result<RecordFacts, AllocError>
+    ensures { IfOk result (λ seen. seen ≡ sight_with [] (standing_returned
+        (seen_question state.now event.now) (seen_taken state.now event.now) (is_late state.now event.now))) }
+{
+    let question = seen_question(alloc, state, event)?;
+    let taken = seen_taken(alloc, state, event)?;
+    RecordFacts::of_return(alloc, question, taken, state.is_late(event))
+}
+
+/// What the question stands for that a record finishes which has no other numbers.
+fn facts_of_finish(
+    alloc: Global,
+    state: &VatState,
+    event: &DecodedRecord,
+) -> Result<RecordFacts, AllocError>
+    ensures { IfOk result (λ seen. seen ≡ sight_with []
+        (standing_alone Question (seen_question state.now event.now))) }
+{
+    let question = seen_question(alloc, state, event)?;
+    Ok(RecordFacts::of_number(Role::Question, question))
+}
+
+/// What the promise stands for that a record resolves which has no other numbers.
+fn facts_of_resolve(
+    alloc: Global,
+    state: &VatState,
+    event: &DecodedRecord,
+) -> Result<RecordFacts, AllocError>
+    ensures { IfOk result (λ seen. seen ≡ sight_with []
+        (standing_alone Promise (seen_promise state.now event.now))) }
+{
+    let promise = seen_promise(alloc, state, event)?;
+    Ok(RecordFacts::of_number(Role::Promise, promise))
+}
+
+/// What the number stands for that a record gives back which has no other numbers.
+fn facts_of_release(
+    alloc: Global,
+    state: &VatState,
+    event: &DecodedRecord,
+) -> Result<RecordFacts, AllocError>
+    ensures { IfOk result (λ seen. seen ≡ sight_with []
+        (standing_alone Released (seen_released state.now event.now))) }
+{
+    let released = seen_released(alloc, state, event)?;
+    Ok(RecordFacts::of_number(Role::Released, released))
+}
+
+/// What the target of a record stands for that has no other numbers.
+fn facts_of_target(state: &VatState, event: &DecodedRecord) -> Result<RecordFacts, AllocError>
+    ensures { IfOk result (λ seen. seen ≡ sight_with []
+        (standing_alone Target (view_of_target state.now event.now))) }
+{
+    let target = state.view_of_target(event)?;
+    Ok(RecordFacts::of_number(Role::Target, target))
+}
+
+/// What the numbers of a record stand for that may be applied next, where its message carries no capability.
+pub(crate) fn facts_of_bare(
+    alloc: Global,
+    state: &VatState,
+    event: &DecodedRecord,
+) -> Result<RecordFacts, AllocError>
+    requires { IsBare event.now }
+    ensures { IfOk result (λ seen. seen ≡ sight_with [] (standing_of state.now event.now)) }
+{
+    let DecodedRecord::Wire { message, .. } = event else {
+        unreachable!()
+    };
+    match message {
+        RpcMessage::Call { .. } | RpcMessage::Disembargo { .. } => facts_of_target(state, event),
+        RpcMessage::Return { .. } => facts_of_return(alloc, state, event),
+        RpcMessage::Finish { .. } => facts_of_finish(alloc, state, event),
+        RpcMessage::Resolve { .. } => facts_of_resolve(alloc, state, event),
+        RpcMessage::Release { .. } => facts_of_release(alloc, state, event),
+        RpcMessage::Bootstrap { .. } | RpcMessage::Abort => Ok(RecordFacts::nothing()),
+    }
 }
 
 /// What references stand for.

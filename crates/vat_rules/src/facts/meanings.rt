@@ -5,6 +5,7 @@ ghost use Rattle.std.specs.Option.{option_copied};
 ghost use Rattle.vat_rules.specs.Glue.Facts.{sight_with};
 ghost use Rattle.vat_rules.specs.Glue.Standing.{standing_by};
 ghost use Rattle.vat_rules.specs.Glue.Compact.{in_role, standing_with};
+ghost use Rattle.vat_rules.specs.Glue.Bare.{standing_returned};
 
 use crate::facts::role::{Role, view_in_role};
 use crate::facts::view_list::ViewList;
@@ -60,6 +61,27 @@ impl Meanings {
             taken: None,
             caps: ViewList::new(Vec::new(alloc)),
             late: false,
+        }
+    }
+
+    /// Of a Return that has no descriptors. It takes no memory.
+    pub(crate) fn of_return(
+        alloc: Global,
+        question: Option<View>,
+        taken: Option<View>,
+        late: bool,
+    ) -> Meanings
+        ensures { result ≡ standing_returned question taken late }
+    {
+        let number = match question {
+            Some(question) => Some((Role::Question, question)),
+            None => None,
+        };
+        Meanings {
+            number,
+            taken,
+            caps: ViewList::new(Vec::new(alloc)),
+            late,
         }
     }
 

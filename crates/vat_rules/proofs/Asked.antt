@@ -1,24 +1,25 @@
 -- Records whose message carries no capability: which rules they can't break, and what is seen of them.
-use Rattle.std.proofs.Common.{◌≡◌, ◌⊎◌, inl, inr, ◌≤◌, ℕ, List, [], ◌∷◌, ◌++◌, map, length, refl, sym, ◌∙◌, ap, subst, arith, Bool, true, false, Option, Some, None, if◌then◌else◌}
+use Rattle.std.proofs.Common.{◌≡◌, inl, inr, ◌≤◌, ℕ, List, [], ◌∷◌, ◌++◌, map, length, refl, sym, ◌∙◌, ap, subst, arith, Bool, true, false, Option, Some, None, if◌then◌else◌}
 use Rattle.std.proofs.lemmas.Bool.{false≢true}
-use Rattle.std.specs.Prelude.{Result, Ok, Err, IsTrue, IfOk, MatchOption, ⊤}
+use Rattle.std.proofs.lemmas.List.{append-nil}
+use Rattle.std.specs.Prelude.{Result, Ok, Err, IsTrue, IfOk, MatchOption}
 use Rattle.std.specs.List.{AllByRecursion, filter, filter_map, list_all, zip}
 use Rattle.vat_view.specs.Past.{Past}
 use Rattle.vat_view.specs.Questions.{is_late, is_unfinished}
 use Rattle.vat_view.specs.Lives.{descriptors, is_in_life, keeps_kind}
 use Rattle.vat_view.specs.Uses.{question_described, number_described}
-use Rattle.vat_view.specs.Views.{places, places_from, references, placed_references, view_of_reference, view_of_target, descriptor_view}
+use Rattle.vat_view.specs.Views.{places, places_from, references, view_of_reference}
 use Rattle.vat_view.specs.Bindings.{NotesEach, new_references, named_references}
-use Rattle.vat_rules.specs.Types.{Edition, RpcMessage, Bootstrap, Call, Return, Finish, Resolve, Release, Disembargo, Abort, DecodedRecord, Host, Vow, Wire, View}
+use Rattle.vat_rules.specs.Types.{Edition, RpcMessage, Bootstrap, Call, Return, Finish, Resolve, Release, Disembargo, Abort, DecodedRecord, Host, Wire, View}
 use Rattle.vat_rules.specs.declared.rule.Rule.{Rule}
 use Rattle.vat_rules.specs.declared.rule.Rule.TheVariants as rule
 use Rattle.vat_rules.specs.OfCaps.{NotesView}
 use Rattle.vat_rules.specs.Rules.{Meets, rules}
 use Rattle.vat_rules.specs.Judged.{IsGoodBy, BreaksFirst}
-use Rattle.vat_rules.specs.Telling.{seen_of, seen_question, seen_taken, seen_promise, seen_released}
+use Rattle.vat_rules.specs.Telling.{seen_of}
 use Rattle.vat_rules.specs.Glue.Facts.{standing_of, sight_with}
-use Rattle.vat_rules.specs.Glue.Bare.{IsBare, may_break, asked, later_rules, MeetsEach}
-use Rattle.vat_rules.specs.Glue.Taking.{is_own, IsTaken}
+use Rattle.vat_rules.specs.Glue.Bare.{IsBare, may_break, asked, asks_messages, message_rules, may_break_carrying, asked_carrying, later_rules, MeetsEach}
+use Rattle.vat_rules.specs.Glue.Taking.{IsTaken}
 use Rattle.vat_log.specs.declared.body.Body.{Body}
 use Rattle.vat_rules.specs.Events.{Reader, event_of}
 use Rattle.vat_rules.specs.LogFacts.{Sight}
@@ -195,6 +196,45 @@ pub result_where_asked : (edition : Edition) (before : Past) (e : DecodedRecord)
 result_where_asked edition before e {sent} {k} {c} {rs} {m} {same} is kind bare closed refers r found =
     first_of_all edition before e (may_break same) (unasked_of edition before e is kind bare) closed refers r found
 
+-- ---- the same of messages that carry capabilities
+
+unasked_carrying : (edition : Edition) (before : Past) (sent : Bool) (k c : ℕ) (rs : List ℕ) (m : RpcMessage) (each : Rule) → may_break_carrying m each ≡ false → Meets edition each before (Wire sent k c rs m)
+unasked_carrying edition before sent k c rs m rule.Closed h = absurd (false≢true (sym h))
+unasked_carrying edition before sent k c rs m rule.Ref h = absurd (false≢true (sym h))
+unasked_carrying edition before sent k c rs m rule.Vow h = tt
+unasked_carrying edition before sent k c rs m rule.Here h = here_of edition before sent k c rs m h
+unasked_carrying edition before sent k c rs m rule.QNew h = opens_of edition before sent k c rs m h
+unasked_carrying edition before sent k c rs m rule.QUse h = absurd (false≢true (sym h))
+unasked_carrying edition before sent k c rs m rule.XUse h = absurd (false≢true (sym h))
+unasked_carrying edition before sent k c rs m rule.Goal h = goal_of edition before sent k c rs m h
+unasked_carrying edition before sent k c rs m rule.Answer h = tt
+unasked_carrying edition before sent k c rs m rule.Desc h = absurd (false≢true (sym h))
+unasked_carrying edition before sent k c rs m rule.Count h = count_of edition before sent k c rs m h
+unasked_carrying edition before sent k c rs m rule.Result h = result_of edition before sent k c rs m h
+unasked_carrying edition before sent k c rs m rule.Resolve h = resolve_of edition before sent k c rs m h
+unasked_carrying edition before sent k c rs m rule.RecvRef h = absurd (false≢true (sym h))
+unasked_carrying edition before sent k c rs m rule.Emb h = embargo_of edition before sent k c rs m h
+
+pub carrying_where_asked : (edition : Edition) (before : Past) (e : DecodedRecord) {sent : Bool} {k c : ℕ} {rs : List ℕ} {m same : RpcMessage} → e ≡ Wire sent k c rs m → m ≡ same → Meets edition rule.Closed before e → Meets edition rule.Ref before e → {E : Type 0} (r : Result (Option Rule) E) →
+    IfOk r (λ o. MatchOption o (MeetsEach edition (asked_carrying same) before e) (λ broken. BreaksFirst edition (asked_carrying same) before e broken)) →
+    IfOk r (λ o. MatchOption o (IsGoodBy edition before e) (λ broken. BreaksFirst edition rules before e broken))
+carrying_where_asked edition before e {sent} {k} {c} {rs} {m} {same} is kind closed refers r found =
+    let whole : e ≡ Wire sent k c rs same = is ∙ ap (λ n. Wire sent k c rs n) kind in
+    first_of_all edition before e (may_break_carrying same)
+    (λ each h. subst (λ x. Meets edition each before x) (sym whole) (unasked_carrying edition before sent k c rs same each h)) closed refers r found
+
+unasked_message : (edition : Edition) (before : Past) (sent : Bool) (k c : ℕ) (rs : List ℕ) (m : RpcMessage) (each : Rule) → asks_messages each ≡ false → Meets edition each before (Wire sent k c rs m)
+unasked_message edition before sent k c rs m rule.Vow h = tt
+unasked_message edition before sent k c rs m rule.Answer h = tt
+unasked_message edition before sent k c rs m _ h = absurd (false≢true (sym h))
+
+pub others_where_asked : (edition : Edition) (before : Past) (e : DecodedRecord) {sent : Bool} {k c : ℕ} {rs : List ℕ} {m : RpcMessage} → e ≡ Wire sent k c rs m → Meets edition rule.Closed before e → Meets edition rule.Ref before e → {E : Type 0} (r : Result (Option Rule) E) →
+    IfOk r (λ o. MatchOption o (MeetsEach edition message_rules before e) (λ broken. BreaksFirst edition message_rules before e broken)) →
+    IfOk r (λ o. MatchOption o (IsGoodBy edition before e) (λ broken. BreaksFirst edition rules before e broken))
+others_where_asked edition before e {sent} {k} {c} {rs} {m} is closed refers r found =
+    first_of_all edition before e asks_messages
+    (λ each h. subst (λ x. Meets edition each before x) (sym is) (unasked_message edition before sent k c rs m each h)) closed refers r found
+
 -- ---- what is seen of such a record
 
 none_seen : (before : Past) (e : DecodedRecord) (sent : Bool) (k c : ℕ) (rs : List ℕ) (m : RpcMessage) → rs ≡ [] → new_references (Wire sent k c rs m) ++ named_references (Wire sent k c rs m) ≡ []
@@ -211,3 +251,14 @@ pub bare_taken : (edition : Edition) (read : Reader) (before : Past) (b : Body) 
     after ≡ e ∷ before → longer ≡ seen ++ sight_with [] (standing_of before e) ∷ [] → IsTaken edition read before b after seen longer
 bare_taken edition read before b e after seen longer bare is good state more =
     taken edition read before b e after seen longer is good state (more ∙ ap (λ s. seen ++ s ∷ []) (sym (bare_seen before e bare)))
+
+all_noted : (sent : Bool) (k c : ℕ) (rs : List ℕ) (m : RpcMessage) → new_references (Wire sent k c rs m) ++ named_references (Wire sent k c rs m) ≡ rs
+all_noted true k c rs m = refl
+all_noted false k c rs m = append-nil rs
+
+-- what the references that a record with a message binds and names stand for: those noted beside it
+pub noted_views : (past : Past) (e : DecodedRecord) {sent : Bool} {k c : ℕ} {rs : List ℕ} {m : RpcMessage} → e ≡ Wire sent k c rs m → {E : Type 0} (r : Result (List (Option View)) E) →
+    IfOk r (λ v. v ≡ map (view_of_reference past) rs) → IfOk r (λ v. v ≡ map (view_of_reference past) (new_references e ++ named_references e))
+noted_views past e {sent} {k} {c} {rs} {m} is r noted =
+    subst (λ x. IfOk r (λ v. v ≡ map (view_of_reference past) (new_references x ++ named_references x))) (sym is)
+    (subst (λ xs. IfOk r (λ v. v ≡ map (view_of_reference past) xs)) (sym (all_noted sent k c rs m)) noted)

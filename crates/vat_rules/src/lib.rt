@@ -13,6 +13,7 @@
 
 mod audit;
 mod bare;
+mod carrying;
 mod decode;
 mod facts;
 mod finding;

@@ -1,5 +1,5 @@
 -- For the code's contracts, and no part of the meaning: records whose message carries no capability.
-use Rattle.std.specs.Prelude.{◌≡◌, List, [], ◌∷◌, Bool, true, false, Option, Some, None}
+use Rattle.std.specs.Prelude.{◌≡◌, List, [], ◌∷◌, Bool, true, false, Option, None}
 use Rattle.std.specs.List.{AllByRecursion, filter}
 use Rattle.vat_rules.specs.Types.{Edition, RpcMessage, Bootstrap, Call, Return, Finish, Resolve, Release, Disembargo, DecodedRecord, View}
 use Rattle.vat_view.specs.Past.{Past}
@@ -50,6 +50,28 @@ later_rules = rule.Vow ∷ rule.Here ∷ rule.QNew ∷ rule.QUse ∷ rule.XUse �
 -- those of them that such a record may break
 abbrev pub asked : RpcMessage → List Rule
 asked m = filter (may_break m) later_rules
+
+-- a record with a message may break a rule
+abbrev pub asks_messages : Rule → Bool
+asks_messages rule.Vow = false
+asks_messages rule.Answer = false
+asks_messages _ = true
+
+-- the rules behind the first two that a record with a message may break
+abbrev pub message_rules : List Rule
+message_rules = filter asks_messages later_rules
+
+-- a record with such a message may break a rule, whatever it carries
+abbrev pub may_break_carrying : RpcMessage → Rule → Bool
+may_break_carrying m rule.QUse = true
+may_break_carrying m rule.XUse = true
+may_break_carrying m rule.Desc = true
+may_break_carrying m rule.RecvRef = true
+may_break_carrying m each = may_break m each
+
+-- the rules behind the first two that such a record may break
+abbrev pub asked_carrying : RpcMessage → List Rule
+asked_carrying m = filter (may_break_carrying m) later_rules
 
 -- each of these rules holds
 abbrev pub MeetsEach : Edition → List Rule → Past → DecodedRecord → Type 0

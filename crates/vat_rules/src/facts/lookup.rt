@@ -291,18 +291,29 @@ pub(crate) fn facts_of_bare(
     }
 }
 
-/// What references stand for.
-fn views_of(alloc: Global, state: &VatState, references: &[u64]) -> Result<ViewList, AllocError>
+/// What references stand for, each of several.
+fn views_of_each(
+    alloc: Global,
+    state: &VatState,
+    references: &[u64],
+) -> Result<ViewList, AllocError>
     ensures { IfOk result (λ views. views ≡ map (view_of_reference state.now) references.now) }
 {
-    if let [reference] = references {
-        return Ok(ViewList::one(state.view_of_reference(*reference)?));
-    }
     let mut views = Vec::with_capacity(alloc, references.len())?;
     for reference in references {
         views.push(state.view_of_reference(*reference)?)?;
     }
     Ok(ViewList::new(views))
+}
+
+/// What references stand for. Most records have one.
+fn views_of(alloc: Global, state: &VatState, references: &[u64]) -> Result<ViewList, AllocError>
+    ensures { IfOk result (λ views. views ≡ map (view_of_reference state.now) references.now) }
+{
+    match references {
+        [reference] => Ok(ViewList::one(state.view_of_reference(*reference)?)),
+        _ => views_of_each(alloc, state, references),
+    }
 }
 
 /// What the references of a call's results stand for.
@@ -339,11 +350,7 @@ pub(crate) fn views_of_references(
         DecodedRecord::Break { reference } | DecodedRecord::Make { reference, .. } => {
             Ok(ViewList::one(state.view_of_reference(*reference)?))
         }
-        DecodedRecord::Wire {
-            sent: true,
-            references,
-            ..
-        } => views_of(alloc, state, references.as_slice()),
+        DecodedRecord::Wire { references, .. } => views_of(alloc, state, references.as_slice()),
         _ => views_of(alloc, state, event.new_references()),
     }
 }

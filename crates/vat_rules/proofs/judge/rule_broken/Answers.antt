@@ -1,15 +1,15 @@
 use Rattle.std.proofs.Common.{rules}
-use Rattle.vat_rules.proofs.Judging.{all_met}
-use Rattle.vat_rules.proofs.Messages.{message_vow, message_answer}
+use Rattle.vat_rules.proofs.Asked.{carrying_where_asked, others_where_asked}
 use Rattle.vat_rules.proofs.judge.rule_broken.Goals as goal
 
-pub returns-then-not-branch-3 : goal.returns-then-not-branch-3
-returns-then-not-branch-3 c =
-    search (rules, message_vow c.args.edition c.args.state.now c.args.event.now c.requires.message, message_answer c.args.edition c.args.state.now c.args.event.now c.requires.message)
+pub returns-in-Call : goal.returns-in-Call
+returns-in-Call c =
+    carrying_where_asked c.args.edition c.args.state.now c.args.event.now c.in-Wire.is c.in-Call.is (search rules) (search rules) c.call_broken.result (c.call_broken.ensures c.args.edition)
 
-pub returns-then-not-branch-4 : goal.returns-then-not-branch-4
-returns-then-not-branch-4 c =
-    search (rules, message_vow c.args.edition c.args.state.now c.args.event.now c.requires.message, message_answer c.args.edition c.args.state.now c.args.event.now c.requires.message)
+pub returns-in-Return : goal.returns-in-Return
+returns-in-Return c =
+    carrying_where_asked c.args.edition c.args.state.now c.args.event.now c.in-Wire.is c.in-Return.is (search rules) (search rules) c.return_broken.result c.return_broken.ensures
 
-pub returns : goal.returns
-returns c = search (rules, all_met, message_vow, message_answer)
+pub returns-in_default-message : goal.returns-in_default-message
+returns-in_default-message c =
+    others_where_asked c.args.edition c.args.state.now c.args.event.now c.in-Wire.is (search rules) (search rules) c.others_broken.result c.others_broken.ensures

@@ -162,25 +162,21 @@ left_out_text steps whence y = if steps == 0 then [] else codes "<text class='no
 
 -- ---- the picture
 
--- the colours on a light page
-abbrev pub light : List ℕ
-light = codes "<style>\nsvg{--paper:#fff;--ink:#1b1f24;--faint:#c4cad1;--note:#5b6570;--bad:#b3261e;--badly:#fbe4e2;--kin:#1f5fae}\n"
-
--- on a dark one
-abbrev pub dark : List ℕ
-dark = codes "@media(prefers-color-scheme:dark){svg{--paper:#14171a;--ink:#e4e7ea;--faint:#4a525b;--note:#9aa4ae;--bad:#ff8a80;--badly:#4a1f1c;--kin:#8ab8ff}}\n"
-
--- letters
+-- letters, on a light page
 abbrev pub letters : List ℕ
-letters = codes "text{font:12px ui-monospace,Menlo,Consolas,monospace;fill:var(--ink)}\n.head{font-size:15px;font-weight:700}.vat{font-weight:700}.note{fill:var(--note)}.why{fill:var(--bad)}\n.band~.why{stroke:var(--badly);stroke-width:4px;paint-order:stroke}\n.plain text,.kin text,.named text{stroke:var(--paper);stroke-width:4px;paint-order:stroke}.named text{stroke:var(--badly)}\n"
+letters = codes "<style>\ntext{font:12px ui-monospace,Menlo,Consolas,monospace;fill:#1b1f24}\n.head{font-size:15px;font-weight:700}.vat{font-weight:700}.note{fill:#5b6570}.why{fill:#b3261e}\n.band~.why{stroke:#fbe4e2;stroke-width:4px;paint-order:stroke}\n.plain text,.kin text,.named text{stroke:#fff;stroke-width:4px;paint-order:stroke}.named text{stroke:#fbe4e2}\n"
 
 -- lines
 abbrev pub strokes : List ℕ
-strokes = codes ".paper{fill:var(--paper)}.life{stroke:var(--faint);stroke-width:1.5}.band{fill:var(--badly)}\n.arrow{stroke:var(--ink);stroke-width:1.2;fill:none;marker-end:url(#tip)}.late{stroke-dasharray:7 4}.canceled{stroke-dasharray:2 4}.tail{stroke-dasharray:9 3 2 3}\n"
+strokes = codes ".paper{fill:#fff}.life{stroke:#c4cad1;stroke-width:1.5}.band{fill:#fbe4e2}\n.arrow{stroke:#1b1f24;stroke-width:1.2;fill:none;marker-end:url(#tip)}.late{stroke-dasharray:7 4}.canceled{stroke-dasharray:2 4}.tail{stroke-dasharray:9 3 2 3}\n"
 
 -- marks
 abbrev pub marks : List ℕ
-marks = codes ".dot,.tip{fill:var(--ink)}.tip{fill:context-stroke}.own{fill:var(--paper);stroke:var(--ink);stroke-width:1.4}\n.kin text{fill:var(--kin)}.kin .dot{fill:var(--kin)}.kin .own,.kin path{stroke:var(--kin)}\n.fault text{fill:var(--bad);font-weight:700}.fault circle{stroke:var(--bad);fill:var(--bad)}.fault path{stroke:var(--bad)}\n</style>\n"
+marks = codes ".dot,.tip{fill:#1b1f24}.tip{fill:context-stroke}.own{fill:#fff;stroke:#1b1f24;stroke-width:1.4}\n.kin text{fill:#1f5fae}.kin .dot{fill:#1f5fae}.kin .own,.kin path{stroke:#1f5fae}\n.fault text{fill:#b3261e;font-weight:700}.fault circle{stroke:#b3261e;fill:#b3261e}.fault path{stroke:#b3261e}\n"
+
+-- the colours of all these on a dark page
+abbrev pub dark : List ℕ
+dark = codes "@media(prefers-color-scheme:dark){\ntext{fill:#e4e7ea}.note{fill:#9aa4ae}.why{fill:#ff8a80}.band~.why{stroke:#4a1f1c}.plain text,.kin text,.named text{stroke:#14171a}.named text{stroke:#4a1f1c}\n.paper{fill:#14171a}.life{stroke:#4a525b}.band{fill:#4a1f1c}.arrow{stroke:#e4e7ea}\n.dot,.tip{fill:#e4e7ea}.tip{fill:context-stroke}.own{fill:#14171a;stroke:#e4e7ea}.kin text{fill:#8ab8ff}.kin .dot{fill:#8ab8ff}.kin .own,.kin path{stroke:#8ab8ff}.fault text{fill:#ff8a80}.fault circle{stroke:#ff8a80;fill:#ff8a80}.fault path{stroke:#ff8a80}}\n</style>\n"
 
 -- the tip of an arrow
 abbrev pub tip : List ℕ
@@ -188,7 +184,7 @@ tip = codes "<defs><marker id='tip' viewBox='0 0 8 8' refX='11' refY='4' markerW
 
 -- what each picture begins with
 unfoldable pub style : List ℕ
-style = light ++ (dark ++ (letters ++ (strokes ++ (marks ++ tip))))
+style = letters ++ (strokes ++ (marks ++ (dark ++ tip)))
 
 -- how high a picture of so many lines is
 abbrev pub height_of : ℕ → ℕ

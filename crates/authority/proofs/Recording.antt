@@ -5,7 +5,6 @@ use Rattle.std.proofs.lemmas.Option.{slice_get-get_or}
 use Rattle.run_model.specs.Steps.{PastSteps, vat_of}
 use Rattle.run_model.specs.StepNumbers.{step_count}
 use Rattle.run_model.specs.declared.step.Step.{Step}
-use Rattle.run_model.specs.declared.step_numbers.StepNumbers.{StepNumbers}
 use Rattle.run_model.proofs.Numbers.{IsNumbered}
 use Rattle.authority.specs.Records.{record_of, records_from, record_numbers_of}
 use Rattle.authority.proofs.Stepping.{number_is}
@@ -16,7 +15,7 @@ from_more before [] s = refl
 from_more before (t ∷ steps) s = ap (λ l. record_of before t ∷ l) (from_more (t ∷ before) steps s)
 
 -- one more
-pub recorded_more : (run : List Step) (i number vat : ℕ) (s : Step) (table : StepNumbers) (numbers : List ℕ) → i < length run → s ≡ get_or run i s → vat ≡ vat_of s → IsNumbered run i table
+pub recorded_more : (run : List Step) (i number vat : ℕ) (s : Step) (table : List (ℕ × ℕ)) (numbers : List ℕ) → i < length run → s ≡ get_or run i s → vat ≡ vat_of s → IsNumbered run i table
     → number ≡ step_count table vat → numbers ≡ record_numbers_of (take i run) → numbers ++ number ∷ [] ≡ record_numbers_of (take (i + 1) run)
 recorded_more run i number vat s table numbers lt at is table_is number_is_in so_far =
     let it : number ≡ record_of (reverse (take i run)) s = number_is run i number vat s table lt at is table_is number_is_in s (slice_get-get_or run i s lt ∙ ap Some (sym at)) in

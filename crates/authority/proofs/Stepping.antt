@@ -11,7 +11,6 @@ use Rattle.run_model.specs.declared.cap.Cap.TheVariants as cap
 use Rattle.run_model.specs.declared.message.Message.{Message}
 use Rattle.run_model.specs.declared.step.Step.{Step}
 use Rattle.run_model.specs.declared.step.Step.TheVariants.{Host, Receive}
-use Rattle.run_model.specs.declared.step_numbers.StepNumbers.{StepNumbers}
 use Rattle.run_model.proofs.Numbers.{IsNumbered, past_more}
 use Rattle.authority.specs.Glue.EdgeTables.{AddsFirst, ComesBefore, IsBoundIn, IsFound, IsFoundBefore, IsStepNumber, edge_at, foreign}
 use Rattle.authority.proofs.First.{found_more, found_own, found_same}
@@ -104,7 +103,7 @@ number_at run at number v k m caps s is lt item same =
 
 -- ---- counting
 
-pub number_is : (run : List Step) (i number vat : ℕ) (s : Step) (table : StepNumbers) → i < length run → s ≡ get_or run i s → vat ≡ vat_of s → IsNumbered run i table → number ≡ step_count table vat → IsStepNumber run i number
+pub number_is : (run : List Step) (i number vat : ℕ) (s : Step) (table : List (ℕ × ℕ)) → i < length run → s ≡ get_or run i s → vat ≡ vat_of s → IsNumbered run i table → number ≡ step_count table vat → IsStepNumber run i number
 number_is run i number vat s table lt item is before e t at =
     let same : s ≡ t = some_same (sym (slice_get-get_or run i s lt ∙ ap Some (sym item)) ∙ at) in
     e ∙ before vat ∙ ap (λ w. count_steps (λ u. vat_of u == w) (reverse (take i run))) (is ∙ ap vat_of same)

@@ -1,10 +1,9 @@
 -- The steps of each vat among the first steps of a run, counted.
 use Rattle.std.proofs.Common.{◌≡◌, ◌∙◌, ℕ, suc, ◌+◌, ◌<◌, ◌≤◌, sym, ap, ap₂, ◌==◌, List, [], ◌∷◌, ◌++◌, Bool, true, false, reverse, take, length, get_or, arith, if◌then◌else◌}
 use Rattle.std.proofs.lemmas.List.{take_more, reverse-append, length-reverse, length-take-le}
-use Rattle.run_model.specs.StepNumbers.{IsStepCounted, step_count}
+use Rattle.run_model.specs.StepNumbers.{step_count}
 use Rattle.run_model.specs.Steps.{PastSteps, count_steps, vat_of}
 use Rattle.run_model.specs.Types.{Step}
-use Rattle.run_model.specs.declared.step_numbers.StepNumbers.{StepNumbers}
 
 -- the first steps, and one more
 pub past_more : (run : List Step) (i : ℕ) (s : Step) → i < length run → s ≡ get_or run i s → reverse (take (i + 1) run) ≡ s ∷ reverse (take i run)
@@ -30,11 +29,15 @@ suc_if : (b : Bool) (n : ℕ) → n + (if b then 1 else 0) ≡ (if b then suc n 
 suc_if true n = omega arith
 suc_if false n = omega arith
 
--- the table says how many steps of each vat are among the first
-abbrev pub IsNumbered : List Step → ℕ → StepNumbers → Type 0
-IsNumbered run i table = (v : ℕ) → step_count table v ≡ count_steps (λ t. vat_of t == v) (reverse (take i run))
+-- the numbers say how many steps of each vat are among the first
+abbrev pub IsNumbered : List Step → ℕ → List (ℕ × ℕ) → Type 0
+IsNumbered run i numbers = (v : ℕ) → step_count numbers v ≡ count_steps (λ t. vat_of t == v) (reverse (take i run))
 
-pub numbered_more : (run : List Step) (i : ℕ) (s : Step) (vat : ℕ) (old new : StepNumbers) → i < length run → s ≡ get_or run i s → vat ≡ vat_of s →
+-- a step of a vat more was counted
+abbrev pub IsStepCounted : ℕ → List (ℕ × ℕ) → List (ℕ × ℕ) → Type 0
+IsStepCounted vat old new = (v : ℕ) → step_count new v ≡ step_count old v + (if vat == v then 1 else 0)
+
+pub numbered_more : (run : List Step) (i : ℕ) (s : Step) (vat : ℕ) (old new : List (ℕ × ℕ)) → i < length run → s ≡ get_or run i s → vat ≡ vat_of s →
     IsStepCounted vat old new → IsNumbered run i old → IsNumbered run (i + 1) new
 numbered_more run i s vat old new lt at is counted before v =
     counted v

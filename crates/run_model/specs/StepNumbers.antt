@@ -1,13 +1,9 @@
--- For the code's contracts, and no part of the meaning: how many steps of each vat came.
-use Rattle.std.specs.Prelude.{ℕ, ◌≡◌, ◌+◌, ◌==◌, unwrap_or, if◌then◌else◌}
-use Rattle.std.specs.BTreeMap.{get}
+-- How many steps of each vat were counted, as a list of vats, each with its number. A vat that isn't there has none.
+use Rattle.std.specs.Prelude.{ℕ, List, unwrap_or}
 use Rattle.std.specs.Ordering.{nat_cmp}
-use Rattle.run_model.specs.declared.step_numbers.StepNumbers.{StepNumbers}
+use Rattle.std.specs.Map.{lookup}
+use Rattle.std.specs.BTreeMap.{is_at}
 
--- how many steps of a vat came
-abbrev pub step_count : StepNumbers → ℕ → ℕ
-step_count table vat = unwrap_or (get nat_cmp table.entries vat) 0
-
--- one step of a vat more came
-abbrev pub IsStepCounted : ℕ → StepNumbers → StepNumbers → Type 0
-IsStepCounted vat old new = (v : ℕ) → step_count new v ≡ step_count old v + (if vat == v then 1 else 0)
+-- how many steps of a vat were counted
+abbrev pub step_count : List (ℕ × ℕ) → ℕ → ℕ
+step_count numbers vat = unwrap_or (lookup (is_at (nat_cmp vat)) numbers) 0

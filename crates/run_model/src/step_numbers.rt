@@ -1,19 +1,29 @@
 //! The steps of each vat, counted.
 
-ghost use Rattle.std.specs.Prelude.{◌≡◌, ◌+◌, ◌<◌, ◌^◌, ℕ, OnOk, IfOk};
-ghost use Rattle.run_model.specs.StepNumbers.{step_count, IsStepCounted};
+ghost use Rattle.std.specs.Prelude.{◌≡◌, ◌+◌, ◌<◌, ◌^◌, ◌==◌, if◌then◌else◌, ℕ, OnOk, OnErr, IfOk};
+ghost use Rattle.run_model.specs.StepNumbers.{step_count};
 
 use std::alloc::{AllocError, Global};
 use std::collections::BTreeMap;
+use std::marker::Model;
 
-/// How many steps of each vat came. Contracts see it by what it says of each vat (`specs/StepNumbers.antt`).
+/// How many steps of each vat were counted. Contracts see it as a list of vats, each with its number
+/// (`specs/StepNumbers.antt`).
 #[derive(Drop)]
 pub struct StepNumbers {
     entries: BTreeMap<u32, u64>,
 }
 
+impl Model for StepNumbers {
+    ghost use Rattle.std.specs.Prelude.{ℕ, List};
+
+    ghost Value = { List (ℕ × ℕ) };
+
+    ghost view = { λ numbers. numbers.entries.entries };
+}
+
 impl StepNumbers {
-    /// Before any step came. It takes no memory.
+    /// No step was counted. It takes no memory.
     pub fn new(alloc: Global) -> StepNumbers
         ensures { (vat : ℕ) → step_count result vat ≡ 0 }
     {
@@ -22,12 +32,15 @@ impl StepNumbers {
         }
     }
 
-    /// Counts a step of this vat, and answers how many of its steps came before. The only error is that memory ran out.
+    /// Counts a step of this vat, and answers how many of its steps were counted before. The only error is that memory ran
+    /// out: nothing is counted then.
     pub fn count(&mut self, vat: u32) -> Result<u64, AllocError>
-        // No count is full.
+        // No number is full.
         requires { step_count self.old vat + 1 < 2 ^ 64 }
-        ensures counts { OnOk result (IsStepCounted vat self.old self.new) }
         ensures answer { IfOk result (λ number. number ≡ step_count self.old vat) }
+        ensures counts { OnOk result
+            ((v : ℕ) → step_count self.new v ≡ step_count self.old v + (if vat == v then 1 else 0)) }
+        ensures err { OnErr result (self.new ≡ self.old) }
     {
         match self.entries.get_mut(&vat) {
             Some(count) => {

@@ -19,9 +19,10 @@ module _ {W F E X : Type 0} (to_out : Writing W) (in_file : F → Option (List �
     where
       go : (r : Result ℕ (Failed E X)) → EndsAs r ended → Writes answers to_out (Wrote in_file file_done) out out_new file file_new r → Tells answers (Adds in_file) file file_new ended
       go (Ok s) (inl same) w = inl (w.0, (w.1.0, subst (λ n. answers w.0 n w.1.0) (sym same) w.1.1, saved w.1.0 w.1.2))
-      go (Ok s) (inr failed) w = inr (inl failed, inl (s, (w.0, (w.1.0, w.1.1, saved w.1.0 w.1.2))))
-      go (Err (Out x)) ends w = inr (ends, inl (w.1.0, (w.0, (w.1.1.0, w.1.1.1, saved w.1.1.0 w.1.1.2))))
-      go (Err (File x)) ends w = inr (ends, inr (w.0, (w.1.0, (w.1.1.0, w.1.1.1, w.1.1.2))))
+      go (Ok s) (inr failed) w = inr (inl (failed, inl (s, (w.0, (w.1.0, w.1.1, saved w.1.0 w.1.2)))))
+      go (Err (Out x)) (inl failed) w = inr (inl (failed, inl (w.1.0, (w.0, (w.1.1.0, w.1.1.1, saved w.1.1.0 w.1.1.2)))))
+      go (Err (Out x)) (inr refused) w = inr (inr (refused, (w.1.0, (w.0, (w.1.1.0, w.1.1.1, saved w.1.1.0 w.1.1.2)))))
+      go (Err (File x)) failed w = inr (inl (failed, inr (w.0, (w.1.0, (w.1.1.0, w.1.1.1, w.1.1.2)))))
 
   pub tells : {S : Type 0} (gives : Reads S) (command : Command) (old new : S)
       → CarriesOut gives command old new (λ answers. Writes answers to_out (Wrote in_file file_done) out out_new file file_new r)

@@ -18,7 +18,7 @@ use Rattle.vat_log.specs.Log.{Log}
 use Rattle.vat_log.specs.Reading.{log_of}
 use Rattle.vat_rules.specs.declared.finding.VatFinding.{VatFinding}
 use Rattle.command_run.specs.declared.output.Failed.{Failed}
-use Rattle.command_run.specs.declared.output.Failed.TheVariants.{Out}
+use Rattle.command_run.specs.declared.output.Failed.TheVariants.{Out, File}
 use Rattle.command_run.specs.RecordAnswers.{first_ones}
 use Rattle.command_run.specs.CommandAnswers.{AnswersMigration}
 use Rattle.command_run.specs.DrawAnswers.{IsDrawn}
@@ -64,11 +64,12 @@ abbrev pub of_lines : {E X : Type 0} → Result ℕ E → Result ℕ (Failed E X
 of_lines (Ok status) = Ok status
 of_lines (Err fault) = Err (Out fault)
 
--- the exit status of lines that are told as objects: where they were told it is that of the answer, or that of a failed write,
--- and else that or the one of out of memory
+-- the exit status of lines that are told as objects: where they were told it is that of the answer, or that of a failed write;
+-- where one wasn't, that of a failed write or the one of out of memory; where the file wasn't written, that of a failed write
 abbrev pub EndsAs : {E X : Type 0} → Result ℕ (Failed E X) → ℕ → Type 0
 EndsAs (Ok status) ended = (ended ≡ status) ⊎ (ended ≡ 2)
-EndsAs (Err fault) ended = (ended ≡ 2) ⊎ (ended ≡ 3)
+EndsAs (Err (Out fault)) ended = (ended ≡ 2) ⊎ (ended ≡ 3)
+EndsAs (Err (File fault)) ended = ended ≡ 2
 
 -- what came of a log that was to be migrated answers it
 abbrev pub Migrates : Bool → Read → Result MigrationAnswer Fault → Type 0

@@ -85,6 +85,7 @@ module _ {F : Type 0} (answers : Answering) (to_file : Writing F) (file file_new
   abbrev pub FailsToSave : Type 0
   FailsToSave = (text : List ℕ) × ((status : ℕ) × ((bytes : Option (List ℕ)) × answers text status bytes × IsSome bytes))
 
-  -- What comes of telling an answer as objects: its status; or 2 where a write fails, or 3 where memory is refused for an object.
+  -- What comes of telling an answer as objects: its status; 2 where a write fails; or 3 where memory is refused for an object,
+  -- behind the bytes that were written to the file.
   abbrev pub Tells : ℕ → Type 0
-  Tells ended = IsAnswered ended ⊎ (((ended ≡ 2) ⊎ (ended ≡ 3)) × (((status : ℕ) × IsAnswered status) ⊎ FailsToSave))
+  Tells ended = IsAnswered ended ⊎ ((ended ≡ 2) × (((status : ℕ) × IsAnswered status) ⊎ FailsToSave)) ⊎ ((ended ≡ 3) × ((status : ℕ) × IsAnswered status))

@@ -44,7 +44,10 @@ fn end_lines<W: Write>(told: Told, out: &mut JsonOutput<'_, W>, notes: &str) -> 
             status_of(out.lines.end_without_memory(), Fault::OutOfMemory.status())
         }
         Err(Failed::Out(JsonFault::Write(_))) => FAILED,
-        Err(Failed::File(_)) => status_of(out.lines.end(notes), FAILED),
+        Err(Failed::File(_)) => {
+            let _ = out.lines.end(notes);
+            FAILED
+        }
     }
 }
 
@@ -63,8 +66,8 @@ fn notes_beside<S: RememberingSource>(
 }
 
 /// Runs a command as [`crate::run_on`] does, with an object in the place of each line (docs/FORMATS.md). The exit status is
-/// that of the answer; 2 where a write fails, and 3 where memory is refused for an object. What is told of the answer is in no
-/// contract.
+/// that of the answer; 2 where a write fails, and 3 where memory is refused for an object, never where the bytes for the file
+/// weren't written. No clause says that a write failed, or that memory was refused. What is told of the answer is in no contract.
 pub fn run_as_json<R: Threads + Wait + Sync, S: Source, W: Write, F: Write>(
     rt: &R,
     alloc: Global,

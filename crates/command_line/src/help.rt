@@ -15,7 +15,8 @@ vataudit --quiet COMMAND .. leaves them out, as --quiet does as the last word.
 
 vataudit --json COMMAND .. prints each line as a JSON object, and the notes in
 the last one; --json may be the last word, too.
-vataudit --version prints the version, and the kit by which it was proved.
+vataudit --version prints the version, and the kit by which it was proved, if
+that is known.
 
 Examples:
   $ vataudit vat samples/pipelined_call.vat2.log

@@ -5,7 +5,8 @@
 //! `vataudit frames FILE` that of each frame of a file; `vataudit migrate FILE --out FILE` writes a log in version 2.
 //! Beside the lines it notes on standard error what leads people to the cause of a no, of a record that isn't judged, of an
 //! input that is bad or can't be read and of a write that fails; `--quiet` before the command, or as the last word, leaves
-//! notes out. With `--json` in these places each line is a JSON object, and the last one has the notes. `vataudit --version` prints the version, and the kit by which it was proved.
+//! notes out. With `--json` in these places each line is a JSON object, and the last one has the notes. `vataudit --version` prints the version,
+//! and the kit by which the program was proved, if packaging/proved built it.
 //!
 //! It stands on `command_line`, which reads the words, and on `command_run`, which runs the command that they spell
 //! and says in its specs/Runs.antt what a run prints. Here are the files: those that are read are a `Source` of
@@ -21,10 +22,11 @@ mod file;
 mod manner;
 mod new_file;
 mod progress;
+mod proved_by;
 mod watched;
 
 use clap::error::ErrorKind;
-use command_line::{Command, VERSION, command_of};
+use command_line::{Command, command_of};
 use command_run::{
     FAILED, JsonOutput, NotedSource, Unwatched, run_as_json, run_as_json_with_notes, run_on,
     run_with_notes,
@@ -34,15 +36,15 @@ use json_lines::OUT_OF_MEMORY;
 use manner::take_manner;
 use new_file::NewFile;
 use progress::Progress;
+use proved_by::ProgramVersion;
 use report_lines::Fault;
-use std::fmt::{Display, Formatter};
 use std::io::{IsTerminal, Write};
 use std::process::ExitCode;
 use std::rt::Files;
 use std::sync::Wait;
 use std::thread::Threads;
 use std::time::Clock;
-use std::{env, fmt, fs, io, thread};
+use std::{env, fs, io, thread};
 use watched::{CountedSource, WipingWriter};
 
 /// Prints that memory ran out, as a line or as an object, and gives the exit status: that of a failed write where the line can't be written.
@@ -80,19 +82,6 @@ fn hold_standard_places<R: Files>(rt: &R) -> [io::Result<R::File>; 3] {
     [fs::open(rt, "/"), fs::open(rt, "/"), fs::open(rt, "/")]
 }
 
-/// The kit by which the program is proved.
-const KIT: &str = "rattle-kit-13b logic dac8208d650f15bf";
-
-/// What `--version` prints: the version of the program, and the kit by which it was proved.
-#[derive(Clone, Copy)]
-struct ProvedVersion;
-
-impl Display for ProvedVersion {
-    fn fmt<W: fmt::Write>(&self, f: &mut Formatter<W>) -> fmt::Result {
-        write!(f, "vataudit {VERSION}, proved with {KIT}")
-    }
-}
-
 /// Whether the words ask for the version alone.
 fn asks_version(words: &[String]) -> bool {
     match words {
@@ -103,7 +92,7 @@ fn asks_version(words: &[String]) -> bool {
 
 /// Prints the version, and gives the exit status.
 fn say_version<W: Write>(out: &mut W) -> u8 {
-    if out.writeln(ProvedVersion).is_err() || out.flush().is_err() {
+    if out.writeln(ProgramVersion).is_err() || out.flush().is_err() {
         return FAILED;
     }
     0

@@ -10,6 +10,7 @@ pub mod Counting
 pub mod Posting
 pub mod Refusing
 pub mod OneLine
+pub mod OneReport
 pub mod NoRun
 pub mod Meaning
 pub mod Merging

@@ -32,6 +32,7 @@ use Rattle.call_trace.specs.InLife.{UsesLives}
 use Rattle.call_trace.specs.Named.{past_of, taken_before, AtEachPoint, IsRunOf}
 use Rattle.call_trace.specs.Part.{IsPart}
 use Rattle.call_trace.proofs.Orders.{one_order_fault, one_list_of_edges}
+use Rattle.call_trace.proofs.Single.{one_run}
 use Rattle.case_book.specs.Case.{Contents, IsCase}
 use Rattle.case_book.specs.Ties.{tie_fault_of}
 use Rattle.case_book.specs.Pieces.{IsComparisonOf}
@@ -214,6 +215,9 @@ module _ (held : Contents) (case : IsCase held) (tied : tie_fault_of held ≡ No
   one_fault_of order other fits fits_too run other_run so so_too place other_place fault fault_too =
       one_order_fault (findings_for held.logs) order other all_true (asked_of order fits) (asked_of other fits_too) run other_run (run_of order run so) (run_of other other_run so_too) place other_place fault fault_too
 
+  pub one_run_of : (order : List ℕ) → IsFitting held.logs order → (run other : List Step) → Explains held.logs order run → Explains held.logs order other → run ≡ other
+  one_run_of order fits run other so so_too = one_run (findings_for held.logs) order all_true (asked_of order fits) run other (run_of order run so) (run_of order other so_too)
+
   one_graph_of : (order other : List ℕ) → IsFitting held.logs order → IsFitting held.logs other → (run other_run : List Step) → Explains held.logs order run → Explains held.logs other other_run
       → (edges other_edges : List Edge) → AreEdges run edges → AreEdges other_run other_edges → edges ≡ other_edges
   one_graph_of order other fits fits_too run other_run so so_too =
@@ -250,7 +254,7 @@ yes_counts a b c d e f g h one two three four = cc
 fails_is_not_fits : (step : ℕ) → Fails step ≡ Fits → ⊥
 fails_is_not_fits step e = cc
 
-fails_not : (logs : List Log) (given : Option (List ℕ)) (step : ℕ) → FailsAt logs given step → IsFittingIfGiven logs given → ⊥
+pub fails_not : (logs : List Log) (given : Option (List ℕ)) (step : ℕ) → FailsAt logs given step → IsFittingIfGiven logs given → ⊥
 fails_not logs None step fails fits = fails
 fails_not logs (Some order) step fails fits = let both = sym fails ∙ (finding_fits logs order).1 fits in (fails_is_not_fits step both)
 
@@ -265,7 +269,7 @@ pub outside_is_bad : (at : ℕ) (why : Why) → IsBad (Outside at why)
 outside_is_bad at why story e = cc
 
 module _ (held : Contents) (case : IsCase held) (given : Option (List ℕ)) where
-  bad_line : (v : ℕ) (a : Outcome) (answer : Report) → IsFirstBad held.logs v a → IsBad a → line_of v a ≡ Some answer → (other : Report) → IsReport held given other → line_in answer ≡ line_in other
+  pub bad_line : (v : ℕ) (a : Outcome) (answer : Report) → IsFirstBad held.logs v a → IsBad a → line_of v a ≡ Some answer → (other : Report) → IsReport held given other → line_in answer ≡ line_in other
   bad_line v a answer first bad line (report.Vat w at (Rule rule)) is =
       let same = one_first_bad held case v w a (Broken at rule) first is bad (broken_is_bad at rule) in
       ap line_in (some_report answer (report.Vat w at (Rule rule)) (sym line ∙ ap (λ (n : ℕ). line_of n a) same.0 ∙ ap (line_of w) same.1))
@@ -278,7 +282,7 @@ module _ (held : Contents) (case : IsCase held) (given : Option (List ℕ)) wher
   bad_line v a answer first bad line (report.Vat w at Order) is = absurd (no_bad_log held v a first bad is.0.logs_good)
   bad_line v a answer first bad line (report.Yes vats records delivered under_way run) is = absurd (no_bad_log held v a first bad is.0.logs_good)
 
-  broken_line : (k end message : ℕ) → AreGoodLogs held → IsFirstBroken held k end message → (other : Report) → IsReport held given other → report.Link k end message ≡ line_in other
+  pub broken_line : (k end message : ℕ) → AreGoodLogs held → IsFirstBroken held k end message → (other : Report) → IsReport held given other → report.Link k end message ≡ line_in other
   broken_line k end message good first (report.Vat w at (Rule rule)) is = absurd (no_bad_log held w (Broken at rule) is (broken_is_bad at rule) good)
   broken_line k end message good first (report.OutsideVat w at why) is = absurd (no_bad_log held w (Outside at why) is (outside_is_bad at why) good)
   broken_line k end message good first (report.Link l other_end other_message) is =
@@ -290,7 +294,7 @@ module _ (held : Contents) (case : IsCase held) (given : Option (List ℕ)) wher
   broken_line k end message good first (report.Yes vats records delivered under_way run) is = absurd (no_bad_link held case k end message first (is.0.links_good first.link first.there))
 
 module _ (held : Contents) (case : IsCase held) (tied : tie_fault_of held ≡ None) where
-  early_line : (given other_given : Option (List ℕ)) → IsFittingIfGiven held.logs other_given → IsGoodCase held → (v at : ℕ) → IsEarlyAt held.logs given v at
+  pub early_line : (given other_given : Option (List ℕ)) → IsFittingIfGiven held.logs other_given → IsGoodCase held → (v at : ℕ) → IsEarlyAt held.logs given v at
       → (other : Report) → IsReport held other_given other → report.Vat v at Order ≡ line_in other
   early_line given other_given fits good v at early (report.Vat w other_at (Rule rule)) is = absurd (no_bad_log held w (Broken other_at rule) is (broken_is_bad other_at rule) good.logs_good)
   early_line given other_given fits good v at early (report.OutsideVat w other_at why) is = absurd (no_bad_log held w (Outside other_at why) is (outside_is_bad other_at why) good.logs_good)
@@ -304,7 +308,7 @@ module _ (held : Contents) (case : IsCase held) (tied : tie_fault_of held ≡ No
       some_none (v, at) (one_fault_of held case tied good early.order is.1.order early.fits is.1.fits early.run run early.explained is.1.headline.explained (Some (v, at)) None early.early is.1.headline.ordered)
       )
 
-  yes_line : (given other_given : Option (List ℕ)) → IsFittingIfGiven held.logs other_given → IsGoodCase held → (vats records delivered under_way : ℕ) (run : List Step)
+  pub yes_line : (given other_given : Option (List ℕ)) → IsFittingIfGiven held.logs other_given → IsGoodCase held → (vats records delivered under_way : ℕ) (run : List Step)
       → IsYes held.logs given vats records delivered under_way run → (other : Report) → IsReport held other_given other → report.Yes vats records delivered under_way [] ≡ line_in other
   yes_line given other_given fits good vats records delivered under_way run said (report.Vat w at (Rule rule)) is = absurd (no_bad_log held w (Broken at rule) is (broken_is_bad at rule) good.logs_good)
   yes_line given other_given fits good vats records delivered under_way run said (report.OutsideVat w at why) is = absurd (no_bad_log held w (Outside at why) is (outside_is_bad at why) good.logs_good)
@@ -318,7 +322,7 @@ module _ (held : Contents) (case : IsCase held) (tied : tie_fault_of held ≡ No
       yes_counts vats other_vats records other_records delivered other_delivered under_way other_under_way (said.vats_are ∙ sym is.1.vats_are) (said.records_are ∙ sym is.1.records_are)
       (said.delivered_are ∙ sym is.1.delivered_are) (said.under_way_are ∙ sym is.1.under_way_are)
 
-  none_line : (given other_given : Option (List ℕ)) → IsFittingIfGiven held.logs other_given → IsGoodCase held → HasNoOrder held.logs given → (other : Report) → IsReport held other_given other
+  pub none_line : (given other_given : Option (List ℕ)) → IsFittingIfGiven held.logs other_given → IsGoodCase held → HasNoOrder held.logs given → (other : Report) → IsReport held other_given other
       → report.NoOrder ≡ line_in other
   none_line given other_given fits good none (report.Vat w at (Rule rule)) is = absurd (no_bad_log held w (Broken at rule) is (broken_is_bad at rule) good.logs_good)
   none_line given other_given fits good none (report.OutsideVat w at why) is = absurd (no_bad_log held w (Outside at why) is (outside_is_bad at why) good.logs_good)

@@ -12,13 +12,13 @@ use Rattle.run_model.specs.declared.step.Step.{Step}
 use Rattle.run_model.specs.Edges.{AreEdges, Edge}
 use Rattle.case_book.specs.Case.{Contents, IsCase, vat_limit, vats_of}
 use Rattle.case_book.specs.Ties.{tie_fault_of}
-use Rattle.audit_core.specs.Report.{IsGoodLog, IsReport, line_in, IsFittingIfGiven}
+use Rattle.audit_core.specs.Report.{IsGoodLog, IsReport}
 use Rattle.audit_core.specs.Versions.{with_raised}
 use Rattle.audit_core.specs.declared.report.Report.{Report}
 use Rattle.audit_core.specs.declared.report.Report.TheVariants as report
 use Rattle.audit_core.proofs.Places.{from_map, place_of, contained}
-use Rattle.audit_core.proofs.Merging.{fits_same}
-use Rattle.audit_core.proofs.OneLine.{one_line, one_graph}
+use Rattle.audit_core.proofs.OneLine.{one_graph}
+use Rattle.audit_core.proofs.OneReport.{same_report}
 use Rattle.audit_core.proofs.Versions.{ties_alike, good_links, yes}
 
 -- ---- the logs of which some are raised
@@ -68,10 +68,6 @@ module _ (chosen : Log → Bool) where
     still_tied : tie_fault_of held ≡ tie_fault_of (with_raised chosen held)
     still_tied = ties_alike held.logs (map some held.logs) (all_alike held.logs) held.links
 
-    still_fits : (given : Option (List ℕ)) → IsFittingIfGiven held.logs given → IsFittingIfGiven (map some held.logs) given
-    still_fits None fits = fits
-    still_fits (Some order) fits = fits_same held.logs (map some held.logs) (all_alike held.logs) order fits
-
     still_yes : (given : Option (List ℕ)) (vats records delivered under_way : ℕ) (run : List Step)
         → IsReport held given (report.Yes vats records delivered under_way run) → IsReport (with_raised chosen held) given (report.Yes vats records delivered under_way run)
     still_yes given vats records delivered under_way run h = (
@@ -82,11 +78,10 @@ module _ (chosen : Log → Bool) where
       yes held.logs (map some held.logs) (all_alike held.logs) given vats records delivered under_way run h.1,
     )
 
-    still_line : IsCase held → tie_fault_of held ≡ None → (given : Option (List ℕ)) → IsFittingIfGiven held.logs given → (vats records delivered under_way : ℕ) (run : List Step) (other : Report)
-        → IsReport held given (report.Yes vats records delivered under_way run) → IsReport (with_raised chosen held) given other → line_in (report.Yes vats records delivered under_way run) ≡ line_in other
-    still_line case tied given fits vats records delivered under_way run other h k =
-        let fits_too = still_fits given fits in
-        one_line (with_raised chosen held) (still_case case) (sym still_tied ∙ tied) given given fits_too fits_too (report.Yes vats records delivered under_way run) other
+    still_same : IsCase held → tie_fault_of held ≡ None → (given : Option (List ℕ)) → (vats records delivered under_way : ℕ) (run : List Step) (other : Report)
+        → IsReport held given (report.Yes vats records delivered under_way run) → IsReport (with_raised chosen held) given other → report.Yes vats records delivered under_way run ≡ other
+    still_same case tied given vats records delivered under_way run other h k =
+        same_report (with_raised chosen held) (still_case case) (sym still_tied ∙ tied) given (report.Yes vats records delivered under_way run) other
         (still_yes given vats records delivered under_way run h) k
 
     still_graph : IsCase held → tie_fault_of held ≡ None → (given : Option (List ℕ))
@@ -104,10 +99,10 @@ pub raised_yes : (held : Contents) (chosen : Log → Bool) (given : Option (List
     → IsReport held given (report.Yes vats records delivered under_way run) → IsReport (with_raised chosen held) given (report.Yes vats records delivered under_way run)
 raised_yes held chosen = still_yes chosen held
 
-pub raised_line : (held : Contents) (chosen : Log → Bool) → IsCase held → tie_fault_of held ≡ None → (given : Option (List ℕ)) → IsFittingIfGiven held.logs given
+pub raised_same : (held : Contents) (chosen : Log → Bool) → IsCase held → tie_fault_of held ≡ None → (given : Option (List ℕ))
     → (vats records delivered under_way : ℕ) (run : List Step) (other : Report) → IsReport held given (report.Yes vats records delivered under_way run)
-    → IsReport (with_raised chosen held) given other → line_in (report.Yes vats records delivered under_way run) ≡ line_in other
-raised_line held chosen = still_line chosen held
+    → IsReport (with_raised chosen held) given other → report.Yes vats records delivered under_way run ≡ other
+raised_same held chosen = still_same chosen held
 
 pub raised_graph : (held : Contents) (chosen : Log → Bool) → IsCase held → tie_fault_of held ≡ None → (given : Option (List ℕ))
     → (vats records delivered under_way other_vats other_records other_delivered other_under_way : ℕ) (run other_run : List Step)

@@ -35,14 +35,15 @@ use Rattle.case_book.specs.declared.ties.TieFault.TheVariants.{MissingLog, SameE
 use Rattle.case_book.specs.Pieces.{IsComparisonOf}
 use Rattle.case_book.specs.declared.link.Link.{Link}
 use Rattle.audit_core.specs.Headline.{Explains, IsBalancedThroughout, records_of, taken_of}
-use Rattle.audit_core.specs.Report.{IsGoodLog, AreGoodEnds, IsFirstBad, IsFirstBroken, IsGoodLink, AreGoodLogs, AreGoodLinks, IsGoodCase, IsOrderFor, IsEarlyAt, IsYes, FailsAt, HasNoOrder, IsReport, line_in, IsFittingIfGiven, delivers, sends, receives}
+use Rattle.audit_core.specs.Report.{IsGoodLog, AreGoodEnds, IsFirstBad, IsFirstBroken, IsGoodLink, AreGoodLogs, AreGoodLinks, IsGoodCase, IsOrderFor, IsEarlyAt, IsYes, FailsAt, HasNoOrder, IsReport, delivers, sends, receives}
 use Rattle.audit_core.specs.Versions.{AreSameButVersions}
 use Rattle.audit_core.specs.declared.report.Breach.TheVariants.{Rule, Order}
 use Rattle.audit_core.specs.declared.report.Report.{Report}
 use Rattle.audit_core.specs.declared.report.Report.TheVariants as report
 use Rattle.audit_core.proofs.Places.{from_map, place_of, contained}
 use Rattle.audit_core.proofs.Merging.{fits_same, least_same, finding_same}
-use Rattle.audit_core.proofs.OneLine.{one_line, one_graph}
+use Rattle.audit_core.proofs.OneLine.{one_graph}
+use Rattle.audit_core.proofs.OneReport.{same_report}
 
 -- ---- what is counted and tested of all logs
 
@@ -330,10 +331,10 @@ one_report held other s given r h =
 pub other_way : (held other : Contents) → AreSameButVersions held other → AreSameButVersions other held
 other_way held other s = record { logs = sym s.logs; links = sym s.links }
 
-pub one_line_in_all : (held other : Contents) → AreSameButVersions held other → IsCase held → tie_fault_of held ≡ None → (given : Option (List ℕ)) → IsFittingIfGiven held.logs given
-    → (one two : Report) → IsReport held given one → IsReport other given two → line_in one ≡ line_in two
-one_line_in_all held other s case tied given fits one two h k =
-    one_line held case tied given given fits fits one two h (one_report other held (other_way held other s) given two k)
+pub one_report_in_all : (held other : Contents) → AreSameButVersions held other → IsCase held → tie_fault_of held ≡ None → (given : Option (List ℕ))
+    → (one two : Report) → IsReport held given one → IsReport other given two → one ≡ two
+one_report_in_all held other s case tied given one two h k =
+    same_report held case tied given one two h (one_report other held (other_way held other s) given two k)
 
 pub one_graph_in_all : (held other : Contents) → AreSameButVersions held other → IsCase held → tie_fault_of held ≡ None → (given : Option (List ℕ))
     → (vats records delivered under_way other_vats other_records other_delivered other_under_way : ℕ) (run other_run : List Step)

@@ -87,8 +87,10 @@ pub(crate) fn find_all<R: Threads + Wait + Sync, G: Gate + Sync>(
 }
 
 /// Audits a case: the report of its findings, and of the order that is given, or of the one that takes the smallest vat
-/// number that may come at each step. The report is the same for every number of workers, at least 1 and at most 64. The
+/// number that may come at each step. The report is the same for every number of workers, at least 1 and at most 64: clause
+/// `report` says it without them, and there is one such report ([`a_case_has_one_report`](crate::a_case_has_one_report)). The
 /// workers are the calling thread and as many others as can be started; each calls the gate just before it posts a finding.
+/// It returns if the gate and the waits for the lock and for the workers do: no contract says that they do.
 ///
 /// # Errors
 ///

@@ -8,7 +8,8 @@ ghost use Rattle.call_trace.specs.Findings.{logs_of, MayBeNamed};
 ghost use Rattle.case_book.specs.Books.{AllFound};
 ghost use Rattle.case_book.specs.Case.{Contents, IsCase};
 ghost use Rattle.case_book.specs.Ties.{tie_fault_of};
-ghost use Rattle.audit_core.specs.Report.{IsReport, IsFittingIfGiven, line_in, AreGoodFindings};
+ghost use Rattle.audit_core.specs.Headline.{Explains};
+ghost use Rattle.audit_core.specs.Report.{IsReport, IsGoodCase, IsFittingIfGiven, line_in, AreGoodFindings};
 ghost use Rattle.audit_core.specs.Versions.{AreSameButVersions, with_raised};
 ghost use Rattle.vat_log.specs.Log.{Log};
 ghost use Rattle.vat_log.specs.Migrated.{migrated};
@@ -22,6 +23,17 @@ pub fn a_case_has_one_line()
         → (given other_given : Option (List ℕ)) → IsFittingIfGiven held.logs given
         → IsFittingIfGiven held.logs other_given → (one other : Report) → IsReport held given one
         → IsReport held other_given other → line_in one ≡ line_in other }
+{}
+
+/// Of a case that ties up two reports are equal, with their runs, where the same order is given or none is: also where the
+/// order that is given doesn't fit (`same`). By an order that fits, one run explains the logs (`runs`).
+pub fn a_case_has_one_report()
+    ensures same { (held : Contents) → IsCase held → tie_fault_of held ≡ None
+        → (given : Option (List ℕ)) → (one other : Report) → IsReport held given one
+        → IsReport held given other → one ≡ other }
+    ensures runs { (held : Contents) → IsCase held → tie_fault_of held ≡ None → IsGoodCase held
+        → (order : List ℕ) → IsFitting held.logs order → (run other : List Step)
+        → Explains held.logs order run → Explains held.logs order other → run ≡ other }
 {}
 
 /// Nor does it matter for the graph: the runs of two yeses for a case that ties up have the same edges, in the same order.
@@ -42,17 +54,17 @@ pub fn good_findings_name_a_run()
 
 /// Migrating changes nothing. Of two cases whose logs are the same once they are migrated, as a case and the case with any
 /// of its logs migrated, both tie up or neither does, for the same reason, and each report of the one is a report of
-/// the other, with its run; so their lines are equal, and so are their graphs.
+/// the other, with its run. So where both have a report of the same given order, or of none, the two are equal (`same`),
+/// and so are their graphs.
 pub fn versions_change_nothing()
     ensures ties { (held other : Contents) → AreSameButVersions held other
         → tie_fault_of held ≡ tie_fault_of other }
     ensures reports { (held other : Contents) → AreSameButVersions held other
         → (given : Option (List ℕ)) (report : Report) → IsReport held given report
         → IsReport other given report }
-    ensures lines { (held other : Contents) → AreSameButVersions held other → IsCase held
-        → tie_fault_of held ≡ None → (given : Option (List ℕ)) → IsFittingIfGiven held.logs given
-        → (one two : Report) → IsReport held given one → IsReport other given two
-        → line_in one ≡ line_in two }
+    ensures same { (held other : Contents) → AreSameButVersions held other → IsCase held
+        → tie_fault_of held ≡ None → (given : Option (List ℕ)) → (one two : Report)
+        → IsReport held given one → IsReport other given two → one ≡ two }
     ensures graphs { (held other : Contents) → AreSameButVersions held other → IsCase held
         → tie_fault_of held ≡ None → (given : Option (List ℕ))
         → (vats records delivered under_way other_vats other_records other_delivered other_under_way : ℕ)
@@ -68,8 +80,8 @@ pub fn versions_change_nothing()
 {}
 
 /// A log that is raised is judged by the later edition of rpc.capnp, which lets more pass. So where a case says yes, it
-/// says the same yes with any of its logs raised: by the same order and with the same run, so that its line and its graph
-/// are the same.
+/// says the same yes with any of its logs raised: by the same order and with the same run. Then every report of the raised
+/// case is that yes (`same`), and its graph is the same.
 pub fn raising_keeps_a_yes()
     ensures ties { (held : Contents) (is_chosen : Log → Bool)
         → tie_fault_of held ≡ tie_fault_of (with_raised is_chosen held) }
@@ -78,12 +90,12 @@ pub fn raising_keeps_a_yes()
         → IsReport held given (Yes vats records delivered under_way run)
         → IsReport (with_raised is_chosen held) given
         (Yes vats records delivered under_way run) }
-    ensures lines { (held : Contents) (is_chosen : Log → Bool) → IsCase held
-        → tie_fault_of held ≡ None → (given : Option (List ℕ)) → IsFittingIfGiven held.logs given
+    ensures same { (held : Contents) (is_chosen : Log → Bool) → IsCase held
+        → tie_fault_of held ≡ None → (given : Option (List ℕ))
         → (vats records delivered under_way : ℕ) (run : List Step) (other : Report)
         → IsReport held given (Yes vats records delivered under_way run)
         → IsReport (with_raised is_chosen held) given other
-        → line_in (Yes vats records delivered under_way run) ≡ line_in other }
+        → Yes vats records delivered under_way run ≡ other }
     ensures graphs { (held : Contents) (is_chosen : Log → Bool) → IsCase held
         → tie_fault_of held ≡ None → (given : Option (List ℕ))
         → (vats records delivered under_way other_vats other_records other_delivered other_under_way : ℕ)

@@ -5,9 +5,10 @@
 //! [`audit`], [`judge`] and [`judge_unordered`] answer just that. What a yes means stands in `specs/Headline.antt`, clause by
 //! clause, and each of the three cites it (clause `headline`), as does [`audit_with_findings`], which also answers what was found of
 //! each log and each link; when a case isn't audited, in `specs/Refusals.antt`. Laws: good
-//! findings of a case and an order that fits are such as name a run ([`good_findings_name_a_run`]), and a case has one line,
-//! whichever order fits ([`a_case_has_one_line`]), and one graph ([`a_case_has_one_graph`]), also with logs migrated
-//! ([`versions_change_nothing`]); and where it says yes, it says the same yes with logs raised ([`raising_keeps_a_yes`]).
+//! findings of a case and an order that fits are such as name a run ([`good_findings_name_a_run`]), a case has one report by
+//! an order ([`a_case_has_one_report`]), also with logs migrated ([`versions_change_nothing`]), and one line, whichever order fits
+//! ([`a_case_has_one_line`]), and one graph ([`a_case_has_one_graph`]); and where it says yes, it says the same yes with logs
+//! raised ([`raising_keeps_a_yes`]).
 #![tactic(auto)]
 
 mod auditing;
@@ -28,8 +29,8 @@ pub use found_run::run_of_findings;
 pub use gate::Gate;
 pub use judging::{judge, judge_unordered};
 pub use laws::{
-    a_case_has_one_graph, a_case_has_one_line, good_findings_name_a_run, raising_keeps_a_yes,
-    versions_change_nothing,
+    a_case_has_one_graph, a_case_has_one_line, a_case_has_one_report, good_findings_name_a_run,
+    raising_keeps_a_yes, versions_change_nothing,
 };
 pub use report::{Breach, Report};
 pub use with_findings::audit_with_findings;

@@ -59,7 +59,7 @@ fails_given logs (Some order) step fails none = none
 
 -- ---- a report, but for its run
 
-is_yes : Report → Bool
+abbrev is_yes : Report → Bool
 is_yes (report.Yes vats records delivered under_way run) = true
 is_yes _ = false
 
@@ -72,18 +72,18 @@ yes_in_line report.NoOrder = refl
 yes_in_line (report.Yes vats records delivered under_way run) = refl
 
 only_line : (r : Report) → is_yes r ≡ false → line_in r ≡ r
-only_line (report.Vat vat at rule) no = refl
-only_line (report.OutsideVat vat at why) no = refl
-only_line (report.Link connection end message) no = refl
-only_line (report.OrderStep step) no = refl
-only_line report.NoOrder no = refl
-only_line (report.Yes vats records delivered under_way run) no = absurd (false≢true (sym no))
+only_line (report.Vat vat at rule) bare = refl
+only_line (report.OutsideVat vat at why) bare = refl
+only_line (report.Link connection end message) bare = refl
+only_line (report.OrderStep step) bare = refl
+only_line report.NoOrder bare = refl
+only_line (report.Yes vats records delivered under_way run) bare = absurd (false≢true (sym bare))
 
 -- a report that is no yes is the other with its line
 by_line : (one other : Report) → is_yes one ≡ false → line_in one ≡ line_in other → one ≡ other
-by_line one other no lines =
-    let no_too : is_yes other ≡ false = sym (yes_in_line other) ∙ ap is_yes (sym lines) ∙ yes_in_line one ∙ no in
-    sym (only_line one no) ∙ lines ∙ only_line other no_too
+by_line one other bare lines =
+    let no_too : is_yes other ≡ false = sym (yes_in_line other) ∙ ap is_yes (sym lines) ∙ yes_in_line one ∙ bare in
+    sym (only_line one bare) ∙ lines ∙ only_line other no_too
 
 -- a yes is the other with its line, where they have one run if the other is a yes too
 same_yes : (vats records delivered under_way : ℕ) (run : List Step) (other : Report) → report.Yes vats records delivered under_way [] ≡ line_in other

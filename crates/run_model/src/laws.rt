@@ -1,4 +1,5 @@
-//! Laws of runs, which hold of every run and not of one call. Each speaks of the steps before a point, the newest first.
+//! Laws of runs, and not of one call. Each speaks of the steps before a point, the newest first, and says what it asks of
+//! them.
 
 ghost use Rattle.std.specs.Prelude.{◌≡◌, ◌≢◌, ◌↔◌, ◌≤◌, ◌++◌, ◌∷◌, [], ◌⊎◌, ◌&&◌, ◌||◌, ℕ, List, Option, Some, None, IsTrue, IsFalse, IsSome, IsSomeAnd};
 ghost use Rattle.std.specs.List.{list_any, AllByRecursion};

@@ -9,7 +9,7 @@
 //! (`specs/Right.antt`, `specs/Early.antt`), which capabilities of others a vat came to have (`specs/Edges.antt`), and when
 //! two runs are of the same steps (`specs/Reordered.antt`).
 //! [`StepNumbers`] counts the steps of each vat, for the crates above (`specs/StepNumbers.antt`).
-//! What holds of all runs by these definitions is promised by the functions of `src/laws.rt`, which do nothing.
+//! What holds of runs by these definitions is promised by the functions of `src/laws.rt`, which do nothing.
 //! `proofs/OneTailCall.antt` and `proofs/OneCallPassedBack.antt` are examples of runs.
 #![tactic(auto)]
 

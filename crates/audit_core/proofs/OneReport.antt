@@ -1,10 +1,10 @@
 -- A case has one report by an order that is given, and one where none is given, with its run.
-use Rattle.std.proofs.Common.{◌≡◌, ℕ, ◌<◌, Bool, true, false, List, [], ◌∷◌, Option, Some, None, refl, sym, ap, ◌∙◌, subst, inl, inr, arith}
+use Rattle.std.proofs.Common.{◌≡◌, ℕ, Bool, true, false, List, [], ◌∷◌, Option, Some, None, refl, sym, ap, ◌∙◌, subst, inl, inr, arith}
 use Rattle.std.proofs.lemmas.Bool.{cases_lt, false≢true}
 use Rattle.vat_log.specs.Log.{Log}
 use Rattle.vat_rules.specs.declared.outcome.Outcome.TheVariants.{Broken, Outside}
-use Rattle.merge_order.specs.Fits.{Part, after, begin, IsFitting, TakesLeastFrom, finding_of_order}
-use Rattle.merge_order.specs.declared.checking.OrderFinding.TheVariants.{Fits, Fails}
+use Rattle.merge_order.specs.Fits.{Part, after, begin, IsFitting, TakesLeastFrom}
+use Rattle.merge_order.specs.declared.checking.OrderFinding.TheVariants.{Fails}
 use Rattle.merge_order.proofs.Greedy.{none_left}
 use Rattle.run_model.specs.declared.step.Step.{Step}
 use Rattle.case_book.specs.Case.{Contents, IsCase}

@@ -4,7 +4,6 @@ use Rattle.vat_rules.specs.Audit.{Found}
 use Rattle.merge_order.specs.Fits.{IsFitting}
 use Rattle.call_trace.specs.Findings.{MayBeNamed}
 use Rattle.call_trace.specs.Named.{IsRunOf}
-use Rattle.run_model.specs.declared.step.Step.{Step}
 use Rattle.std.proofs.lemmas.Result.{IfOk-weaker}
 use Rattle.audit_core.proofs.Explaining.{explains}
 use Rattle.audit_core.proofs.Naming.{may_be_named}

@@ -24,6 +24,6 @@ module _ {W X : Type 0} (took : W → List ℕ → W → Type 0) (f : X → List
             has_written_of_eq took old _ _ after one (has_written_append took old (flat_map f (take i xs)) now (f x) after before (more before.plain));
       }
 
--- six texts, each of them another's equal
-pub six : {a b c d e f p q r s t u : List ℕ} → a ≡ p → b ≡ q → c ≡ r → d ≡ s → e ≡ t → f ≡ u → a ++ (b ++ (c ++ (d ++ (e ++ f)))) ≡ p ++ (q ++ (r ++ (s ++ (t ++ u))))
-six one two three four five last = ap₂ ◌++◌ one (ap₂ ◌++◌ two (ap₂ ◌++◌ three (ap₂ ◌++◌ four (ap₂ ◌++◌ five last))))
+-- five texts, each of them another's equal
+pub five : {a b c d e p q r s t : List ℕ} → a ≡ p → b ≡ q → c ≡ r → d ≡ s → e ≡ t → a ++ (b ++ (c ++ (d ++ e))) ≡ p ++ (q ++ (r ++ (s ++ t)))
+five one two three four last = ap₂ ◌++◌ one (ap₂ ◌++◌ two (ap₂ ◌++◌ three (ap₂ ◌++◌ four last)))

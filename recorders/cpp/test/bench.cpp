@@ -1,6 +1,7 @@
-// What recording costs: a ping over a local socket without a recorder, with both ends recorded, and with both recorded
-// and buffered, in one run. `bench [PINGS [ROUNDS]]`; each number is the least of the rounds, which take turns. Beside
-// the time that passes it says how long processors worked for both ends: other work on the machine changes that less.
+// What recording costs, without a recorder, with all vats recorded, and with all recorded and buffered, in one run:
+// of a ping over a local socket, and of a pipelined call from vat 1 through vat 2 to vat 3, over two connections.
+// `bench [CALLS [ROUNDS]]`; each number is the least of the rounds, which take turns. Beside the time that passes it says
+// how long processors worked for all vats: other work on the machine changes that less.
 
 #include "test.capnp.h"
 #include "vataudit/recorder.h"
@@ -28,6 +29,10 @@ protected:
     context.getResults().setValue(value);
     return kj::READY_NOW;
   }
+  kj::Promise<void> same(SameContext context) override {
+    context.getResults().setCounter(thisCap().castAs<Counter>());
+    return kj::READY_NOW;
+  }
 
 private:
   uint32_t value = 0;
@@ -37,7 +42,7 @@ kj::Own<kj::AsyncIoStream> opened(kj::AsyncIoContext& io, int socket) {
   return io.lowLevelProvider->wrapSocketFd(socket, kj::LowLevelAsyncIoProvider::TAKE_OWNERSHIP);
 }
 
-// Microseconds a ping: what passed, and what processors worked.
+// Microseconds a call: what passed, and what processors worked.
 struct Cost {
   double passed, worked;
 };
@@ -48,16 +53,38 @@ double worked() {
   return time.tv_sec * 1e6 + time.tv_nsec / 1e3;
 }
 
-Cost ping(Counter::Client counter, kj::WaitScope& scope, uint32_t pings) {
+// What `calls` calls cost each, which are all made meanwhile.
+template <typename Make>
+Cost costOf(uint32_t calls, Make&& make) {
   auto start = std::chrono::steady_clock::now();
   double before = worked();
-  for (uint32_t count = 0; count < pings; count++) {
-    auto request = counter.nextRequest();
-    request.setBy(1);
-    request.send().wait(scope);
-  }
+  make();
   std::chrono::duration<double, std::micro> taken = std::chrono::steady_clock::now() - start;
-  return { taken.count() / pings, (worked() - before) / pings };
+  return { taken.count() / calls, (worked() - before) / calls };
+}
+
+capnp::Request<Counter::NextParams, Counter::NextResults> nextOf(Counter::Client& counter) {
+  auto request = counter.nextRequest();
+  request.setBy(1);
+  return request;
+}
+
+Cost ping(Counter::Client counter, kj::WaitScope& scope, uint32_t pings) {
+  return costOf(pings, [&]() {
+    for (uint32_t count = 0; count < pings; count++) nextOf(counter).send().wait(scope);
+  });
+}
+
+// Calls of the result of a call that isn't answered yet, a hundred of them at once.
+Cost pipelined(Counter::Client counter, kj::WaitScope& scope, uint32_t calls) {
+  return costOf(calls, [&]() {
+    for (uint32_t count = 0; count < calls; count += 100) {
+      auto result = counter.sameRequest().send().getCounter();
+      auto all = kj::heapArrayBuilder<kj::Promise<void>>(100);
+      for (uint32_t each = 0; each < 100; each++) all.add(nextOf(result).send().ignoreResult());
+      kj::joinPromises(all.finish()).wait(scope);
+    }
+  });
 }
 
 // What one end answers that asks over a local socket, while the other serves in a thread of its own.
@@ -99,26 +126,59 @@ Cost recorded(uint32_t pings, size_t buffer) {
   });
 }
 
-}  // namespace
+Cost throughUnrecorded(uint32_t calls) {
+  auto io = kj::setupAsyncIo();
+  auto near = io.provider->newTwoWayPipe(), far = io.provider->newTwoWayPipe();
+  capnp::TwoPartyClient farServer(*far.ends[1], kj::heap<CounterObject>(), Side::SERVER);
+  capnp::TwoPartyClient farClient(*far.ends[0]);
+  capnp::TwoPartyClient nearServer(*near.ends[1], farClient.bootstrap(), Side::SERVER);
+  capnp::TwoPartyClient nearClient(*near.ends[0]);
+  return pipelined(nearClient.bootstrap().castAs<Counter>(), io.waitScope, calls);
+}
 
-int main(int count, char** words) {
-  uint32_t pings = count > 1 ? atoi(words[1]) : 20000;
-  int rounds = count > 2 ? atoi(words[2]) : 7;
+Cost throughRecorded(uint32_t calls, size_t buffer) {
+  auto io = kj::setupAsyncIo();
+  auto near = io.provider->newTwoWayPipe(), far = io.provider->newTwoWayPipe();
+  vataudit::Recorder first("bench.vat1.log", 1), second("bench.vat2.log", 2), third("bench.vat3.log", 3);
+  for (auto recorder: { &first, &second, &third }) recorder->bufferRecords(buffer);
+  vataudit::TwoPartyClient farServer(third, *far.ends[1], 1, third.host<CounterObject>(), Side::SERVER);
+  vataudit::TwoPartyClient farClient(second, *far.ends[0], 1);
+  vataudit::TwoPartyClient nearServer(second, *near.ends[1], 0, farClient.bootstrap(), Side::SERVER);
+  vataudit::TwoPartyClient nearClient(first, *near.ends[0], 0);
+  return pipelined(nearClient.bootstrap().castAs<Counter>(), io.waitScope, calls);
+}
+
+void clean() {
+  for (auto log: { "bench.vat1.log", "bench.vat2.log", "bench.vat3.log" }) unlink(log);
+}
+
+// The three in turn, and the least of each.
+template <typename Unrecorded, typename Recorded>
+void compare(const char* what, int rounds, Unrecorded&& unrecorded, Recorded&& recorded) {
   Cost without { 1e9, 1e9 }, with = without, buffered = without;
   auto least = [](Cost& cost, Cost round) {
+    clean();
     cost = { std::min(cost.passed, round.passed), std::min(cost.worked, round.worked) };
   };
   for (int round = 0; round < rounds; round++) {
-    least(without, unrecorded(pings));
-    least(with, recorded(pings, 0));
-    least(buffered, recorded(pings, 65536));
+    least(without, unrecorded());
+    least(with, recorded(0));
+    least(buffered, recorded(65536));
   }
-  auto say = [&without](const char* how, Cost cost) {
-    printf("ping %-10s %6.2f us ratio %.2f, processors %6.2f us ratio %.2f\n", how, cost.passed,
+  auto say = [&](const char* how, Cost cost) {
+    printf("%s %-10s %6.2f us ratio %.2f, processors %6.2f us ratio %.2f\n", what, how, cost.passed,
            cost.passed / without.passed, cost.worked, cost.worked / without.worked);
   };
   say("unrecorded", without), say("recorded", with), say("buffered", buffered);
-  unlink("bench.vat1.log");
-  unlink("bench.vat2.log");
+}
+
+}  // namespace
+
+int main(int count, char** words) {
+  uint32_t calls = count > 1 ? atoi(words[1]) : 20000;
+  int rounds = count > 2 ? atoi(words[2]) : 7;
+  compare("ping     ", rounds, [&]() { return unrecorded(calls); }, [&](size_t buffer) { return recorded(calls, buffer); });
+  compare("pipelined", rounds, [&]() { return throughUnrecorded(calls); },
+          [&](size_t buffer) { return throughRecorded(calls, buffer); });
   return 0;
 }

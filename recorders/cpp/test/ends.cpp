@@ -6,6 +6,8 @@
 
 #include <csignal>
 #include <cstdlib>
+#include <fstream>
+#include <iterator>
 #include <sys/resource.h>
 #include <unistd.h>
 
@@ -93,6 +95,36 @@ void fills(Ending& two) {
   two.count();
 }
 
+std::string textOf(const std::string& path) {
+  std::ifstream file(path, std::ios::binary);
+  return std::string(std::istreambuf_iterator<char>(file), std::istreambuf_iterator<char>());
+}
+
+// Recorders of one log, one after the other: those before it keep what they wrote, under numbers. Each records as many
+// promises as were made before it; then three are stopped.
+int again(World& world, const std::string& folder) {
+  std::string path = folder + "/log";
+  std::vector<std::string> written;
+  for (size_t times = 0; times < 3; times++) {
+    vataudit::Recorder recorder(path.c_str(), 1);
+    for (size_t each = 0; each < times; each++) recorder.promise(kj::Promise<Counter::Client>(kj::NEVER_DONE));
+    recorder.flush();
+    written.push_back(textOf(path));
+    KJ_ASSERT(recorder.records() == times);
+  }
+  KJ_ASSERT(textOf(path) == written[2] && textOf(path + ".1") == written[0] && textOf(path + ".2") == written[1]);
+  for (size_t times = 0; times < 3; times++) {
+    vataudit::Recorder recorder(path.c_str(), 2 + times);
+    auto unknown = recorder.promise(kj::Promise<Counter::Client>(Counter::Client(kj::heap<CounterObject>(recorder))));
+    world.settle();
+    KJ_ASSERT(!recorder.isRecording());
+  }
+  KJ_ASSERT(access(path.c_str(), F_OK) != 0 && textOf(path + ".3") == written[2]);
+  for (auto name: { ".stopped.1", ".stopped.2", ".stopped" }) written.push_back(textOf(path + name));
+  for (char vat = 2; vat < 5; vat++) KJ_ASSERT(written[1 + vat].size() > 12 && written[1 + vat][8] == vat);
+  return 0;
+}
+
 const std::map<std::string, void (*)(Ending&)> ends = {
   { "throws", throws }, { "exits", exits }, { "killed", killed }, { "keeps", keeps }, { "fills", fills },
 };
@@ -100,8 +132,13 @@ const std::map<std::string, void (*)(Ending&)> ends = {
 }  // namespace
 
 int main(int count, char** words) {
-  if (count != 3 || ends.count(words[2]) == 0) return 2;
+  if (count != 3) return 2;
   auto io = kj::setupAsyncIo();
+  if (std::string(words[2]) == "again") {
+    World world(io, "");
+    return again(world, words[1]);
+  }
+  if (ends.count(words[2]) == 0) return 2;
   World world(io, std::string(words[1]) + "/" + words[2] + "-" + capnpVersion());
   Ending two(world);
   ends.at(words[2])(two);

@@ -7,6 +7,8 @@
 
 #include "world.h"
 
+#include <deque>
+
 namespace {
 
 namespace rpc = capnp::rpc;

@@ -114,6 +114,15 @@ protected:
     context.getResults().setCounter(promise);
     return kj::evalLast([]() {});
   }
+  kj::Promise<void> echo(EchoContext context) override {
+    context.getResults().setCounter(context.getParams().getCounter());
+    return kj::READY_NOW;
+  }
+  // The result is that of a call which the given object doesn't answer yet.
+  kj::Promise<void> open(OpenContext context) override {
+    context.getResults().setCounter(context.getParams().getCounter().waitRequest().send().getCounter());
+    return kj::READY_NOW;
+  }
   kj::Promise<void> wait(WaitContext context) override {
     auto paf = kj::newPromiseAndFulfiller<Counter::Client>();
     fulfiller = kj::mv(paf.fulfiller);
@@ -157,6 +166,13 @@ inline capnp::Request<Counter::SettleParams, Counter::SettleResults> settleAs(Co
   auto request = at.settleRequest();
   request.setHow(how);
   return request;
+}
+
+// Any of the requests that only give a capability.
+template <typename Request>
+Request giving(Request&& request, Counter::Client counter) {
+  request.setCounter(counter);
+  return kj::mv(request);
 }
 
 // A call of `nothing` without even a struct of parameters.

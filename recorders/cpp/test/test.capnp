@@ -22,4 +22,6 @@ interface Counter {
   none @15 () -> (counter :Counter);
   wait @16 () -> (counter :Counter);
   named @17 () -> (counter :Counter);
+  echo @18 (counter :Counter) -> (counter :Counter);
+  open @19 (counter :Counter) -> (counter :Counter);
 }

@@ -23,6 +23,8 @@ pkg-config --exists 'capnp-rpc >= 0.9' 2> /dev/null || missing+=("libcapnp-dev")
 if [ "${#missing[@]}" -gt 0 ]; then
   stop "nothing tested: missing ${missing[*]} (Debian: apt-get install capnproto libcapnp-dev g++ make pkg-config)"
 fi
+gtest=
+if pkg-config --exists gtest_main 2> /dev/null; then gtest=1; fi
 program="${VATAUDIT:-$root/crates/vataudit/out/vataudit}"
 [ -n "${VATAUDIT:-}" ] || [ -x "$program" ] || program="$(command -v vataudit || echo "$program")"
 unproved=
@@ -49,8 +51,19 @@ if [ "${#versions[@]}" = 2 ] && [ "$(short "${versions[0]}")" = "$(short "${vers
   stop "nothing tested: the system's capnp and the one in $CAPNP_1_1 are of one version"
 fi
 
+# run_pair CLIENT SERVER FOLDER: the two of the demo, in the folder
+run_pair() {
+  ( cd "$3"
+    "$2" unix:socket &
+    while [ ! -S socket ]; do sleep 0.1; done
+    sleep 0.5
+    "$1" unix:socket
+    wait $! ) >> logs/said 2>&1
+}
+
+../parts/join.sh --check || differ "make it anew by parts/join.sh"
 rm -rf logs
-mkdir logs
+mkdir -p logs/again
 : > logs/said
 for at in "${!folders[@]}"; do
   folder="${folders[$at]}"
@@ -75,6 +88,19 @@ for at in "${!folders[@]}"; do
   diff refused.txt <(sed '/fills/s/record [0-9]*/record */' logs/refused) ||
     differ "the recorders said something else than refused.txt has"
   cat logs/said.here >> logs/said
+  # Logs that are there already lose nothing.
+  mkdir -p "logs/again-$version"
+  "$build/ends" "logs/again-$version" again > logs/again/said 2>&1 || { cat logs/again/said; differ "ends again of $version ended with $?"; }
+  # The fixture for tests.
+  if [ -z "$unproved" ]; then
+    make --quiet "${with[@]}" with_kj
+    VATAUDIT="$program" "$build/with_kj" > logs/with_kj 2>&1 || { cat logs/with_kj; differ "with_kj of $version failed"; }
+    if VATAUDIT=/nowhere "$build/with_kj" > logs/with_kj 2>&1; then differ "with_kj passes without an audit"; fi
+    if [ -n "$gtest" ]; then
+      make --quiet "${with[@]}" with_gtest
+      VATAUDIT="$program" "$build/with_gtest" > logs/with_gtest 2>&1 || { cat logs/with_gtest; differ "with_gtest of $version failed"; }
+    fi
+  fi
   # The demo, built in a copy of its sources.
   mkdir -p "$build/cpp/demo"
   cp -u ../demo/{Makefile,*.cpp,*.capnp,record.diff} "$build/cpp/demo"
@@ -82,19 +108,40 @@ for at in "${!folders[@]}"; do
   PATH="${folder:+$folder/bin:}$PATH" PKG_CONFIG_PATH="${folder:+$folder/lib/pkgconfig:}${PKG_CONFIG_PATH:-}" \
     make --quiet -C "$build/cpp/demo" recorded >> logs/said 2>&1 ||
     { cat logs/said; differ "the demo wasn't built with $version"; }
+  # And with a recorder that is nothing.
+  mkdir -p "$build/off/demo"
+  cp -u ../demo/{Makefile,*.cpp,*.capnp,record.diff} "$build/off/demo"
+  cp -ru ../vataudit "$build/off"
+  PATH="${folder:+$folder/bin:}$PATH" PKG_CONFIG_PATH="${folder:+$folder/lib/pkgconfig:}${PKG_CONFIG_PATH:-}" \
+    CXXFLAGS="-std=c++17 -O1 -DVATAUDIT_OFF" make --quiet -C "$build/off/demo" recorded >> logs/said 2>&1 ||
+    { cat logs/said; differ "the demo wasn't built with $version and VATAUDIT_OFF"; }
+  if nm -C "$build"/off/demo/recorded/{client,server} | grep -q vataudit::inside; then
+    differ "the demo of $version has a recorder in it with VATAUDIT_OFF"
+  fi
+  folder_off="$(mktemp -d)"
+  run_pair "$here/$build/off/demo/recorded/client" "$here/$build/off/demo/recorded/server" "$folder_off" ||
+    { cat logs/said; differ "the demo of $version with VATAUDIT_OFF ended with $?"; }
+  [ -z "$(ls "$folder_off" | grep -v '^socket$')" ] || differ "the demo of $version makes logs with VATAUDIT_OFF"
+  rm -rf "$folder_off"
 done
+
+# As it is installed, by pkg-config and by CMake.
+../install/install.sh "$here/logs/prefix"
+PKG_CONFIG_PATH="logs/prefix/share/pkgconfig:${PKG_CONFIG_PATH:-}" \
+  sh -c 'g++ -std=c++14 installed/installed.cpp $(pkg-config --cflags --libs vataudit) -o logs/by_pkg_config' &&
+  logs/by_pkg_config logs/again/by_pkg_config || differ "the installed header isn't found by pkg-config"
+if command -v cmake > /dev/null; then
+  cmake -S installed -B logs/cmake -DCMAKE_PREFIX_PATH="$here/logs/prefix" > logs/by_cmake 2>&1 &&
+    cmake --build logs/cmake >> logs/by_cmake 2>&1 && logs/cmake/installed logs/again/by_cmake ||
+    { cat logs/by_cmake; differ "the installed header isn't found by CMake"; }
+fi
 
 # Each client with each server of the demo, and of the conversations of two vats.
 ran=()
 run_demo() {
   local client="$here/build/$1/cpp/demo/recorded/client" server="$here/build/$2/cpp/demo/recorded/server" folder
   folder="$(mktemp -d)"
-  ( cd "$folder"
-    "$server" unix:socket &
-    while [ ! -S socket ]; do sleep 0.1; done
-    sleep 0.5
-    "$client" unix:socket
-    wait $! ) >> logs/said 2>&1 || { cat logs/said; differ "the demo ended with $?"; }
+  run_pair "$client" "$server" "$folder" || { cat logs/said; differ "the demo ended with $?"; }
   mv "$folder/client.log" "logs/demo-$3.vat1.log"
   mv "$folder/server.log" "logs/demo-$3.vat2.log"
   rm -rf "$folder"
@@ -257,4 +304,7 @@ done < <(awk -F ' [|] ' '/^[a-z].* [|] / { print $1 }' expected.txt)
 printf '%s\n' "${ran[@]}" | sed 's/^/conversations: /'
 [ "${#versions[@]}" -gt 1 ] ||
   echo "NOT run: capnp 1.1, and client and server of different versions; CAPNP_1_1 has to name the folder where it is installed"
+[ -n "$gtest" ] || echo "NOT run: the fixture with GoogleTest, which isn't installed (Debian: libgtest-dev)"
+command -v cmake > /dev/null || echo "NOT run: the CMake package; there is no cmake"
+[ -z "$unproved" ] || echo "NOT run: the fixture for tests; it wants a built program"
 echo "recorder: $count logs of $cases conversations, $audited: all as expected"

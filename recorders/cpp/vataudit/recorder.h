@@ -33,11 +33,14 @@
 // - Where a method names its results beforehand by `setPipeline`, no record says so before they are there. A call that
 //   goes on to such a result before is told `no .. rule GOAL`. A method that ends by `tailCall` is recorded, by
 //   ANSWERBY.
-// - Where a call waits in a queue of the runtime for a promise and then goes out, or is delivered, as a copy, its
-//   MAKE is found by interface, method and parameters, the oldest first. If the runtime exchanged two such calls
-//   that are alike in all of this, the log couldn't tell. All other calls are found by where their parameters lie.
+// - Two lines of the audit come from sound programs: docs/RECORDING.md, "Where C++ gets `no`".
+//
+// This file is made: recorders/cpp/parts has what it is made of. With VATAUDIT_OFF defined nothing of it is left but
+// capnp's own classes under these names.
 
 #pragma once
+
+// =========================================================================== What it stands on
 
 #include <capnp/any.h>
 #include <capnp/capability.h>
@@ -50,12 +53,13 @@
 #include <kj/async-io.h>
 #include <kj/debug.h>
 
+#include <algorithm>
 #include <cerrno>
 #include <cstdint>
 #include <cstdio>
 #include <cstdlib>
 #include <cstring>
-#include <deque>
+#include <functional>
 #include <memory>
 #include <string>
 #include <type_traits>
@@ -66,6 +70,62 @@
 #include <fcntl.h>
 #include <sys/stat.h>
 #include <unistd.h>
+#ifdef VATAUDIT_OFF
+
+// =========================================================================== With VATAUDIT_OFF
+
+namespace vataudit {
+
+// Makes no log. What comes from it is what the program would make without it.
+class Recorder {
+public:
+  Recorder(const char*, uint32_t) {}
+  KJ_DISALLOW_COPY(Recorder);
+
+  template <typename Implementation, typename... Arguments>
+  typename Implementation::Serves::Client host(Arguments&&... arguments) {
+    return typename Implementation::Serves::Client(kj::heap<Implementation>(kj::fwd<Arguments>(arguments)...));
+  }
+  template <typename Client>
+  Client promise(kj::Promise<Client>&& promised) {
+    return Client(kj::mv(promised));
+  }
+  void bufferRecords(size_t) {}
+  void flush() {}
+  bool isRecording() const { return false; }
+  uint64_t records() const { return 0; }
+  std::vector<uint32_t> connections() const { return {}; }
+  std::string whyStopped() const { return "the program was built with VATAUDIT_OFF"; }
+};
+
+// capnp's network.
+class Network final: public capnp::TwoPartyVatNetwork {
+public:
+  using Side = capnp::rpc::twoparty::Side;
+  using RpcSystem = capnp::RpcSystem<capnp::rpc::twoparty::VatId>;
+
+  template <typename Stream, typename... Options>
+  Network(Recorder&, Stream& stream, uint32_t, Side side, Options&&... options)
+      : TwoPartyVatNetwork(stream, side, kj::fwd<Options>(options)...) {}
+  template <typename Stream, typename... Options>
+  Network(Recorder&, Stream& stream, uint32_t, uint maxFdsPerMessage, Side side, Options&&... options)
+      : TwoPartyVatNetwork(stream, maxFdsPerMessage, side, kj::fwd<Options>(options)...) {}
+
+  RpcSystem serve(capnp::Capability::Client bootstrap) { return capnp::makeRpcServer(*this, kj::mv(bootstrap)); }
+  RpcSystem client() { return capnp::makeRpcClient(*this); }
+  capnp::Capability::Client asBootstrap(capnp::Capability::Client bootstrap) { return bootstrap; }
+  capnp::Capability::Client bootstrap(RpcSystem& system) {
+    capnp::MallocMessageBuilder message(4);
+    auto peer = message.initRoot<capnp::rpc::twoparty::VatId>();
+    peer.setSide(getSide() == Side::CLIENT ? Side::SERVER : Side::CLIENT);
+    return system.bootstrap(peer);
+  }
+};
+
+}  // namespace vataudit
+#else
+
+// =========================================================================== What a program makes
 
 namespace vataudit {
 
@@ -76,13 +136,11 @@ class Outgoing;
 class Vat;
 }  // namespace inside
 
-// =========================================================================== What a program uses
-
 // The log of one vat. Make one at the start of the program, before all that it records.
 class Recorder {
 public:
-  // Begins the log `path` of vat `vat`; what the file held is lost, and so is `path`.stopped. Where it can't be
-  // made, the recorder says so and records nothing.
+  // Begins the log `path` of vat `vat`. A log that is there becomes `path`.1, or where that is there `path`.2 and so
+  // on; so does `path`.stopped. Where it can't be made, the recorder says so and records nothing.
   Recorder(const char* path, uint32_t vat);
 
   // Writes what is buffered, and ends the log. What happens afterwards isn't recorded.
@@ -111,13 +169,19 @@ public:
   uint64_t records() const;
   std::string whyStopped() const;
 
+  // The numbers of its connections, also of those that are gone.
+  std::vector<uint32_t> connections() const;
+
 private:
   std::shared_ptr<inside::Vat> vat;
   friend class Network;
 };
 
+}  // namespace vataudit
+
 // =========================================================================== The log
 
+namespace vataudit {
 namespace inside {
 
 using capnp::AnyList;
@@ -139,8 +203,7 @@ using OfVersion = Hook<>;
 // receives light Returns, from a peer of 1.x. What is written ends with a whole record, also where a write fails.
 class Log {
 public:
-  Log(const char* path, uint32_t vat): file(open(path, O_WRONLY | O_CREAT | O_TRUNC | O_CLOEXEC, 0666)) {
-    if (isOpen()) place(path);
+  Log(const char* path, uint32_t vat): file(begun(path)) {
     add("VATLOG03", 8);
     number<uint32_t>(vat);
   }
@@ -215,7 +278,9 @@ public:
     bool isStillThere = isOpen() && fstat(file, &mine) == 0 && S_ISREG(mine.st_mode) &&
         stat(path.c_str(), &there) == 0 && mine.st_dev == there.st_dev && mine.st_ino == there.st_ino;
     close();
-    if (isStillThere && rename(path.c_str(), (path + ".stopped").c_str()) == 0) path += ".stopped";
+    if (isStillThere && moveOn(path + ".stopped") && rename(path.c_str(), (path + ".stopped").c_str()) == 0) {
+      path += ".stopped";
+    }
     return path;
   }
 
@@ -223,17 +288,38 @@ public:
   uint64_t records = 0;  // that were made; where a write failed, that were written
 
 private:
-  int file;
   std::string path;      // from the root, if the system knows it: the program may change its folder
+  int file;
   std::string buffer;
   bool isTooLong = false;
   uint64_t length = 0, written = 0;
 
-  void place(const char* given) {
-    char* known = realpath(given, nullptr);
-    path = known == nullptr ? given : known;
-    free(known);
-    unlink((path + ".stopped").c_str());
+  // Makes the file, behind those that are there. -1 where that can't be, and `errno` says why.
+  int begun(const char* given) {
+    std::string place = known(given);
+    if (!moveOn(place) || !moveOn(place + ".stopped")) return -1;
+    int made = open(place.c_str(), O_WRONLY | O_CREAT | O_TRUNC | O_CLOEXEC, 0666);
+    if (made >= 0) path = known(place.c_str());
+    return made;
+  }
+
+  static std::string known(const char* given) {
+    char* place = realpath(given, nullptr);
+    std::string path = place == nullptr ? given : place;
+    free(place);
+    return path;
+  }
+
+  // Gives a file that is there the first number behind its name that is free, so that nothing is lost. Whether none is
+  // there any more.
+  static bool moveOn(const std::string& path) {
+    struct stat there;
+    if (stat(path.c_str(), &there) != 0 || !S_ISREG(there.st_mode)) return true;
+    for (uint32_t number = 1;; number++) {
+      std::string numbered = path + "." + std::to_string(number);
+      if (link(path.c_str(), numbered.c_str()) == 0) return unlink(path.c_str()) == 0;
+      if (errno != EEXIST) return access(numbered.c_str(), F_OK) != 0 && rename(path.c_str(), numbered.c_str()) == 0;
+    }
   }
 
   void takeBack() {
@@ -247,11 +333,21 @@ private:
   }
 };
 
+}  // namespace inside
+}  // namespace vataudit
+
 // =========================================================================== What is known
+
+namespace vataudit {
+namespace inside {
 
 struct Call;
 struct View;
+class End;
 using Path = std::vector<uint16_t>;
+
+// A connection, as its number and 1. 0 is none.
+using Way = uint64_t;
 
 // A number of a capability in the log, and what it stands for. Number 0 is none.
 struct Reference {
@@ -259,11 +355,20 @@ struct Reference {
   std::shared_ptr<View> view;
 };
 
-// What a reference stands for, as far as a Resolve asks: what it became (`turn`), or which field of a call's results.
+// What a reference stands for, as far as it is known here. One that came back stands for what went out (`same`), the
+// field of a call for one of its results; a promise turns to what it became.
 struct View {
-  Reference turn;
+  Reference same, turn;
   std::shared_ptr<Call> call;
   Path path;
+  bool isSettled = false;    // an object, a broken promise, or what came as senderHosted: it turns no more
+  Way import = 0;            // the way by which it came as a number of the peer
+  Way cameBack = 0;          // the way by which it came back
+  bool isProxy = false;      // the runtime put a proxy of its own before it
+  uint64_t proxyNumber = 0;  // the reference of the object that this proxy is
+  std::weak_ptr<View> proxy;
+  Reference wrapped;         // of such an object: what it makes its calls on
+  uint64_t object = 0;       // and its number
 };
 
 // A capability met in a message's content: its index in the capability table, and its path of pointer fields.
@@ -281,22 +386,59 @@ inline std::vector<Reference> asMet(const std::vector<Met>& met, const std::vect
   return list;
 }
 
+// The same by the indexes of a copy: a copy keeps the order in which capabilities are met.
+inline std::vector<Reference> byIndexOf(const std::vector<Met>& met, const std::vector<Reference>& asMet) {
+  std::vector<Reference> byIndex;
+  for (size_t at = 0; at < met.size() && at < asMet.size(); at++) {
+    if (byIndex.size() <= met[at].index) byIndex.resize(met[at].index + 1);
+    byIndex[met[at].index] = asMet[at];
+  }
+  return byIndex;
+}
+
+// A promise that the vat gave away for a result of a call, before it was known. If the vat answers the call itself, the
+// promise is the result; if the call is sent on, the promise turns to the result.
+struct Vow {
+  Path path;
+  uint64_t number = 0;
+  std::weak_ptr<View> view;
+  uint64_t result = 0;  // the reference of the result
+  std::weak_ptr<Call> call;
+  bool isKept = false;  // FULFIL or BREAK stands
+
+  Reference promise() const {
+    Reference promise;
+    promise.view = view.lock();
+    if (promise.view != nullptr) promise.number = number;
+    return promise;
+  }
+};
+
 // A call that was made or received here. Lists "by index" go by the index in the capability table of the message
 // in which they were written or came; lists "as met" by their order in the content, which every copy keeps.
-struct Call {
+struct Call: std::enable_shared_from_this<Call> {
   uint64_t number = 0;
   uint64_t interfaceId = 0;
   uint16_t methodId = 0;
+  Reference goal;                    // through which it was made, or the number to which its frame is addressed
+  std::shared_ptr<Call> goalCall;    // or the call of whose results it is addressed to the one at this path
+  Path goalPath;
   std::vector<Reference> paramsByIndex, paramsAsMet;
   std::vector<Reference> resultsByIndex, resultsAsMet;
   std::vector<std::pair<Path, Reference>> fields;
-  std::shared_ptr<Call> answeredBy;  // the call whose results are this one's: by `tailCall`, or by a Return that says so
+  std::vector<Vow> vows;             // the promises of its results that the vat gave away
+  std::vector<Path> goesBack;        // the results that its Return said to be the peer's own
+  std::vector<Path> named;           // the results of it that somebody named before they were there
+  std::shared_ptr<Call> answeredBy;  // whose results are this one's: by `tailCall`, or by a Return that says so
   std::vector<std::weak_ptr<Call>> handedOn;  // the calls whose results are this one's
-  const void* params = nullptr;      // where its parameters lie, until it is delivered
-  bool hasContent = false;           // whether `content` is known
-  uint64_t content = 0;              // a hash of its parameters
+  bool isReceived = false;
+  Way cameBy = 0, wentBy = 0;        // the connections over which it was received, and sent
+  bool isForPipeline = false;        // it was sent to be pipelined on, and without a Return
+  bool isAtProxy = false;            // it came to a proxy of the runtime; what goes on is the call that answers it
+  const void* params = nullptr;      // where its parameters lie, while it may be delivered
   bool isGone = false;               // sent, or delivered
   bool isLocallyAnswered = false;    // by ANSWER
+  bool isOver = false;               // its results are known, or it has none
 
   void setResults(std::vector<Reference>&& byIndex, const std::vector<Met>& met) {
     resultsByIndex = kj::mv(byIndex);
@@ -305,7 +447,130 @@ struct Call {
       if (met[at].hasPath) fields.push_back({ met[at].path, resultsAsMet[at] });
     }
   }
+
+  // Nobody asks any more what it was meant for.
+  void dropGoal() {
+    goal = Reference();
+    goalCall = nullptr;
+  }
+
+  Reference* fieldAt(const Path& path) {
+    for (auto& field: fields) {
+      if (field.first == path) return &field.second;
+    }
+    return nullptr;
+  }
 };
+
+// The call whose results are this one's in the end.
+inline Call& answering(Call& call) {
+  Call* at = &call;
+  while (at->answeredBy != nullptr) at = at->answeredBy.get();
+  return *at;
+}
+
+// What a reference turned to: one step on its way. None where it is open, or turns no more.
+inline const Reference* next(const View& view) {
+  if (view.same.number != 0) return &view.same;
+  if (view.call != nullptr) return answering(*view.call).fieldAt(view.path);
+  return view.turn.number != 0 ? &view.turn : nullptr;
+}
+
+// Goes from a reference on to all that it leads to, itself first, until `visit` answers true. Whether it did.
+template <typename Visit>
+bool follow(const Reference& from, Visit&& visit) {
+  const Reference* at = from.number != 0 ? &from : nullptr;
+  for (int steps = 0; at != nullptr && steps < 1000; steps++) {
+    if (visit(*at)) return true;
+    at = at->view == nullptr ? nullptr : next(*at->view);
+  }
+  return false;
+}
+
+// Where a way ends, as far as it is known. From no reference it is this one.
+inline const Reference& lastOf(const Reference& from) {
+  const Reference* last = &from;
+  follow(from, [&](const Reference& at) { return last = &at, false; });
+  return *last;
+}
+
+// The promise that was given away for the result at which a way ends, if it isn't known yet.
+inline Reference vowOf(const Reference& from) {
+  const View* view = lastOf(from).view.get();
+  if (view == nullptr || view->call == nullptr) return Reference();
+  for (auto& vow: answering(*view->call).vows) {
+    if (vow.path == view->path) return vow.promise();
+  }
+  return Reference();
+}
+
+// What a reference stands for, behind all that came back.
+inline const View* standsFor(const Reference& reference) {
+  const View* view = reference.view.get();
+  for (int steps = 0; view != nullptr && view->same.number != 0 && steps < 1000; steps++) view = view->same.view.get();
+  return view;
+}
+
+inline bool areSame(const Reference& one, const Reference& other) {
+  const View* first = standsFor(one);
+  const View* second = standsFor(other);
+  if (first == second) return true;
+  return first != nullptr && second != nullptr && first->call != nullptr && first->call == second->call &&
+      first->path == second->path;
+}
+
+inline bool leadsTo(const Reference& from, const Reference& to) {
+  return follow(from, [&](const Reference& at) { return areSame(at, to); });
+}
+
+// Whether nothing more can be known of where it leads.
+inline bool isSettled(const Reference& from) {
+  auto view = lastOf(from).view.get();
+  if (view == nullptr || view->isSettled) return true;
+  return view->call != nullptr && answering(*view->call).isOver;
+}
+
+// What a call has come to lead to.
+inline Reference endOfGoal(const Call& call) {
+  if (call.goalCall == nullptr) return lastOf(call.goal);
+  auto field = answering(*call.goalCall).fieldAt(call.goalPath);
+  return field == nullptr ? Reference() : lastOf(*field);
+}
+
+// The connection over which a call was sent, or the one that answers it.
+inline Way wayOf(const Call& call) {
+  const Call* at = &call;
+  while (at->wentBy == 0 && at->answeredBy != nullptr) at = at->answeredBy.get();
+  return at->wentBy;
+}
+
+// The connection over which the runtime reaches what a reference leads to: of the first of these on its way.
+inline Way wayOf(const Reference& from) {
+  Way way = 0;
+  follow(from, [&](const Reference& at) {
+    if (at.view == nullptr) return false;
+    way = at.view->call != nullptr ? wayOf(*at.view->call) : at.view->import;
+    return way != 0;
+  });
+  return way;
+}
+
+// The connection over which a call's results go out, if they do.
+inline Way returnsBy(const Call& call) {
+  Way way = call.cameBy;
+  for (size_t at = 0; way == 0 && at < call.handedOn.size(); at++) {
+    auto handed = call.handedOn[at].lock();
+    if (handed != nullptr) way = returnsBy(*handed);
+  }
+  return way;
+}
+
+// Whether a reference leads to a result that never comes, of a call that was sent for its pipeline alone. The runtime
+// takes that for what it is, and not for a promise.
+inline bool neverComes(const Reference& from) {
+  auto view = lastOf(from).view.get();
+  return view != nullptr && view->call != nullptr && answering(*view->call).isForPipeline;
+}
 
 // Notes which capability was asked for, and gives none out.
 class Spy final: public capnp::_::CapTableReader {
@@ -321,7 +586,7 @@ private:
   kj::Own<ClientHook> nothing;
 };
 
-// The capabilities in a content, depth first by pointer number, and a hash of the rest.
+// The capabilities in a content, depth first by pointer number.
 class Content {
 public:
   explicit Content(AnyPointer::Reader content) {
@@ -331,15 +596,9 @@ public:
   }
 
   std::vector<Met> met;
-  uint64_t hash = 14695981039346656037u;
 
 private:
   Spy spy;
-
-  void mix(kj::ArrayPtr<const kj::byte> bytes) {
-    for (auto byte: bytes) hash = (hash ^ byte) * 1099511628211u;
-    hash = (hash ^ bytes.size()) * 1099511628211u;
-  }
 
   void visit(AnyPointer::Reader pointer, Path& path, bool hasPath) {
     switch (pointer.getPointerType()) {
@@ -359,7 +618,6 @@ private:
   }
 
   void visitStruct(AnyStruct::Reader structure, Path& path, bool hasPath) {
-    mix(structure.getDataSection());
     uint16_t field = 0;
     for (auto pointer: structure.getPointerSection()) {
       path.push_back(field++);
@@ -369,26 +627,45 @@ private:
   }
 
   void visitList(AnyList::Reader list, Path& path) {
-    switch (list.getElementSize()) {
-      case capnp::ElementSize::POINTER:
-        for (auto pointer: list.as<capnp::List<AnyPointer>>()) visit(pointer, path, false);
-        break;
-      case capnp::ElementSize::INLINE_COMPOSITE:
-        for (auto element: list.as<capnp::List<AnyStruct>>()) visitStruct(element, path, false);
-        break;
-      default:
-        mix(list.getRawBytes());
+    if (list.getElementSize() == capnp::ElementSize::POINTER) {
+      for (auto pointer: list.as<capnp::List<AnyPointer>>()) visit(pointer, path, false);
+    } else if (list.getElementSize() == capnp::ElementSize::INLINE_COMPOSITE) {
+      for (auto element: list.as<capnp::List<AnyStruct>>()) visitStruct(element, path, false);
     }
   }
 };
 
-// Where parameters lie in memory: DELIVER finds its call by this. Null for no parameters at all.
+// Opens a member that a class keeps to itself: naming a private member in an explicit instantiation is allowed.
+template <typename Tag, typename Tag::Type member>
+struct Opened {
+  friend typename Tag::Type open(Tag) { return member; }
+};
+struct PlaceOfReader {
+  using Type = const capnp::_::WirePointer* capnp::_::PointerReader::*;
+  friend Type open(PlaceOfReader);
+};
+template struct Opened<PlaceOfReader, &capnp::_::PointerReader::pointer>;
+
+// Where the pointer to a call's parameters lies in memory: DELIVER finds its call by this.
 inline const void* placeOf(AnyPointer::Reader params) {
-  if (params.isNull()) return nullptr;
-  return params.getAs<AnyStruct>().getDataSection().begin();
+  auto reader = capnp::_::PointerHelpers<AnyPointer>::getInternalReader(params);
+  return reader.*open(PlaceOfReader());
 }
 
+}  // namespace inside
+}  // namespace vataudit
+
 // =========================================================================== The vat
+
+namespace vataudit {
+namespace inside {
+
+// A message that the runtime makes by itself, until it is handed over: a Call passes on the call whose parameters were
+// let go meanwhile.
+struct Unsent {
+  std::shared_ptr<Call> passedOn;
+  Unsent* before = nullptr;
+};
 
 // What the vat has recorded, and what later records need of it. The numbers of references and calls rise from 1,
 // each used once.
@@ -435,6 +712,7 @@ public:
 
   Reference host(uint64_t object) {
     Reference reference = newReference();
+    reference.view->isSettled = true;
     begin(0x01, [&] { log.number(reference.number), log.number(object); });
     return reference;
   }
@@ -454,13 +732,139 @@ public:
 
   // A promise that is settled without a capability: it isn't hosted, so it must not go out as if it were.
   void breakPromise(const Reference& promise) {
+    promise.view->isSettled = true;
     begin(0x04, [&] { log.number(promise.number); });
+  }
+
+  // A capability whose calls all fail, and which no object stands behind.
+  Reference broken() {
+    Reference reference = vow();
+    breakPromise(reference);
+    return reference;
+  }
+
+  // A promise that became such a capability.
+  Reference nullPromise() {
+    Reference promise = vow();
+    fulfil(promise, broken());
+    return promise;
+  }
+
+  // Which reference is named of a promise that the vat makes the result of a call, or of another promise: it may go out
+  // under a number that it has already. The runtime gives the number of a promise to what this became, without a word;
+  // then it is the first promise that goes out, and leads to this one. `way` is where a result goes out.
+  Reference asNumbered(const Reference& given, Way way = 0);
+
+  // What the runtime gives out for a result that isn't known yet is a promise of its own.
+  Reference promiseOf(const Reference& result) {
+    auto view = standsFor(result);
+    if (view == nullptr || view->call == nullptr || next(*view) != nullptr) return result;
+    Reference promise = vowOf(result);
+    if (promise.number != 0) return promise;
+    promise = vow();
+    Call& call = answering(*view->call);
+    Vow given;
+    given.path = view->path;
+    given.number = promise.number;
+    given.view = promise.view;
+    given.result = result.number;
+    given.call = view->call;
+    call.vows.push_back(given);
+    if (wayOf(*view->call) != 0 || call.isOver) keepVows(call);
+    return promise;
+  }
+
+  // The call is sent, so its results will come by a Return: what was promised for them turns to them. Where they never
+  // come, the runtime gives another vat a proxy.
+  void keepVows(Call& call);
+
+  // The call is handed on: what was promised is promised for the other one's results.
+  static void passVows(Call& call, Call& by) {
+    by.vows.insert(by.vows.end(), call.vows.begin(), call.vows.end());
+    call.vows.clear();
+  }
+
+  // The call is answered here: what was promised is its result, and turns to what that is.
+  void answerVows(Call& call) {
+    for (auto& vow: call.vows) {
+      Reference promise = vow.promise();
+      if (promise.number == 0 || vow.isKept) continue;
+      vow.isKept = true;
+      if (call.fieldAt(vow.path) == nullptr) call.fields.push_back({ vow.path, broken() });
+      Reference& field = *call.fieldAt(vow.path);
+      fulfil(promise, field);
+      field = promise;
+    }
+  }
+
+  // The call has failed.
+  void breakVows(Call& call) {
+    for (auto& vow: call.vows) {
+      Reference promise = vow.promise();
+      if (promise.number == 0 || vow.isKept) continue;
+      vow.isKept = true;
+      breakPromise(promise);
+    }
+  }
+
+  // On the way of a reference, what the runtime put its proxy before: the first that surely has one, or else the first
+  // that came back. Number 0 where there is none.
+  static Reference proxiedOn(const Reference& reference) {
+    Reference sure, maybe;
+    follow(reference, [&](const Reference& at) {
+      if (at.view == nullptr) return false;
+      if (at.view->isProxy) sure = at;
+      bool isBack = at.view->cameBack != 0 && at.view->cameBack == wayOf(at);
+      if (isBack && maybe.number == 0) maybe = at;
+      return at.view->isProxy;
+    });
+    if (sure.number == 0 && maybe.number != 0) maybe.view->isProxy = true;
+    return sure.number == 0 ? maybe : sure;
+  }
+
+  // The object that a proxy of the runtime is: a vat that gives it away hosts it, and it calls what it stands before.
+  Reference proxyOf(const Reference& wrapped) {
+    auto& view = *wrapped.view;
+    Reference proxy;
+    proxy.number = view.proxyNumber;
+    proxy.view = view.proxy.lock();
+    if (proxy.view != nullptr) return proxy;
+    uint64_t object = newObject();
+    proxy = host(object);
+    proxy.view->wrapped = wrapped;
+    proxy.view->object = object;
+    view.proxyNumber = proxy.number;
+    view.proxy = proxy.view;
+    return proxy;
+  }
+
+  // Of a call that came to a proxy: the one that goes on from there.
+  static std::shared_ptr<Call> goingOn(std::shared_ptr<Call> call) {
+    while (call->isAtProxy) call = call->answeredBy;
+    return call;
+  }
+
+  // A call that leads to a proxy has come to that object, which makes the same call on what it stands before, and
+  // answers by that one. What goes on.
+  std::shared_ptr<Call> throughProxies(std::shared_ptr<Call> call) {
+    for (int steps = 0;; steps++) {
+      call = goingOn(kj::mv(call));
+      Reference end = endOfGoal(*call);
+      if (end.view == nullptr || end.view->wrapped.number == 0 || steps == 100) return call;
+      auto made = newCall(call->interfaceId, call->methodId);
+      deliver(*call, end.view->object);
+      call->isGone = false;
+      call->isAtProxy = true;
+      make(*made, end.view->wrapped);
+      answerBy(call, made);
+    }
   }
 
   // MAKE is what the program calls, not what a frame says: else the audit would compare frames with themselves.
   void make(Call& call, const Reference& target) {
     if (target.number == 0) return stop("a call is made through a capability that isn't known here");
     call.number = ++lastCall;
+    call.goal = target;
     begin(0x05, [&] {
       log.number(call.number), log.number(target.number), log.number(call.interfaceId), log.number(call.methodId);
     });
@@ -470,6 +874,7 @@ public:
     Reference reference = newReference();
     reference.view->call = call;
     reference.view->path = path;
+    call->named.push_back(path);
     begin(0x06, [&] { log.number(reference.number), log.number(call->number), addPath(path); });
     return reference;
   }
@@ -477,12 +882,16 @@ public:
   // Each call that is delivered is delivered once, to the object that was really entered.
   void deliver(Call& call, uint64_t object) {
     call.isGone = true;
+    call.dropGoal();
     begin(0x07, [&] { log.number(call.number), log.number(object); });
   }
 
-  // ANSWER stands before the Return, and before each call that goes on to one of the results.
+  // ANSWER stands before the Return, and before each call that goes on to one of the results. A result that was named
+  // before and isn't there is a null capability to C++: its calls fail, and it may go out as senderHosted.
   void answer(Call& call) {
-    call.isLocallyAnswered = true;
+    call.isLocallyAnswered = call.isOver = true;
+    answerVows(call);
+    breakNamed(call, call);
     begin(0x08, [&] {
       log.number(call.number), log.count(call.fields.size());
       for (auto& field: call.fields) log.number(field.second.number), addPath(field.first);
@@ -496,6 +905,7 @@ public:
   void answerBy(const std::shared_ptr<Call>& call, const std::shared_ptr<Call>& by) {
     if (call->answeredBy != nullptr) return;
     begin(0x0c, [&] { log.number(call->number), log.number(by->number); });
+    passVows(*call, *by);
     handOn(call, by);
   }
 
@@ -505,6 +915,7 @@ public:
     for (const Call* at = of.get(); at != nullptr; at = at->answeredBy.get()) {
       if (at == call.get()) return;
     }
+    passVows(*call, *of);
     handOn(call, of);
     shareResults(*of);
   }
@@ -514,7 +925,6 @@ public:
     for (auto& one: call.handedOn) {
       auto handed = one.lock();
       if (handed == nullptr) continue;
-      handed->fields = call.fields;
       handed->resultsAsMet = call.resultsAsMet;
       shareResults(*handed);
     }
@@ -525,6 +935,8 @@ public:
   // one that was handed on: the other call fails.
   void fault(Call& call) {
     if (call.answeredBy != nullptr) return;
+    call.isOver = true;
+    breakVows(call);
     begin(0x09, [&] { log.number(call.number); });
   }
 
@@ -556,53 +968,20 @@ public:
   void bind(Call& call) { call.number = ++lastCall; }
   uint64_t newObject() { return ++lastObject; }
 
-  // What a capability has become, as far as it is known here: the last reference on its way. None where it turned
-  // to nothing yet.
-  static Reference became(const Reference& from) {
-    Reference last;
-    const View* view = from.view.get();
-    for (int steps = 0; view != nullptr && steps < 1000; steps++) {
-      Reference next = nextOf(*view);
-      if (next.number == 0) break;
-      last = next;
-      view = next.view.get();
-    }
-    return last;
-  }
-
-  // A call whose parameters lie at this place, until it is delivered. Null parameters lie nowhere: the calls that
-  // have them are kept in their order.
+  // A call whose parameters lie in this vat's memory, where it may be delivered from.
   void keep(const std::shared_ptr<Call>& call, AnyPointer::Reader params) {
     call->params = placeOf(params);
-    if (call->params == nullptr) {
-      withoutParams.push_back(call);
-    } else {
-      callAt[call->params] = call;
-    }
+    callAt[call->params] = call;
   }
 
   std::shared_ptr<Call> callOf(AnyPointer::Reader params, uint64_t interfaceId, uint16_t methodId) {
-    const void* place = placeOf(params);
-    if (place == nullptr) {
-      for (auto& call: withoutParams) {
-        if (call->interfaceId == interfaceId && call->methodId == methodId) return call;
-      }
-      return nullptr;
-    }
-    auto found = callAt.find(place);
+    auto found = callAt.find(placeOf(params));
     if (found == callAt.end()) return nullptr;
     auto call = found->second;
     return call->interfaceId == interfaceId && call->methodId == methodId ? call : nullptr;
   }
 
   void forget(Call& call) {
-    if (call.params == nullptr) {
-      for (auto at = withoutParams.begin(); at != withoutParams.end(); ++at) {
-        if (at->get() != &call) continue;
-        withoutParams.erase(at);
-        return;
-      }
-    }
     auto found = callAt.find(call.params);
     if (found != callAt.end() && found->second.get() == &call) callAt.erase(found);
   }
@@ -613,32 +992,14 @@ public:
   std::shared_ptr<Call> sending;    // the call whose request is being sent
   // The runtime's hooks of objects. An entry goes with its object, for addresses are used again.
   std::unordered_map<const ClientHook*, Reference> hosted;
-  Outgoing* unsent = nullptr;       // the messages that are being made, the latest first
+  std::vector<End*> ends;           // of its connections
+  std::vector<uint32_t> connections;
+  Unsent* unsent = nullptr;         // the messages that are being made, the latest first
 
-  // A call was made, and is neither sent nor delivered. Those that are gone are dropped now and then.
-  void wait(const std::shared_ptr<Call>& call) {
-    if (waiting.size() >= mostWaiting) {
-      std::deque<std::shared_ptr<Call>> left;
-      for (auto& one: waiting) {
-        if (!one->isGone) left.push_back(one);
-      }
-      waiting = kj::mv(left);
-      mostWaiting = 2 * waiting.size() + 64;
-    }
-    waiting.push_back(call);
-  }
-
-  // The oldest waiting call with this method and these parameters, where the runtime copied it. Two such calls that
-  // are alike in all this are told apart by their order alone.
-  std::shared_ptr<Call> takeWaiting(uint64_t interfaceId, uint16_t methodId, AnyPointer::Reader params) {
-    while (!waiting.empty() && waiting.front()->isGone) waiting.pop_front();
-    if (waiting.empty()) return nullptr;
-    uint64_t hash = Content(params).hash;
-    for (auto& call: waiting) {
-      bool isLike = call->interfaceId == interfaceId && call->methodId == methodId;
-      if (!call->isGone && isLike && (!call->hasContent || call->content == hash)) return call;
-    }
-    return nullptr;
+  // The runtime lets go of a call's parameters. Where it has just copied them into a message, that passes the call on.
+  void letGo(const std::shared_ptr<Call>& call) {
+    if (unsent != nullptr && !call->isGone) unsent->passedOn = call;
+    forget(*call);
   }
 
 private:
@@ -648,9 +1009,6 @@ private:
   std::string reason;  // why it stopped
   uint64_t lastReference = 0, lastCall = 0, lastObject = 0;
   std::unordered_map<const void*, std::shared_ptr<Call>> callAt;
-  std::deque<std::shared_ptr<Call>> withoutParams;
-  std::deque<std::shared_ptr<Call>> waiting;
-  size_t mostWaiting = 64;
 
   template <typename Fields>
   void begin(uint8_t kind, Fields&& fields) {
@@ -691,20 +1049,537 @@ private:
     by->handedOn.push_back(call);
   }
 
-  static Reference nextOf(const View& view) {
-    if (view.call == nullptr) return view.turn;
-    const Call* call = view.call.get();
-    while (call->answeredBy != nullptr) call = call->answeredBy.get();
-    for (auto& field: call->fields) {
-      if (field.first == view.path) return field.second;
+  // Gives the results that were named and aren't there, of this call and of those that were handed on to it.
+  void breakNamed(const Call& of, Call& call) {
+    for (auto& path: of.named) {
+      if (call.fieldAt(path) == nullptr) call.fields.push_back({ path, broken() });
     }
-    return Reference();
+    for (auto& one: of.handedOn) {
+      auto handed = one.lock();
+      if (handed != nullptr) breakNamed(*handed, call);
+    }
   }
 };
 
 using SharedVat = std::shared_ptr<Vat>;
 
+}  // namespace inside
+}  // namespace vataudit
+
+// =========================================================================== One end of a connection
+
+namespace vataudit {
+namespace inside {
+
+namespace rpc = capnp::rpc;
+
+// A question that was asked, at the asking or the answering end. Its number may be opened again behind a Return that
+// says so, without a Finish; and one that was sent by `sendForPipeline` mostly gets no Return.
+struct Question {
+  std::shared_ptr<Call> call;
+  bool isBootstrap = false, isReturned = false;
+  bool isFinished = false, isLate = false;  // a Return that is still to come is late: its capabilities are given back
+  std::vector<uint32_t> broughtByCall, broughtByReturn;  // the sender's numbers in their capability tables
+};
+
+// A number of the sender's table: how often it was introduced more than given back, and what it stands for.
+struct Number {
+  uint64_t count = 0;
+  Reference reference;
+  bool isPromise = false, isResolved = false;
+  bool goesBack = false;  // it was resolved to something of the peer
+};
+
+// What the numbers of one connection stand for at this end. Read from the frames; MAKE, DELIVER and ANSWER aren't.
+class End {
+public:
+  End(SharedVat vat, uint32_t connection): vat(kj::mv(vat)), connection(connection) {
+    this->vat->ends.push_back(this);
+    this->vat->connections.push_back(connection);
+  }
+  ~End() { vat->ends.erase(std::find(vat->ends.begin(), vat->ends.end(), this)); }
+  KJ_DISALLOW_COPY(End);
+
+  SharedVat vat;
+  std::shared_ptr<Call> lastBootstrap;
+  Reference bootstrap;  // of the object that the peer gets as the bootstrap object
+  uint32_t number() const { return connection; }
+  Way way() const { return Way(connection) + 1; }
+
+  // A message that is handed to the transport: the SEND of docs/FORMATS.md. A Call comes with the call whose
+  // request it is, or that it passes on, and says whether the program wrote its parameters right there.
+  void sent(rpc::Message::Reader message, kj::ArrayPtr<const kj::ArrayPtr<const capnp::word>> segments,
+            std::shared_ptr<Call> call, bool isWrittenHere) {
+    std::vector<Reference> references;
+    uint64_t number = 0;
+    switch (message.which()) {
+      case rpc::Message::BOOTSTRAP: {
+        lastBootstrap = vat->newCall(0, 0);
+        vat->bind(*lastBootstrap);
+        lastBootstrap->wentBy = way();
+        number = lastBootstrap->number;
+        asked[message.getBootstrap().getQuestionId()] = question(lastBootstrap, true);
+        break;
+      }
+      case rpc::Message::CALL:
+        if (!sentCall(message.getCall(), kj::mv(call), isWrittenHere, number, references)) return;
+        break;
+      case rpc::Message::RETURN:
+        if (!sentReturn(message.getReturn(), references)) return;
+        break;
+      case rpc::Message::RESOLVE:
+        if (!sentResolve(message.getResolve(), references)) return;
+        break;
+      case rpc::Message::FINISH:
+        finish(asked, imports, message.getFinish());
+        break;
+      case rpc::Message::RELEASE:
+        giveBack(imports, message.getRelease().getId(), message.getRelease().getReferenceCount());
+        break;
+      default:
+        break;
+    }
+    vat->frame(true, connection, number, references, segments);
+  }
+
+  // A message that is looked at for the first time: the RECV. Answers the call that a Call brings.
+  std::shared_ptr<Call> received(rpc::Message::Reader message,
+                                 kj::ArrayPtr<const kj::ArrayPtr<const capnp::word>> segments) {
+    std::vector<Reference> references;
+    std::shared_ptr<Call> call;
+    switch (message.which()) {
+      case rpc::Message::BOOTSTRAP:
+        call = vat->newCall(0, 0);
+        vat->bind(*call);
+        answering[message.getBootstrap().getQuestionId()] = question(call, true);
+        break;
+      case rpc::Message::CALL:
+        call = receivedCall(message.getCall(), references);
+        break;
+      case rpc::Message::RETURN:
+        receivedReturn(message.getReturn(), references);
+        break;
+      case rpc::Message::RESOLVE:
+        receivedResolve(message.getResolve(), references);
+        break;
+      case rpc::Message::FINISH:
+        finish(answering, exports, message.getFinish());
+        break;
+      case rpc::Message::RELEASE:
+        giveBack(exports, message.getRelease().getId(), message.getRelease().getReferenceCount());
+        break;
+      default:
+        break;
+    }
+    vat->frame(false, connection, call == nullptr ? 0 : call->number, references, segments);
+    return message.isCall() ? call : nullptr;
+  }
+
+  // The promise of which the peer knows by a number, and hasn't heard what it became, if it became what is given.
+  Reference numbered(const Reference& given) {
+    for (size_t at = 0; at < promises.size();) {
+      auto found = exports.find(promises[at]);
+      if (found == exports.end() || !found->second.isPromise || found->second.isResolved) {
+        promises[at] = promises.back();
+        promises.pop_back();
+        continue;
+      }
+      auto& known = found->second.reference;
+      if (leadsTo(known, given) || vowOf(given).number == known.number) return known;
+      at++;
+    }
+    return Reference();
+  }
+
+  // Whether the peer has a number for it.
+  bool gave(const Reference& given) const {
+    for (auto& number: exports) {
+      if (number.second.reference.number == given.number) return true;
+    }
+    return false;
+  }
+
+private:
+  using Questions = std::unordered_map<uint32_t, Question>;
+  using Numbers = std::unordered_map<uint32_t, Number>;
+  using Table = capnp::List<rpc::CapDescriptor>::Reader;
+
+  uint32_t connection;
+  Questions asked, answering;
+  Numbers imports, exports;
+  std::vector<uint32_t> promises;  // the numbers of promises that went out, but those that were found to be over
+
+  static Question question(std::shared_ptr<Call> call, bool isBootstrap) {
+    Question question;
+    question.call = kj::mv(call);
+    question.isBootstrap = isBootstrap;
+    return question;
+  }
+
+  // ------------------------------------------------------------------------- sent
+
+  bool sentCall(rpc::Call::Reader message, std::shared_ptr<Call> call, bool isWrittenHere, uint64_t& number,
+                std::vector<Reference>& references) {
+    if (call == nullptr || call->number == 0) {
+      vat->stop("a Call is sent, and no MAKE or received Call stands before it: was it made through a client of a "
+                "promise that isn't from `promise`?");
+      return false;
+    }
+    auto payload = message.getParams();
+    auto given = isWrittenHere ? call->paramsByIndex : copied(payload, call->paramsAsMet);
+    call->isGone = true;
+    Question opened = question(vat->throughProxies(call), false);
+    opened.call->isGone = true;
+    opened.call->dropGoal();
+    opened.call->wentBy = way();
+#if CAPNP_VERSION >= 1000000
+    opened.call->isForPipeline = message.getOnlyPromisePipeline();
+#endif
+    vat->keepVows(*opened.call);
+    number = opened.call->number;
+    if (!give(payload.getCapTable(), given, true, references, opened.broughtByCall)) return false;
+    asked[message.getQuestionId()] = kj::mv(opened);
+    return true;
+  }
+
+  bool sentReturn(rpc::Return::Reader message, std::vector<Reference>& references) {
+    auto found = answering.find(message.getAnswerId());
+    if (found == answering.end()) return true;  // to no question: the audit says so
+    Question& answered = found->second;
+    if (message.isResults() && !answered.isLate) {
+      auto payload = message.getResults();
+      if (!give(payload.getCapTable(), results(answered, payload), false, references, answered.broughtByReturn)) {
+        return false;
+      }
+      noteBack(*answered.call, payload);
+    }
+    answered.isReturned = true;
+    if (message.getReleaseParamCaps()) giveBack(imports, answered.broughtByCall);
+    if (answered.isFinished) answering.erase(found);
+    return true;
+  }
+
+  // Which results of a Return are the peer's own.
+  static void noteBack(Call& call, rpc::Payload::Reader payload) {
+    auto table = payload.getCapTable();
+    bool hasBack = false;
+    for (auto entry: table) hasBack = hasBack || entry.isReceiverHosted() || entry.isReceiverAnswer();
+    if (!hasBack) return;
+    for (auto& met: Content(payload.getContent()).met) {
+      if (!met.hasPath || met.index >= table.size()) continue;
+      if (table[met.index].isReceiverHosted() || table[met.index].isReceiverAnswer()) call.goesBack.push_back(met.path);
+    }
+  }
+
+  // What the capabilities of a Return are: the bootstrap object, those that the program wrote there, or a copy of
+  // what another Return brought.
+  std::vector<Reference> results(Question& answered, rpc::Payload::Reader payload) {
+    Call& call = *answered.call;
+    if (answered.isBootstrap) {
+      if (payload.getCapTable().size() > 0) {
+        call.resultsByIndex = { bootstrap };
+        call.fields = { { Path(), bootstrap } };
+      }
+      if (bootstrap.number != 0) vat->answer(call);
+    }
+    bool isWrittenHere = answered.isBootstrap || call.isLocallyAnswered;
+    return isWrittenHere ? call.resultsByIndex : copied(payload, call.resultsAsMet);
+  }
+
+  // A Resolve notes what the promise turned out to be, where that is a new number. Of what goes back, or was sent
+  // before, the promise itself will do: it leads there.
+  bool sentResolve(rpc::Resolve::Reader message, std::vector<Reference>& references) {
+    if (!message.isCap() || message.getCap().isNone()) return true;
+    auto found = exports.find(message.getPromiseId());
+    if (found == exports.end()) {
+      vat->stop("a Resolve is sent of a promise that isn't known here");
+      return false;
+    }
+    auto became = message.getCap();
+    found->second.isResolved = true;
+    found->second.goesBack = became.isReceiverHosted() || became.isReceiverAnswer();
+    Reference promise = found->second.reference;
+    std::vector<uint32_t> brought;
+    references.push_back(introduce(became, promise, false, brought));
+    return true;
+  }
+
+  // The references of a copy, by index: a copy keeps the order in which capabilities are met in the content.
+  static std::vector<Reference> copied(rpc::Payload::Reader payload, const std::vector<Reference>& asMet) {
+    if (payload.getCapTable().size() == 0) return {};
+    return byIndexOf(Content(payload.getContent()).met, asMet);
+  }
+
+  // Notes the reference of each entry that isn't none, in the table's order. In a Call the vat gives what it likes; in
+  // a Return it gives what the call's results are.
+  bool give(Table table, const std::vector<Reference>& byIndex, bool isCall, std::vector<Reference>& references,
+            std::vector<uint32_t>& brought) {
+    for (uint at = 0; at < table.size(); at++) {
+      if (table[at].isNone()) continue;
+      if (at >= byIndex.size() || byIndex[at].number == 0) {
+        vat->stop("a capability is sent that isn't known here");
+        return false;
+      }
+      references.push_back(introduce(table[at], byIndex[at], isCall, brought));
+    }
+    return true;
+  }
+
+  // The reference that is noted for what goes out.
+  Reference introduce(rpc::CapDescriptor::Reader descriptor, const Reference& given, bool isCall,
+                      std::vector<uint32_t>& brought) {
+    if (!descriptor.isSenderHosted() && !descriptor.isSenderPromise()) return isCall ? withoutProxy(given) : given;
+    uint32_t id = descriptor.isSenderHosted() ? descriptor.getSenderHosted() : descriptor.getSenderPromise();
+    Number& number = exports[id];
+    brought.push_back(id);
+    if (number.count++ > 0) return introducedAgain(number.reference, given, isCall);
+    number.isPromise = descriptor.isSenderPromise();
+    number.reference = !number.isPromise ? hosted(given, isCall) : isCall ? promised(given) : given;
+    if (number.isPromise) promises.push_back(id);
+    return number.reference;
+  }
+
+  // What goes out as a new senderPromise: where it has a number already, the runtime is further on its way.
+  Reference promised(const Reference& given) {
+    const Reference* open = &given;
+    follow(given, [&](const Reference& at) {
+      if (isPromised(at) || isPromised(vowOf(at))) return false;
+      return open = &at, true;
+    });
+    return vat->promiseOf(*open);
+  }
+
+  bool isPromised(const Reference& reference) const {
+    for (uint32_t id: promises) {
+      auto found = exports.find(id);
+      if (found == exports.end() || !found->second.isPromise || found->second.isResolved) continue;
+      if (reference.number != 0 && areSame(found->second.reference, reference)) return true;
+    }
+    return false;
+  }
+
+  // Over the connection where a result without a Return is, the runtime gives back what it is, and no proxy.
+  static Reference withoutProxy(const Reference& given) {
+    Reference wrapped = lastOf(given).view->wrapped;
+    return wrapped.number != 0 && neverComes(wrapped) ? wrapped : given;
+  }
+
+  // The runtime gives the number of a promise to the promise that it became, without a word: then what goes out is the
+  // first one, too.
+  static Reference introducedAgain(const Reference& known, const Reference& given, bool isCall) {
+    if (leadsTo(given, known)) return given;
+    if (leadsTo(known, given) || vowOf(given).number == known.number) return known;
+    return isCall && known.view->wrapped.number != 0 && leadsTo(given, known.view->wrapped) ? known : given;
+  }
+
+  // What goes out as senderHosted is what its reference became: of a promise the runtime sends the object. Where that
+  // is still open, the runtime gives out a proxy.
+  Reference hosted(const Reference& given, bool isCall) {
+    Reference proxied;
+    follow(given, [&](const Reference& at) { return at.view->isProxy && (proxied = at, true); });
+    if (proxied.number == 0 && isSettled(given)) return lastOf(given);
+    if (proxied.number == 0) proxied = Vat::proxiedOn(given);
+    if (proxied.number == 0) proxied = lastOf(given);
+    return isSettled(proxied) || !isCall ? proxied : vat->proxyOf(proxied);
+  }
+
+  // ------------------------------------------------------------------------- received
+
+  std::shared_ptr<Call> receivedCall(rpc::Call::Reader message, std::vector<Reference>& references) {
+    auto call = vat->newCall(message.getInterfaceId(), message.getMethodId());
+    vat->bind(*call);
+    call->isReceived = true;
+    call->cameBy = way();
+    addressTo(*call, message.getTarget());
+    Question opened = question(call, false);
+    auto payload = message.getParams();
+    call->paramsByIndex = take(payload.getCapTable(), references, opened.broughtByCall);
+    if (!call->paramsByIndex.empty()) {
+      call->paramsAsMet = asMet(Content(payload.getContent()).met, call->paramsByIndex);
+    }
+    vat->keep(call, payload.getContent());
+    answering[message.getQuestionId()] = kj::mv(opened);
+    return call;
+  }
+
+  void addressTo(Call& call, rpc::MessageTarget::Reader target) {
+    if (target.isImportedCap()) {
+      auto found = exports.find(target.getImportedCap());
+      if (found != exports.end()) call.goal = found->second.reference;
+    } else if (target.isPromisedAnswer()) {
+      auto answer = target.getPromisedAnswer();
+      auto found = answering.find(answer.getQuestionId());
+      if (found == answering.end()) return;
+      call.goalCall = found->second.call;
+      call.goalPath = pathOf(answer);
+    }
+  }
+
+  static Path pathOf(rpc::PromisedAnswer::Reader answer) {
+    Path path;
+    for (auto op: answer.getTransform()) {
+      if (op.isGetPointerField()) path.push_back(op.getGetPointerField());
+    }
+    return path;
+  }
+
+  // The field of a call that came in.
+  void standForAnswer(View& view, rpc::PromisedAnswer::Reader answer) {
+    auto found = answering.find(answer.getQuestionId());
+    if (found == answering.end()) return;
+    view.call = found->second.call;
+    view.path = pathOf(answer);
+    if (!view.call->isOver) view.call->named.push_back(view.path);
+  }
+
+  // Whether the runtime has something of the peer at a result that is named here: then it puts a proxy before it. So it
+  // is where the call went back to the peer, and where its Return said that the result is the peer's.
+  bool isBack(const View& view) const {
+    if (view.call == nullptr) return false;
+    auto& back = view.call->goesBack;
+    return wayOf(*view.call) == way() || std::find(back.begin(), back.end(), view.path) != back.end();
+  }
+
+  // A late Return, one after a Finish with releaseResultCaps, notes no reference.
+  void receivedReturn(rpc::Return::Reader message, std::vector<Reference>& references) {
+    auto found = asked.find(message.getAnswerId());
+    if (found == asked.end()) return;
+    Question& answered = found->second;
+    if (message.isResults() && !answered.isLate) {
+      auto payload = message.getResults();
+      auto byIndex = take(payload.getCapTable(), references, answered.broughtByReturn);
+      if (!byIndex.empty()) answered.call->setResults(kj::mv(byIndex), Content(payload.getContent()).met);
+      answered.call->isOver = true;
+      Vat::shareResults(*answered.call);
+    } else if (message.isException()) {
+      answered.call->isOver = true;
+    } else if (message.isTakeFromOtherQuestion() && !answered.isLate) {
+      auto other = answering.find(message.getTakeFromOtherQuestion());
+      if (other != answering.end()) Vat::takeResults(answered.call, other->second.call);
+    }
+    answered.isReturned = true;
+    if (message.getReleaseParamCaps()) giveBack(exports, answered.broughtByCall);
+    if (answered.isFinished) asked.erase(found);
+  }
+
+  void receivedResolve(rpc::Resolve::Reader message, std::vector<Reference>& references) {
+    if (!message.isCap() || message.getCap().isNone()) return;
+    std::vector<uint32_t> brought;
+    auto found = imports.find(message.getPromiseId());
+    std::shared_ptr<View> promise = found == imports.end() ? nullptr : found->second.reference.view;
+    Reference became = arrived(message.getCap(), brought);
+    references.push_back(became);
+    if (promise != nullptr) promise->turn = became;
+  }
+
+  // New references for what came in, by index.
+  std::vector<Reference> take(Table table, std::vector<Reference>& references, std::vector<uint32_t>& brought) {
+    std::vector<Reference> byIndex(table.size());
+    for (uint at = 0; at < table.size(); at++) {
+      if (table[at].isNone()) continue;
+      byIndex[at] = arrived(table[at], brought);
+      references.push_back(byIndex[at]);
+    }
+    return byIndex;
+  }
+
+  Reference arrived(rpc::CapDescriptor::Reader descriptor, std::vector<uint32_t>& brought) {
+    Reference reference = vat->newReference();
+    switch (descriptor.which()) {
+      case rpc::CapDescriptor::SENDER_HOSTED:
+      case rpc::CapDescriptor::SENDER_PROMISE: {
+        uint32_t id = descriptor.isSenderHosted() ? descriptor.getSenderHosted() : descriptor.getSenderPromise();
+        Number& number = imports[id];
+        if (number.count++ == 0) number.reference = reference;
+        reference.view = number.reference.view;
+        reference.view->import = way();
+        if (descriptor.isSenderHosted()) reference.view->isSettled = true;
+        brought.push_back(id);
+        break;
+      }
+      case rpc::CapDescriptor::RECEIVER_HOSTED: {
+        auto found = exports.find(descriptor.getReceiverHosted());
+        if (found == exports.end()) break;
+        reference.view->same = found->second.reference;
+        reference.view->isProxy = found->second.goesBack;
+        if (reference.view->isProxy) reference.view->cameBack = way();
+        break;
+      }
+      case rpc::CapDescriptor::RECEIVER_ANSWER:
+        standForAnswer(*reference.view, descriptor.getReceiverAnswer());
+        reference.view->cameBack = way();
+        reference.view->isProxy = isBack(*reference.view);
+        break;
+      default:
+        break;
+    }
+    return reference;
+  }
+
+  // ------------------------------------------------------------------------- given back
+
+  static void giveBack(Numbers& numbers, uint32_t id, uint64_t count) {
+    auto found = numbers.find(id);
+    if (found == numbers.end()) return;
+    if (found->second.count <= count) {
+      numbers.erase(found);
+    } else {
+      found->second.count -= count;
+    }
+  }
+  static void giveBack(Numbers& numbers, const std::vector<uint32_t>& ids) {
+    for (uint32_t id: ids) giveBack(numbers, id, 1);
+  }
+
+  // After a Finish with releaseResultCaps the Return that may still come is late.
+  static void finish(Questions& questions, Numbers& numbers, rpc::Finish::Reader message) {
+    auto found = questions.find(message.getQuestionId());
+    if (found == questions.end()) return;
+    if (found->second.isReturned) {
+      if (message.getReleaseResultCaps()) giveBack(numbers, found->second.broughtByReturn);
+      questions.erase(found);
+    } else {
+      found->second.isFinished = true;
+      found->second.isLate = message.getReleaseResultCaps();
+    }
+  }
+};
+
+inline Reference Vat::asNumbered(const Reference& given, Way way) {
+  if (given.view == nullptr || given.view->isSettled) return given;
+  if (way != 0 && neverComes(given) && wayOf(given) != way) return proxyOf(lastOf(given));
+  Reference wrapped = lastOf(given).view->wrapped;
+  if (way != 0 && wrapped.number != 0 && neverComes(wrapped) && wayOf(wrapped) == way) return wrapped;
+  for (auto end: ends) {
+    Reference known = end->numbered(given);
+    if (known.number != 0) return known;
+  }
+  return promiseOf(given);
+}
+
+inline void Vat::keepVows(Call& call) {
+  for (auto& vow: call.vows) {
+    Reference promise = vow.promise(), result;
+    if (promise.number == 0 || vow.isKept) continue;
+    vow.isKept = true;
+    result.number = vow.result;
+    result.view = std::make_shared<View>();
+    result.view->call = vow.call.lock();
+    if (result.view->call == nullptr) result.view->call = call.shared_from_this();
+    result.view->path = vow.path;
+    bool isElsewhere = false;
+    for (auto end: ends) isElsewhere = isElsewhere || (end->way() != call.wentBy && end->gave(promise));
+    fulfil(promise, call.isForPipeline && isElsewhere ? proxyOf(result) : result);
+  }
+}
+
+}  // namespace inside
+}  // namespace vataudit
+
 // =========================================================================== Capabilities in the program's hands
+
+namespace vataudit {
+namespace inside {
 
 // A capability that the program holds: the runtime's hook and its reference. The runtime itself never gets one, so
 // that it does what it would do unrecorded.
@@ -720,16 +1595,7 @@ public:
                               Hints... hints) override {
     return inner->call(interfaceId, methodId, kj::mv(context), hints...);
   }
-  kj::Maybe<ClientHook&> getResolved() override {
-    ClientHook* hook = inner.get();
-    for (;;) {
-      KJ_IF_MAYBE(next, hook->getResolved()) {
-        hook = next;
-      } else {
-        return *hook;
-      }
-    }
-  }
+  kj::Maybe<ClientHook&> getResolved() override;
   kj::Maybe<kj::Promise<kj::Own<ClientHook>>> whenMoreResolved() override { return inner->whenMoreResolved(); }
   kj::Own<ClientHook> addRef() override { return kj::addRef(*this); }
   const void* getBrand() override { return inner->isNull() || inner->isError() ? inner->getBrand() : nullptr; }
@@ -741,6 +1607,31 @@ public:
 };
 using Handle = OfVersion<HandleWith>;
 
+// Where the runtime is on the way of what a capability becomes.
+inline ClientHook& innermost(ClientHook& hook) {
+  ClientHook* at = &hook;
+  for (;;) {
+    KJ_IF_MAYBE(next, at->getResolved()) {
+      at = next;
+    } else {
+      return *at;
+    }
+  }
+}
+
+template <typename... Hints>
+kj::Maybe<ClientHook&> HandleWith<Hints...>::getResolved() { return innermost(*inner); }
+
+// The reference by which a capability is given away. Where the runtime stands at a proxy of its own (it gives these
+// out for what came back over a connection and leads over it again), it is that of the proxy, an object of this vat.
+inline Reference givenBy(Vat& vat, const Reference& reference, ClientHook& hook) {
+  ClientHook& end = innermost(hook);
+  if (end.getBrand() != nullptr || vat.hosted.count(&end) > 0 || end.whenMoreResolved() != nullptr) return reference;
+  Reference behind = vat.proxiedOn(reference);
+  if (behind.number == 0) return reference;
+  return isSettled(behind) ? behind : vat.proxyOf(behind);
+}
+
 // The reference of a capability that the program gives away. A broken one gets a VOW and a BREAK, since it goes out
 // as senderHosted and no object stands behind it. So does a null one: in content it is a null pointer and never comes
 // here, but a promise may become one, and C++ then resolves that to a senderHosted whose calls all fail.
@@ -748,18 +1639,14 @@ inline Reference referenceOf(Vat& vat, ClientHook& hook) {
   ClientHook* at = &hook;
   for (;;) {
     if (auto handle = dynamic_cast<Handle*>(at)) {
-      if (handle->vat.get() == &vat) return handle->reference;
+      if (handle->vat.get() == &vat) return givenBy(vat, handle->reference, *handle->inner);
       vat.stop("a capability is given away that another recorder of this process knows: it has to come over a "
                "connection");
       return Reference();
     }
     auto found = vat.hosted.find(at);
     if (found != vat.hosted.end()) return found->second;
-    if ((at->isError() || at->isNull()) && vat.isRecording()) {
-      Reference broken = vat.vow();
-      vat.breakPromise(broken);
-      return broken;
-    }
+    if ((at->isError() || at->isNull()) && vat.isRecording()) return vat.broken();
     KJ_IF_MAYBE(next, at->getResolved()) {
       at = next;
     } else {
@@ -847,7 +1734,13 @@ private:
   capnp::_::CapTableBuilder* inner = nullptr;
 };
 
+}  // namespace inside
+}  // namespace vataudit
+
 // =========================================================================== Calls that the program makes
+
+namespace vataudit {
+namespace inside {
 
 // Says for a while which call is at work, and then again what was said before.
 class Meanwhile {
@@ -878,7 +1771,8 @@ public:
     }
     auto hook = inner->getPipelinedCap(ops);
     if (!vat->isRecording()) return hook;
-    return wrapped(vat, fieldAt(path), kj::mv(hook));
+    auto reference = fieldAt(path, *hook);
+    return wrapped(vat, reference, kj::mv(hook));
   }
 
 private:
@@ -887,11 +1781,15 @@ private:
   kj::Own<capnp::PipelineHook> inner;
   std::vector<std::pair<Path, Reference>> named;
 
-  Reference fieldAt(const Path& path) {
+  Reference fieldAt(const Path& path, ClientHook& hook) {
     for (auto& one: named) {
       if (one.first == path) return one.second;
     }
-    named.push_back({ path, vat->field(call, path) });
+    // Named behind the ANSWER, of a result that isn't there, while the runtime doesn't know that yet.
+    auto& answered = answering(*call);
+    bool isNull = answered.isLocallyAnswered && answered.fieldAt(path) == nullptr;
+    bool isPromise = !hook.isError() && !hook.isNull();
+    named.push_back({ path, isNull && isPromise ? vat->nullPromise() : vat->field(call, path) });
     return named.back().second;
   }
 };
@@ -909,13 +1807,74 @@ public:
   ReadTable table;
 };
 
+// The references of the capabilities in a call's results, by their indexes there. Where the call came back, and went on
+// from here, the runtime has copied them.
+inline std::vector<Reference> resultsOf(Call& call, AnyPointer::Reader results) {
+  bool isCopy = false;
+  Call* at = &call;
+  while (at->answeredBy != nullptr) {
+    at = at->answeredBy.get();
+    isCopy = isCopy || at->isReceived;
+  }
+  if (!isCopy || at->isLocallyAnswered) return at->resultsByIndex;
+  return byIndexOf(Content(results).met, at->resultsAsMet);
+}
+
+// What a request of this brand, which was made of this hook, goes to as it is sent, where that is something else.
+inline kj::Own<ClientHook> turnedTo(ClientHook& hook, const void* brand) {
+  if (hook.getBrand() != brand) return {};  // the runtime's proxy
+  ClientHook* at = &hook;
+  while (at->getBrand() == brand) {
+    KJ_IF_MAYBE(next, at->getResolved()) {
+      at = next;
+    } else {
+      return {};
+    }
+  }
+  return at->addRef();
+}
+
+// Lies in the capability table of a request that stays in this vat, where no pointer names it, and goes when the
+// runtime lets go of the parameters: so the recorder knows which call they are of.
+template <typename... Hints>
+class TagWith final: public ClientHook, public kj::Refcounted {
+public:
+  TagWith(SharedVat vat, std::shared_ptr<Call> of): vat(kj::mv(vat)), of(kj::mv(of)) {}
+  ~TagWith() noexcept(false) { vat->letGo(of); }
+
+  capnp::Request<AnyPointer, AnyPointer> newCall(uint64_t, uint16_t, kj::Maybe<capnp::MessageSize> sizeHint,
+                                                 Hints...) override {
+    return capnp::newBrokenRequest(KJ_EXCEPTION(FAILED, "a tag of the recorder is called"), sizeHint);
+  }
+  VoidPromiseAndPipeline call(uint64_t, uint16_t, kj::Own<capnp::CallContextHook>&&, Hints...) override {
+    auto failure = KJ_EXCEPTION(FAILED, "a tag of the recorder is called");
+    return VoidPromiseAndPipeline { kj::cp(failure), capnp::newBrokenPipeline(kj::cp(failure)) };
+  }
+  kj::Maybe<ClientHook&> getResolved() override { return nullptr; }
+  kj::Maybe<kj::Promise<kj::Own<ClientHook>>> whenMoreResolved() override { return nullptr; }
+  kj::Own<ClientHook> addRef() override { return kj::addRef(*this); }
+  const void* getBrand() override { return nullptr; }
+  kj::Maybe<int> getFd() override { return nullptr; }
+
+private:
+  SharedVat vat;
+  std::shared_ptr<Call> of;
+};
+using Tag = OfVersion<TagWith>;
+
 // A request of the program. MAKE is recorded as it is sent, so before the runtime's SEND.
 class Request final: public capnp::RequestHook {
 public:
-  Request(SharedVat vat, Reference target, std::shared_ptr<Call> call,
-          capnp::Request<AnyPointer, AnyPointer>&& request)
-      : vat(vat), target(kj::mv(target)), call(kj::mv(call)), builder(request), table(kj::mv(vat)),
-        inner(capnp::RequestHook::from(kj::mv(request))) {}
+  using Runtimes = capnp::Request<AnyPointer, AnyPointer>;
+  // Makes the same request of another hook.
+  using Renew = std::function<Runtimes(ClientHook&, kj::Maybe<capnp::MessageSize>)>;
+
+  Request(SharedVat vat, Reference target, kj::Own<ClientHook> hook, std::shared_ptr<Call> call, Runtimes&& request,
+          Renew&& renew)
+      : vat(vat), target(kj::mv(target)), hook(kj::mv(hook)), call(kj::mv(call)), builder(request),
+        renew(kj::mv(renew)), table(kj::mv(vat)), inner(capnp::RequestHook::from(kj::mv(request))) {
+    if (isLocal()) tag();
+  }
 
   AnyPointer::Builder params() { return table.imbue(builder); }
 
@@ -924,10 +1883,9 @@ public:
     auto promise = whileSending([&] { return inner->send(); });
     auto pipeline = recorded(kj::mv(promise));
     auto results = promise.then([vat = vat, call = call](capnp::Response<AnyPointer>&& response) {
-      const Call* answered = call.get();
-      while (answered->answeredBy != nullptr) answered = answered->answeredBy.get();
       AnyPointer::Reader reader = response;
-      auto hook = kj::heap<Results>(vat, answered->resultsByIndex, capnp::ResponseHook::from(kj::mv(response)));
+      auto byIndex = resultsOf(*call, reader);
+      auto hook = kj::heap<Results>(vat, kj::mv(byIndex), capnp::ResponseHook::from(kj::mv(response)));
       reader = hook->table.imbue(reader);
       return capnp::Response<AnyPointer>(reader, kj::mv(hook));
     });
@@ -953,38 +1911,71 @@ public:
   // Records MAKE, and what is needed to know the call again: where its parameters lie, and what they give away.
   bool begin() {
     if (!vat->isRecording()) return false;
-    auto reader = builder.asReader();
     vat->make(*call, target);
     call->paramsByIndex = kj::mv(table.byIndex);
-    if (!call->paramsByIndex.empty() || call->hasContent) {
-      Content content(reader);
-      call->paramsAsMet = asMet(content.met, call->paramsByIndex);
-      call->content = content.hash;
+    if (!call->paramsByIndex.empty()) {
+      call->paramsAsMet = asMet(Content(builder.asReader()).met, call->paramsByIndex);
     }
-    vat->keep(call, reader);
+    followTurn();
+    if (isLocal()) {
+      vat->keep(call, builder.asReader());
+    } else {
+      vat->throughProxies(call);
+    }
     return vat->isRecording();
   }
-  // What the runtime answers when this call is handed to it. A call that it doesn't send at once waits for a promise,
-  // or to be delivered.
+
+  // What the runtime answers when this call is handed to it.
   template <typename Send>
   auto whileSending(Send&& send) -> decltype(send()) {
-    auto sent = [&] {
-      Meanwhile meanwhile(vat->sending, call);
-      KJ_DEFER(vat->settle());
-      return send();
-    }();
-    if (!call->isGone) vat->wait(call);
-    return sent;
+    Meanwhile meanwhile(vat->sending, call);
+    KJ_DEFER(vat->settle());
+    return send();
   }
 
   SharedVat vat;
   Reference target;
+  kj::Own<ClientHook> hook;      // of which the runtime's request was made
   std::shared_ptr<Call> call;
   AnyPointer::Builder builder;
+  Renew renew;
   WriteTable table;
   kj::Own<capnp::RequestHook> inner;
 
 private:
+  kj::Vector<kj::Own<capnp::RequestHook>> turned;  // the requests that copies were made of
+
+  // Whether the request stays in this vat, or waits here for a promise.
+  bool isLocal() { return inner->getBrand() == nullptr; }
+
+  void tag() {
+    auto pointer = capnp::_::PointerHelpers<AnyPointer>::getInternalBuilder(AnyPointer::Builder(builder));
+    pointer.getCapTable()->injectCap(kj::refcounted<Tag>(vat, call));
+  }
+
+  // Where a promise turned while its request was written, the runtime copies the request as it is sent, and sends the
+  // copy to what the promise became. The copy is made here in the same way, so that it is known.
+  void followTurn() {
+    while (!isLocal()) {
+      auto next = turnedTo(*hook, inner->getBrand());
+      if (next.get() == nullptr || !isConnected()) return;
+      auto written = builder.asReader();
+      auto copy = renew(*next, builder.targetSize());
+      builder = copy;
+      hook = kj::mv(next);
+      turned.add(kj::mv(inner));
+      inner = capnp::RequestHook::from(kj::mv(copy));
+      if (isLocal()) tag();
+      builder.set(written);
+      if (isLocal()) call->paramsByIndex = byIndexOf(Content(builder.asReader()).met, call->paramsAsMet);
+    }
+  }
+
+  // Of a request whose connection is gone the runtime makes no copy: it fails.
+  bool isConnected() {
+    return capnp::RequestHook::from(renew(*hook, nullptr))->getBrand() == inner->getBrand();
+  }
+
   // The pipeline of this call, in which each result that is named gets its FIELD.
   AnyPointer::Pipeline recorded(AnyPointer::Pipeline&& pipeline) {
     return AnyPointer::Pipeline(
@@ -997,31 +1988,30 @@ capnp::Request<AnyPointer, AnyPointer> HandleWith<Hints...>::newCall(
     uint64_t interfaceId, uint16_t methodId, kj::Maybe<capnp::MessageSize> sizeHint, Hints... hints) {
   if (!vat->isRecording()) return inner->newCall(interfaceId, methodId, sizeHint, hints...);
   auto call = vat->newCall(interfaceId, methodId);
-  // What became an object of this vat, or waits for one, is called directly, as ClientHook::getResolved allows: the
-  // runtime would only copy the parameters once more, and DELIVER finds its call by where they lie.
-  ClientHook& end = KJ_ASSERT_NONNULL(getResolved());
-  bool isHere = end.getBrand() == nullptr;
-  call->hasContent = isHere && vat->hosted.count(&end) == 0;
   auto request = [&] {
     Meanwhile meanwhile(vat->building, call);
-    return (isHere ? end : *inner).newCall(interfaceId, methodId, sizeHint, hints...);
+    return inner->newCall(interfaceId, methodId, sizeHint, hints...);
   }();
-  auto hook = kj::heap<Request>(vat, reference, kj::mv(call), kj::mv(request));
+  auto renew = [interfaceId, methodId, hints...](ClientHook& hook, kj::Maybe<capnp::MessageSize> size) {
+    return hook.newCall(interfaceId, methodId, size, hints...);
+  };
+  auto hook = kj::heap<Request>(vat, reference, inner->addRef(), kj::mv(call), kj::mv(request), kj::mv(renew));
   auto params = hook->params();
   return capnp::Request<AnyPointer, AnyPointer>(params, kj::mv(hook));
 }
 
+}  // namespace inside
+}  // namespace vataudit
+
 // =========================================================================== Objects
 
-// Opens the one member of a call's context that a derived server can't reach: the hook. Naming a private member in
-// an explicit instantiation is allowed.
+namespace vataudit {
+namespace inside {
+
+// A derived server can't reach the hook of a call's context.
 struct HookOfContext {
   using Type = capnp::CallContextHook* capnp::CallContext<AnyPointer, AnyPointer>::*;
   friend Type open(HookOfContext);
-};
-template <typename Tag, typename Tag::Type member>
-struct Opened {
-  friend typename Tag::Type open(Tag) { return member; }
 };
 template struct Opened<HookOfContext, &capnp::CallContext<AnyPointer, AnyPointer>::hook>;
 
@@ -1107,6 +2097,10 @@ public:
   void answer() {
     if (!vat->isRecording() || call->isLocallyAnswered || call->answeredBy != nullptr) return;
     if (hasResults && !results.byIndex.empty()) {
+      auto way = returnsBy(*call);
+      for (auto& reference: results.byIndex) {
+        if (reference.view != nullptr && !reference.view->isSettled) reference = vat->asNumbered(reference, way);
+      }
       Content content(inner->getResults(capnp::MessageSize { 0, 0 }).asReader());
       call->setResults(kj::mv(results.byIndex), content.met);
     }
@@ -1125,8 +2119,8 @@ private:
   template <typename TailCall>
   auto handOn(kj::Own<capnp::RequestHook>&& request, TailCall&& tailCall) -> decltype(tailCall(kj::mv(request))) {
     auto made = dynamic_cast<Request*>(request.get());
-    if (made == nullptr || !made->begin()) return tailCall(kj::mv(request));
-    vat->answerBy(call, made->call);
+    if (made == nullptr) return tailCall(kj::mv(request));
+    if (made->begin()) vat->answerBy(call, Vat::goingOn(made->call));
     return made->whileSending([&] { return tailCall(kj::mv(made->inner)); });
   }
 };
@@ -1180,12 +2174,10 @@ public:
 private:
   Self self;
 
-  // Finds the call by where its parameters lie. The runtime copies them where a promise was settled between the
-  // making of a request and its sending: then by what they are. What is left are calls through a client that isn't
-  // recorded, as that of a promise which isn't from `promise`: they have no MAKE yet.
+  // Finds the call by where its parameters lie. What is left are calls through a client that isn't recorded, as that of
+  // a promise which isn't from `promise`: they have no MAKE yet.
   std::shared_ptr<Call> delivered(AnyPointer::Reader params, uint64_t interfaceId, uint16_t methodId) {
     auto call = vat->callOf(params, interfaceId, methodId);
-    if (call == nullptr) call = vat->takeWaiting(interfaceId, methodId, params);
     if (call == nullptr) {
       call = vat->newCall(interfaceId, methodId);
       vat->make(*call, reference);
@@ -1197,337 +2189,13 @@ private:
   }
 };
 
-// =========================================================================== One end of a connection
-
-namespace rpc = capnp::rpc;
-
-// A question that was asked, at the asking or the answering end. Its number may be opened again behind a Return that
-// says so, without a Finish; and one that was sent by `sendForPipeline` mostly gets no Return.
-struct Question {
-  std::shared_ptr<Call> call;
-  bool isBootstrap = false, isReturned = false;
-  bool isFinished = false, isLate = false;  // a Return that is still to come is late: its capabilities are given back
-  std::vector<uint32_t> broughtByCall, broughtByReturn;  // the sender's numbers in their capability tables
-};
-
-// A number of the sender's table: how often it was introduced more than given back, and what it stands for.
-struct Number {
-  uint64_t count = 0;
-  Reference reference;
-};
-
-// What the numbers of one connection stand for at this end. Read from the frames; MAKE, DELIVER and ANSWER aren't.
-class End {
-public:
-  End(SharedVat vat, uint32_t connection): vat(kj::mv(vat)), connection(connection) {}
-
-  SharedVat vat;
-  std::shared_ptr<Call> lastBootstrap;
-  Reference bootstrap;  // of the object that the peer gets as the bootstrap object
-  uint32_t number() const { return connection; }
-
-  // A message that is handed to the transport: the SEND of docs/FORMATS.md. A Call comes with the call whose
-  // request it is, or that it passes on, and says whether the program wrote its parameters right there.
-  void sent(rpc::Message::Reader message, kj::ArrayPtr<const kj::ArrayPtr<const capnp::word>> segments,
-            std::shared_ptr<Call> call, bool isWrittenHere) {
-    std::vector<Reference> references;
-    uint64_t number = 0;
-    switch (message.which()) {
-      case rpc::Message::BOOTSTRAP: {
-        lastBootstrap = vat->newCall(0, 0);
-        vat->bind(*lastBootstrap);
-        number = lastBootstrap->number;
-        asked[message.getBootstrap().getQuestionId()] = question(lastBootstrap, true);
-        break;
-      }
-      case rpc::Message::CALL:
-        if (!sentCall(message.getCall(), kj::mv(call), isWrittenHere, number, references)) return;
-        break;
-      case rpc::Message::RETURN:
-        if (!sentReturn(message.getReturn(), references)) return;
-        break;
-      case rpc::Message::RESOLVE:
-        if (!sentResolve(message.getResolve(), references)) return;
-        break;
-      case rpc::Message::FINISH:
-        finish(asked, imports, message.getFinish());
-        break;
-      case rpc::Message::RELEASE:
-        giveBack(imports, message.getRelease().getId(), message.getRelease().getReferenceCount());
-        break;
-      default:
-        break;
-    }
-    vat->frame(true, connection, number, references, segments);
-  }
-
-  // A message that is looked at for the first time: the RECV. Answers the call that a Call brings.
-  std::shared_ptr<Call> received(rpc::Message::Reader message,
-                                 kj::ArrayPtr<const kj::ArrayPtr<const capnp::word>> segments) {
-    std::vector<Reference> references;
-    std::shared_ptr<Call> call;
-    switch (message.which()) {
-      case rpc::Message::BOOTSTRAP:
-        call = vat->newCall(0, 0);
-        vat->bind(*call);
-        answering[message.getBootstrap().getQuestionId()] = question(call, true);
-        break;
-      case rpc::Message::CALL:
-        call = receivedCall(message.getCall(), references);
-        break;
-      case rpc::Message::RETURN:
-        receivedReturn(message.getReturn(), references);
-        break;
-      case rpc::Message::RESOLVE:
-        receivedResolve(message.getResolve(), references);
-        break;
-      case rpc::Message::FINISH:
-        finish(answering, exports, message.getFinish());
-        break;
-      case rpc::Message::RELEASE:
-        giveBack(exports, message.getRelease().getId(), message.getRelease().getReferenceCount());
-        break;
-      default:
-        break;
-    }
-    vat->frame(false, connection, call == nullptr ? 0 : call->number, references, segments);
-    return message.isCall() ? call : nullptr;
-  }
-
-private:
-  using Questions = std::unordered_map<uint32_t, Question>;
-  using Numbers = std::unordered_map<uint32_t, Number>;
-  using Table = capnp::List<rpc::CapDescriptor>::Reader;
-
-  uint32_t connection;
-  Questions asked, answering;
-  Numbers imports, exports;
-
-  static Question question(std::shared_ptr<Call> call, bool isBootstrap) {
-    Question question;
-    question.call = kj::mv(call);
-    question.isBootstrap = isBootstrap;
-    return question;
-  }
-
-  // ------------------------------------------------------------------------- sent
-
-  bool sentCall(rpc::Call::Reader message, std::shared_ptr<Call> call, bool isWrittenHere, uint64_t& number,
-                std::vector<Reference>& references) {
-    auto payload = message.getParams();
-    if (call == nullptr) {
-      call = vat->takeWaiting(message.getInterfaceId(), message.getMethodId(), payload.getContent());
-    }
-    if (call == nullptr || call->number == 0) {
-      vat->stop("a Call is sent, and no MAKE or received Call stands before it: was it made through a client of a "
-                "promise that isn't from `promise`?");
-      return false;
-    }
-    call->isGone = true;
-    number = call->number;
-    Question opened = question(call, false);
-    auto given = isWrittenHere ? call->paramsByIndex : copied(payload, call->paramsAsMet);
-    if (!give(payload.getCapTable(), given, references, opened.broughtByCall)) return false;
-    asked[message.getQuestionId()] = kj::mv(opened);
-    return true;
-  }
-
-  bool sentReturn(rpc::Return::Reader message, std::vector<Reference>& references) {
-    auto found = answering.find(message.getAnswerId());
-    if (found == answering.end()) return true;  // to no question: the audit says so
-    Question& answered = found->second;
-    if (message.isResults() && !answered.isLate) {
-      auto payload = message.getResults();
-      if (!give(payload.getCapTable(), results(answered, payload), references, answered.broughtByReturn)) return false;
-    }
-    answered.isReturned = true;
-    if (message.getReleaseParamCaps()) giveBack(imports, answered.broughtByCall);
-    if (answered.isFinished) answering.erase(found);
-    return true;
-  }
-
-  // What the capabilities of a Return are: the bootstrap object, those that the program wrote there, or a copy of
-  // what another Return brought.
-  std::vector<Reference> results(Question& answered, rpc::Payload::Reader payload) {
-    Call& call = *answered.call;
-    if (answered.isBootstrap) {
-      if (payload.getCapTable().size() > 0) {
-        call.resultsByIndex = { bootstrap };
-        call.fields = { { Path(), bootstrap } };
-      }
-      if (bootstrap.number != 0) vat->answer(call);
-    }
-    bool isWrittenHere = answered.isBootstrap || call.isLocallyAnswered;
-    return isWrittenHere ? call.resultsByIndex : copied(payload, call.resultsAsMet);
-  }
-
-  // A Resolve notes what the promise turned out to be, not the promise.
-  bool sentResolve(rpc::Resolve::Reader message, std::vector<Reference>& references) {
-    if (!message.isCap() || message.getCap().isNone()) return true;
-    auto found = exports.find(message.getPromiseId());
-    Reference became = found == exports.end() ? Reference() : Vat::became(found->second.reference);
-    if (became.number == 0) {
-      vat->stop("a Resolve is sent, and it isn't known what the promise became");
-      return false;
-    }
-    std::vector<uint32_t> brought;
-    introduce(message.getCap(), became, brought);
-    references.push_back(became);
-    return true;
-  }
-
-  // The references of a copy, by index: a copy keeps the order in which capabilities are met in the content.
-  std::vector<Reference> copied(rpc::Payload::Reader payload, const std::vector<Reference>& asMet) {
-    std::vector<Reference> byIndex(payload.getCapTable().size());
-    if (byIndex.empty()) return byIndex;
-    Content content(payload.getContent());
-    for (size_t at = 0; at < content.met.size() && at < asMet.size(); at++) {
-      if (content.met[at].index < byIndex.size()) byIndex[content.met[at].index] = asMet[at];
-    }
-    return byIndex;
-  }
-
-  // Notes the reference of each entry that isn't none, in the table's order.
-  bool give(Table table, const std::vector<Reference>& byIndex, std::vector<Reference>& references,
-            std::vector<uint32_t>& brought) {
-    for (uint at = 0; at < table.size(); at++) {
-      if (table[at].isNone()) continue;
-      if (at >= byIndex.size() || byIndex[at].number == 0) {
-        vat->stop("a capability is sent that isn't known here");
-        return false;
-      }
-      introduce(table[at], byIndex[at], brought);
-      references.push_back(byIndex[at]);
-    }
-    return true;
-  }
-
-  void introduce(rpc::CapDescriptor::Reader descriptor, const Reference& reference, std::vector<uint32_t>& brought) {
-    if (!descriptor.isSenderHosted() && !descriptor.isSenderPromise()) return;
-    uint32_t id = descriptor.isSenderHosted() ? descriptor.getSenderHosted() : descriptor.getSenderPromise();
-    Number& number = exports[id];
-    if (number.count++ == 0) number.reference = reference;
-    brought.push_back(id);
-  }
-
-  // ------------------------------------------------------------------------- received
-
-  std::shared_ptr<Call> receivedCall(rpc::Call::Reader message, std::vector<Reference>& references) {
-    auto call = vat->newCall(message.getInterfaceId(), message.getMethodId());
-    vat->bind(*call);
-    Question opened = question(call, false);
-    auto payload = message.getParams();
-    call->paramsByIndex = take(payload.getCapTable(), references, opened.broughtByCall);
-    if (!call->paramsByIndex.empty()) {
-      call->paramsAsMet = asMet(Content(payload.getContent()).met, call->paramsByIndex);
-    }
-    vat->keep(call, payload.getContent());
-    answering[message.getQuestionId()] = kj::mv(opened);
-    return call;
-  }
-
-  // A late Return, one after a Finish with releaseResultCaps, notes no reference.
-  void receivedReturn(rpc::Return::Reader message, std::vector<Reference>& references) {
-    auto found = asked.find(message.getAnswerId());
-    if (found == asked.end()) return;
-    Question& answered = found->second;
-    if (message.isResults() && !answered.isLate) {
-      auto payload = message.getResults();
-      auto byIndex = take(payload.getCapTable(), references, answered.broughtByReturn);
-      if (!byIndex.empty()) answered.call->setResults(kj::mv(byIndex), Content(payload.getContent()).met);
-      Vat::shareResults(*answered.call);
-    } else if (message.isTakeFromOtherQuestion() && !answered.isLate) {
-      auto other = answering.find(message.getTakeFromOtherQuestion());
-      if (other != answering.end()) Vat::takeResults(answered.call, other->second.call);
-    }
-    answered.isReturned = true;
-    if (message.getReleaseParamCaps()) giveBack(exports, answered.broughtByCall);
-    if (answered.isFinished) asked.erase(found);
-  }
-
-  void receivedResolve(rpc::Resolve::Reader message, std::vector<Reference>& references) {
-    if (!message.isCap() || message.getCap().isNone()) return;
-    std::vector<uint32_t> brought;
-    auto found = imports.find(message.getPromiseId());
-    std::shared_ptr<View> promise = found == imports.end() ? nullptr : found->second.reference.view;
-    Reference became = arrived(message.getCap(), brought);
-    references.push_back(became);
-    if (promise != nullptr) promise->turn = became;
-  }
-
-  // New references for what came in, by index.
-  std::vector<Reference> take(Table table, std::vector<Reference>& references, std::vector<uint32_t>& brought) {
-    std::vector<Reference> byIndex(table.size());
-    for (uint at = 0; at < table.size(); at++) {
-      if (table[at].isNone()) continue;
-      byIndex[at] = arrived(table[at], brought);
-      references.push_back(byIndex[at]);
-    }
-    return byIndex;
-  }
-
-  Reference arrived(rpc::CapDescriptor::Reader descriptor, std::vector<uint32_t>& brought) {
-    Reference reference = vat->newReference();
-    switch (descriptor.which()) {
-      case rpc::CapDescriptor::SENDER_HOSTED:
-      case rpc::CapDescriptor::SENDER_PROMISE: {
-        uint32_t id = descriptor.isSenderHosted() ? descriptor.getSenderHosted() : descriptor.getSenderPromise();
-        Number& number = imports[id];
-        if (number.count++ == 0) number.reference = reference;
-        reference.view = number.reference.view;
-        brought.push_back(id);
-        break;
-      }
-      case rpc::CapDescriptor::RECEIVER_HOSTED: {
-        auto found = exports.find(descriptor.getReceiverHosted());
-        if (found != exports.end()) reference.view = found->second.reference.view;
-        break;
-      }
-      case rpc::CapDescriptor::RECEIVER_ANSWER: {
-        auto found = answering.find(descriptor.getReceiverAnswer().getQuestionId());
-        if (found == answering.end()) break;
-        reference.view->call = found->second.call;
-        for (auto op: descriptor.getReceiverAnswer().getTransform()) {
-          if (op.isGetPointerField()) reference.view->path.push_back(op.getGetPointerField());
-        }
-        break;
-      }
-      default:
-        break;
-    }
-    return reference;
-  }
-
-  // ------------------------------------------------------------------------- given back
-
-  static void giveBack(Numbers& numbers, uint32_t id, uint64_t count) {
-    auto found = numbers.find(id);
-    if (found == numbers.end()) return;
-    if (found->second.count <= count) {
-      numbers.erase(found);
-    } else {
-      found->second.count -= count;
-    }
-  }
-  static void giveBack(Numbers& numbers, const std::vector<uint32_t>& ids) {
-    for (uint32_t id: ids) giveBack(numbers, id, 1);
-  }
-
-  // After a Finish with releaseResultCaps the Return that may still come is late.
-  static void finish(Questions& questions, Numbers& numbers, rpc::Finish::Reader message) {
-    auto found = questions.find(message.getQuestionId());
-    if (found == questions.end()) return;
-    if (found->second.isReturned) {
-      if (message.getReleaseResultCaps()) giveBack(numbers, found->second.broughtByReturn);
-      questions.erase(found);
-    } else {
-      found->second.isFinished = true;
-      found->second.isLate = message.getReleaseResultCaps();
-    }
-  }
-};
+}  // namespace inside
+}  // namespace vataudit
 
 // =========================================================================== Messages
+
+namespace vataudit {
+namespace inside {
 
 using Segments = std::vector<kj::ArrayPtr<const capnp::word>>;
 
@@ -1546,8 +2214,8 @@ public:
         message(firstSegmentWordSize == 0 ? capnp::SUGGESTED_FIRST_SEGMENT_WORDS : firstSegmentWordSize),
         call(this->end->vat->building) {
     if (call == nullptr) {
-      before = this->end->vat->unsent;
-      this->end->vat->unsent = this;
+      unsent.before = this->end->vat->unsent;
+      this->end->vat->unsent = &unsent;
     }
   }
   ~Outgoing() noexcept(false) { leave(); }
@@ -1557,27 +2225,20 @@ public:
   void send() override;
   size_t sizeInWords() override { return wordsOf(message.getSegmentsForOutput()); }
 
-  // A call that was received lets go of its message right after its parameters were copied into this one: it is
-  // passed on.
-  void passesOn(const std::shared_ptr<Call>& received) {
-    if (passedOn == nullptr && !received->isGone) passedOn = received;
-  }
-
 private:
   Network& network;
   std::shared_ptr<End> end;
   capnp::MallocMessageBuilder message;
   kj::Array<int> fds;
   std::shared_ptr<Call> call;      // the call whose request the program writes right here
-  std::shared_ptr<Call> passedOn;
-  Outgoing* before = nullptr;
+  Unsent unsent;
   friend class vataudit::Network;
 
   void leave() {
-    for (Outgoing** at = &end->vat->unsent; *at != nullptr; at = &(*at)->before) {
-      if (*at != this) continue;
-      *at = before;
-      before = nullptr;
+    for (Unsent** at = &end->vat->unsent; *at != nullptr; at = &(*at)->before) {
+      if (*at != &unsent) continue;
+      *at = unsent.before;
+      unsent.before = nullptr;
       return;
     }
   }
@@ -1588,7 +2249,7 @@ private:
     auto reader = message.getRoot<rpc::Message>().asReader();
     auto segments = message.getSegmentsForOutput();
     bool isWrittenHere = call != nullptr;
-    auto& sender = isWrittenHere ? call : vat.sending != nullptr ? vat.sending : passedOn;
+    auto& sender = isWrittenHere ? call : vat.sending != nullptr ? vat.sending : unsent.passedOn;
     end->sent(reader, segments, sender, isWrittenHere);
   }
 };
@@ -1608,9 +2269,7 @@ public:
     }
   }
   ~Incoming() noexcept(false) {
-    if (call == nullptr) return;
-    if (end->vat->unsent != nullptr) end->vat->unsent->passesOn(call);
-    end->vat->forget(*call);
+    if (call != nullptr) end->vat->letGo(call);
   }
 
   AnyPointer::Reader getBody() override {
@@ -1647,8 +2306,11 @@ private:
 };
 
 }  // namespace inside
+}  // namespace vataudit
 
 // =========================================================================== Networks
+
+namespace vataudit {
 
 // One connection between two vats over any stream, in the place of capnp::TwoPartyVatNetwork. Its number is your
 // choice: the same in both vats' logs, and no other connection of the conversation has it. A vat may have several.
@@ -1918,6 +2580,59 @@ inline void Network::write(kj::Own<inside::Outgoing> message) {
 
 #endif
 
+}  // namespace vataudit
+
+// =========================================================================== The recorder's own code
+
+namespace vataudit {
+
+inline Recorder::Recorder(const char* path, uint32_t vat): vat(std::make_shared<inside::Vat>(path, vat)) {}
+inline Recorder::~Recorder() { vat->end(); }
+inline void Recorder::flush() { vat->flush(); }
+inline void Recorder::bufferRecords(size_t bytes) { vat->bufferRecords(bytes); }
+inline bool Recorder::isRecording() const { return vat->isRecording(); }
+inline uint64_t Recorder::records() const { return vat->records(); }
+inline std::string Recorder::whyStopped() const { return vat->whyStopped(); }
+inline std::vector<uint32_t> Recorder::connections() const { return vat->connections; }
+
+template <typename Implementation, typename... Arguments>
+typename Implementation::Serves::Client Recorder::host(Arguments&&... arguments) {
+  static_assert(!std::is_final<Implementation>::value,
+                "vataudit: host<FooImpl>() derives a class from FooImpl, so FooImpl can't be `final`");
+  auto object = kj::heap<inside::Hosted<Implementation>>(vat, kj::fwd<Arguments>(arguments)...);
+  auto& hosted = *object;
+  typename Implementation::Serves::Client client(kj::mv(object));
+  auto hook = capnp::ClientHook::from(kj::mv(client));
+  hosted.isHeldBy(*hook);
+  return capnp::Capability::Client(inside::wrapped(vat, hosted.reference, kj::mv(hook)))
+      .castAs<typename Implementation::Serves>();
+}
+
+template <typename Client>
+Client Recorder::promise(kj::Promise<Client>&& promised) {
+  if (!vat->isRecording()) return Client(kj::mv(promised));
+  auto vow = vat->vow();
+  auto hook = promised.then(
+      [vat = vat, vow](Client&& client) {
+        auto became = capnp::ClientHook::from(kj::mv(client));
+        if (vat->isRecording()) vat->fulfil(vow, vat->asNumbered(inside::referenceOf(*vat, *became)));
+        return inside::unwrapped(kj::mv(became));
+      },
+      [vat = vat, vow](kj::Exception&& exception) -> kj::Own<capnp::ClientHook> {
+        vat->breakPromise(vow);
+        kj::throwFatalException(kj::mv(exception));
+      });
+  return capnp::Capability::Client(inside::wrapped(vat, vow, capnp::newLocalPromiseClient(kj::mv(hook))))
+      .template castAs<typename Client::Calls>();
+}
+
+}  // namespace vataudit
+#endif
+
+// =========================================================================== Clients and servers
+
+namespace vataudit {
+
 // In the place of capnp::TwoPartyClient.
 class TwoPartyClient {
 public:
@@ -2015,46 +2730,5 @@ private:
 
   void taskFailed(kj::Exception&& exception) override { KJ_LOG(ERROR, exception); }
 };
-
-// =========================================================================== The recorder's own code
-
-inline Recorder::Recorder(const char* path, uint32_t vat): vat(std::make_shared<inside::Vat>(path, vat)) {}
-inline Recorder::~Recorder() { vat->end(); }
-inline void Recorder::flush() { vat->flush(); }
-inline void Recorder::bufferRecords(size_t bytes) { vat->bufferRecords(bytes); }
-inline bool Recorder::isRecording() const { return vat->isRecording(); }
-inline uint64_t Recorder::records() const { return vat->records(); }
-inline std::string Recorder::whyStopped() const { return vat->whyStopped(); }
-
-template <typename Implementation, typename... Arguments>
-typename Implementation::Serves::Client Recorder::host(Arguments&&... arguments) {
-  static_assert(!std::is_final<Implementation>::value,
-                "vataudit: host<FooImpl>() derives a class from FooImpl, so FooImpl can't be `final`");
-  auto object = kj::heap<inside::Hosted<Implementation>>(vat, kj::fwd<Arguments>(arguments)...);
-  auto& hosted = *object;
-  typename Implementation::Serves::Client client(kj::mv(object));
-  auto hook = capnp::ClientHook::from(kj::mv(client));
-  hosted.isHeldBy(*hook);
-  return capnp::Capability::Client(inside::wrapped(vat, hosted.reference, kj::mv(hook)))
-      .castAs<typename Implementation::Serves>();
-}
-
-template <typename Client>
-Client Recorder::promise(kj::Promise<Client>&& promised) {
-  if (!vat->isRecording()) return Client(kj::mv(promised));
-  auto vow = vat->vow();
-  auto hook = promised.then(
-      [vat = vat, vow](Client&& client) {
-        auto became = capnp::ClientHook::from(kj::mv(client));
-        if (vat->isRecording()) vat->fulfil(vow, inside::referenceOf(*vat, *became));
-        return inside::unwrapped(kj::mv(became));
-      },
-      [vat = vat, vow](kj::Exception&& exception) -> kj::Own<capnp::ClientHook> {
-        vat->breakPromise(vow);
-        kj::throwFatalException(kj::mv(exception));
-      });
-  return capnp::Capability::Client(inside::wrapped(vat, vow, capnp::newLocalPromiseClient(kj::mv(hook))))
-      .template castAs<typename Client::Calls>();
-}
 
 }  // namespace vataudit

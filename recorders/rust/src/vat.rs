@@ -1,0 +1,687 @@
+//! What a vat has recorded, and what later records need of it.
+
+use crate::content::{self, Content, Met};
+use crate::log::{Log, Record};
+use capnp::any_pointer;
+use std::cell::{Cell, RefCell};
+use std::collections::{HashMap, VecDeque};
+use std::io;
+use std::path::Path;
+use std::rc::{Rc, Weak};
+
+/// A path of pointer fields.
+pub(crate) type Fields = Vec<u16>;
+
+/// A number of a capability in the log, and what it stands for.
+#[derive(Clone)]
+pub(crate) struct Reference {
+    pub(crate) number: u64,
+    pub(crate) view: Rc<View>,
+}
+
+/// What a reference stands for, as far as it is known here.
+#[derive(Default)]
+pub(crate) struct View {
+    /// What a promise became.
+    pub(crate) turn: RefCell<Option<Reference>>,
+    /// Which field of a call's results it is.
+    pub(crate) field: RefCell<Option<(Rc<Call>, Fields)>>,
+    /// Whether it never was a promise: an object, a broken capability, or one that came as senderHosted.
+    pub(crate) is_settled: Cell<bool>,
+    /// Whether nothing stands behind it: a promise that was broken.
+    pub(crate) is_broken: Cell<bool>,
+    /// The connection of which it is an import.
+    pub(crate) import_of: Cell<Option<u32>>,
+    /// The promise that was given away for it while it was the field of a call that is still open.
+    vow: RefCell<Option<Reference>>,
+    /// The field for which this promise was given away.
+    promised: RefCell<Option<Reference>>,
+}
+
+impl Reference {
+    /// What it became by one turn.
+    pub(crate) fn next(&self) -> Option<Reference> {
+        if let Some((call, path)) = &*self.view.field.borrow() {
+            return call.answered().field(path);
+        }
+        self.view.turn.borrow().clone()
+    }
+
+    /// What it has become by now, and all that it was on the way, itself first.
+    pub(crate) fn way(&self) -> Vec<Reference> {
+        let mut way = vec![self.clone()];
+        while way.len() < 1000 {
+            match way.last().and_then(Reference::next) {
+                Some(next) => way.push(next),
+                None => break,
+            }
+        }
+        way
+    }
+
+    /// Whether it is known to lead to nothing: to a broken promise, or to a result that never came.
+    pub(crate) fn is_broken(&self) -> bool {
+        let last = match self.way().pop() {
+            Some(last) => last,
+            None => return false,
+        };
+        let field = last.view.field.borrow();
+        let is_missing = field
+            .as_ref()
+            .map_or(false, |(call, _)| call.answered().is_ended.get());
+        last.view.is_broken.get() || is_missing
+    }
+
+    /// The call whose field it is, if that is still open.
+    fn open_call(&self) -> Option<Rc<Call>> {
+        let last = self.way().pop()?;
+        let field = last.view.field.borrow();
+        let (call, _) = field.as_ref()?;
+        (!call.is_gone.get() && !call.is_ended.get()).then(|| call.clone())
+    }
+
+    /// It goes out as the field of a call that is still open.
+    pub(crate) fn given_away(self) -> Reference {
+        if let Some((call, path)) = &*self.view.field.borrow() {
+            call.answered().given_away.borrow_mut().push(path.clone());
+        }
+        self
+    }
+
+    /// Whether it is reached over this connection: an import of it, or the result of a call that was sent there.
+    pub(crate) fn is_over(&self, connection: u32) -> bool {
+        let field = self.view.field.borrow();
+        let is_asked = field.as_ref().map_or(false, |(call, _)| {
+            call.answered().sent_on.get() == Some(connection)
+        });
+        self.view.import_of.get() == Some(connection) || is_asked
+    }
+
+    /// Whether the other one is the promise that was given away for it.
+    pub(crate) fn is_promised_by(&self, other: &Reference) -> bool {
+        self.way().iter().any(|one| {
+            let vow = one.view.vow.borrow();
+            vow.as_ref().map_or(false, |vow| vow.number == other.number)
+        })
+    }
+
+    /// Whether it leads to what the other one stands for.
+    pub(crate) fn leads_to(&self, other: &Reference) -> bool {
+        self.way()
+            .iter()
+            .any(|one| Rc::ptr_eq(&one.view, &other.view))
+    }
+}
+
+/// A capability that was given away: its reference, and the runtime's hook as long as the runtime keeps it.
+#[derive(Clone)]
+pub(crate) struct Given {
+    pub(crate) reference: Reference,
+    pub(crate) held: Weak<crate::hooks::Held>,
+}
+
+/// A call that was made or received here. Its lists go by the order in which the content has the capabilities, which
+/// every copy keeps.
+pub(crate) struct Call {
+    pub(crate) number: Cell<u64>,
+    pub(crate) interface_id: u64,
+    pub(crate) method_id: u16,
+    /// What it was made through; none for a received one.
+    pub(crate) target: Option<Reference>,
+    /// What it is addressed to, if it was received.
+    pub(crate) goal: RefCell<Option<Reference>>,
+    pub(crate) params: RefCell<Vec<Option<Given>>>,
+    pub(crate) params_met: RefCell<Vec<Met>>,
+    pub(crate) results: RefCell<Vec<Option<Given>>>,
+    pub(crate) results_met: RefCell<Vec<Met>>,
+    fields: RefCell<Vec<(Fields, Reference)>>,
+    /// The promises that were given away for its results before these were known.
+    vows: RefCell<Vec<(Fields, Reference)>>,
+    /// The paths of the results that were given away before they were known.
+    given_away: RefCell<Vec<Fields>>,
+    /// The call whose results are this one's.
+    answered_by: RefCell<Option<Rc<Call>>>,
+    /// Where its parameters lie, and a hash of them.
+    place: Cell<Option<usize>>,
+    pub(crate) hash: Cell<u64>,
+    /// Sent on, or delivered.
+    pub(crate) is_gone: Cell<bool>,
+    /// The connection on which it was sent.
+    pub(crate) sent_on: Cell<Option<u32>>,
+    /// Its results are known, or there are none.
+    pub(crate) is_ended: Cell<bool>,
+    pub(crate) is_delivered: Cell<bool>,
+    /// A Return for it was sent, or it was dropped.
+    pub(crate) is_over: Cell<bool>,
+}
+
+impl Call {
+    pub(crate) fn new(interface_id: u64, method_id: u16, target: Option<Reference>) -> Rc<Call> {
+        Rc::new(Call {
+            number: Cell::new(0),
+            interface_id,
+            method_id,
+            target,
+            goal: RefCell::default(),
+            params: RefCell::default(),
+            params_met: RefCell::default(),
+            results: RefCell::default(),
+            results_met: RefCell::default(),
+            fields: RefCell::default(),
+            vows: RefCell::default(),
+            given_away: RefCell::default(),
+            answered_by: RefCell::default(),
+            place: Cell::new(None),
+            hash: Cell::new(0),
+            is_gone: Cell::new(false),
+            sent_on: Cell::new(None),
+            is_ended: Cell::new(false),
+            is_delivered: Cell::new(false),
+            is_over: Cell::new(false),
+        })
+    }
+
+    /// The call whose results are this one's: itself, if it wasn't handed on.
+    pub(crate) fn answered(self: &Rc<Call>) -> Rc<Call> {
+        let mut call = self.clone();
+        loop {
+            let next = call.answered_by.borrow().clone();
+            match next {
+                Some(next) => call = next,
+                None => return call,
+            }
+        }
+    }
+
+    /// Its results are those of another call. Where they are said to be its own, nothing is noted.
+    pub(crate) fn take_results(self: &Rc<Call>, of: &Rc<Call>) {
+        let answered = of.answered();
+        if !Rc::ptr_eq(&answered, self) {
+            answered
+                .vows
+                .borrow_mut()
+                .append(&mut self.vows.borrow_mut());
+            *self.answered_by.borrow_mut() = Some(of.clone());
+        }
+    }
+
+    /// Its results are known.
+    pub(crate) fn set_results(&self, met: Vec<Met>, given: Vec<Option<Given>>) {
+        *self.fields.borrow_mut() = met
+            .iter()
+            .zip(&given)
+            .filter_map(|(one, given)| Some((one.path()?, given.as_ref()?.reference.clone())))
+            .collect();
+        *self.results_met.borrow_mut() = met;
+        *self.results.borrow_mut() = given;
+        self.is_ended.set(true);
+    }
+
+    fn field(&self, path: &[u16]) -> Option<Reference> {
+        self.fields
+            .borrow()
+            .iter()
+            .find(|(at, _)| at == path)
+            .map(|(_, reference)| reference.clone())
+    }
+
+    /// What it is meant for.
+    pub(crate) fn meant_for(&self) -> Option<Reference> {
+        self.target.clone().or_else(|| self.goal.borrow().clone())
+    }
+
+    fn is_like(&self, interface_id: u64, method_id: u16) -> bool {
+        self.interface_id == interface_id && self.method_id == method_id
+    }
+}
+
+/// The vat's log, and what it takes to go on with it.
+pub(crate) struct Vat {
+    number: u32,
+    log: RefCell<Log>,
+    is_recording: Cell<bool>,
+    reason: RefCell<String>,
+    last_reference: Cell<u64>,
+    last_call: Cell<u64>,
+    last_object: Cell<u64>,
+    by_place: RefCell<HashMap<usize, Rc<Call>>>,
+    waiting: RefCell<VecDeque<Rc<Call>>>,
+    most_waiting: Cell<usize>,
+    sending: RefCell<Option<Rc<Call>>>,
+    /// The references of the runtime's hooks, by brand and pointer, as long as handles of them live.
+    hooks: RefCell<HashMap<(usize, usize), Vec<Reference>>>,
+}
+
+impl Drop for Vat {
+    fn drop(&mut self) {
+        self.flush();
+        if !self.reason.borrow().is_empty() {
+            self.say("was recorded");
+        }
+    }
+}
+
+impl Vat {
+    pub(crate) fn new(path: &Path, number: u32) -> io::Result<Rc<Vat>> {
+        Ok(Rc::new(Vat {
+            number,
+            log: RefCell::new(Log::new(path, number)?),
+            is_recording: Cell::new(true),
+            reason: RefCell::default(),
+            last_reference: Cell::new(0),
+            last_call: Cell::new(0),
+            last_object: Cell::new(0),
+            by_place: RefCell::default(),
+            waiting: RefCell::default(),
+            most_waiting: Cell::new(64),
+            sending: RefCell::default(),
+            hooks: RefCell::default(),
+        }))
+    }
+
+    pub(crate) fn is_recording(&self) -> bool {
+        self.is_recording.get()
+    }
+
+    pub(crate) fn records(&self) -> u64 {
+        self.log.borrow().records()
+    }
+
+    pub(crate) fn why_stopped(&self) -> String {
+        self.reason.borrow().clone()
+    }
+
+    /// Recording ends here. Nothing of the record that was begun is in the log.
+    pub(crate) fn stop(&self, why: &str) {
+        if !self.is_recording.replace(false) {
+            return;
+        }
+        let place = self.log.borrow_mut().set_aside();
+        *self.reason.borrow_mut() = format!(
+            "no further than record {}: {}; the log is {}",
+            self.records(),
+            why,
+            place.display()
+        );
+        self.say("is recorded");
+    }
+
+    fn say(&self, how: &str) {
+        eprintln!(
+            "vataudit: vat {} {} {}",
+            self.number,
+            how,
+            self.reason.borrow()
+        );
+    }
+
+    pub(crate) fn keep_records(&self, bytes: usize) {
+        self.log.borrow_mut().keep(bytes);
+    }
+
+    pub(crate) fn flush(&self) {
+        if !self.is_recording() {
+            return;
+        }
+        let outcome = self.log.borrow_mut().flush();
+        if let Err(error) = outcome {
+            self.stop(&format!("the log can't be written: {}", error));
+        }
+    }
+
+    fn add(&self, record: Record) {
+        if !self.is_recording() {
+            return;
+        }
+        let outcome = self.log.borrow_mut().add(record);
+        if let Err(why) = outcome {
+            self.stop(&why);
+        }
+    }
+
+    // ------------------------------------------------------------------------- records
+
+    /// HOST: an object of the vat, with a number of its own.
+    pub(crate) fn host(&self) -> (u64, Reference) {
+        let object = self.last_object.get() + 1;
+        self.last_object.set(object);
+        let reference = self.new_reference();
+        reference.view.is_settled.set(true);
+        let mut record = Record::new(0x01);
+        record.u64(reference.number);
+        record.u64(object);
+        self.add(record);
+        (object, reference)
+    }
+
+    /// VOW: a promise of the vat's own.
+    pub(crate) fn vow(&self) -> Reference {
+        let reference = self.new_reference();
+        let mut record = Record::new(0x02);
+        record.u64(reference.number);
+        self.add(record);
+        reference
+    }
+
+    /// FULFIL stands before all that uses what the promise became.
+    pub(crate) fn fulfil(&self, promise: &Reference, became: &Reference) {
+        *promise.view.turn.borrow_mut() = Some(became.clone());
+        let mut record = Record::new(0x03);
+        record.u64(promise.number);
+        record.u64(became.number);
+        self.add(record);
+    }
+
+    /// VOW and BREAK: a capability behind which no object stands, and which goes out as if one did.
+    pub(crate) fn broken(&self) -> Reference {
+        let reference = self.vow();
+        reference.view.is_settled.set(true);
+        reference.view.is_broken.set(true);
+        let mut record = Record::new(0x04);
+        record.u64(reference.number);
+        self.add(record);
+        reference
+    }
+
+    /// MAKE is what the program calls, not what a frame says: else the audit would compare frames with themselves.
+    pub(crate) fn make(&self, call: &Call, target: &Reference) {
+        self.bind(call);
+        let mut record = Record::new(0x05);
+        record.u64(call.number.get());
+        record.u64(target.number);
+        record.u64(call.interface_id);
+        record.u16(call.method_id);
+        self.add(record);
+    }
+
+    /// FIELD: what stands at a path in the results of a call.
+    pub(crate) fn field(&self, call: &Rc<Call>, path: &[u16]) -> Reference {
+        let reference = self.new_reference();
+        *reference.view.field.borrow_mut() = Some((call.clone(), path.to_vec()));
+        let mut record = Record::new(0x06);
+        record.u64(reference.number);
+        record.u64(call.number.get());
+        record.path(path);
+        self.add(record);
+        reference
+    }
+
+    /// DELIVER: a call is given to the object that was really entered.
+    pub(crate) fn deliver(&self, call: &Rc<Call>, object: u64) {
+        call.is_gone.set(true);
+        call.is_delivered.set(true);
+        self.forget(call);
+        let mut record = Record::new(0x07);
+        record.u64(call.number.get());
+        record.u64(object);
+        self.add(record);
+    }
+
+    /// ANSWER stands before the Return, and before each call that goes on to one of the results.
+    pub(crate) fn answer(&self, call: &Rc<Call>, met: Vec<Met>, given: Vec<Option<Given>>) {
+        call.set_results(met, given);
+        // A null result that was given away is a broken capability to the runtime.
+        for path in call.given_away.take() {
+            if call.field(&path).is_none() {
+                let broken = self.broken();
+                call.fields.borrow_mut().push((path, broken));
+            }
+        }
+        let mut record = Record::new(0x08);
+        record.u64(call.number.get());
+        let fields = call.fields.borrow();
+        record.count(fields.len());
+        for (path, reference) in fields.iter() {
+            record.u64(reference.number);
+            record.path(path);
+        }
+        drop(fields);
+        self.add(record);
+        self.keep_vows(call);
+    }
+
+    /// The promise that goes out for a capability: for the field of a call that is still open it is one of the vat's
+    /// own, which becomes that field. A field that turns out to be nothing is broken, as it is to the runtime.
+    pub(crate) fn promise_of(&self, reference: &Reference) -> Reference {
+        let (call, path) = match &*reference.view.field.borrow() {
+            Some((call, path)) if reference.next().is_none() => (call.answered(), path.clone()),
+            _ => return reference.clone(),
+        };
+        let mut known = reference.view.vow.borrow_mut();
+        let vow = known.get_or_insert_with(|| {
+            let vow = self.vow();
+            *vow.view.promised.borrow_mut() = Some(reference.clone());
+            vow
+        });
+        if vow.next().is_none() {
+            call.vows.borrow_mut().push((path, vow.clone()));
+        }
+        vow.clone()
+    }
+
+    /// The results of a call are known, or there will be none: what was promised for them became that.
+    pub(crate) fn keep_vows(&self, call: &Call) {
+        for (path, vow) in call.vows.take() {
+            match call.field(&path) {
+                Some(_) => self.keep_vow(&vow),
+                None if vow.next().is_none() => self.fulfil(&vow, &self.broken()),
+                None => {}
+            }
+        }
+    }
+
+    /// A capability goes out as settled that is the field of a call. Where that call waits for another one, and so on,
+    /// and the last of them waits for nothing, all of them end here: no record has said so yet.
+    pub(crate) fn end_lost(&self, reference: &Reference) {
+        let mut waiting: Vec<Rc<Call>> = Vec::new();
+        let mut next = Some(reference.clone());
+        while let Some(reference) = next {
+            if reference.is_broken() {
+                waiting.iter().rev().for_each(|call| self.fault(call));
+                return;
+            }
+            next = reference.open_call().and_then(|call: Rc<Call>| {
+                let target = call.target.clone();
+                waiting.push(call);
+                target
+            });
+        }
+    }
+
+    /// What was promised came to nothing, which no record has said yet.
+    pub(crate) fn break_vow(&self, promise: &Reference) {
+        if promise.view.promised.borrow().is_some() && promise.next().is_none() {
+            self.fulfil(promise, &self.broken());
+        }
+    }
+
+    /// What was promised is asked for where the field of the call stands: it became that.
+    pub(crate) fn keep_vow(&self, reference: &Reference) {
+        let last = match reference.way().pop() {
+            Some(last) => last,
+            None => return,
+        };
+        let promised = last.view.promised.borrow().clone();
+        if let Some(field) = promised {
+            self.fulfil(&last, &field);
+        }
+    }
+
+    /// FAULT: a call ends here without results.
+    pub(crate) fn fault(&self, call: &Call) {
+        call.is_over.set(true);
+        call.is_ended.set(true);
+        let mut record = Record::new(0x09);
+        record.u64(call.number.get());
+        self.add(record);
+        self.keep_vows(call);
+    }
+
+    /// SEND or RECV of a frame.
+    pub(crate) fn frame(
+        &self,
+        is_sent: bool,
+        connection: u32,
+        call: u64,
+        references: &[Reference],
+        frame: &[u8],
+    ) {
+        let mut record = Record::new(if is_sent { 0x0a } else { 0x0b });
+        record.u32(connection);
+        record.u64(call);
+        record.count(references.len());
+        for reference in references {
+            record.u64(reference.number);
+        }
+        record.frame(frame);
+        self.add(record);
+    }
+
+    // ------------------------------------------------------------------------- numbers
+
+    pub(crate) fn new_reference(&self) -> Reference {
+        let number = self.last_reference.get() + 1;
+        self.last_reference.set(number);
+        Reference {
+            number,
+            view: Rc::default(),
+        }
+    }
+
+    /// Gives a call its number.
+    pub(crate) fn bind(&self, call: &Call) {
+        let number = self.last_call.get() + 1;
+        self.last_call.set(number);
+        call.number.set(number);
+    }
+
+    /// A hook of the runtime has a handle of this reference.
+    pub(crate) fn note_hook(&self, key: (usize, usize), reference: &Reference) {
+        let mut hooks = self.hooks.borrow_mut();
+        hooks.entry(key).or_default().push(reference.clone());
+    }
+
+    pub(crate) fn forget_hook(&self, key: (usize, usize), reference: &Reference) {
+        let mut hooks = self.hooks.borrow_mut();
+        let references = match hooks.get_mut(&key) {
+            Some(references) => references,
+            None => return,
+        };
+        if let Some(at) = references
+            .iter()
+            .position(|one| one.number == reference.number)
+        {
+            references.remove(at);
+        }
+        if references.is_empty() {
+            hooks.remove(&key);
+        }
+    }
+
+    /// The references of a hook of the runtime.
+    pub(crate) fn references_of(&self, key: (usize, usize)) -> Vec<Reference> {
+        self.hooks.borrow().get(&key).cloned().unwrap_or_default()
+    }
+
+    // ------------------------------------------------------------------------- which call it is
+
+    /// The call whose request is being sent, or that is being passed on, if it is of this method.
+    pub(crate) fn sending(&self, interface_id: u64, method_id: u16) -> Option<Rc<Call>> {
+        let sending = self.sending.borrow();
+        let call = sending.as_ref()?;
+        (call.is_like(interface_id, method_id) && !call.is_gone.get()).then(|| call.clone())
+    }
+
+    pub(crate) fn is_sending(&self, call: &Rc<Call>) -> bool {
+        let sending = self.sending.borrow();
+        sending.as_ref().map_or(false, |one| Rc::ptr_eq(one, call))
+    }
+
+    /// Says for a while which call is at work.
+    pub(crate) fn while_sending<T>(&self, call: &Rc<Call>, work: impl FnOnce() -> T) -> T {
+        let before = self.sending.replace(Some(call.clone()));
+        let outcome = work();
+        self.sending.replace(before);
+        outcome
+    }
+
+    /// Notes where the parameters of a call lie.
+    pub(crate) fn keep(&self, call: &Rc<Call>, place: Option<usize>) {
+        self.forget(call);
+        call.place.set(place);
+        if let Some(place) = place {
+            self.by_place.borrow_mut().insert(place, call.clone());
+        }
+    }
+
+    /// Its parameters lie there no more.
+    pub(crate) fn forget(&self, call: &Rc<Call>) {
+        let place = match call.place.take() {
+            Some(place) => place,
+            None => return,
+        };
+        let mut by_place = self.by_place.borrow_mut();
+        if by_place
+            .get(&place)
+            .map_or(false, |one| Rc::ptr_eq(one, call))
+        {
+            by_place.remove(&place);
+        }
+    }
+
+    /// A call was made or received, and is neither sent nor delivered. Those that are gone are dropped now and then.
+    pub(crate) fn wait(&self, call: &Rc<Call>) {
+        let mut waiting = self.waiting.borrow_mut();
+        if waiting.len() >= self.most_waiting.get() {
+            waiting.retain(|one| !one.is_gone.get() && !one.is_over.get());
+            self.most_waiting.set(2 * waiting.len() + 64);
+        }
+        waiting.push_back(call.clone());
+    }
+
+    /// The call that has these parameters: by where they lie, or, where the runtime copied them, by what they are.
+    /// Of several that are alike it is the oldest, and one that is meant for this capability goes first.
+    pub(crate) fn find(
+        &self,
+        interface_id: u64,
+        method_id: u16,
+        params: any_pointer::Reader<'_>,
+        leads_there: &dyn Fn(&Reference) -> bool,
+    ) -> Option<Rc<Call>> {
+        let lying = content::place_of(params)
+            .and_then(|place| self.by_place.borrow().get(&place).cloned())
+            .filter(|call| call.is_like(interface_id, method_id) && !call.is_gone.get());
+        if let Some(call) = &lying {
+            // A received message keeps its place until it is dropped. One that was made here may have been dropped
+            // unseen, and another one may lie there now.
+            if call.target.is_none() || Content::read(params, 0).hash == call.hash.get() {
+                return lying;
+            }
+        }
+        self.find_waiting(interface_id, method_id, params, leads_there)
+    }
+
+    fn find_waiting(
+        &self,
+        interface_id: u64,
+        method_id: u16,
+        params: any_pointer::Reader<'_>,
+        leads_there: &dyn Fn(&Reference) -> bool,
+    ) -> Option<Rc<Call>> {
+        let waiting = self.waiting.borrow();
+        let mut alike = waiting
+            .iter()
+            .filter(|call| !call.is_gone.get() && !call.is_over.get())
+            .filter(|call| call.is_like(interface_id, method_id))
+            .peekable();
+        alike.peek()?;
+        let hash = Content::read(params, 0).hash;
+        let alike: Vec<_> = alike.filter(|call| call.hash.get() == hash).collect();
+        let meant = |call: &&&Rc<Call>| call.meant_for().map_or(false, |goal| leads_there(&goal));
+        alike
+            .iter()
+            .find(meant)
+            .or_else(|| alike.first())
+            .map(|call| (*call).clone())
+    }
+}

@@ -1,0 +1,4 @@
+//! What the demo, the conversations of the test and the drivers of tests/storm share.
+
+pub mod fields;
+pub mod turns;

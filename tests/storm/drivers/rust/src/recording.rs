@@ -1,0 +1,88 @@
+//! The runtime, recorded or not. The unrecorded one doesn't touch the recorder's code.
+
+use capnp::capability::{Client, FromClientHook, Server};
+use capnp::Error;
+use capnp_rpc::rpc_twoparty_capnp::Side;
+use capnp_rpc::{new_client, new_promise_client, twoparty};
+use futures::{AsyncRead, AsyncWrite, Future};
+use std::path::Path;
+use std::pin::Pin;
+use support::fields::Capability;
+use vataudit_recorder::Recorder;
+
+/// A vat's recorder, if it has one.
+pub struct Recording(Option<Recorder>);
+
+/// A connection's system.
+pub enum System {
+    Recorded(vataudit_recorder::RpcSystem),
+    Plain(capnp_rpc::RpcSystem<Side>),
+}
+
+impl System {
+    pub fn bootstrap(&mut self, side: Side) -> Capability {
+        match self {
+            System::Recorded(system) => system.bootstrap(side),
+            System::Plain(system) => system.bootstrap(side),
+        }
+    }
+
+    /// What has to be polled for the connection to go on.
+    pub fn run(self) -> Pin<Box<dyn Future<Output = Result<(), Error>>>> {
+        match self {
+            System::Recorded(system) => Box::pin(system),
+            System::Plain(system) => Box::pin(system),
+        }
+    }
+}
+
+impl Recording {
+    pub fn new(is_recorded: bool, log: &Path, vat: u32) -> Recording {
+        Recording(is_recorded.then(|| Recorder::new(log, vat).expect("the log can be made")))
+    }
+
+    pub fn system<R, W>(
+        &self,
+        (reader, writer): (R, W),
+        side: Side,
+        connection: u32,
+        bootstrap: Capability,
+    ) -> System
+    where
+        R: AsyncRead + Unpin + 'static,
+        W: AsyncWrite + Unpin + 'static,
+    {
+        let options = Default::default();
+        match &self.0 {
+            Some(recorder) => {
+                let network = recorder.network(reader, writer, side, options, connection);
+                System::Recorded(recorder.rpc_system(network, Some(bootstrap.0)))
+            }
+            None => {
+                let network = twoparty::VatNetwork::new(reader, writer, side, options);
+                System::Plain(capnp_rpc::RpcSystem::new(
+                    Box::new(network),
+                    Some(bootstrap.0),
+                ))
+            }
+        }
+    }
+
+    pub fn client(&self, server: impl Server + 'static) -> Capability {
+        match &self.0 {
+            Some(recorder) => recorder.new_client(server),
+            None => new_client(server),
+        }
+    }
+
+    pub fn promise<F>(&self, promise: F) -> Capability
+    where
+        F: Future<Output = Result<Client, Error>> + Unpin + 'static,
+    {
+        let client: Capability = match &self.0 {
+            Some(recorder) => recorder.new_promise_client(promise),
+            None => new_promise_client(promise),
+        };
+        Capability::new(client.0.hook)
+    }
+}

@@ -1,0 +1,73 @@
+"""What frames say, whatever way their contents lie in memory: a recorder for Rust copies contents once more."""
+
+import struct
+
+
+class Frame:
+    """One message in the standard's stream framing."""
+
+    def __init__(self, data, at):
+        count = struct.unpack_from("<I", data, at)[0] + 1
+        sizes = struct.unpack_from("<%dI" % count, data, at + 4)
+        at += (count // 2 + 1) * 8
+        self.segments = []
+        for size in sizes:
+            self.segments.append(data[at:at + 8 * size])
+            at += 8 * size
+        self.end = at
+
+    def word(self, segment, at):
+        return struct.unpack_from("<Q", self.segments[segment], 8 * at)[0]
+
+    def tree(self, segment=0, at=0):
+        """What the pointer at a word points to."""
+        pointer = self.word(segment, at)
+        if pointer == 0:
+            return None
+        if pointer & 3 == 3:
+            return ("capability", pointer >> 32)
+        segment, at, pointer = self.followed(segment, at, pointer)
+        return self.struct_at(segment, at, pointer) if pointer & 3 == 0 else self.list_at(segment, at, pointer)
+
+    def followed(self, segment, at, pointer):
+        """The segment, word and tag of what a pointer points to."""
+        if pointer & 3 != 2:
+            offset = (pointer & 0xffffffff) >> 2
+            return segment, at + 1 + (offset - (1 << 30) if offset >= 1 << 29 else offset), pointer
+        landing, place = pointer >> 32, (pointer & 0xffffffff) >> 3
+        tag = self.word(landing, place)
+        if not pointer & 4:
+            return self.followed(landing, place, tag)
+        return tag >> 32, (tag & 0xffffffff) >> 3, self.word(landing, place + 1)
+
+    def struct_at(self, segment, at, pointer):
+        data, pointers = pointer >> 32 & 0xffff, pointer >> 48
+        return ("struct", self.segments[segment][8 * at:8 * (at + data)],
+                [self.tree(segment, at + data + each) for each in range(pointers)])
+
+    def list_at(self, segment, at, pointer):
+        size, count = pointer >> 32 & 7, pointer >> 35
+        if size == 6:
+            return ("list", [self.tree(segment, at + each) for each in range(count)])
+        if size == 7:
+            tag = self.word(segment, at)
+            words = (tag >> 32 & 0xffff) + (tag >> 48)
+            count = (tag & 0xffffffff) >> 2
+            return ("list", [self.struct_at(segment, at + 1 + each * words, tag) for each in range(count)])
+        bits = (0, 1, 8, 16, 32, 64)[size] * count
+        return ("data", count, self.segments[segment][8 * at:8 * at + (bits + 7) // 8])
+
+
+def trees(data):
+    """The messages of a stream; the last one may be cut."""
+    result, at = [], 0
+    while at < len(data):
+        try:
+            frame = Frame(data, at)
+            if frame.end > len(data):
+                raise struct.error("cut")
+            result.append(frame.tree())
+        except struct.error:
+            return result + [data[at:]]
+        at = frame.end
+    return result

@@ -22,6 +22,7 @@ pub mod Turning
 pub mod Using
 pub mod Walking
 pub mod Connecting
+pub mod Importing
 pub mod Landed
 pub mod Handed
 pub mod Settled

@@ -1,4 +1,5 @@
 -- For the code's contracts, and no part of the meaning: the tables, and what looking back finds for them.
+pub mod ArrivalTables
 pub mod Asking
 pub mod CallTables
 pub mod ConnectionTables

@@ -34,7 +34,7 @@ impl VatState {
         ensures { result ≡ option_map began_promised (birth number self.now) }
     {
         match self.tables.lives.origin_of(number) {
-            Some(origin) => Some(kinds::promised_at(&self.events, origin)),
+            Some(origin) => Some(origin.promised),
             None => None,
         }
     }
@@ -151,12 +151,6 @@ impl VatState {
         let alloc = *self.events.allocator();
         let late = tables::is_late(&self.tables.questions, event);
         let begun = bindings::introduced_by(alloc, late, self.events.len(), event)?;
-        Ok(kinds::keeps_kinds(
-            &self.events,
-            &self.tables.lives,
-            &begun,
-            &self.tables.resolves,
-            event,
-        ))
+        Ok(kinds::keeps_kinds(&self.tables.lives, &begun, &self.tables.resolves, event))
     }
 }

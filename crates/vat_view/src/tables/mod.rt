@@ -1,6 +1,7 @@
 //! The tables that are kept of a log: questions, exports and imports, references, calls, connections, embargoes.
 
 pub(crate) mod all_tables;
+pub(crate) mod arrivals;
 pub(crate) mod by_connection;
 pub(crate) mod call_state;
 pub(crate) mod calls;

@@ -13,7 +13,7 @@ use Rattle.vat_view.proofs.walks.reachable.leads_to.Goals as goal
 pub returns-in-None : goal.returns-in-None
 returns-in-None c =
     let f = turn_by c.args.events.now c.args.turns.now (bound_at c.args.bound.now) in
-    let test : View → Bool = λ v. sought_by c.args.events.now c.args.connections.now c.args.sought v in (
+    let test : View → Bool = λ v. sought_by c.args.arrivals.now c.args.connections.now c.args.sought v in (
       (λ h. let no : ⊥ = cc in absurd no),
       λ l. absurd (ended f (as_view c.args.from) (as_view c.loop-made.view) l.1 c.loop-made._made c.loop-made.invariant.here
           (λ e. let found : c.is_sought-else-is_sought.result ≡ true = c.is_sought-else-is_sought.ensures ∙ ap (λ v. test v) e ∙ l.3 in let no : ⊥ = cc in no)
@@ -23,7 +23,7 @@ returns-in-None c =
 pub loop-made-preserved : goal.loop-made-preserved
 loop-made-preserved c =
     let f = turn_by c.args.events.now c.args.turns.now (bound_at c.args.bound.now) in
-    let test : View → Bool = λ v. sought_by c.args.events.now c.args.connections.now c.args.sought v in record {
+    let test : View → Bool = λ v. sought_by c.args.arrivals.now c.args.connections.now c.args.sought v in record {
       ahead = on_from f (as_view c.args.from) (as_view c.loop-made.far) (as_view c.further-far.result) c.loop-made.invariant.ahead c.further-far.ensures;
       here = rw (add-one c.loop-made._made)
           (reached_more f c.loop-made._made (Some (as_view c.args.from)) ∙ ap (λ o. option_and_then f o) c.loop-made.invariant.here ∙ sym c.in-Some.ensures);
@@ -35,7 +35,7 @@ loop-made-preserved c =
 pub returns : goal.returns
 returns c =
     let f = turn_by c.args.events.now c.args.turns.now (bound_at c.args.bound.now) in
-    let test : View → Bool = λ v. sought_by c.args.events.now c.args.connections.now c.args.sought v in (
+    let test : View → Bool = λ v. sought_by c.args.arrivals.now c.args.connections.now c.args.sought v in (
       (λ h. (c.loop-made._made, (as_view c.loop-made.view), c.loop-made.invariant.here, sym c.is_sought-2.ensures ∙ h)),
       λ l. c.is_sought-2.ensures ∙ ap (λ v. test v)
           (met f (as_view c.args.from) (turn_number c.args.events.now c.args.turns.now c.args.bound.now (as_view c.args.from)) _

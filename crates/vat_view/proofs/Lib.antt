@@ -18,6 +18,7 @@ pub mod Learning
 pub mod Keeping
 pub mod Answering
 pub mod Tallying
+pub mod Turned
 pub mod Turning
 pub mod Using
 pub mod Walking

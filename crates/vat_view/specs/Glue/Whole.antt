@@ -16,7 +16,7 @@ AreNoted events tables =
     × AreResolved (reverse events) tables.resolves
     × AreSettled (reverse events) tables.turns
     × AreConnected (reverse events) tables.connections
-    × HaveAhead events tables.turns tables.bound
+    × HaveAhead tables.turns tables.bound
 
 -- all but that of arrivals have it
 abbrev pub AreTold : List DecodedRecord → AllTables → Type 0

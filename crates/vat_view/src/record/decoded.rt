@@ -1,5 +1,8 @@
 //! Records with their messages read.
 
+ghost use Rattle.std.specs.Prelude.{◌≡◌, slice_get};
+ghost use Rattle.std.specs.Option.{option_copied};
+
 use cap_frame::Path;
 use rpc_view::RpcMessage;
 use vat_log::{References, ResultReferences};
@@ -91,4 +94,11 @@ pub enum DecodedRecord {
         /// What the frame says.
         message: RpcMessage,
     },
+}
+
+/// The record of this number.
+pub(crate) fn event_at(events: &[DecodedRecord], number: usize) -> Option<&DecodedRecord>
+    ensures { option_copied result ≡ slice_get events.now number }
+{
+    events.get(number)
 }

@@ -21,11 +21,10 @@ mod questions;
 mod shortening;
 
 use crate::lookups::meaning;
-use crate::record::decoded::DecodedRecord;
+use crate::record::decoded::{self, DecodedRecord};
 use crate::record::number::Number;
 use crate::tables::all_tables::AllTables;
 use crate::view::View;
-use crate::walks::hops;
 use cap_frame::Path;
 use std::alloc::{AllocError, Global};
 use std::fmt::{self, Debug, Formatter, Write};
@@ -126,7 +125,7 @@ impl VatState {
     pub fn event_at(&self, number: usize) -> Option<&DecodedRecord>
         ensures { option_copied result ≡ record_at number self.now }
     {
-        hops::event_at(self.events.as_slice(), number)
+        decoded::event_at(self.events.as_slice(), number)
     }
 
     /// Applies a record, which keeps the rules that are named after those applied.

@@ -73,8 +73,9 @@ impl AllTables {
         ensures waits { self.new.waits ≡ self.old.waits }
         ensures arrivals { self.new.arrivals ≡ self.old.arrivals }
     {
-        let settling = settling_of(&self.questions, &self.lives, &self.bound, event);
-        self.turns.make_room(settling, number)?;
+        let alloc = self.lives.allocator();
+        let settling = settling_of(alloc, &self.questions, &self.lives, &self.bound, event)?;
+        self.turns.make_room(&settling, number)?;
         let promise = promise_resolved(event);
         self.resolves.room_for(promise)?;
         apply_record(
@@ -85,7 +86,7 @@ impl AllTables {
             &mut self.calls,
             event,
         )?;
-        let again = self.turns.has(settling);
+        let again = self.turns.has(settling.settled);
         self.bound.drop_ahead(again);
         self.turns.drop_calls_ahead(again);
         self.turns.note(settling, number);

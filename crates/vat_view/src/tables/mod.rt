@@ -17,4 +17,5 @@ pub(crate) mod queued_call;
 pub(crate) mod references;
 pub(crate) mod resolves;
 pub(crate) mod settlements;
+pub(crate) mod turned;
 pub(crate) mod waiting_calls;

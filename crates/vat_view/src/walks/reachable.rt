@@ -9,7 +9,6 @@ ghost use Rattle.vat_view.specs.Glue.TurnTables.{turn_by, HaveAhead};
 ghost use Rattle.vat_view.specs.Glue.ConnectionTables.{over_by, is_elsewhere_by, sought_by, ReachesOne};
 
 use crate::borrowed_view::BorrowedView;
-use crate::record::decoded::DecodedRecord;
 use crate::tables::arrivals::Arrivals;
 use crate::tables::connections::Connections;
 use crate::tables::references::BoundReferences;
@@ -106,7 +105,6 @@ fn is_sought(
 /// Whether a view leads, by 0 or more turns, to one that is sought. A walk makes at most as many turns as one that doesn't
 /// go in a circle, so that it meets each view of a circle; beside it a walk hops, which may pass a view by.
 pub(crate) fn leads_to(
-    events: &[DecodedRecord],
     turns: &Settlements,
     bound: &BoundReferences,
     arrivals: &Arrivals,
@@ -114,9 +112,9 @@ pub(crate) fn leads_to(
     from: BorrowedView<'_>,
     sought: Sought,
 ) -> bool
-    requires { HaveAhead events.now turns.now bound.now }
+    requires { HaveAhead turns.now bound.now }
     ensures { IsTrue result
-        ↔ ReachesOne (turn_by events.now turns.now (bound_at bound.now))
+        ↔ ReachesOne (turn_by turns.now (bound_at bound.now))
         (sought_by arrivals.now connections.now sought) (as_view from.entry) }
 {
     let mut view = from;
@@ -127,11 +125,11 @@ pub(crate) fn leads_to(
         {
             return true;
         }
-        match turned_to(events, turns, bound, view) {
+        match turned_to(turns, bound, view) {
             Some(next) => view = next,
             None => return false,
         }
-        far = further(events, turns, bound, far);
+        far = further(turns, bound, far);
     }
     is_sought(arrivals, connections, sought, view)
 }

@@ -11,7 +11,7 @@ use Rattle.vat_view.proofs.Settled.{turns_applied}
 use Rattle.vat_view.proofs.Promising.{resolves_after}
 use Rattle.vat_view.proofs.Connecting.{connected_same, connected_applied}
 use Rattle.vat_view.proofs.Ahead.{ahead_unlearned, ahead_applied}
-use Rattle.vat_view.proofs.Standing.{settles_none, takes_none, resolves_none, nothing_settled, says_still, noted_still}
+use Rattle.vat_view.proofs.Standing.{settles_none, takes_none, resolves_none, nothing_settled, still_turned, says_still, noted_still}
 use Rattle.vat_view.proofs.tables.all_tables.AllTables.note_still.Goals as goal
 
 pub returns-in_err-grow_for-clause-err : goal.returns-in_err-grow_for-clause-err
@@ -33,7 +33,7 @@ returns-in_err-apply_record-clause-err c = any_err c.from_residual-in_err-apply_
       noted.2,
       connected_same (reverse events) c.args.self.now.connections c.grow_for.new.self
           (record { asked = c.grow_for.ensures.asked; aborted = c.grow_for.ensures.aborted; aborted_here = c.grow_for.ensures.aborted_here }) noted.3,
-      ahead_unlearned events events c.args.self.now.turns c.args.self.now.turns refl (says_still c.args.self.now.turns) c.args.self.now.bound
+      ahead_unlearned c.args.self.now.turns c.args.self.now.turns (says_still c.args.self.now.turns) (reverse events) c.args.self.now.bound
           c.apply_record.new.bound noted.0.tabled.bounds kept.tabled.bounds c.apply_record.ensures.ahead (λ n q h. inl h) noted.4,
     ))
 
@@ -53,14 +53,14 @@ returns-clause-ok c = λ events place noted sound.
           (settles_none (bound_at c.args.self.now.bound) c.args.self.now.lives (question_at c.args.self.now.questions) c.args.event.now c.requires)
           (takes_none (question_at c.args.self.now.questions) c.args.event.now c.requires
           ∙ taken_from_known (reverse events) c.args.self.now.questions c.args.self.now.lives c.args.self.now.bound c.args.self.now.calls noted.0 c.args.event.now)
-          (says_still c.args.self.now.turns) (noted_still c.args.number c.args.self.now.turns),
+          (still_turned c.args.event.now) (says_still c.args.self.now.turns) (noted_still c.args.number c.args.self.now.turns),
       connected_applied events events (events ++ c.args.event.now ∷ []) c.args.event.now c.args.self.now.connections c.grow_for.new.self c.note_event.new.self refl refl
           (record { asked = c.grow_for.ensures.asked; aborted = c.grow_for.ensures.aborted; aborted_here = c.grow_for.ensures.aborted_here })
           (record { asked = c.note_event.ensures.asked; aborted = c.note_event.ensures.aborted; aborted_here = c.note_event.ensures.aborted_here }) noted.3,
-      ahead_applied events events (events ++ c.args.event.now ∷ []) c.args.event.now c.args.number nothing_settled c.args.self.now.turns
-          c.args.self.now.turns c.args.self.now.turns refl refl
+      ahead_applied (reverse events) c.args.event.now c.args.number nothing_settled c.args.self.now.turns
+          c.args.self.now.turns c.args.self.now.turns
           (says_still c.args.self.now.turns) (noted_still c.args.number c.args.self.now.turns) c.args.self.now.bound
           c.apply_record.new.bound c.apply_record.new.bound false refl
-          sound.refers noted.0.tabled.bounds kept_last.tabled.bounds (λ r. refl) c.apply_record.ensures.ahead (λ r q h. inl h) (λ so. absurd (false≢true so))
+          sound.refers noted.0.tabled.bounds kept.tabled.bounds (λ r. refl) c.apply_record.ensures.ahead (λ r q h. inl h) (λ so. absurd (false≢true so))
           (λ n q h. inl h) (λ so. absurd (false≢true so)) noted.4,
     )

@@ -10,6 +10,7 @@ _vataudit_options() {
         records) echo "--from= --count=" ;;
         frame) echo "--later" ;;
         migrate) echo "--out= --later" ;;
+        wire) echo "--out=" ;;
     esac
 }
 
@@ -26,7 +27,7 @@ _vataudit_files() {
 }
 
 _vataudit() {
-    local commands="check order graph run draw vat records frame frames migrate"
+    local commands="check order graph run draw vat records frame frames migrate wire"
     local word=${COMP_WORDS[COMP_CWORD]} before=${COMP_WORDS[COMP_CWORD - 1]} command="" at
     COMPREPLY=()
     for ((at = 1; at < COMP_CWORD; at++)); do
@@ -65,7 +66,7 @@ _vataudit() {
     case $command in
         check | order | graph | run | draw) _vataudit_files "$word" .json ;;
         vat | records | migrate) _vataudit_files "$word" .log ;;
-        frames) _vataudit_files "$word" "" ;;
+        frames | wire) _vataudit_files "$word" "" ;;
     esac
 }
 

@@ -1,4 +1,5 @@
 pub mod CaseFiles
 pub mod CaseReadings
+mod CaseTexts
 pub mod LookUps
 pub mod Refusals

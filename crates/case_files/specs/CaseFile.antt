@@ -74,6 +74,11 @@ listed_of text = option_and_then listed_in (read text)
 abbrev pub IsCaseFile : List ℕ → Listed → Type 0
 IsCaseFile bytes listed = IsUtf8 bytes × (listed_of bytes ≡ Some listed)
 
+-- what is said by the case file of two logs, by their names, whose vats, 1 and 2, are the ends of connection 0
+abbrev pub link_case : List ℕ → List ℕ → Listed
+link_case first second =
+    record { logs = first ∷ second ∷ []; links = record { conn = 0; a = 1; b = 2 } ∷ []; order = None }
+
 -- bytes are no case file
 abbrev pub IsNoCaseFile : List ℕ → Type 0
 IsNoCaseFile bytes = IsUtf8 bytes → listed_of bytes ≡ None

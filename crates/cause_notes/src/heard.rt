@@ -1,10 +1,12 @@
 //! What is heard of an answer, for what people are told beside it. No answer depends on it.
 
+use crate::wires::wire_found::WireFound;
 use audit_core::{Breach, Report};
 use case_book::Findings;
 use report_lines::{Answer, Fault, report_sentence, why_sentence};
 use std::mem;
 use vat_rules::{Outcome, VatFinding};
+use wire_logs::WireAnswer;
 
 /// What was heard of the answer that was said last.
 #[derive(Clone, Copy, Debug, PartialEq, Eq)]
@@ -46,13 +48,17 @@ pub(crate) enum Told {
     },
     /// No order fits, or the one that is given doesn't; what that asks, as a sentence.
     NoOrder(&'static str),
+    /// What was found of the bytes of a connection.
+    Wire,
 }
 
-/// What was heard of the answer that was said last, and what was found of the case that it judges, where it isn't yes.
+/// What was heard of the answer that was said last, and what was found of the case that it judges, where it isn't yes, or of
+/// the connection.
 #[derive(Debug, Drop)]
 pub struct Heard {
     pub(crate) told: Told,
     pub(crate) findings: Option<Findings>,
+    pub(crate) wire: Option<WireFound>,
 }
 
 /// What is heard of the report of a case.
@@ -119,6 +125,7 @@ impl Heard {
         Heard {
             told: Told::Nothing,
             findings: None,
+            wire: None,
         }
     }
 
@@ -128,9 +135,15 @@ impl Heard {
             Answer::Finding(finding) => of_finding(finding),
             Answer::Report(report) => of_report(report),
             Answer::NoOrder => of_report(&Report::NoOrder),
+            Answer::Wire(_) => Told::Wire,
             Answer::Fault(fault) => Told::Fault(*fault),
             Answer::Message(_) | Answer::Order(_) | Answer::Migrated(_) => Told::Nothing,
         };
+    }
+
+    /// Keeps what was found of a connection, but for its logs.
+    pub fn keep_wire(&mut self, answer: &WireAnswer) {
+        self.wire = Some(WireFound::of(answer));
     }
 
     /// Keeps what was found of a case beside its report, unless that is yes: then it is left to the system, which takes

@@ -9,7 +9,8 @@
 //!
 //! Its rooms: `past`, what the records before made of a log's numbers; `rules`, a file for each family of rules: questions,
 //! lives of numbers, calls, goals, capability tables, results, promises, references, connections; `cases`, frames that differ,
-//! calls that overtake, what was found of the other logs; `inputs`, bad inputs.
+//! calls that overtake, what was found of the other logs; `wires`, connections that were judged by their bytes; `inputs`, bad
+//! inputs.
 #![tactic(auto)]
 
 mod cases;
@@ -20,6 +21,7 @@ mod notes;
 mod past;
 mod reading;
 mod rules;
+mod wires;
 mod write_notes;
 
 pub use heard::Heard;

@@ -8,6 +8,7 @@ use crate::inputs::bad_input::{message_sentence, put_fault};
 use crate::logs::{Logs, put_place};
 use crate::reading::message_at;
 use crate::rules::rule_notes::put_rule_cause;
+use crate::wires::wire_notes::put_wire;
 use audit_core::Breach;
 use case_files::RememberingSource;
 use report_lines::Fault;
@@ -92,7 +93,7 @@ fn put_told(
             put_links(alloc, text, logs, Some(connection))
         }
         Told::NoOrder(rule) => write!(text, "note: rule: {rule}\n"),
-        Told::Nothing | Told::Fault(_) => Ok(()),
+        Told::Nothing | Told::Fault(_) | Told::Wire => Ok(()),
     }
 }
 
@@ -110,6 +111,10 @@ pub fn notes_of<S: RememberingSource>(
     let mut text = String::new(alloc);
     if let Told::Fault(fault) = heard.told {
         put_fault(alloc, &mut text, source, hex, fault)?;
+        return Ok(text);
+    }
+    if let (Told::Wire, Some(found)) = (heard.told, &heard.wire) {
+        put_wire(alloc, &mut text, source.kept(), found)?;
         return Ok(text);
     }
     let logs = Logs {

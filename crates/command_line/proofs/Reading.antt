@@ -20,9 +20,9 @@ use Rattle.clap.specs.declared.builder.value_parser.ValueParser.TheVariants as p
 use Rattle.clap.proofs.OnLiterals.{clap_on_literals}
 use Rattle.command_line.proofs.Faultless.{first_none, never, then_none}
 use Rattle.command_line.proofs.Filled.{AllBring, AreFull, Brings, default_row, first_passes, given_value, level_full, no_default, parser_by, replaced_full, row_value, values_pass}
-use Rattle.command_line.proofs.Named.{IsOneOf, Named, Reader, all_names, checking, drawing, framing, graphing, help_word, listing, migrating, name_of, of_frames, of_run, of_vat, ordering, reading, which, word_of}
+use Rattle.command_line.proofs.Named.{IsOneOf, Named, Reader, all_names, checking, drawing, framing, graphing, help_word, listing, migrating, name_of, of_frames, of_run, of_vat, ordering, reading, which, wiring, word_of}
 use Rattle.command_line.proofs.One.{HasFile, at, dashes, help, holding, main, names, sub, word_plain, words_read}
-use Rattle.command_line.specs.Parser.{check, count, dot, draw, flag_rule, frame, graph, input, input_rule, later, migrate, most, number_rule, path, path_rule, program, records, start, workers, workers_rule, writer}
+use Rattle.command_line.specs.Parser.{check, count, dot, draw, flag_rule, folder_rule, frame, graph, input, input_rule, later, migrate, most, number_rule, other, other_rule, path, path_rule, program, records, start, wire, workers, workers_rule, writer}
 use Rattle.command_line.specs.Spelled.{IsChecked, SpellsOne}
 
 -- ---- the first word
@@ -88,6 +88,9 @@ migrate_sub = unwrap_or (slice_get (built program).subs 9) migrate.top
 abbrev frame_sub : Shape
 frame_sub = unwrap_or (slice_get (built program).subs 7) frame.top
 
+abbrev wire_sub : Shape
+wire_sub = unwrap_or (slice_get (built program).subs 10) wire.top
+
 abbrev graph_sub : Shape
 graph_sub = unwrap_or (slice_get (built program).subs 2) graph.top
 
@@ -100,6 +103,7 @@ shape_by listing = records_sub
 shape_by migrating = migrate_sub
 shape_by graphing = graph_sub
 shape_by framing = frame_sub
+shape_by wiring = wire_sub
 
 -- past the name of a command the walk keeps the words
 stops : (h : Held) (waiting : Waiting) (n : ℕ) (ended : Bool) (name : Text) (seen words : List Text)
@@ -121,6 +125,7 @@ stop_at drawing words = stops (holding None) idle 1 false (name_of drawing) [] w
 stop_at listing words = stops (holding None) idle 1 false (name_of listing) [] words
 stop_at migrating words = stops (holding None) idle 1 false (name_of migrating) [] words
 stop_at framing words = stops (holding None) idle 1 false (name_of framing) [] words
+stop_at wiring words = stops (holding None) idle 1 false (name_of wiring) [] words
 
 -- the command that is entered reads the words that are left
 entered_level : (c : Named) (words : List Text) → entered_fault (built program) (Some (name_of c, words)) ≡ level_fault (shape_by c) [] nothing_held words false []
@@ -134,6 +139,7 @@ entered_level drawing words = refl
 entered_level listing words = refl
 entered_level migrating words = refl
 entered_level framing words = refl
+entered_level wiring words = refl
 
 entered_rows : (c : Named) (words : List Text) → entered (built program) (Some (name_of c, words)) ≡ Some (name_of c, rows_after (shape_by c).rules [] words)
 entered_rows graphing words = refl
@@ -146,6 +152,7 @@ entered_rows drawing words = refl
 entered_rows listing words = refl
 entered_rows migrating words = refl
 entered_rows framing words = refl
+entered_rows wiring words = refl
 
 no_command : (rest : List Text) → built_fault (built program) nothing_held (dashes ∷ rest) ≡ [] → ⊥
 unfolding clap_on_literals
@@ -179,11 +186,21 @@ main_read (w ∷ rest) e =
 
 -- ---- what it finds in them
 
--- the one thing, --workers, --out, --later, --dot, --from, --count and --help bring values that pass
+-- the one thing, another, --workers, --out, --later, --dot, --from, --count and --help bring values that pass
 brings_case : Brings false (with_index 1 (filled input_rule))
 brings_case [] rows e full = absurd (never e)
 brings_case (v ∷ vs) rows e full =
     replaced_full input _ CommandLine (v ∷ vs) rows (values_pass input (v ∷ vs) (then_none (repeat_fault false input rows) _ (then_none (range_kinds 1 1 (length (v ∷ vs))) _ e))) full
+
+brings_other : Brings false (with_index 2 (filled other_rule))
+brings_other [] rows e full = absurd (never e)
+brings_other (v ∷ vs) rows e full =
+    replaced_full other _ CommandLine (v ∷ vs) rows (values_pass other (v ∷ vs) (then_none (repeat_fault false other rows) _ (then_none (range_kinds 1 1 (length (v ∷ vs))) _ e))) full
+
+brings_folder : Brings false (filled folder_rule)
+brings_folder [] rows e full = absurd (never e)
+brings_folder (v ∷ vs) rows e full =
+    replaced_full path _ CommandLine (v ∷ vs) rows (values_pass path (v ∷ vs) (then_none (repeat_fault false path rows) _ (then_none (range_kinds 1 1 (length (v ∷ vs))) _ e))) full
 
 brings_path : Brings false (filled path_rule)
 brings_path [] rows e full = absurd (never e)
@@ -219,6 +236,7 @@ brings ordering = (brings_case, tt, (brings_path, tt, (brings_help, tt, tt)))
 brings drawing = (brings_case, tt, (brings_path, tt, (brings_number start refl, tt, (brings_number count refl, tt, (brings_help, tt, tt)))))
 brings migrating = (brings_case, tt, (brings_flag later refl, (refl, tt), (brings_path, tt, (brings_help, tt, tt))))
 brings graphing = (brings_case, tt, (brings_flag dot refl, (refl, tt), (brings_help, tt, tt)))
+brings wiring = (brings_case, tt, (brings_other, tt, (brings_folder, tt, (brings_help, tt, tt))))
 brings framing = (brings_case, tt, (brings_flag later refl, (refl, tt), (brings_help, tt, tt)))
 brings listing = (brings_case, tt, (brings_number start refl, tt, (brings_number count refl, tt, (brings_help, tt, tt))))
 
@@ -253,6 +271,7 @@ Besides checking words rows file = (t : Text) × ((first_of workers rows ≡ Som
 Besides ordering words rows file = (out : Text) × (first_of path rows ≡ Some out)
 Besides drawing words rows file = (out : Text) × ((first_of path rows ≡ Some out) × IsChecked 0 most (first_of start rows) × IsChecked 0 most (first_of count rows))
 Besides migrating words rows file = (out : Text) × (first_of path rows ≡ Some out)
+Besides wiring words rows file = (another : Text) × (first_of other rows ≡ Some another)
 Besides graphing words rows file = ⊤
 Besides framing words rows file = ⊤
 Besides listing words rows file = IsChecked 0 most (first_of start rows) × IsChecked 0 most (first_of count rows)
@@ -294,6 +313,12 @@ finds_by migrating first rest e full none =
     let file = given_value input rows given.0 full in
     let out = given_value path rows given.1 full in
     (file.0, (file.1, (out.0, out.1)))
+finds_by wiring first rest e full none =
+    let rows = rows_after wire_sub.rules [] rest in
+    let given = both_given (is_given input rows) (is_given other rows) none in
+    let file = given_value input rows given.0 full in
+    let another = given_value other rows given.1 full in
+    (file.0, (file.1, (another.0, another.1)))
 finds_by graphing first rest e full none =
     let rows = rows_after graph_sub.rules [] rest in
     let case = given_value input rows (one_given (is_given input rows) none) full in

@@ -17,7 +17,7 @@ use Rattle.clap.specs.declared.error.ErrorKind.TheVariants.{ValueValidation}
 use Rattle.clap.specs.declared.builder.value_parser.ValueParser.{ValueParser}
 use Rattle.clap.specs.declared.builder.value_parser.ValueParser.TheVariants as parser
 use Rattle.clap.proofs.OnLiterals.{clap_on_literals}
-use Rattle.command_line.proofs.Named.{Reader, checking, drawing, framing, graphing, listing, migrating, name_of, of_frames, of_run, of_vat, ordering, reader_of, word_of}
+use Rattle.command_line.proofs.Named.{Reader, checking, drawing, framing, graphing, listing, migrating, name_of, of_frames, of_run, of_vat, ordering, reader_of, wiring, word_of}
 use Rattle.command_line.proofs.One.{at, dashes, given, holding, sub}
 use Rattle.command_line.proofs.Reading.{shape_by}
 use Rattle.command_line.specs.Parser.{most, path, program, start}
@@ -223,6 +223,35 @@ draw_words file out e h =
 pub takes_draw : (first file out : Text) → is_flag file ≡ false → is_flag out ≡ false → fault_of program (first ∷ name_of drawing ∷ file ∷ codes "--out" ∷ out ∷ []) ≡ []
 unfolding clap_on_literals
 takes_draw first file out e h = ap (λ (k : Kinds). or_else k []) (draw_words file out e h)
+
+-- ---- wire
+
+wire_words : (one another : Text) → is_flag one ≡ false → is_flag another ≡ false → level_fault (shape_by wiring) [] nothing_held (one ∷ another ∷ []) false [] ≡ []
+unfolding clap_on_literals
+wire_words one another e h =
+    let is = plain_word_is one e in
+    let are = plain_word_is another h in
+    rw (is.0, is.1, is.2, are.0, are.1, are.2) refl
+
+-- `wire A B` has no fault, where neither is a flag
+pub takes_wire : (first one another : Text) → is_flag one ≡ false → is_flag another ≡ false → fault_of program (first ∷ name_of wiring ∷ one ∷ another ∷ []) ≡ []
+unfolding clap_on_literals
+takes_wire first one another e h = ap (λ (k : Kinds). or_else k []) (wire_words one another e h)
+
+wire_out_words : (one another out : Text) → is_flag one ≡ false → is_flag another ≡ false → is_flag out ≡ false
+    → level_fault (shape_by wiring) [] nothing_held (one ∷ another ∷ codes "--out" ∷ out ∷ []) false [] ≡ []
+unfolding clap_on_literals
+wire_out_words one another out e h f =
+    let is = plain_word_is one e in
+    let are = plain_word_is another h in
+    let too = plain_word_is out f in
+    rw (is.0, is.1, is.2, are.0, are.1, are.2, too.0, too.1, too.2) refl
+
+-- nor has it with `--out FOLDER`
+pub takes_wire_out : (first one another out : Text) → is_flag one ≡ false → is_flag another ≡ false → is_flag out ≡ false
+    → fault_of program (first ∷ name_of wiring ∷ one ∷ another ∷ codes "--out" ∷ out ∷ []) ≡ []
+unfolding clap_on_literals
+takes_wire_out first one another out e h f = ap (λ (k : Kinds). or_else k []) (wire_out_words one another out e h f)
 
 -- ---- migrate
 

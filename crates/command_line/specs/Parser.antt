@@ -89,6 +89,21 @@ graph = flagged (codes "graph") dot
 abbrev pub migrate : App
 migrate = with_rule (with_rule (with_rule (new_app (codes "migrate")) input_rule) (flag_rule later)) path_rule
 
+-- by what clap knows the second file that `wire` reads, which has to be given
+abbrev pub other : List ℕ
+other = codes "other"
+
+abbrev pub other_rule : Rule
+other_rule = record (new_rule other) { value_names = 1; required = true }
+
+-- the folder that is written, which is given as `--out FOLDER` and may be left out
+abbrev pub folder_rule : Rule
+folder_rule = record (new_rule path) { long = Some (codes "out"); value_names = 1 }
+
+-- `wire A B`, with `--out FOLDER` if wanted
+abbrev pub wire : App
+wire = with_rule (with_rule (with_rule (new_app (codes "wire")) input_rule) other_rule) folder_rule
+
 -- the program, of which a command has to be given
 abbrev pub top : App
 top = on_top (λ s. record s { subcommand_required = true; arg_required_else_help = true }) (new_app (codes "vataudit"))
@@ -105,5 +120,9 @@ reading =
     with_subcommand (with_subcommand (with_subcommand (with_subcommand judging (reader (codes "vat")).top) records.top) frame.top) (reader (codes "frames")).top
 
 -- and with the one that writes a log
+abbrev pub writing : App
+writing = with_subcommand reading migrate.top
+
+-- and with the one that reads the bytes of a connection
 abbrev pub program : App
-program = with_subcommand reading migrate.top
+program = with_subcommand writing wire.top

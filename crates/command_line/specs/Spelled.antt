@@ -1,14 +1,14 @@
 -- How words spell commands.
-use Rattle.std.specs.Prelude.{◌≡◌, ◌⊎◌, ◌==◌, ◌≤◌, ⊤, ℕ, Bool, false, List, [], ◌∷◌, Option, Some, None, codes}
+use Rattle.std.specs.Prelude.{◌≡◌, ◌⊎◌, ◌==◌, ◌≤◌, ⊤, ℕ, Bool, false, List, [], ◌∷◌, Option, Some, None, codes, option_map}
 use Rattle.std.specs.Str.{bytes_eq}
 use Rattle.std.specs.Str.Parse.{IsNumeral, digits_value, without_leading_plus}
 use Rattle.command_line.specs.declared.command.Command.{Command}
-use Rattle.command_line.specs.declared.command.Command.TheVariants.{Check, Order, Graph, Run, Draw, Vat, Records, Frame, Frames, Migrate}
+use Rattle.command_line.specs.declared.command.Command.TheVariants.{Check, Order, Graph, Run, Draw, Vat, Records, Frame, Frames, Migrate, Wire}
 use Rattle.clap.specs.Simple.{subcommand_rows_of}
 use Rattle.clap.specs.Values.{IsUnsignedIn}
 use Rattle.clap.specs.Words.{Row, fault_of, first_of, subcommand_of}
 use Rattle.clap.specs.declared.ArgMatches.{ArgMatches}
-use Rattle.command_line.specs.Parser.{count, dot, input, later, path, program, start, workers}
+use Rattle.command_line.specs.Parser.{count, dot, input, later, other, path, program, start, workers}
 
 -- a word that begins with a hyphen, but `-`
 abbrev pub is_flag : List ℕ → Bool
@@ -87,6 +87,11 @@ SpellsDraw words name out first many = (rows : List Row) ×
     (IsRead words (codes "draw") rows × (first_of input rows ≡ Some name) × (first_of path rows ≡ Some out)
     × IsNumber (first_of start rows) first × IsNumber (first_of count rows) many)
 
+-- the words are read as `wire A B`, and clap finds both files in them and, where it was given, the folder
+abbrev pub SpellsWire : List (List ℕ) → List ℕ → List ℕ → Option (List ℕ) → Type 0
+SpellsWire words one another out = (rows : List Row) ×
+    (IsRead words (codes "wire") rows × (first_of input rows ≡ Some one) × (first_of other rows ≡ Some another) × (first_of path rows ≡ out))
+
 -- the words spell the command
 abbrev pub Spells : List (List ℕ) → Command → Type 0
 Spells words (Check name many) = SpellsCheck words name.now many
@@ -99,6 +104,7 @@ Spells words (Records file first many) = SpellsRecords words file.now first many
 Spells words (Frame hex is_later) = SpellsFlagged (codes "frame") later words hex.now is_later
 Spells words (Frames file) = SpellsOne (codes "frames") words file.now
 Spells words (Migrate file is_later out) = SpellsMigrate words file.now is_later out.now
+Spells words (Wire one another out) = SpellsWire words one.now another.now (option_map (λ name. name.now) out)
 
 -- the name of a command that may be given one thing alone
 abbrev pub IsReader : List ℕ → Type 0
@@ -117,8 +123,9 @@ HasWorkers (Records name first many) = ⊤
 HasWorkers (Frame hex is_later) = ⊤
 HasWorkers (Frames name) = ⊤
 HasWorkers (Migrate file is_later out) = ⊤
+HasWorkers (Wire one another out) = ⊤
 
--- the name of the file that a command writes, if it writes one
+-- the name of the file or folder that a command writes, if it writes one
 abbrev pub out_of : Command → Option (List ℕ)
 out_of (Check name many) = None
 out_of (Order name out) = Some out.now
@@ -130,3 +137,4 @@ out_of (Records name first many) = None
 out_of (Frame hex is_later) = None
 out_of (Frames name) = None
 out_of (Migrate file is_later out) = Some out.now
+out_of (Wire one another out) = option_map (λ name. name.now) out

@@ -8,7 +8,7 @@ ghost use Rattle.clap.specs.Words.{fault_of, first_value, found_of, kind_of, sub
 ghost use Rattle.command_line.specs.Parser.{most, program, workers};
 ghost use Rattle.command_line.specs.Spelled.{AreMatchesOf, HasWorkers, IsChecked, IsNumber, IsReader, Spells, is_flag, is_set, out_of};
 
-use crate::parser::{self, COUNT, DOT, FROM, INPUT, LATER, OUT, WORKERS};
+use crate::parser::{self, COUNT, DOT, FROM, INPUT, LATER, OTHER, OUT, WORKERS};
 use clap::error::ErrorKind;
 use clap::{ArgMatches, Error};
 use std::alloc::Global;
@@ -73,16 +73,24 @@ pub enum Command<'a> {
         later: bool,
         out: &'a str,
     },
+    /// Judge a connection by the bytes alone that its ends sent, which the source has under these names; and write the logs
+    /// that explain them to a folder, where one is named.
+    Wire {
+        a: &'a str,
+        b: &'a str,
+        out: Option<&'a str>,
+    },
 }
 
 impl<'a> Command<'a> {
-    /// The name of the file that is written, if one is.
+    /// The name of the file or folder that is written, if one is.
     pub fn out(&self) -> Option<&'a str>
         ensures { option_map (λ name. name.now) result ≡ out_of self.now }
     {
         match self {
             Command::Order { out, .. } | Command::Draw { out, .. } => Some(out),
             Command::Migrate { out, .. } => Some(out),
+            Command::Wire { out, .. } => *out,
             Command::Check { .. } | Command::Graph { .. } | Command::Run { .. } => None,
             Command::Vat { .. } | Command::Records { .. } => None,
             Command::Frame { .. } | Command::Frames { .. } => None,
@@ -99,6 +107,13 @@ fn value_of<'a>(given: &ArgMatches<'a>, name: &str) -> &'a str
         unreachable!()
     };
     value
+}
+
+/// What was given under a name, if anything was.
+fn given_value<'a>(given: &ArgMatches<'a>, name: &str) -> Option<&'a str>
+    ensures { first_value (found_of given.now) name.now ≡ option_map (λ text. text.now) result }
+{
+    given.get_str(name)
 }
 
 /// The number that was given under a name, if one was. `clap` has checked that it is one of 64 bits.
@@ -181,6 +196,11 @@ fn command_in<'a>(matches: &ArgMatches<'a>) -> Command<'a>
             later: is_set(given, LATER),
             out: value_of(given, OUT),
         },
+        "wire" => Command::Wire {
+            a: input,
+            b: value_of(given, OTHER),
+            out: given_value(given, OUT),
+        },
         _ => Command::Frames { file: input },
     }
 }
@@ -199,8 +219,8 @@ fn matches_of<'a, S: AsStr>(alloc: Global, words: &'a [S]) -> Result<ArgMatches<
 
 /// The command that the words spell, of which the first is the program's name: `run CASE`, `vat FILE` or `frames FILE`, where
 /// before or after the last of these may stand `--`, and it may begin with a hyphen only after that or where it is `-`; or, as
-/// `clap` reads them, `check CASE` with `--workers N` if wanted, a number from 1 to 64, or `order CASE --out FILE`, or `graph
-/// CASE` with `--dot` if wanted, or `draw CASE --out FILE` with `--from I` and `--count N` if wanted, or `frame HEX` with
+/// `clap` reads them, `check CASE` with `--workers N` if wanted, a number from 1 to 64, or `order CASE --out FILE`, or `wire A B`
+/// with `--out FOLDER` if wanted, or `graph CASE` with `--dot` if wanted, or `draw CASE --out FILE` with `--from I` and `--count N` if wanted, or `frame HEX` with
 /// `--later` if wanted, or `migrate FILE --out FILE` with `--later` if wanted, or `records FILE` with `--from I` and `--count N`
 /// if wanted, numbers of 64 bits.
 ///
@@ -257,6 +277,15 @@ pub fn command_of<'a, S: AsStr>(alloc: Global, words: &'a [S]) -> Result<Command
         → map S.text words.entry.now
         ≡ first ∷ codes "migrate" ∷ file ∷ codes "--later" ∷ codes "--out" ∷ out ∷ []
         → is_flag file ≡ false → is_flag out ≡ false
+        → IfErr result (λ e. kind_of e ≡ ErrorKind.OutOfMemory) }
+    ensures taken_wire { (first one another : List ℕ)
+        → map S.text words.entry.now ≡ first ∷ codes "wire" ∷ one ∷ another ∷ []
+        → is_flag one ≡ false → is_flag another ≡ false
+        → IfErr result (λ e. kind_of e ≡ ErrorKind.OutOfMemory) }
+    ensures taken_wire_out { (first one another out : List ℕ)
+        → map S.text words.entry.now
+        ≡ first ∷ codes "wire" ∷ one ∷ another ∷ codes "--out" ∷ out ∷ []
+        → is_flag one ≡ false → is_flag another ≡ false → is_flag out ≡ false
         → IfErr result (λ e. kind_of e ≡ ErrorKind.OutOfMemory) }
     ensures taken_records { (first file : List ℕ)
         → map S.text words.entry.now ≡ first ∷ codes "records" ∷ file ∷ [] → is_flag file ≡ false

@@ -440,3 +440,59 @@ Exit status:
 
 /// `--later` of `migrate`.
 pub const LATER_LOG: &str = "Writes version 3, of a runtime that speaks the later edition";
+
+/// `wire`, in the list of commands.
+pub const WIRE: &str = "Judges a connection by the bytes that its ends sent";
+
+pub const WIRE_LONG: &str = "\
+Judges a connection by its bytes alone: no vat has to record anything. A holds all
+that one end sent and B all that the other sent, each one frame after another in
+the Cap'n Proto stream framing. Makes two logs that sound vats could have written
+around these frames, audits them as check does, and prints one line, with E for A
+or B and messages counted from 0 in each file:
+
+  yes frames N N delivered D      the frames of A and of B are those of one run of
+                                  the protocol; D calls are delivered in it
+  no end E message N rule CODE    message N of E is the first for which no run was
+                                  found, and CODE is the rule that it breaks
+  no ends A N B N                 each message waits for one behind the other: no
+                                  order exists
+  no end E message N unexplained  no run was found for this message, and the audit
+                                  names no rule
+  outside end E message N WHY     this message isn't judged; the ones before it are
+                                  explained
+  too long end E message N        a log would get too long here, or the frame is
+  bad frame NAME end E message N  no frame begins here: TooManySegments, as it is
+                                  with packed streams and with TLS
+  cannot read                     a file can't be read, or has over 1073741824 bytes
+  out of memory
+
+A yes is proved: such a run exists. A no says that none was found. docs/WIRE.md says
+what a connection's bytes can't show, and how to get them from any program.
+
+With --out the two logs go to FOLDER, which is made, as A.log (vat 1) and B.log (vat
+2), with case.json for check, run, graph and draw. They are written where the line is
+a yes, a no or an outside.";
+
+pub const WIRE_END: &str = "\
+Example:
+  $ cd samples
+  $ vataudit wire library.client.frames library.server.frames
+  yes frames 13 10 delivered 6
+
+Exit status:
+  0  yes
+  1  no
+  2  a message isn't judged, a file is bad, too long or can't be read, a write
+     failed, or the command line is wrong
+  3  memory ran out";
+
+/// A of `wire`.
+pub const WIRE_A: &str =
+    "What one end sent, a path from the working directory; - is standard input";
+
+/// B of `wire`.
+pub const WIRE_B: &str = "What the other end sent, a path too; - is standard input";
+
+/// FOLDER of `wire`.
+pub const FOLDER: &str = "The folder that is made, for the two logs and their case";

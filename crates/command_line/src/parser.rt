@@ -2,7 +2,7 @@
 
 ghost use Rattle.std.specs.Prelude.{◌≡◌, ℕ, List, IfOk, Some, codes, false};
 ghost use Rattle.clap.specs.Words.{Rule, app_of, new_rule, rule_of, with_subcommand};
-ghost use Rattle.command_line.specs.Parser.{check, draw, flag_rule, flagged, input_rule, judging, migrate, path_rule, program, reader, reading, records, top, workers_rule, writer};
+ghost use Rattle.command_line.specs.Parser.{check, draw, flag_rule, flagged, folder_rule, input_rule, judging, migrate, other_rule, path_rule, program, reader, reading, records, top, wire, workers_rule, writer, writing};
 
 use crate::help;
 use clap::builder::ValueParser;
@@ -12,10 +12,13 @@ use std::alloc::{AllocError, Global};
 /// By what `clap` knows the one thing that a command reads.
 pub(crate) const INPUT: &str = "input";
 
+/// By what `clap` knows the second file that `wire` reads.
+pub(crate) const OTHER: &str = "other";
+
 /// By what `clap` knows the number of workers.
 pub(crate) const WORKERS: &str = "workers";
 
-/// By what `clap` knows the file that is written.
+/// By what `clap` knows the file or folder that is written.
 pub(crate) const OUT: &str = "out";
 
 /// By what `clap` knows the number of the first record.
@@ -93,6 +96,28 @@ fn out<'a>(alloc: Global) -> Arg<'a>
         .value_name("FILE")
         .required(true)
         .help(help::OUT)
+}
+
+/// The second file that `wire` reads, which has to be given.
+fn other<'a>(alloc: Global) -> Arg<'a>
+    ensures rule { rule_of result ≡ other_rule }
+    ensures local { result.global ≡ false }
+{
+    Arg::new(alloc, OTHER)
+        .value_name("B")
+        .required(true)
+        .help(help::WIRE_B)
+}
+
+/// The option `--out FOLDER`, which may be left out.
+fn folder<'a>(alloc: Global) -> Arg<'a>
+    ensures rule { rule_of result ≡ folder_rule }
+    ensures local { result.global ≡ false }
+{
+    Arg::new(alloc, OUT)
+        .long("out")
+        .value_name("FOLDER")
+        .help(help::FOLDER)
 }
 
 /// The program with a command that reads one thing.
@@ -320,7 +345,7 @@ fn with_files<'a>(alloc: Global, cases: Command<'a>) -> Result<Command<'a>, Allo
 /// Out of memory.
 fn with_migration<'a>(alloc: Global, readers: Command<'a>) -> Result<Command<'a>, AllocError>
     requires { app_of readers ≡ reading }
-    ensures { IfOk result (λ c. app_of c ≡ program) }
+    ensures { IfOk result (λ c. app_of c ≡ writing) }
 {
     let migrate = Command::new(alloc, "migrate")
         .about(help::MIGRATE)
@@ -330,6 +355,25 @@ fn with_migration<'a>(alloc: Global, readers: Command<'a>) -> Result<Command<'a>
         .arg(flag(alloc, LATER, help::LATER_LOG))?
         .arg(out(alloc))?;
     readers.subcommand(migrate)
+}
+
+/// The program with its command that reads the bytes of a connection: `wire A B`, which has the option `--out FOLDER`.
+///
+/// # Errors
+///
+/// Out of memory.
+fn with_wire<'a>(alloc: Global, others: Command<'a>) -> Result<Command<'a>, AllocError>
+    requires { app_of others ≡ writing }
+    ensures { IfOk result (λ c. app_of c ≡ program) }
+{
+    let wire = Command::new(alloc, "wire")
+        .about(help::WIRE)
+        .long_about(help::WIRE_LONG)
+        .after_help(help::WIRE_END)
+        .arg(input(alloc, "A", help::WIRE_A))?
+        .arg(other(alloc))?
+        .arg(folder(alloc))?;
+    others.subcommand(wire)
 }
 
 /// The program's command line, with its help.
@@ -345,5 +389,6 @@ pub(crate) fn command_line<'a>(alloc: Global) -> Result<Command<'a>, AllocError>
         .after_help(help::PROGRAM_END)
         .subcommand_required(true)
         .arg_required_else_help(true);
-    with_migration(alloc, with_files(alloc, with_cases(alloc, top)?)?)
+    let readers = with_files(alloc, with_cases(alloc, top)?)?;
+    with_wire(alloc, with_migration(alloc, readers)?)
 }

@@ -1,5 +1,5 @@
 -- This file serves the contracts of private functions alone, and is no part of the meaning.
-use Rattle.std.specs.Prelude.{◌≡◌, ◌⊎◌, ℕ, ◌-◌, Bool, List, length, take, drop, Option, None, Result, Ok, Err, option_map}
+use Rattle.std.specs.Prelude.{◌≡◌, ◌⊎◌, ℕ, ◌-◌, Bool, List, ◌++◌, length, take, drop, Option, Some, None, Result, Ok, Err, option_map}
 use Rattle.report_lines.specs.declared.answer.Answer.{Answer}
 use Rattle.report_lines.specs.declared.answer.Answer.TheVariants.{Finding}
 use Rattle.report_lines.specs.declared.answer.Answer.TheVariants as answer
@@ -24,6 +24,7 @@ use Rattle.command_run.specs.CommandAnswers.{AnswersMigration}
 use Rattle.command_run.specs.DrawAnswers.{IsDrawn}
 use Rattle.command_run.specs.declared.commands.draw_case.DrawAnswer.{DrawAnswer}
 use Rattle.command_run.specs.declared.commands.migrate_log.MigrationAnswer.{MigrationAnswer}
+use Rattle.command_run.specs.declared.commands.wire_files.WireFolder.{WireFolder}
 use Rattle.command_run.specs.Runs.{Writing}
 use Rattle.picture.specs.declared.window.Asked.{Asked}
 
@@ -80,3 +81,8 @@ Migrates later read (Err fault) = AnswersMigration later read (line (answer_text
 abbrev pub IsMade : MigrationAnswer → List ℕ → ℕ → Option (List ℕ) → Type 0
 IsMade made text status bytes =
     (text ≡ line (answer_text made.answer)) × (status ≡ answer_status made.answer) × (bytes ≡ option_map (λ bytes. bytes) made.bytes)
+
+-- the bytes for a folder: those of its files, one behind the other
+abbrev pub folder_bytes : Option WireFolder → Option (List ℕ)
+folder_bytes None = None
+folder_bytes (Some folder) = Some (folder.log_of_a ++ (folder.log_of_b ++ folder.case))

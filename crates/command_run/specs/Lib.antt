@@ -8,3 +8,4 @@ pub mod FrameFiles
 pub mod RecordAnswers
 pub mod ReportAnswers
 pub mod Runs
+pub mod WireAnswers

@@ -47,6 +47,16 @@ pub fn say<O: Output>(answer: Answer, heard: &mut Heard, out: &mut O) -> Result<
     Ok(status)
 }
 
+/// Writes bytes, and ends the file in which they stand. More files may follow.
+pub fn save_part<F: Output>(bytes: &Bytes, file: &mut F) -> Result<(), F::Error>
+    requires { F.can_write file.old }
+    ensures wrote { OnOk result (Wrote F.contents F.is_finished file.old bytes.now file.new) }
+    ensures more { OnOk result (F.can_write file.new) }
+{
+    file.write_bytes(bytes.as_slice())?;
+    file.finish()
+}
+
 /// Writes the bytes for the file, if there are any.
 pub fn save<F: Output>(bytes: &Option<Bytes>, file: &mut F) -> Result<(), F::Error>
     requires { F.can_write file.old }

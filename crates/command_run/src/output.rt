@@ -38,11 +38,13 @@ pub trait Output {
         ensures bytes { OnOk result (Appends (contents self.old) (contents self.new) bytes.now) }
         ensures more { OnOk result (can_write self.new) };
 
-    /// Hands on what was written and is still held back.
+    /// Hands on what was written and is still held back. Where several files are written it ends one: what is written next
+    /// stands in the next.
     fn finish(&mut self) -> Result<(), Self::Error>
         requires { can_write self.old }
         ensures bytes { OnOk result (Keeps (contents self.old) (contents self.new)) }
-        ensures finished { OnOk result (is_finished self.new) };
+        ensures finished { OnOk result (is_finished self.new) }
+        ensures more { OnOk result (can_write self.new) };
 }
 
 impl<W: Write> Output for W {
@@ -68,6 +70,6 @@ impl<W: Write> Output for W {
 pub enum Failed<O, F> {
     /// A write of the lines.
     Out(O),
-    /// A write of an order's, a picture's or a new log's bytes.
+    /// A write of an order's, a picture's or a new log's bytes, or of a folder's files.
     File(F),
 }

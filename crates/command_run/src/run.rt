@@ -15,6 +15,7 @@ use crate::commands::make_order::say_order;
 use crate::commands::migrate_log::say_migrated;
 use crate::commands::run_steps::say_run;
 use crate::commands::vat_audit::say_vat;
+use crate::commands::wire_files::{AskedWire, say_wire};
 use crate::host::Host;
 use crate::output::{Failed, Output};
 use crate::watch::{Unwatched, Watch};
@@ -107,14 +108,24 @@ pub(crate) fn answer_heard<
             later,
             ..
         } => say_migrated(host.alloc, name, *later, source, heard, out, file),
+        Command::Wire { a, b, out: folder } => {
+            let asked = AskedWire {
+                a,
+                b,
+                folder: *folder,
+            };
+            say_wire(host, &asked, source, heard, out, file)
+        }
     }
 }
 
 /// Runs a command: writes its line, or its lines, to `out`, and answers the exit status. It is 0 where the log is good, the
-/// report of a case is yes, the message of each frame is said, the records are, or an order or a new log is made; 1 where a record breaks
-/// a rule, the report is a no, or no order exists; 2 where a record isn't judged, a message isn't read, or the input is bad
-/// or can't be read; and 3 where memory ran out. To `file` go the bytes of an order, of a picture or of a new log alone, before the line. Of the workers that
-/// audit a case one is the calling thread, and `rt` starts the others; the answer is the same for any number of them.
+/// report of a case or what is found of a connection is yes, the message of each frame is said, the records are, or an order
+/// or a new log is made; 1 where a record breaks a rule, the report or what is found is a no, or no order exists; 2 where a
+/// record or a message isn't judged, a message isn't read, or the input is bad, too long or can't be read; and 3 where memory
+/// ran out. To `file` go the bytes of an order, of a picture, of a new log or of a folder's files alone, before the line. Of
+/// the workers that audit a case one is the calling thread, and `rt` starts the others; the answer is the same for any number
+/// of them.
 ///
 /// # Errors
 ///

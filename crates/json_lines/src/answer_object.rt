@@ -2,6 +2,7 @@
 
 use crate::fault_object::fault_object;
 use crate::message_object::message_object;
+use crate::wire_object::wire_object;
 use audit_core::Report;
 use report_lines::{Answer, breach_code, code_of, word_of};
 use serde_json::{Value, json};
@@ -90,6 +91,7 @@ pub(crate) fn answer_object(alloc: Global, answer: &Answer) -> Result<Value, All
             let (vat, records) = (log.vat(), log.len());
             json!(in alloc; {"kind": "migrated", "vat": vat, "records": records})
         }
+        Answer::Wire(line) => wire_object(alloc, line),
         Answer::Fault(fault) => fault_object(alloc, *fault),
     }
 }

@@ -15,6 +15,7 @@ mod lists;
 mod message_object;
 mod record_object;
 mod step_object;
+mod wire_object;
 
 pub use json_lines::{JsonFault, JsonLines, OUT_OF_MEMORY};
 pub use line::Line;

@@ -11,8 +11,12 @@ use Rattle.audit_core.specs.declared.report.Breach.{Breach}
 use Rattle.audit_core.specs.declared.report.Breach.TheVariants as breach
 use Rattle.audit_core.specs.declared.report.Report.{Report as ReportOf}
 use Rattle.audit_core.specs.declared.report.Report.TheVariants as report
+use Rattle.wire_cut.specs.declared.end.End.{End}
+use Rattle.wire_cut.specs.declared.end.End.TheVariants as end
+use Rattle.wire_logs.specs.declared.line.WireLine.{WireLine}
+use Rattle.wire_logs.specs.declared.line.WireLine.TheVariants as wire
 use Rattle.report_lines.specs.declared.answer.Answer.{Answer}
-use Rattle.report_lines.specs.declared.answer.Answer.TheVariants.{Finding, Report, Message, Order, NoOrder, Migrated, Fault}
+use Rattle.report_lines.specs.declared.answer.Answer.TheVariants.{Finding, Report, Message, Order, NoOrder, Migrated, Wire, Fault}
 use Rattle.report_lines.specs.Faults.{fault_status, fault_text}
 use Rattle.report_lines.specs.MessageText.{message_text}
 
@@ -86,6 +90,33 @@ report_status (report.OutsideVat vat at reason) = 2
 report_status (report.Yes vats records delivered under_way run) = 0
 report_status _ = 1
 
+-- the name of an end of a connection: that of its file
+abbrev pub end_name : End → List ℕ
+end_name end.A = codes "A"
+end_name end.B = codes "B"
+
+-- a message, by its end and its number among those of that end
+abbrev pub place_text : End → ℕ → List ℕ
+place_text sender number = codes "end " ++ (end_name sender ++ (codes " message " ++ decimal number))
+
+-- what is answered of the bytes of a connection
+abbrev pub wire_text : WireLine → List ℕ
+wire_text (wire.Yes of_a of_b delivered) = codes "yes frames " ++ (decimal of_a ++ (codes " " ++ (decimal of_b ++ (codes " delivered " ++ decimal delivered))))
+wire_text (wire.No sender number broken) = codes "no " ++ (place_text sender number ++ (codes " rule " ++ breach_code broken))
+wire_text (wire.NoOrder of_a of_b) = codes "no ends A " ++ (decimal of_a ++ (codes " B " ++ decimal of_b))
+wire_text (wire.Unexplained sender number) = codes "no " ++ (place_text sender number ++ codes " unexplained")
+wire_text (wire.TooLong sender number) = codes "too long " ++ place_text sender number
+wire_text (wire.Outside sender number reason) = codes "outside " ++ (place_text sender number ++ (codes " " ++ word_of reason))
+wire_text (wire.BadFrame sender number) = codes "bad frame TooManySegments " ++ place_text sender number
+
+-- 0 for yes, 1 for each no, 2 for a message that isn't judged, for what is too long, and where no frame begins
+abbrev pub wire_status : WireLine → ℕ
+wire_status (wire.Yes of_a of_b delivered) = 0
+wire_status (wire.TooLong sender number) = 2
+wire_status (wire.Outside sender number reason) = 2
+wire_status (wire.BadFrame sender number) = 2
+wire_status _ = 1
+
 -- the text of an answer
 abbrev pub answer_text : Answer → List ℕ
 answer_text (Finding found) = log_outcome_text found.log.vat (length found.log.records) found.outcome
@@ -94,6 +125,7 @@ answer_text (Message message) = message_text message
 answer_text (Order steps) = codes "order steps " ++ decimal (length steps)
 answer_text NoOrder = no_order_text
 answer_text (Migrated log) = codes "migrated vat " ++ (decimal log.vat ++ (codes " records " ++ decimal (length log.records)))
+answer_text (Wire found) = wire_text found
 answer_text (Fault found) = fault_text found
 
 -- the exit status of an answer
@@ -104,6 +136,7 @@ answer_status (Message message) = 0
 answer_status (Order steps) = 0
 answer_status NoOrder = 1
 answer_status (Migrated log) = 0
+answer_status (Wire found) = wire_status found
 answer_status (Fault found) = fault_status found
 
 -- a line: a text and its end

@@ -7,6 +7,7 @@ use crate::fault::Fault;
 use crate::finding_text::{outcome_status, put_outcome};
 use crate::report_text::{put_no_order, put_report, report_status};
 use crate::shown::Shown;
+use crate::wire_text::{put_wire, wire_status};
 use audit_core::Report;
 use merge_order::Order;
 use rpc_view::RpcMessage;
@@ -14,6 +15,7 @@ use std::fmt;
 use std::fmt::{Display, Formatter};
 use vat_log::VatLog;
 use vat_rules::VatFinding;
+use wire_logs::WireLine;
 
 /// What is answered to an input. It is shown as its line (docs/FORMATS.md), without the line's end.
 #[derive(Debug, Drop)]
@@ -30,13 +32,15 @@ pub enum Answer {
     NoOrder,
     /// A log that was migrated.
     Migrated(VatLog),
+    /// What was found of the bytes of a connection.
+    Wire(WireLine),
     /// The input has a fault, or memory ran out.
     Fault(Fault),
 }
 
 impl Answer {
     /// The exit status: 0 for a good log, a yes, a message, an order or a migrated log; 1 for a rule that is broken, each other no, or where
-    /// no order exists; 2 for a record that isn't judged, or a fault; 3 where memory ran out.
+    /// no order exists; 2 for a record or a message that isn't judged, what is too long, or a fault; 3 where memory ran out.
     pub fn status(&self) -> u8
         ensures { result ≡ answer_status self.now }
     {
@@ -45,6 +49,7 @@ impl Answer {
             Answer::Report(report) => report_status(report),
             Answer::Message(_) | Answer::Order(_) | Answer::Migrated(_) => 0,
             Answer::NoOrder => 1,
+            Answer::Wire(line) => wire_status(line),
             Answer::Fault(fault) => fault.status(),
         }
     }
@@ -66,6 +71,7 @@ impl Display for Answer {
             Answer::Migrated(log) => {
                 write!(f, "migrated vat {} records {}", log.vat(), log.len())
             }
+            Answer::Wire(line) => put_wire(f, line),
             Answer::Fault(fault) => write!(f, "{fault}"),
         }
     }

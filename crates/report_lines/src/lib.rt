@@ -1,6 +1,6 @@
 //! From a value to its text and its exit status, and nothing else.
 //!
-//! It stands on `audit_core`, `authority`, `run_model`, `case_files`, `case_book`, `merge_order`, `vat_rules`, `rpc_view`,
+//! It stands on `audit_core`, `authority`, `wire_logs`, `run_model`, `case_files`, `case_book`, `merge_order`, `vat_rules`, `rpc_view`,
 //! `cap_reader`, `vat_log` and `cap_frame`, whose values it shows. It asks no file, reads no bytes, audits nothing and takes
 //! no memory. An [`Answer`] is shown as just the text that `specs/Lines.antt` gives it, a [`Fault`] as that of
 //! `specs/Faults.antt`, a message as that of `specs/MessageText.antt`, a [`NumberedRecord`] as that of
@@ -23,6 +23,7 @@ mod report_text;
 mod sentences;
 mod shown;
 mod step_text;
+mod wire_text;
 
 pub use answer::Answer;
 pub use dot_text::{DotBound, DotEdge};
@@ -35,3 +36,4 @@ pub use report_text::{ShownReport, breach_code};
 pub use sentences::{report_sentence, rule_sentence, why_sentence};
 pub use shown::Shown;
 pub use step_text::{NumberedStep, call_of_step, kind_words};
+pub use wire_text::end_name;

@@ -80,14 +80,16 @@ const STATEMENTS: [(&str, Statement); 7] = [
 enum Given {
     Case,
     Frames,
+    Sent,
     Order,
     File,
 }
 
 /// The first words of such changes.
-const GIVEN: [(&str, Given); 4] = [
+const GIVEN: [(&str, Given); 5] = [
     ("case", Given::Case),
     ("frames", Given::Frames),
+    ("sent", Given::Sent),
     ("order", Given::Order),
     ("file", Given::File),
 ];
@@ -281,6 +283,12 @@ fn frames_of(alloc: Global, messages: &str) -> Result<Vec<u8>, Fault> {
     Ok(bytes)
 }
 
+/// The name of a file, and the frames of messages.
+fn sent_of(alloc: Global, text: &str) -> Result<(&str, Vec<u8>), Fault> {
+    let (name, messages) = text.split_once(" ").unwrap_or((text, ""));
+    Ok((name, frames_of(alloc, messages)?))
+}
+
 /// The bytes of an order file.
 fn order_of(alloc: Global, vats: &str) -> Result<Vec<u8>, Fault> {
     let mut bytes = Vec::from_slice(alloc, "VATORD01".as_bytes())?;
@@ -303,6 +311,7 @@ fn given_file(alloc: Global, given: Given, text: &str) -> Result<(&str, Vec<u8>)
     match given {
         Given::Case => Ok(("case", Vec::from_slice(alloc, text.as_bytes())?)),
         Given::Frames => Ok(("frames", frames_of(alloc, text)?)),
+        Given::Sent => sent_of(alloc, text),
         Given::Order => Ok(("order", order_of(alloc, text)?)),
         Given::File => file_of(alloc, text),
     }

@@ -65,15 +65,30 @@ pub fn read_all<R: Read + Drop>(
     }
 }
 
+/// All bytes of standard input, which are there once. Where they can't be read the reason is told.
+fn read_input<R: Input + AllocGlobal>(
+    rt: &R,
+    was_read: &mut bool,
+    why: &mut Option<io::Error>,
+) -> Result<Bytes, SourceError> {
+    if *was_read {
+        *why = Some(io::Error::other("standard input was read before"));
+        return Err(SourceError::CannotRead);
+    }
+    *was_read = true;
+    read_all(rt.alloc(), rt.reader(), 0, why)
+}
+
 /// All bytes of a file, or of standard input. Where they can't be read the reason is told.
 fn read_named<R: Files + Input + AllocGlobal>(
     rt: &R,
     name: &str,
+    input_was_read: &mut bool,
     why: &mut Option<io::Error>,
 ) -> Result<Bytes, SourceError> {
     let alloc = rt.alloc();
     if name == "-" {
-        return read_all(alloc, rt.reader(), 0, why);
+        return read_input(rt, input_was_read, why);
     }
     match fs::open(rt, name) {
         Ok(file) => {
@@ -84,22 +99,26 @@ fn read_named<R: Files + Input + AllocGlobal>(
     }
 }
 
-/// The files of the working directory, and standard input under the name `-`.
+/// The files of the working directory, and standard input under the name `-`, which is read once.
 #[derive(Drop)]
 pub struct Folder<'a, R> {
     rt: &'a R,
+    input_was_read: bool,
 }
 
 impl<'a, R> Folder<'a, R> {
     /// The folder.
     pub fn new(rt: &'a R) -> Folder<'a, R> {
-        Folder { rt }
+        Folder {
+            rt,
+            input_was_read: false,
+        }
     }
 }
 
 impl<R: Files + Input + AllocGlobal> Source for Folder<'_, R> {
     fn read(&mut self, name: &str) -> Result<Bytes, SourceError> {
-        read_named(self.rt, name, &mut None)
+        read_named(self.rt, name, &mut self.input_was_read, &mut None)
     }
 }
 
@@ -107,6 +126,7 @@ impl<R: Files + Input + AllocGlobal> Source for Folder<'_, R> {
 #[derive(Drop)]
 pub struct RememberingFolder<'a, R> {
     rt: &'a R,
+    input_was_read: bool,
     last: Option<String>,
     refusal: Option<io::Error>,
     kept: Vec<(String, Bytes)>,
@@ -117,6 +137,7 @@ impl<'a, R: AllocGlobal> RememberingFolder<'a, R> {
     pub fn new(rt: &'a R) -> RememberingFolder<'a, R> {
         RememberingFolder {
             rt,
+            input_was_read: false,
             last: None,
             refusal: None,
             kept: Vec::new(rt.alloc()),
@@ -139,7 +160,7 @@ impl<'a, R: AllocGlobal> RememberingFolder<'a, R> {
 impl<R: Files + Input + AllocGlobal> Source for RememberingFolder<'_, R> {
     fn read(&mut self, name: &str) -> Result<Bytes, SourceError> {
         self.refusal = None;
-        let read = read_named(self.rt, name, &mut self.refusal);
+        let read = read_named(self.rt, name, &mut self.input_was_read, &mut self.refusal);
         let _ = self.keep(name, &read);
         read
     }

@@ -2,7 +2,8 @@
 //! CASE` prints one line, `vataudit graph CASE` which vat came to have what of another's, `vataudit run CASE` the steps of
 //! their run, and `vataudit order CASE --out FILE` makes an order of their records. `vataudit vat FILE` prints one line for the
 //! log of one vat, `vataudit records FILE` a line for each record of a log, `vataudit frame HEX` the message of a frame, and
-//! `vataudit frames FILE` that of each frame of a file; `vataudit migrate FILE --out FILE` writes a log in version 2.
+//! `vataudit frames FILE` that of each frame of a file; `vataudit migrate FILE --out FILE` writes a log in another version; and
+//! `vataudit wire A B` prints one line for a connection, by the bytes that its ends sent.
 //! Beside the lines it notes on standard error what leads people to the cause of a no, of a record that isn't judged, of an
 //! input that is bad or can't be read and of a write that fails; `--quiet` before the command, or as the last word, leaves
 //! notes out. With `--json` in these places each line is a JSON object, and the last one has the notes. `vataudit --version` prints the version,
@@ -10,7 +11,7 @@
 //!
 //! It stands on `command_line`, which reads the words, and on `command_run`, which runs the command that they spell
 //! and says in its specs/Runs.antt what a run prints. Here are the files: those that are read are a `Source` of
-//! `case_files`, which remembers what it read where notes are wanted (file.rt), and what is made is written to a new one (new_file.rt).
+//! `case_files`, which remembers what it read where notes are wanted (file.rt), and what is made is written to a new one (new_file.rt), or to a new folder (new_folder.rt).
 #![tactic(auto)]
 
 ghost use Rattle.std.specs.Prelude.{◌≡◌, ◌≢◌, ◌⊎◌};
@@ -19,8 +20,10 @@ ghost use Rattle.command_line.specs.Spelled.{HasWorkers};
 ghost use Rattle.report_lines.specs.Faults.{fault_status};
 
 mod file;
+mod made;
 mod manner;
 mod new_file;
+mod new_folder;
 mod progress;
 mod proved_by;
 mod watched;
@@ -33,8 +36,8 @@ use command_run::{
 };
 use file::{Folder, RememberingFolder};
 use json_lines::OUT_OF_MEMORY;
+use made::Made;
 use manner::take_manner;
-use new_file::NewFile;
 use progress::Progress;
 use proved_by::ProgramVersion;
 use report_lines::Fault;
@@ -107,6 +110,7 @@ fn may_take_long(command: &Command<'_>) -> bool {
             | Command::Run { .. }
             | Command::Draw { .. }
             | Command::Vat { .. }
+            | Command::Wire { .. }
     )
 }
 
@@ -115,12 +119,12 @@ fn run_quietly<R: Threads + Wait + Sync + Files + Input + AllocGlobal, W: Write>
     rt: &R,
     command: &Command<'_>,
     out: &mut W,
+    made: &mut Made<'_, R>,
 ) -> u8
     requires { HasWorkers command.now }
 {
-    let mut file = NewFile::new(rt, command.out());
     let mut folder = Folder::new(rt);
-    run_on(rt, rt.alloc(), command, &mut folder, out, &mut file)
+    run_on(rt, rt.alloc(), command, &mut folder, out, made)
 }
 
 /// Runs a command with lines as text and with notes.
@@ -128,17 +132,17 @@ fn run_plainly<R: Threads + Wait + Sync + Files + Input + AllocGlobal, W: Write,
     rt: &R,
     command: &Command<'_>,
     out: &mut W,
+    made: &mut Made<'_, R>,
     notes: N,
 ) -> u8
     requires { HasWorkers command.now }
 {
-    let mut file = NewFile::new(rt, command.out());
     let mut noted = NotedSource {
         source: RememberingFolder::new(rt),
         notes,
         watch: &Unwatched,
     };
-    run_with_notes(rt, rt.alloc(), command, &mut noted, out, &mut file)
+    run_with_notes(rt, rt.alloc(), command, &mut noted, out, made)
 }
 
 /// Runs a command with lines as text and with notes, and tells of its progress meanwhile. Where no thread can be started it
@@ -147,12 +151,11 @@ fn run_with_progress<
     R: Threads + Wait + Clock + Sync + Files + Input + Eprint + AllocGlobal,
     W: Write,
     N: Write + Drop,
->(rt: &R, command: &Command<'_>, out: &mut W, notes: N) -> u8
+>(rt: &R, command: &Command<'_>, out: &mut W, made: &mut Made<'_, R>, notes: N) -> u8
     requires { HasWorkers command.now }
 {
     let progress = Progress::new();
     let shared = &progress;
-    let mut file = NewFile::new(rt, command.out());
     let mut lines = WipingWriter {
         rt,
         progress: shared,
@@ -178,7 +181,7 @@ fn run_with_progress<
         {
             let _ = scope.spawn(move || shared.tell(rt));
             let alloc = rt.alloc();
-            let status = run_with_notes(rt, alloc, command, &mut noted, &mut lines, &mut file);
+            let status = run_with_notes(rt, alloc, command, &mut noted, &mut lines, made);
             shared.wipe(rt);
             status
         },
@@ -191,18 +194,18 @@ fn run_in_json<R: Threads + Wait + Sync + Files + Input + AllocGlobal, W: Write>
     is_quiet: bool,
     command: &Command<'_>,
     out: &mut W,
+    made: &mut Made<'_, R>,
 ) -> u8
     requires { HasWorkers command.now }
 {
     let alloc = rt.alloc();
-    let mut file = NewFile::new(rt, command.out());
     let mut lines = JsonOutput::new(alloc, out);
     if is_quiet {
         let mut folder = Folder::new(rt);
-        return run_as_json(rt, alloc, command, &mut folder, &mut lines, &mut file);
+        return run_as_json(rt, alloc, command, &mut folder, &mut lines, made);
     }
     let mut folder = RememberingFolder::new(rt);
-    run_as_json_with_notes(rt, alloc, command, &mut folder, &mut lines, &mut file)
+    run_as_json_with_notes(rt, alloc, command, &mut folder, &mut lines, made)
 }
 
 /// Does what the words ask, writes its lines to `out` and, where none asks for quiet, notes to `notes`, or both as JSON
@@ -220,14 +223,17 @@ fn start<
         Ok(command) => command,
         Err(error) => return refuse(rt, &error, manner.is_json),
     };
+    let Ok(mut made) = Made::of(rt, &command) else {
+        return out_of_memory(rt, manner.is_json);
+    };
     if manner.is_json {
-        run_in_json(rt, manner.is_quiet, &command, out)
+        run_in_json(rt, manner.is_quiet, &command, out, &mut made)
     } else if manner.is_quiet {
-        run_quietly(rt, &command, out)
+        run_quietly(rt, &command, out, &mut made)
     } else if notes.is_terminal() && may_take_long(&command) {
-        run_with_progress(rt, &command, out, notes)
+        run_with_progress(rt, &command, out, &mut made, notes)
     } else {
-        run_plainly(rt, &command, out, notes)
+        run_plainly(rt, &command, out, &mut made, notes)
     }
 }
 

@@ -158,6 +158,11 @@ for client in "${versions[@]}"; do
         { cat logs/said; differ "scenarios with $says ended with $?"; }
     fi
     run_demo "$client" "$server" "$name"
+    # By its bytes alone, where socat is there and the program is built.
+    if [ -z "$unproved" ] && command -v socat > /dev/null; then
+      ./wire.sh "$program" "build/$client/cpp/demo/recorded/client" "build/$server/cpp/demo/recorded/server" >> logs/said ||
+        { tail -n 20 logs/said; differ "wire.sh with $says ended with $?"; }
+    fi
     ran+=("$(ls logs | grep -c "^[a-z_]*-$name\.vat1\.log") with $says")
   done
 done

@@ -13,3 +13,4 @@ pub(crate) mod migrate_log;
 pub(crate) mod next_frame;
 pub(crate) mod run_steps;
 pub(crate) mod vat_audit;
+pub(crate) mod wire_files;

@@ -1,8 +1,8 @@
 use Rattle.std.proofs.Common.{◌∙◌, sym}
 use Rattle.clap.specs.Words.{first_value, found_of}
 use Rattle.command_line.proofs.Matched.{besides_of, checked_as, has_subcommand, input_there, is_some_by, matched, number_as, read_as, set_as, spells_one, thing_is}
-use Rattle.command_line.proofs.Named.{checking, drawing, framing, graphing, last_command, listing, migrating, of_frames, of_run, of_vat, ordering}
-use Rattle.command_line.specs.Parser.{count, dot, later, most, path, start, workers}
+use Rattle.command_line.proofs.Named.{checking, drawing, framing, graphing, last_command, listing, migrating, of_frames, of_run, of_vat, ordering, wiring}
+use Rattle.command_line.specs.Parser.{count, dot, later, most, other, path, start, workers}
 use Rattle.command_line.proofs.command.command_in.Goals as goal
 
 pub unreachable-requires : goal.unreachable-requires
@@ -40,6 +40,12 @@ value_of-requires-in-migrate c =
     let m = matched c.requires.0 c.args.matches.now c.in-Some.given.now c.in-Some.name.now c.requires.1 c.in-Some.ensures.name c.in-Some.ensures.rows in
     let out = besides_of m migrating c.in-migrate.is in
     is_some_by (first_value (found_of c.in-Some.given.now) path) out.0 (m.each path ∙ out.1)
+
+pub value_of-requires-in-wire : goal.value_of-requires-in-wire
+value_of-requires-in-wire c =
+    let m = matched c.requires.0 c.args.matches.now c.in-Some.given.now c.in-Some.name.now c.requires.1 c.in-Some.ensures.name c.in-Some.ensures.rows in
+    let another = besides_of m wiring c.in-wire.is in
+    is_some_by (first_value (found_of c.in-Some.given.now) other) another.0 (m.each other ∙ another.1)
 
 pub number_of-requires : goal.number_of-requires
 number_of-requires c =
@@ -96,6 +102,18 @@ returns-in-migrate-clause-spelled c words are =
       ),
     )
 
+pub returns-in-wire-clause-spelled : goal.returns-in-wire-clause-spelled
+returns-in-wire-clause-spelled c words are =
+    let m = matched words c.args.matches.now c.in-Some.given.now c.in-Some.name.now are c.in-Some.ensures.name c.in-Some.ensures.rows in (
+      m.rows,
+      (
+        read_as m wiring c.in-wire.is,
+        thing_is m _ c.value_of-input.ensures,
+        sym (m.each other) ∙ c.value_of-in-wire.ensures,
+        sym (m.each path) ∙ c.given_value.ensures,
+      ),
+    )
+
 pub returns-in-records-clause-spelled : goal.returns-in-records-clause-spelled
 returns-in-records-clause-spelled c words are =
     let m = matched words c.args.matches.now c.in-Some.given.now c.in-Some.name.now are c.in-Some.ensures.name c.in-Some.ensures.rows in (
@@ -132,5 +150,5 @@ pub returns-in_default-name-clause-spelled : goal.returns-in_default-name-clause
 returns-in_default-name-clause-spelled c words are =
     let m = matched words c.args.matches.now c.in-Some.given.now c.in-Some.name.now are c.in-Some.ensures.name c.in-Some.ensures.rows in
     let not = c.in_default-name in
-    let is = last_command m.command c.in-Some.name.now m.named not.not-check not.not-order not.not-graph not.not-run not.not-draw not.not-vat not.not-records not.not-frame not.not-migrate in
+    let is = last_command m.command c.in-Some.name.now m.named not.not-check not.not-order not.not-graph not.not-run not.not-draw not.not-vat not.not-records not.not-frame not.not-migrate not.not-wire in
     spells_one m of_frames _ is c.value_of-input.ensures

@@ -1,0 +1,8 @@
+//! Connections that were judged by their bytes.
+
+mod byte_kind;
+mod lack_text;
+mod messages;
+mod open_text;
+pub(crate) mod wire_found;
+pub(crate) mod wire_notes;

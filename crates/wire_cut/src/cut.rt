@@ -1,0 +1,91 @@
+//! Cutting a file into frames.
+
+ghost use Rattle.std.specs.Prelude.{◌≡◌, IfOk, IfErr};
+ghost use Rattle.wire_cut.specs.Frames.{AreFrames};
+ghost use Rattle.wire_cut.specs.declared.cut.CutFault.TheVariants.{OutOfMemory};
+ghost use Rattle.wire_cut.specs.Glue.{IsNext, IsFault};
+
+use bytes::Bytes;
+use cap_frame::{Frame, FrameError};
+use std::alloc::{AllocError, AllocFailed, Global};
+
+/// What one end sent: its whole frames in order, and how many bytes stand behind the last one.
+#[derive(Debug, Drop)]
+pub struct WireFile {
+    /// The frames, in the order in which they were sent.
+    pub frames: Vec<Bytes>,
+    /// How many bytes stand behind the last whole frame: a frame that the capture cut off.
+    pub left: usize,
+}
+
+/// Why a file isn't cut into frames.
+#[derive(Clone, Copy, Debug, PartialEq, Eq)]
+pub enum CutFault {
+    /// Where the frame of this number, counted from 0, should begin, no frame does: its table has too many segments. So it
+    /// is with packed streams, and with those that are encrypted.
+    TooManySegments(u64),
+    /// Out of memory.
+    OutOfMemory,
+}
+
+impl From<AllocError> for CutFault {
+    ghost from_gives = { λ _ e. e ≡ OutOfMemory };
+
+    fn from(_e: AllocError) -> CutFault {
+        CutFault::OutOfMemory
+    }
+}
+
+impl<T: Drop> From<AllocFailed<T>> for CutFault {
+    ghost from_gives = { λ _ e. e ≡ OutOfMemory };
+
+    fn from(_e: AllocFailed<T>) -> CutFault {
+        CutFault::OutOfMemory
+    }
+}
+
+/// What stands next in a file.
+#[derive(Drop)]
+enum Next {
+    /// This frame.
+    Whole(Bytes),
+    /// A frame that is cut off, or nothing.
+    Cut,
+    /// What can't be a frame: its table has too many segments.
+    TooMany,
+}
+
+/// Cuts off the frame that stands first, if a whole one does.
+fn cut_next(rest: &mut Bytes) -> Result<Next, AllocError>
+    ensures { IfOk result (IsNext rest.old rest.new) }
+{
+    match Frame::first_len(rest.as_slice()) {
+        Ok(len) => Ok(Next::Whole(rest.split_to(len)?)),
+        Err(FrameError::TooManySegments) => Ok(Next::TooMany),
+        Err(_) => Ok(Next::Cut),
+    }
+}
+
+/// The frames of a file, which share its bytes: each is a frame by the stream framing of the Cap'n Proto encoding specification
+/// ("Serialization Over a Stream"). A frame that is cut off by the end of the file is left out.
+///
+/// # Errors
+///
+/// `TooManySegments` with the number of the first frame that can't begin where it stands; or out of memory.
+pub fn cut_frames(alloc: Global, bytes: &Bytes) -> Result<WireFile, CutFault>
+    ensures ok { IfOk result (λ file. AreFrames bytes.now file.frames.items file.left) }
+    ensures err { IfErr result (IsFault bytes.now) }
+{
+    let mut frames = Vec::new(alloc);
+    let mut rest = bytes.slice(0..bytes.len())?;
+    loop {
+        match cut_next(&mut rest)? {
+            Next::Whole(frame) => frames.push(frame)?,
+            Next::Cut => {
+                let left = rest.len();
+                return Ok(WireFile { frames, left });
+            }
+            Next::TooMany => return Err(CutFault::TooManySegments(frames.len() as u64)),
+        }
+    }
+}

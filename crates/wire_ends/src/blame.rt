@@ -1,0 +1,62 @@
+//! Where the explanation stops: which message is to blame.
+
+use crate::lack::Lack;
+use crate::schedule::Stuck;
+use crate::vat::Vat;
+use std::alloc::AllocError;
+use wire_cut::End;
+
+/// Which message is to blame.
+#[derive(Clone, Copy, Debug, PartialEq, Eq)]
+pub enum Blame {
+    /// The next one of this end.
+    One(End),
+    /// Each of both ends waits for what the other sends behind its own.
+    Circle,
+}
+
+/// What an end's next message lacks when all that is left of the peer's file has been received.
+fn lack_in_the_end(vat: &mut Vat<'_>) -> Result<Option<Lack>, AllocError> {
+    vat.log.mute();
+    let all = vat.peer().messages.len();
+    vat.receive_rest(all)?;
+    vat.hurried = Some(vat.sent);
+    vat.blocked()
+}
+
+/// Which message is to blame: the one whose lack stays what it is when all of the other file is received, or else one that
+/// lacks something else then. The ends are of no use afterwards.
+pub(crate) fn find_blame(
+    a: &mut Vat<'_>,
+    b: &mut Vat<'_>,
+    stuck: Stuck,
+) -> Result<Blame, AllocError> {
+    let later_of_a = match stuck.of_a {
+        Some(_) => lack_in_the_end(a)?,
+        None => None,
+    };
+    let later_of_b = match stuck.of_b {
+        Some(_) => lack_in_the_end(b)?,
+        None => None,
+    };
+    if later_of_a.is_some() && later_of_a == stuck.of_a {
+        return Ok(Blame::One(End::A));
+    }
+    if later_of_b.is_some() && later_of_b == stuck.of_b {
+        return Ok(Blame::One(End::B));
+    }
+    if later_of_a.is_some() {
+        return Ok(Blame::One(End::A));
+    }
+    if later_of_b.is_some() {
+        return Ok(Blame::One(End::B));
+    }
+    Ok(Blame::Circle)
+}
+
+/// Sends and receives what is left of both files at one end, also what the peer hasn't sent.
+pub(crate) fn borrow_all(vat: &mut Vat<'_>) -> Result<(), AllocError> {
+    let all = vat.peer().messages.len();
+    let _ = vat.advance(all)?;
+    Ok(())
+}

@@ -1,0 +1,31 @@
+//! The two ends of a connection, as they are made up around the frames that were captured: what each of them could have done
+//! between its frames, and the logs that say so.
+//!
+//! It stands on `wire_plan`, which tells what each file says when all of it is looked at, and on `vat_log`. What is made up is
+//! judged by the audit, and nothing is claimed of it here but this: the frames that a log sends are those of its end's file
+//! from the first one on, and those that it receives are the other file's.
+#![tactic(auto)]
+
+mod blame;
+mod blocked;
+mod counting;
+mod lack;
+mod making;
+mod naming;
+mod open_at_end;
+mod passing;
+mod queue;
+mod receiving;
+mod schedule;
+mod sending;
+mod settling;
+mod tables;
+mod telling;
+mod vat;
+mod views;
+mod walking;
+
+pub use blame::Blame;
+pub use lack::{Lack, Waiting};
+pub use making::{MadeLogs, Making, make_logs};
+pub use open_at_end::OpenAtEnd;

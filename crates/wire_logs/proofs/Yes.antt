@@ -1,0 +1,66 @@
+-- What a yes means.
+use Rattle.std.proofs.Common.{◌≡◌, ◌∷◌, [], ℕ, List, Option, Some, None, refl, sym, ap, subst, ◌∙◌, inl, inr}
+use Rattle.std.specs.Prelude.{◌⊎◌, MatchOption, length}
+use Rattle.std.specs.Arc.{arc_value}
+use Rattle.vat_log.specs.Log.{Log}
+use Rattle.audit_core.specs.declared.report.Report.{Report}
+use Rattle.audit_core.specs.declared.report.Report.TheVariants as report
+use Rattle.audit_core.specs.Headline.{YesMeansHeadline}
+use Rattle.wire_logs.specs.declared.answer.WireAnswer.{WireAnswer}
+use Rattle.wire_logs.specs.declared.answer.WireLogs.{WireLogs}
+use Rattle.wire_logs.specs.declared.line.WireLine.{WireLine}
+use Rattle.wire_logs.specs.declared.line.WireLine.TheVariants as line
+use Rattle.wire_logs.specs.Lines.{IsLine, IsUnexplained, IsNoOrder, IsYes}
+use Rattle.wire_logs.specs.Found.{IsAnswer, IsFound, IsFoundOf, IsWithoutLogs, HasRun}
+
+-- a yes isn't a line that says where the explanation stops
+not_unexplained : (told : WireLine) (m n d : ℕ) → told ≡ line.Yes m n d → IsUnexplained told → ⊥
+not_unexplained told m n d told_yes stops = subst IsUnexplained told_yes stops
+
+not_no_order : (told : WireLine) (m n d : ℕ) → told ≡ line.Yes m n d → IsNoOrder told → ⊥
+not_no_order told m n d told_yes waits = subst IsNoOrder told_yes waits
+
+-- a report that gives a yes has a run, and all frames of both files are in the logs
+has_run : (a b : List ℕ) (told : WireLine) (one two : Log) (m n d : ℕ) (of : IsFoundOf a b told one two) → told ≡ line.Yes m n d → (report : Report) → YesMeansHeadline of.found.held.logs report → IsLine of.frames_of_a of.frames_of_b one two report told → HasRun a b m n
+has_run a b told one two m n d of told_yes (report.Vat vat at rule) headline line_is = absurd cc
+has_run a b told one two m n d of told_yes (report.OutsideVat vat at why) headline line_is = absurd cc
+has_run a b told one two m n d of told_yes (report.Link conn end message) headline line_is = absurd (not_unexplained told m n d told_yes line_is)
+has_run a b told one two m n d of told_yes (report.OrderStep step) headline line_is = absurd (not_unexplained told m n d told_yes line_is)
+has_run a b told one two m n d of told_yes report.NoOrder headline line_is = absurd (not_no_order told m n d told_yes line_is)
+has_run a b told one two m n d of told_yes (report.Yes vats records delivered under_way run) headline (inr stops) = absurd (not_unexplained told m n d told_yes stops)
+has_run a b told one two m n d of told_yes (report.Yes vats records delivered under_way run) headline (inl said) =
+    record {
+      frames_of_a = of.frames_of_a;
+      frames_of_b = of.frames_of_b;
+      left_of_a = of.left_of_a;
+      left_of_b = of.left_of_b;
+      cut_a = of.cut_a;
+      cut_b = of.cut_b;
+      many_of_a = cc;
+      many_of_b = cc;
+      one = one;
+      two = two;
+      all_of_one = said.all_of_one;
+      all_of_two = said.all_of_two;
+      logs = of.found.held.logs;
+      just = of.found.just.just_logs;
+      order = headline.0;
+      fits = headline.1;
+      run = run;
+      headline = headline.2;
+    }
+
+found_has_run : (a b : List ℕ) (told : WireLine) (one two : Log) (m n d : ℕ) → IsFoundOf a b told one two → told ≡ line.Yes m n d → HasRun a b m n
+found_has_run a b told one two m n d of told_yes = has_run a b told one two m n d of told_yes of.found.report of.found.headline of.found.line
+
+-- an answer without logs isn't a yes
+not_without : (a b : List ℕ) (told : WireLine) (m n d : ℕ) → told ≡ line.Yes m n d → IsWithoutLogs a b told → ⊥
+not_without a b told m n d told_yes without = subst (IsWithoutLogs a b) told_yes without
+
+by_logs : (a b : List ℕ) (told : WireLine) (m n d : ℕ) → told ≡ line.Yes m n d → (logs : Option WireLogs) → MatchOption logs (IsWithoutLogs a b told) (λ made. IsFoundOf a b told (arc_value made.log_of_a) (arc_value made.log_of_b)) → HasRun a b m n
+by_logs a b told m n d told_yes None without = absurd (not_without a b told m n d told_yes without)
+by_logs a b told m n d told_yes (Some made) of = found_has_run a b told (arc_value made.log_of_a) (arc_value made.log_of_b) m n d of told_yes
+
+-- an answer that is a yes has a run
+pub yes_has_run : (a b : List ℕ) (answer : WireAnswer) (m n d : ℕ) → IsAnswer a b answer → answer.line ≡ line.Yes m n d → HasRun a b m n
+yes_has_run a b answer m n d is told_yes = by_logs a b answer.line m n d told_yes answer.logs is

@@ -1,0 +1,153 @@
+//! The explanation of two files.
+
+ghost use Rattle.std.specs.Prelude.{◌≡◌, ◌∷◌, [], None, IfOk, MatchOption, MatchResult};
+ghost use Rattle.std.specs.Arc.{arc_value};
+ghost use Rattle.case_book.specs.Case.{HoldsJust};
+ghost use Rattle.audit_core.specs.Headline.{YesMeansHeadline};
+ghost use Rattle.audit_core.specs.Report.{IsReport};
+ghost use Rattle.wire_cut.specs.Frames.{AreFrames};
+ghost use Rattle.wire_ends.specs.Made.{AreLogs};
+ghost use Rattle.wire_logs.specs.Found.{IsAnswer, IsFound, IsWithoutLogs, link};
+ghost use Rattle.wire_logs.specs.Glue.{IsAudited, IsCutOr, IsFoundIn};
+
+use crate::answer::{WireAnswer, WireLogs};
+use crate::line::WireLine;
+use crate::line_of::line_of;
+use audit_core::{Gate, Report, audit};
+use bytes::Bytes;
+use case_book::{Case, Link};
+use std::alloc::{AllocError, Global};
+use std::sync::{Arc, Wait};
+use std::thread::Threads;
+use wire_cut::{CutFault, End, WireFile, cut_frames};
+use wire_ends::{MadeLogs, Making, make_logs};
+
+/// The link between the two ends.
+const LINK: Link = Link {
+    conn: 0,
+    a: 1,
+    b: 2,
+};
+
+/// The case of the two logs.
+fn case_of(alloc: Global, made: &MadeLogs) -> Result<Case, AllocError>
+    ensures { IfOk result (HoldsJust
+        (arc_value made.now.log_of_a ∷ arc_value made.now.log_of_b ∷ []) (link ∷ [])) }
+{
+    let mut logs = Vec::new(alloc);
+    logs.push(Arc::try_clone(&made.log_of_a)?)?;
+    logs.push(Arc::try_clone(&made.log_of_b)?)?;
+    let mut links = Vec::new(alloc);
+    links.push(LINK)?;
+    match Case::new(logs, links) {
+        Ok(case) => Ok(case),
+        Err(_) => Err(AllocError),
+    }
+}
+
+/// The audit's report of the two logs.
+fn report_of<R: Threads + Wait + Sync, G: Gate + Sync>(
+    rt: &R,
+    alloc: Global,
+    made: &MadeLogs,
+    gate: &G,
+) -> Result<Report, AllocError>
+    ensures { IfOk result
+        (IsAudited (arc_value made.now.log_of_a) (arc_value made.now.log_of_b)) }
+{
+    match audit(rt, alloc, case_of(alloc, made)?, None, 1, gate) {
+        Ok(report) => Ok(report),
+        Err(_) => Err(AllocError),
+    }
+}
+
+/// An answer without logs.
+fn without_logs(line: WireLine, frames: [u64; 2], left: [u64; 2]) -> WireAnswer
+    ensures line { result.line ≡ line }
+    ensures logs { result.logs ≡ None }
+{
+    WireAnswer {
+        line,
+        logs: None,
+        frames,
+        left,
+        waiting: [None, None],
+        open: None,
+    }
+}
+
+/// The frames of a file, or the line that says where none begins.
+fn file_of(alloc: Global, bytes: &Bytes, end: End) -> Result<Result<WireFile, WireLine>, AllocError>
+    ensures { IfOk result (IsCutOr bytes.now end) }
+{
+    match cut_frames(alloc, bytes) {
+        Ok(file) => Ok(Ok(file)),
+        Err(CutFault::TooManySegments(message)) => Ok(Err(WireLine::BadFrame { end, message })),
+        Err(CutFault::OutOfMemory) => Err(AllocError),
+    }
+}
+
+/// Explains frames.
+fn explain_frames<R: Threads + Wait + Sync, G: Gate + Sync>(
+    rt: &R,
+    alloc: Global,
+    a: &WireFile,
+    b: &WireFile,
+    gate: &G,
+) -> Result<WireAnswer, AllocError>
+    ensures { IfOk result (IsFoundIn a.now.frames.items b.now.frames.items) }
+{
+    let frames = [a.frames.len() as u64, b.frames.len() as u64];
+    let left = [a.left as u64, b.left as u64];
+    let made = match make_logs(alloc, &a.frames, &b.frames)? {
+        Making::Made(made) => made,
+        Making::TooLong(end, message) => {
+            return Ok(without_logs(WireLine::TooLong { end, message }, frames, left));
+        }
+    };
+    let report = report_of(rt, alloc, &made, gate)?;
+    let line = line_of(&made, &report, &a.frames, &b.frames);
+    let MadeLogs {
+        log_of_a,
+        log_of_b,
+        is_whole: _,
+        blame: _,
+        waiting,
+        open,
+    } = made;
+    Ok(WireAnswer {
+        line,
+        logs: Some(WireLogs { log_of_a, log_of_b }),
+        frames,
+        left,
+        waiting,
+        open,
+    })
+}
+
+/// Explains what the ends of one connection sent: makes the two logs that a sound pair of vats could have written around
+/// these frames, and asks the audit. The first file has what the one end sent, the second what the other end sent, each in
+/// stream framing. The gate is called as by [`audit`]: the case has two logs and one link.
+///
+/// # Errors
+///
+/// Out of memory.
+pub fn explain_wire<R: Threads + Wait + Sync, G: Gate + Sync>(
+    rt: &R,
+    alloc: Global,
+    a: &Bytes,
+    b: &Bytes,
+    gate: &G,
+) -> Result<WireAnswer, AllocError>
+    ensures { IfOk result (IsAnswer a.now b.now) }
+{
+    let of_a = match file_of(alloc, a, End::A)? {
+        Ok(file) => file,
+        Err(line) => return Ok(without_logs(line, [0, 0], [0, 0])),
+    };
+    let of_b = match file_of(alloc, b, End::B)? {
+        Ok(file) => file,
+        Err(line) => return Ok(without_logs(line, [0, 0], [0, 0])),
+    };
+    explain_frames(rt, alloc, &of_a, &of_b, gate)
+}

@@ -1,0 +1,137 @@
+//! Messages in a short form.
+
+/// What a message is meant for. A path is a number of [`Paths`](crate::Paths).
+#[derive(Clone, Copy, Debug, PartialEq, Eq, PartialOrd, Ord)]
+pub enum Aim {
+    /// A number of the receiver's exports.
+    Import(u32),
+    /// A result of a question that the sender opened.
+    Answer(u32, u32),
+}
+
+/// An entry of a capability table.
+#[derive(Clone, Copy, Debug, PartialEq, Eq)]
+pub enum Entry {
+    /// No capability.
+    NoCap,
+    /// A number of the sender's exports.
+    Hosted(u32),
+    /// A number of the sender's exports, a promise, and the group of introductions to which this one belongs.
+    Promised(u32, usize),
+    /// A number of the receiver's exports.
+    ReceiverHosted(u32),
+    /// A result of a question that the sender opened, at a path.
+    ReceiverAnswer(u32, u32),
+}
+
+/// What a Return says of its call.
+#[derive(Clone, Copy, Debug, PartialEq, Eq)]
+pub enum Results {
+    /// Here they are.
+    There,
+    /// There are none: an exception.
+    Exception,
+    /// There are none: the call was canceled.
+    Canceled,
+    /// They stay with the answerer.
+    Elsewhere,
+    /// They are those of this other question of the Return's sender.
+    TakenFrom(u32),
+}
+
+/// What a frame says, without its capability table and the places of capabilities in the content.
+#[derive(Clone, Copy, Debug, PartialEq, Eq)]
+pub enum Kind {
+    /// Bootstrap, with its question.
+    Bootstrap(u32),
+    /// Call.
+    Call {
+        /// Its question.
+        question: u32,
+        /// What it is meant for.
+        aim: Aim,
+        /// A digest of its interface, its method and its content.
+        digest: u64,
+        /// The interface.
+        interface: u64,
+        /// The method.
+        method: u16,
+        /// Whether its results stay with the answerer.
+        yourself: bool,
+    },
+    /// Return.
+    Return {
+        /// The question that is answered.
+        answer: u32,
+        /// Whether the capabilities of the call's parameters are given back.
+        release: bool,
+        /// What it says of the results.
+        results: Results,
+        /// Whether no Finish is needed.
+        light: bool,
+    },
+    /// Finish, with its question, and whether the capabilities of the results are given back.
+    Finish(u32, bool),
+    /// Resolve, with the promise and its group, if a group of it is without a Resolve. Its table has the capability, if
+    /// it brings one.
+    Resolve(u32, Option<usize>),
+    /// Release, with the number and how often it is given back.
+    Release(u32, u32),
+    /// A senderLoopback.
+    Loopback(u32, Aim),
+    /// A receiverLoopback.
+    Echo(u32, Aim),
+    /// Abort.
+    Abort,
+    /// The frame isn't read as a message of this profile.
+    Unread,
+}
+
+/// A place in the content that has a capability: its path, and its index into the table.
+#[derive(Clone, Copy, Debug, PartialEq, Eq)]
+pub struct Named {
+    /// The path.
+    pub path: u32,
+    /// The index into the table, counted from 0.
+    pub index: u32,
+}
+
+/// A frame's message in the short form.
+#[derive(Debug, Drop)]
+pub struct Planned {
+    /// What it says.
+    pub kind: Kind,
+    /// Its capability table; of a Resolve the capability alone.
+    pub table: Vec<Entry>,
+    /// Where the content of its parameters or results has capabilities.
+    pub fields: Vec<Named>,
+}
+
+impl Planned {
+    /// The entry of the table at this index.
+    pub fn entry(&self, index: u32) -> Option<Entry> {
+        self.table.get(index as usize).copied()
+    }
+
+    /// The entry that the content has at this path.
+    pub fn entry_at(&self, path: u32) -> Option<Entry> {
+        let field = self.fields.iter().find(|field| field.path == path)?;
+        self.entry(field.index)
+    }
+
+    /// The question that the message opens.
+    pub fn opens(&self) -> Option<u32> {
+        match self.kind {
+            Kind::Bootstrap(question) | Kind::Call { question, .. } => Some(question),
+            _ => None,
+        }
+    }
+
+    /// What the message is meant for.
+    pub fn aim(&self) -> Option<Aim> {
+        match self.kind {
+            Kind::Call { aim, .. } | Kind::Loopback(_, aim) | Kind::Echo(_, aim) => Some(aim),
+            _ => None,
+        }
+    }
+}

@@ -1,0 +1,271 @@
+//! The plans of both files.
+
+use crate::groups::Groups;
+use crate::leading::{Leading, lead_of};
+use crate::message::{Aim, Entry, Kind, Planned, Results};
+use crate::naming::NamedPaths;
+use crate::openings::Openings;
+use crate::passing::Passing;
+use crate::paths::Paths;
+use crate::reading::read_planned;
+use crate::ties::Ties;
+use bytes::Bytes;
+use rising_table::RisingTable;
+use std::alloc::{AllocError, Global};
+use wire_cut::End;
+
+/// What one end's file tells.
+#[derive(Drop)]
+pub struct FilePlan {
+    /// Its messages.
+    pub messages: Vec<Planned>,
+    /// Its promises.
+    pub groups: Groups,
+    /// Which frames belong together.
+    pub ties: Ties,
+    /// Which paths it names.
+    pub named: NamedPaths,
+    /// What its promises become of the other end's.
+    pub leading: Leading,
+}
+
+/// What both files tell.
+#[derive(Drop)]
+pub struct WirePlan {
+    of_a: FilePlan,
+    of_b: FilePlan,
+    /// The second end's Calls that the first end's file leads back.
+    passing_of_a: Passing,
+    /// The first end's Calls that the second end's file leads back.
+    passing_of_b: Passing,
+    /// The paths that are named in them.
+    pub paths: Paths,
+}
+
+impl FilePlan {
+    /// What an entry of a table becomes of the other end's, by the Resolves.
+    fn lead_of(&self, entry: Entry) -> Option<Aim> {
+        lead_of(&self.messages, &self.groups, entry)
+    }
+
+    /// What stands at a path of the results that the Return at this place says, of the other end's.
+    fn result_lead(&self, place: usize, path: u32) -> Option<Aim> {
+        let answer = self.messages.get(place)?;
+        match answer.kind {
+            Kind::Return {
+                results: Results::TakenFrom(question),
+                ..
+            } => Some(Aim::Answer(question, path)),
+            _ => self.lead_of(answer.entry_at(path)?),
+        }
+    }
+}
+
+impl WirePlan {
+    /// The first of the other end's Calls from this place on that the end's own Call with this digest and target passes on,
+    /// as it seems.
+    pub fn call_to_pass(&self, end: End, digest: u64, target: Aim, from: usize) -> Option<usize> {
+        match end {
+            End::A => self.passing_of_a.next(digest, target, from),
+            End::B => self.passing_of_b.next(digest, target, from),
+        }
+    }
+
+    /// The plan of an end's file.
+    pub fn file(&self, end: End) -> &FilePlan {
+        match end {
+            End::A => &self.of_a,
+            End::B => &self.of_b,
+        }
+    }
+}
+
+/// The messages of frames, and the groups of their promises.
+fn read_file(
+    alloc: Global,
+    frames: &[Bytes],
+    paths: &mut Paths,
+) -> Result<(Vec<Planned>, Groups), AllocError> {
+    let mut messages = Vec::with_capacity(alloc, frames.len())?;
+    let mut groups = Groups::new(alloc);
+    for frame in frames {
+        let place = messages.len();
+        messages.push(read_planned(alloc, frame, place, paths, &mut groups)?)?;
+    }
+    Ok((messages, groups))
+}
+
+/// What is kept while one file is looked through.
+#[derive(Drop)]
+struct Looking {
+    /// The frame that opened each question last.
+    current: RisingTable<usize>,
+    ties: Ties,
+    named: NamedPaths,
+}
+
+impl Looking {
+    /// The path of an own question is named.
+    fn name(&mut self, question: u32, path: u32) -> Result<(), AllocError> {
+        match self.current.get(u64::from(question)) {
+            Some(opening) => self.named.named(*opening, path),
+            None => Ok(()),
+        }
+    }
+
+    /// The answers that a table names.
+    fn name_entries(&mut self, table: &[Entry]) -> Result<(), AllocError> {
+        for entry in table {
+            if let Entry::ReceiverAnswer(question, path) = entry {
+                self.name(*question, *path)?;
+            }
+        }
+        Ok(())
+    }
+
+    /// The Return at this place takes the results of an own question.
+    fn take(&mut self, place: usize, question: u32) {
+        if let Some(call) = self.current.get(u64::from(question)) {
+            self.ties.take(place, *call);
+        }
+    }
+
+    /// Looks at one message.
+    fn look(&mut self, place: usize, message: &Planned) -> Result<(), AllocError> {
+        if let Some(Aim::Answer(question, path)) = message.aim() {
+            self.name(question, path)?;
+            if let Some(opening) = self.current.get(u64::from(question)) {
+                self.ties.aim(place, *opening);
+            }
+        }
+        self.name_entries(&message.table)?;
+        if let Some(question) = message.opens() {
+            self.current.put(u64::from(question), place)?;
+        }
+        if let Kind::Return {
+            results: Results::TakenFrom(question),
+            ..
+        } = message.kind
+        {
+            self.take(place, question);
+        }
+        Ok(())
+    }
+}
+
+/// The plan of one file, without what its frames have to do with the other one's.
+fn plan_file(
+    alloc: Global,
+    messages: Vec<Planned>,
+    groups: Groups,
+) -> Result<FilePlan, AllocError> {
+    let mut looking = Looking {
+        current: RisingTable::new(alloc),
+        ties: Ties::new(alloc, messages.len())?,
+        named: NamedPaths::new(alloc, messages.len())?,
+    };
+    for (place, message) in messages.iter().enumerate() {
+        looking.look(place, message)?;
+    }
+    let Looking {
+        current: _,
+        ties,
+        named,
+    } = looking;
+    let leading = Leading::of(alloc, &messages, &groups)?;
+    Ok(FilePlan {
+        messages,
+        groups,
+        ties,
+        named,
+        leading,
+    })
+}
+
+/// The openings of questions among these messages.
+fn openings_of(alloc: Global, messages: &[Planned]) -> Result<Openings, AllocError> {
+    let mut openings = Openings::new(alloc, messages.len())?;
+    for (place, message) in messages.iter().enumerate() {
+        if let Some(question) = message.opens() {
+            openings.opened(question, place)?;
+        }
+    }
+    Ok(openings)
+}
+
+/// Ties the Returns of one end to the questions of the other.
+fn pair(alloc: Global, asker: &mut FilePlan, answerer: &mut FilePlan) -> Result<(), AllocError> {
+    let mut openings = openings_of(alloc, &asker.messages)?;
+    for (place, message) in answerer.messages.iter().enumerate() {
+        if let Kind::Return { answer, .. } = message.kind {
+            if let Some(opening) = openings.take(answer) {
+                asker.ties.pair(opening, place);
+                answerer.ties.pair(place, opening);
+            }
+        }
+    }
+    Ok(())
+}
+
+/// Where one end's file leads a result of the other end's question: what stands at a path of the Return that answers the
+/// question for which the other end's message at this place is meant.
+fn lead_of_aimed(own: &FilePlan, peer: &FilePlan, place: usize, path: u32) -> Option<Aim> {
+    let opening = peer.ties.aimed_of(place)?;
+    own.result_lead(peer.ties.pair_of(opening)?, path)
+}
+
+/// Takes in the other end's Call at this place, if the own file leads it back.
+fn pass_one(
+    alloc: Global,
+    own: &FilePlan,
+    peer: &FilePlan,
+    place: usize,
+    kind: Kind,
+    passing: &mut Passing,
+) -> Result<(), AllocError> {
+    let Kind::Call { aim, digest, .. } = kind else {
+        return Ok(());
+    };
+    match aim {
+        Aim::Import(number) => {
+            for target in own.leading.aims(number) {
+                passing.lead(alloc, digest, *target, place)?;
+            }
+        }
+        Aim::Answer(_, path) => {
+            if let Some(target) = lead_of_aimed(own, peer, place, path) {
+                passing.lead(alloc, digest, target, place)?;
+            }
+        }
+    }
+    Ok(())
+}
+
+/// The other end's Calls that the own file leads back.
+fn calls_led_back(alloc: Global, own: &FilePlan, peer: &FilePlan) -> Result<Passing, AllocError> {
+    let mut passing = Passing::new(alloc);
+    for (place, message) in peer.messages.iter().enumerate() {
+        pass_one(alloc, own, peer, place, message.kind, &mut passing)?;
+    }
+    Ok(passing)
+}
+
+/// The plans of the frames that the two ends sent. The only error is that memory ran out.
+pub fn plan_wire(alloc: Global, a: &[Bytes], b: &[Bytes]) -> Result<WirePlan, AllocError> {
+    let mut paths = Paths::new(alloc)?;
+    let (messages, groups) = read_file(alloc, a, &mut paths)?;
+    let mut of_a = plan_file(alloc, messages, groups)?;
+    let (messages, groups) = read_file(alloc, b, &mut paths)?;
+    let mut of_b = plan_file(alloc, messages, groups)?;
+    pair(alloc, &mut of_a, &mut of_b)?;
+    pair(alloc, &mut of_b, &mut of_a)?;
+    let passing_of_a = calls_led_back(alloc, &of_a, &of_b)?;
+    let passing_of_b = calls_led_back(alloc, &of_b, &of_a)?;
+    Ok(WirePlan {
+        of_a,
+        of_b,
+        passing_of_a,
+        passing_of_b,
+        paths,
+    })
+}

@@ -1,0 +1,234 @@
+//! Reading a frame's message in the short form.
+
+use crate::content::digest_of;
+use crate::groups::Groups;
+use crate::message::{Aim, Entry, Kind, Named, Planned, Results};
+use crate::paths::Paths;
+use bytes::Bytes;
+use cap_frame::Frame;
+use rpc_view::{
+    Descriptor, Edition, Limits, Loopback, Outcome, Payload, Resolution, RpcMessage, Target,
+    ViewError, read_message,
+};
+use std::alloc::{AllocError, Global};
+
+/// What is made use of while messages are read.
+#[derive(Drop)]
+struct Reading<'a> {
+    alloc: Global,
+    paths: &'a mut Paths,
+    groups: &'a mut Groups,
+}
+
+impl Reading<'_> {
+    /// What a message is meant for.
+    fn aim(&mut self, target: &Target) -> Result<Aim, AllocError> {
+        Ok(match target {
+            Target::Imported(number) => Aim::Import(*number),
+            Target::Promised(question, path) => {
+                Aim::Answer(*question, self.paths.number(self.alloc, path)?)
+            }
+        })
+    }
+
+    /// An entry of a table.
+    fn entry(&mut self, descriptor: &Descriptor) -> Result<Entry, AllocError> {
+        Ok(match descriptor {
+            Descriptor::NoCap => Entry::NoCap,
+            Descriptor::SenderHosted(number) => Entry::Hosted(*number),
+            Descriptor::SenderPromise(number) => {
+                Entry::Promised(*number, self.groups.introduced(*number)?)
+            }
+            Descriptor::ReceiverHosted(number) => Entry::ReceiverHosted(*number),
+            Descriptor::ReceiverAnswer(question, path) => {
+                Entry::ReceiverAnswer(*question, self.paths.number(self.alloc, path)?)
+            }
+        })
+    }
+
+    /// A table.
+    fn table(&mut self, payload: &Payload) -> Result<Vec<Entry>, AllocError> {
+        let mut table = Vec::new(self.alloc);
+        for descriptor in payload.descriptors.as_slice() {
+            table.push(self.entry(descriptor)?)?;
+        }
+        Ok(table)
+    }
+
+    /// Where a content has capabilities.
+    fn fields(&mut self, payload: &Payload) -> Result<Vec<Named>, AllocError> {
+        let mut fields = Vec::new(self.alloc);
+        for (path, index) in payload.fields.as_slice() {
+            fields.push(Named {
+                path: self.paths.number(self.alloc, path)?,
+                index: *index,
+            })?;
+        }
+        Ok(fields)
+    }
+
+    /// A message with the payload that it has.
+    fn with_payload(&mut self, kind: Kind, payload: &Payload) -> Result<Planned, AllocError> {
+        Ok(Planned {
+            kind,
+            table: self.table(payload)?,
+            fields: self.fields(payload)?,
+        })
+    }
+
+    /// A message without a payload.
+    fn bare(&self, kind: Kind) -> Planned {
+        Planned {
+            kind,
+            table: Vec::new(self.alloc),
+            fields: Vec::new(self.alloc),
+        }
+    }
+
+    /// A Resolve, the frame of this place.
+    fn resolve(
+        &mut self,
+        place: usize,
+        promise: u32,
+        resolution: &Resolution,
+    ) -> Result<Planned, AllocError> {
+        let mut table = Vec::new(self.alloc);
+        if let Resolution::Cap(descriptor) = resolution {
+            table.push(self.entry(descriptor)?)?;
+        }
+        Ok(Planned {
+            kind: Kind::Resolve(promise, self.groups.resolved(promise, place)),
+            table,
+            fields: Vec::new(self.alloc),
+        })
+    }
+
+    /// A Return.
+    fn answer(
+        &mut self,
+        answer: u32,
+        release: bool,
+        outcome: &Outcome,
+        light: bool,
+    ) -> Result<Planned, AllocError> {
+        let results = match outcome {
+            Outcome::Results(_) => Results::There,
+            Outcome::Exception => Results::Exception,
+            Outcome::Canceled => Results::Canceled,
+            Outcome::Elsewhere => Results::Elsewhere,
+            Outcome::TakeFrom(question) => Results::TakenFrom(*question),
+        };
+        let kind = Kind::Return {
+            answer,
+            release,
+            results,
+            light,
+        };
+        match outcome {
+            Outcome::Results(payload) => self.with_payload(kind, payload),
+            _ => Ok(self.bare(kind)),
+        }
+    }
+
+    /// A Call, in a frame of so many words.
+    fn call(
+        &mut self,
+        frame: &Frame,
+        words: u64,
+        message: &RpcMessage,
+    ) -> Result<Planned, AllocError> {
+        let RpcMessage::Call {
+            question,
+            target,
+            interface,
+            method,
+            params,
+            yourself,
+        } = message
+        else {
+            return Ok(self.bare(Kind::Unread));
+        };
+        let kind = Kind::Call {
+            question: *question,
+            aim: self.aim(target)?,
+            digest: digest_of(self.alloc, frame, words, *interface, *method)?,
+            interface: *interface,
+            method: *method,
+            yourself: *yourself,
+        };
+        self.with_payload(kind, params)
+    }
+
+    /// A Disembargo.
+    fn disembargo(
+        &mut self,
+        number: u32,
+        loopback: Loopback,
+        target: &Target,
+    ) -> Result<Planned, AllocError> {
+        let aim = self.aim(target)?;
+        Ok(self.bare(match loopback {
+            Loopback::Sender => Kind::Loopback(number, aim),
+            Loopback::Receiver => Kind::Echo(number, aim),
+        }))
+    }
+
+    /// The message of a frame at this place.
+    fn planned(
+        &mut self,
+        frame: &Frame,
+        words: u64,
+        place: usize,
+        message: &RpcMessage,
+    ) -> Result<Planned, AllocError> {
+        match message {
+            RpcMessage::Bootstrap { question } => Ok(self.bare(Kind::Bootstrap(*question))),
+            RpcMessage::Call { .. } => self.call(frame, words, message),
+            RpcMessage::Return {
+                answer,
+                release_param_caps,
+                outcome,
+                light,
+            } => self.answer(*answer, *release_param_caps, outcome, *light),
+            RpcMessage::Finish {
+                question,
+                release_result_caps,
+            } => Ok(self.bare(Kind::Finish(*question, *release_result_caps))),
+            RpcMessage::Resolve {
+                promise,
+                resolution,
+            } => self.resolve(place, *promise, resolution),
+            RpcMessage::Release { id, count } => Ok(self.bare(Kind::Release(*id, *count))),
+            RpcMessage::Disembargo {
+                number,
+                loopback,
+                target,
+            } => self.disembargo(*number, *loopback, target),
+            RpcMessage::Abort => Ok(self.bare(Kind::Abort)),
+        }
+    }
+}
+
+/// The message of the frame at this place of a file.
+pub(crate) fn read_planned(
+    alloc: Global,
+    bytes: &Bytes,
+    place: usize,
+    paths: &mut Paths,
+    groups: &mut Groups,
+) -> Result<Planned, AllocError> {
+    let mut reading = Reading {
+        alloc,
+        paths,
+        groups,
+    };
+    let words = bytes.len() as u64 / 8;
+    let Ok(frame) = Frame::read(bytes.slice(0..bytes.len())?) else {
+        return Ok(reading.bare(Kind::Unread));
+    };
+    match read_message(alloc, &frame, Limits::default(), Edition::Later) {
+        Ok(message) => reading.planned(&frame, words, place, &message),
+        Err(ViewError::OutOfMemory) => Err(AllocError),
+        Err(_) => Ok(reading.bare(Kind::Unread)),
+    }
+}

@@ -1,0 +1,13 @@
+//! The steps of one end of a connection, and its log: what it does between its frames is told by the steps, and the frames are
+//! taken from the two files.
+//!
+//! It stands on `vat_log`, and on `link_check` for the frames that a log sends and receives. What the log has of the two files
+//! is said in `specs/Parts.antt`: whatever the steps are, the frames that it sends are those of the own file from the first one
+//! on, and those that it receives are the other file's. [`log_of`] promises it.
+#![tactic(auto)]
+
+mod end_log;
+mod steps;
+
+pub use end_log::{EndLog, LogFault, TooLongAt, log_of};
+pub use steps::{Step, Steps};

@@ -20,7 +20,8 @@ pub struct Told {
 }
 
 /// Runs the program with these words, of which the first is its name, over these files. Words that it doesn't understand have
-/// status 2 and no line, since their fault is told on standard error.
+/// status 2 and no line, since their fault is told on standard error; those that ask for help have status 0, and the text,
+/// which is `clap`'s, is left out.
 pub fn ask<R: Threads + Wait + Sync>(
     rt: &R,
     alloc: Global,
@@ -46,7 +47,10 @@ pub fn ask<R: Threads + Wait + Sync>(
             Ok(told)
         }
         Err(error) if error.kind() == ErrorKind::OutOfMemory => Err(Fault::OutOfMemory),
-        Err(_) => Ok(told),
+        Err(error) => {
+            told.status = if error.use_stderr() { 2 } else { 0 };
+            Ok(told)
+        }
     }
 }
 

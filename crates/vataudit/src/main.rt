@@ -66,15 +66,21 @@ fn out_of_memory(rt: &impl Print, is_json: bool) -> u8
     }
 }
 
-/// Says on standard error what is wrong with the command line, and gives the exit status.
-fn refuse(rt: &(impl Print + Eprint), error: &clap::Error, is_json: bool) -> u8
-    ensures { kind_of error.now ≢ ErrorKind.OutOfMemory → result ≡ FAILED }
+/// Prints on standard output the help that the command line asks for, or says on standard error what is wrong with it, and
+/// gives the exit status.
+fn help_or_refuse(rt: &(impl Print + Eprint), error: &clap::Error, is_json: bool) -> u8
+    ensures help { kind_of error.now ≡ ErrorKind.DisplayHelp → (result ≡ 0) ⊎ (result ≡ FAILED) }
+    ensures mistake { kind_of error.now ≢ ErrorKind.OutOfMemory
+        → kind_of error.now ≢ ErrorKind.DisplayHelp
+        → kind_of error.now ≢ ErrorKind.DisplayVersion → result ≡ FAILED }
 {
     if error.kind() == ErrorKind::OutOfMemory {
         return out_of_memory(rt, is_json);
     }
-    let _ = rt.eprint(error);
-    FAILED
+    match error.print(rt) {
+        Ok(()) if !error.use_stderr() => 0,
+        _ => FAILED,
+    }
 }
 
 /// Opens the root directory three times, and gives what holds it open. The system gives each open file the lowest
@@ -221,7 +227,7 @@ fn start<
     let manner = take_manner(words);
     let command = match command_of(rt.alloc(), words) {
         Ok(command) => command,
-        Err(error) => return refuse(rt, &error, manner.is_json),
+        Err(error) => return help_or_refuse(rt, &error, manner.is_json),
     };
     let Ok(mut made) = Made::of(rt, &command) else {
         return out_of_memory(rt, manner.is_json);

@@ -1,6 +1,6 @@
 //! Making the two logs.
 
-ghost use Rattle.std.specs.Prelude.{IfOk};
+ghost use Rattle.std.specs.Prelude.{IfOk, List, ℕ};
 ghost use Rattle.wire_ends.specs.Made.{HasMade};
 
 use crate::blame::{Blame, borrow_all, find_blame};
@@ -144,7 +144,10 @@ fn make_up(alloc: Global, plan: &WirePlan) -> Result<MadeUp, AllocError> {
 }
 
 /// The message at which an end's log would be too long.
-fn no_log(end: End, fault: LogFault) -> Result<Making, AllocError> {
+fn no_log(end: End, fault: LogFault) -> Result<Making, AllocError>
+    // Without logs nothing is said of them, whatever the frames are.
+    ensures { (a b : List (List ℕ)) → IfOk result (HasMade a b) }
+{
     match fault {
         LogFault::TooLong(TooLongAt::Own(message)) => Ok(Making::TooLong(end, message as u64)),
         LogFault::TooLong(TooLongAt::Peers(message)) => {

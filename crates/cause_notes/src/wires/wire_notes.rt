@@ -171,11 +171,11 @@ fn put_opens(
     files: &WireFiles<'_>,
     found: &WireFound,
 ) -> Result<(), AllocError> {
-    let Some([of_a, of_b]) = found.open else {
+    let Some(open) = found.open else {
         return Ok(());
     };
-    put_open(text, files.of_a, of_a)?;
-    put_open(text, files.of_b, of_b)
+    put_open(text, files.of_a, at_end(open, End::A))?;
+    put_open(text, files.of_b, at_end(open, End::B))
 }
 
 /// Appends the note of what a file is that doesn't begin with a frame, where that is found.

@@ -225,6 +225,7 @@ impl End {
         if let Some(goal) = call.meant_for() {
             self.vat.keep_vow(&goal);
         }
+        call.goal.take();
         let given = call.params.borrow().clone();
         let mut question = Question::new(&call, false);
         let references = self.give(payload, &given, true, &mut question.brought_by_call)?;
@@ -532,17 +533,19 @@ impl End {
         })
     }
 
-    // What a call that came is addressed to, by number.
+    // What a call that came is addressed to.
     fn goal_of(&self, target: message_target::Reader<'_>) -> Option<Reference> {
-        match target.which() {
-            Ok(message_target::ImportedCap(id)) => {
-                let tables = self.tables.borrow();
-                tables
-                    .exports
-                    .get(&id)
-                    .map(|number| number.reference.clone())
+        let tables = self.tables.borrow();
+        match target.which().ok()? {
+            message_target::ImportedCap(id) => {
+                let number = tables.exports.get(&id)?;
+                Some(number.reference.clone())
             }
-            _ => None,
+            message_target::PromisedAnswer(answer) => {
+                let answer = answer.ok()?;
+                let question = tables.answering.get(&answer.get_question_id())?;
+                Some(Reference::of_field(&question.call, path_of(answer).ok()?))
+            }
         }
     }
 

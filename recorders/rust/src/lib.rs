@@ -52,8 +52,8 @@ pub struct Recorder {
 }
 
 impl Recorder {
-    /// Begins the log `path` of vat `vat`, a number that no other vat of the conversation has. What the file held is
-    /// lost, and so is `path`.stopped.
+    /// Begins the log `path` of vat `vat`, a number that no other vat of the conversation has. A log that is there
+    /// becomes `path`.1, or where that is there `path`.2 and so on; so does `path`.stopped.
     ///
     /// # Errors
     /// Where the file can't be made or written.

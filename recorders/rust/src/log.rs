@@ -86,23 +86,36 @@ impl Log {
         Ok(log)
     }
 
+    // Logs that are there already are kept.
     fn open(&mut self) -> io::Result<()> {
+        if let Ok(place) = fs::canonicalize(&self.path) {
+            self.path = place;
+        }
+        move_on(&self.path)?;
+        move_on(&self.stopped())?;
         let file = OpenOptions::new()
             .write(true)
             .create(true)
             .truncate(true)
             .open(&self.path)?;
         self.file = Some(file);
+        // The program may change its folder.
         self.path = fs::canonicalize(&self.path)?;
-        let _ = fs::remove_file(self.stopped());
         Ok(())
     }
 
     /// The name of a log whose recorder stopped.
     fn stopped(&self) -> PathBuf {
-        let mut name = self.path.clone().into_os_string();
-        name.push(".stopped");
-        PathBuf::from(name)
+        with_ending(&self.path, ".stopped")
+    }
+
+    /// Whether its file still has its name, and may have another one.
+    fn is_still_there(&self) -> bool {
+        let mine = self.file.as_ref().and_then(|file| file.metadata().ok());
+        match (mine, fs::metadata(&self.path)) {
+            (Some(mine), Ok(there)) => mine.is_file() && is_same(&mine, &there),
+            _ => false,
+        }
     }
 
     /// How many records there are; where a write failed, how many were written.
@@ -154,15 +167,53 @@ impl Log {
     /// Gives the log another name, so that nobody takes it for a whole one. Answers where it lies.
     pub(crate) fn set_aside(&mut self) -> PathBuf {
         let _ = self.flush();
-        let is_file = self
-            .file
-            .take()
-            .and_then(|file| file.metadata().ok())
-            .map_or(false, |data| data.is_file());
+        let is_still_there = self.is_still_there();
+        self.file = None;
         let stopped = self.stopped();
-        if is_file && fs::rename(&self.path, &stopped).is_ok() {
+        if is_still_there
+            && move_on(&stopped)
+                .and_then(|()| fs::rename(&self.path, &stopped))
+                .is_ok()
+        {
             self.path = stopped;
         }
         self.path.clone()
+    }
+}
+
+fn with_ending(path: &Path, ending: &str) -> PathBuf {
+    let mut name = path.to_path_buf().into_os_string();
+    name.push(ending);
+    PathBuf::from(name)
+}
+
+#[cfg(unix)]
+fn is_same(one: &fs::Metadata, other: &fs::Metadata) -> bool {
+    use std::os::unix::fs::MetadataExt;
+    (one.dev(), one.ino()) == (other.dev(), other.ino())
+}
+
+#[cfg(not(unix))]
+fn is_same(_: &fs::Metadata, other: &fs::Metadata) -> bool {
+    other.is_file()
+}
+
+/// Gives a file that is there the first number behind its name that is free, so that nothing is lost.
+fn move_on(path: &Path) -> io::Result<()> {
+    if !fs::metadata(path).map_or(false, |there| there.is_file()) {
+        return Ok(());
+    }
+    let mut number = 1;
+    loop {
+        let numbered = with_ending(path, &format!(".{}", number));
+        match fs::hard_link(path, &numbered) {
+            Ok(()) => return fs::remove_file(path),
+            Err(error) if error.kind() == io::ErrorKind::AlreadyExists => number += 1,
+            // A file system without links.
+            Err(_) if fs::symlink_metadata(&numbered).is_err() => {
+                return fs::rename(path, numbered)
+            }
+            Err(error) => return Err(error),
+        }
     }
 }

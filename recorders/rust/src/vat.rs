@@ -39,6 +39,16 @@ pub(crate) struct View {
 }
 
 impl Reference {
+    /// The field of a call's results, without a number: no record names it.
+    pub(crate) fn of_field(call: &Rc<Call>, path: Fields) -> Reference {
+        let reference = Reference {
+            number: 0,
+            view: Rc::default(),
+        };
+        *reference.view.field.borrow_mut() = Some((call.clone(), path));
+        reference
+    }
+
     /// What it became by one turn.
     pub(crate) fn next(&self) -> Option<Reference> {
         if let Some((call, path)) = &*self.view.field.borrow() {
@@ -128,7 +138,7 @@ pub(crate) struct Call {
     pub(crate) method_id: u16,
     /// What it was made through; none for a received one.
     pub(crate) target: Option<Reference>,
-    /// What it is addressed to, if it was received.
+    /// What it is addressed to, if it was received, until it is sent on or delivered.
     pub(crate) goal: RefCell<Option<Reference>>,
     pub(crate) params: RefCell<Vec<Option<Given>>>,
     pub(crate) params_met: RefCell<Vec<Met>>,
@@ -410,6 +420,7 @@ impl Vat {
     pub(crate) fn deliver(&self, call: &Rc<Call>, object: u64) {
         call.is_gone.set(true);
         call.is_delivered.set(true);
+        call.goal.take();
         self.forget(call);
         let mut record = Record::new(0x07);
         record.u64(call.number.get());

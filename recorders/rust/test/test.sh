@@ -43,6 +43,9 @@ for ending in exits=3 killed=137 keeps=137; do
   { "$target/debug/ends" logs "${ending%=*}" >> logs/ended; } 2> /dev/null || status=$?
   [ "$status" -eq "${ending#*=}" ] || differ "ends ${ending%=*} ended with $status"
 done
+# Logs that are there already lose nothing.
+mkdir logs/again
+"$target/debug/ends" logs/again again > logs/again/said 2>&1 || { cat logs/again/said; differ "ends again ended with $?"; }
 [ "$(grep -c "vat 1 is recorded no further than record 4: a capability is given away that is none of" logs/said)" = 1 ] ||
   differ "the recorder of refused said something else"
 mv logs/refused.vat1.log.stopped logs/refused.vat1.log

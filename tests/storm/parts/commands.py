@@ -8,7 +8,7 @@ import shutil
 import subprocess
 import tempfile
 
-from . import judge, known, run, script, shrink
+from . import judge, known, run, script, shrink, wire
 
 PLANTS = ("exchange", "embargo", "release")
 
@@ -75,12 +75,17 @@ def run_seeds(arguments):
     """Runs the scripts of some seeds; status 0 if nothing is new."""
     driver, things = driver_of(arguments), known.read()
     version = versions_of(driver)
-    counts, shapes = collections.Counter(), collections.Counter()
+    counts, shapes, wired = collections.Counter(), collections.Counter(), collections.Counter()
 
     def one(place, seed):
         folder = os.path.join(place, str(seed))
         outcome, kinds, name = judged(swapped(driver, seed), arguments.vataudit, script.generate(seed), folder, things,
                                       version)
+        lines = wire.verdicts(arguments.vataudit, folder) if arguments.wire else []
+        if lines:
+            wired["%s | %s" % wire.compared(kinds, name, lines)] += 1
+        if wire.is_found(outcome, lines):
+            kinds, name = kinds + ["logs yes, and a wire " + "; ".join(lines)], None
         if not kinds or not arguments.keep:
             run.clear(folder)
             run.clear(folder + ".twin")
@@ -95,6 +100,8 @@ def run_seeds(arguments):
                 print("seed %d %s | %s | %s" % (seed, line, name or "new", " | ".join(kinds)), flush=True)
     for kind, count in shapes.most_common():
         print("%6d %s" % (count, kind))
+    for pair, count in wired.most_common():
+        print("%6d logs %s" % (count, pair.replace(" | ", " | wire ")))
     print("capnp %s seeds %d yes %d runtime %d disclosed %d new %d" % (
         version, len(arguments.seeds), counts["yes"], counts["runtime"], counts["disclosed"], counts["new"]))
     return 1 if counts["new"] else 0

@@ -3,7 +3,7 @@
 import itertools
 import re
 
-from .trees import trees
+from .trees import body_of, trees
 
 
 # An address of this run, which an assertion of the runtime prints, into its exception's text too.
@@ -74,9 +74,18 @@ def is_lost(trace):
     return any(line.startswith("lost ") for line in trace)
 
 
-def said(frames):
-    """What frames say, wherever their contents lie."""
-    return {name: trees(data) for name, data in frames.items()}
+def said(frames, lost):
+    """What frames say, wherever their contents lie. Where a connection is lost capnp-rpc gives its imports back in the
+    order of a hash table, which is another one each time."""
+    return {name: releases_sorted(trees(data)) if lost else trees(data) for name, data in frames.items()}
+
+
+def releases_sorted(messages):
+    """The messages, of which Releases that follow one another are in the order of their numbers."""
+    result = []
+    for is_release, group in itertools.groupby(messages, lambda tree: body_of(tree)[0] == 6):
+        result += sorted(group, key=repr) if is_release else group
+    return result
 
 
 def differences(outcome):
@@ -92,7 +101,8 @@ def differences(outcome):
         got = [[line for line in trace if line.startswith("got ")] for trace in traces]
         kinds.append("twin delivers otherwise" if got[0] != got[1] else "twin answers otherwise")
     frames = [without_addresses(each) for each in (outcome.frames, outcome.twin_frames)]
-    if frames[0] != frames[1] and not (outcome.is_copied and said(frames[0]) == said(frames[1])):
+    lost = is_lost(outcome.twin_trace)
+    if frames[0] != frames[1] and not (outcome.is_copied and said(frames[0], lost) == said(frames[1], lost)):
         kinds.append("twin sends other frames")
     return kinds
 

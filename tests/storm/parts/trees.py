@@ -71,3 +71,39 @@ def trees(data):
             return result + [data[at:]]
         at = frame.end
     return result
+
+
+def number(tree, at, size):
+    """A number in the data of a struct."""
+    return int.from_bytes(tree[1][at:at + size], "little")
+
+
+def body_of(tree):
+    """Which message it is, and its body; as of rpc.capnp's `Message`."""
+    is_whole = isinstance(tree, tuple) and tree[0] == "struct" and tree[2] and isinstance(tree[2][0], tuple)
+    return (number(tree, 0, 2), tree[2][0]) if is_whole else (None, None)
+
+
+def descriptors(kind, body):
+    """The capability descriptors of a Call or a Return, each with its kind and its number."""
+    at = {2: 1, 3: 0}.get(kind)
+    if at is None or (kind == 3 and number(body, 6, 2) != 0):
+        return []
+    payload = body[2][at] if len(body[2]) > at else None
+    table = payload[2][1] if payload and len(payload[2]) > 1 else None
+    return [(number(one, 0, 2), number(one, 4, 4)) for one in table[1]] if table else []
+
+
+def is_named_as_hosted(data):
+    """Whether a number goes out as senderHosted that has gone out as senderPromise and wasn't resolved since."""
+    promises = set()
+    for kind, body in map(body_of, trees(data)):
+        if kind == 5:
+            promises.discard(number(body, 0, 4))
+            continue
+        for how, named in descriptors(kind, body) if body else []:
+            if how == 1 and named in promises:
+                return True
+            if how == 2:
+                promises.add(named)
+    return False

@@ -1,5 +1,7 @@
 //! A folder that is made when it is first written to.
 
+ghost use Rattle.std.specs.Prelude.{◌≤◌, length, IfOk};
+
 use std::alloc::AllocError;
 use std::io::{Error, Write};
 use std::rt::Files;
@@ -58,8 +60,10 @@ impl<'a, R: Files + AllocGlobal> NewFolder<'a, R> {
         fs::create(self.rt, path.as_str())
     }
 
-    /// Writes to the file that was begun, or to the next one.
-    fn write_on(&mut self, buf: &[u8]) -> io::Result<usize> {
+    /// Writes to the file that was begun, or to the next one. As a write, it takes no more than it is given.
+    fn write_on(&mut self, buf: &[u8]) -> io::Result<usize>
+        ensures { IfOk result (λ n. n ≤ length buf.now) }
+    {
         if self.file.is_none() {
             self.file = Some(self.begin()?);
         }

@@ -126,6 +126,23 @@ private:
 };
 using Tag = OfVersion<TagWith>;
 
+// A copy of a request whose promise turned meanwhile. The runtime sends such a request as a call of its own, even where
+// a method hands its call on by it: so it isn't to see over which connection the copy goes.
+class TurnedRequest final: public capnp::RequestHook {
+public:
+  explicit TurnedRequest(kj::Own<capnp::RequestHook> inner): inner(kj::mv(inner)) {}
+
+  capnp::RemotePromise<AnyPointer> send() override { return inner->send(); }
+  kj::Promise<void> sendStreaming() override { return inner->sendStreaming(); }
+#if CAPNP_VERSION >= 1000000
+  AnyPointer::Pipeline sendForPipeline() override { return inner->sendForPipeline(); }
+#endif
+  const void* getBrand() override { return nullptr; }
+
+private:
+  kj::Own<capnp::RequestHook> inner;
+};
+
 // A request of the program. MAKE is recorded as it is sent, so before the runtime's SEND.
 class Request final: public capnp::RequestHook {
 public:
@@ -181,19 +198,30 @@ public:
       call->paramsAsMet = asMet(Content(builder.asReader()).met, call->paramsByIndex);
     }
     followTurn();
-    if (isLocal()) {
-      vat->keep(call, builder.asReader());
-    } else {
-      vat->throughProxies(call);
-    }
+    if (isLocal()) vat->keep(call, builder.asReader());
     return vat->isRecording();
+  }
+
+  // The call by which a method hands its own on: a Return may name it.
+  std::shared_ptr<Call> goingOn() {
+    return isLocal() ? call : vat->throughProxies(call, [](const Call&) { return false; });
+  }
+
+  // The runtime's request, for a method that hands its call on by it.
+  kj::Own<capnp::RequestHook> handedOn() {
+    if (turned.empty()) return kj::mv(inner);
+    return kj::heap<TurnedRequest>(kj::mv(inner));
   }
 
   // What the runtime answers when this call is handed to it.
   template <typename Send>
   auto whileSending(Send&& send) -> decltype(send()) {
+    bool isProxied = !isLocal() && hook->getBrand() != inner->getBrand();
     Meanwhile meanwhile(vat->sending, call);
-    KJ_DEFER(vat->settle());
+    KJ_DEFER({
+      if (isProxied) vat->noteTurned(call);
+      vat->settle();
+    });
     return send();
   }
 

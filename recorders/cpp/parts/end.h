@@ -120,7 +120,8 @@ public:
         continue;
       }
       auto& known = found->second.reference;
-      if (leadsTo(known, given) || vowOf(given).number == known.number) return known;
+      bool isBroken = known.view->isBroken && given.view->isBroken;
+      if (isBroken || leadsTo(known, given) || vowOf(given).number == known.number) return known;
       at++;
     }
     return Reference();
@@ -155,6 +156,9 @@ private:
 
   bool sentCall(rpc::Call::Reader message, std::shared_ptr<Call> call, bool isWrittenHere, uint64_t& number,
                 std::vector<Reference>& references) {
+    if (call == nullptr) {
+      call = vat->turnedCall(message.getParams().getContent(), message.getInterfaceId(), message.getMethodId(), {});
+    }
     if (call == nullptr || call->number == 0) {
       vat->stop("a Call is sent, and no MAKE or received Call stands before it: was it made through a client of a "
                 "promise that isn't from `promise`?");
@@ -163,7 +167,8 @@ private:
     auto payload = message.getParams();
     auto given = isWrittenHere ? call->paramsByIndex : copied(payload, call->paramsAsMet);
     call->isGone = true;
-    Question opened = question(vat->throughProxies(call), false);
+    auto isSentBefore = [&](const Call& on) { return goesTo(startOfGoal(on), message.getTarget()); };
+    Question opened = question(vat->throughProxies(call, isSentBefore), false);
     opened.call->isGone = true;
     opened.call->dropGoal();
     opened.call->wentBy = way();
@@ -175,6 +180,23 @@ private:
     if (!give(payload.getCapTable(), given, true, references, opened.broughtByCall)) return false;
     asked[message.getQuestionId()] = kj::mv(opened);
     return true;
+  }
+
+  // Whether a reference leads to the target of a Call.
+  bool goesTo(const Reference& from, rpc::MessageTarget::Reader target) const {
+    return follow(from, [&](const Reference& at) { return at.view != nullptr && isTarget(*at.view, target); });
+  }
+
+  bool isTarget(const View& view, rpc::MessageTarget::Reader target) const {
+    if (target.isImportedCap()) {
+      auto found = imports.find(target.getImportedCap());
+      return found != imports.end() && found->second.reference.view.get() == &view;
+    }
+    auto found = target.isPromisedAnswer() ? asked.find(target.getPromisedAnswer().getQuestionId()) : asked.end();
+    if (found == asked.end() || view.path != pathOf(target.getPromisedAnswer())) return false;
+    const Call* at = view.call.get();
+    while (at != nullptr && at != found->second.call.get()) at = at->answeredBy.get();
+    return at != nullptr;
   }
 
   bool sentReturn(rpc::Return::Reader message, std::vector<Reference>& references) {
@@ -281,7 +303,8 @@ private:
       if (isPromised(at) || isPromised(vowOf(at))) return false;
       return open = &at, true;
     });
-    return vat->promiseOf(*open);
+    Reference promise = vat->promiseOf(*open);
+    return isPromised(promise) ? vat->promiseBehind(promise, *open) : promise;
   }
 
   bool isPromised(const Reference& reference) const {
@@ -303,7 +326,7 @@ private:
   // first one, too.
   static Reference introducedAgain(const Reference& known, const Reference& given, bool isCall) {
     if (leadsTo(given, known)) return given;
-    if (leadsTo(known, given) || vowOf(given).number == known.number) return known;
+    if (takesOver(known, given)) return known;
     return isCall && known.view->wrapped.number != 0 && leadsTo(given, known.view->wrapped) ? known : given;
   }
 
@@ -380,21 +403,33 @@ private:
     auto found = asked.find(message.getAnswerId());
     if (found == asked.end()) return;
     Question& answered = found->second;
+    std::vector<Reference> byIndex;
     if (message.isResults() && !answered.isLate) {
-      auto payload = message.getResults();
-      auto byIndex = take(payload.getCapTable(), references, answered.broughtByReturn);
-      if (!byIndex.empty()) answered.call->setResults(kj::mv(byIndex), Content(payload.getContent()).met);
-      answered.call->isOver = true;
-      Vat::shareResults(*answered.call);
+      byIndex = take(message.getResults().getCapTable(), references, answered.broughtByReturn);
+    }
+    if (!isUnasked(message.getAnswerId())) takeReturn(message, answered, kj::mv(byIndex));
+    answered.isReturned = true;
+    if (message.getReleaseParamCaps()) giveBack(exports, answered.broughtByCall);
+    if (answered.isFinished) asked.erase(found);
+  }
+
+  // From 1.0 on the runtime gives such a number to a call that it sends for its pipeline alone. It doesn't look at a
+  // Return that comes for one: what was named of the results stays the answer's, and never comes.
+  static bool isUnasked(uint32_t question) { return question >> 31 != 0; }
+
+  // What a Return says of the results of its call.
+  void takeReturn(rpc::Return::Reader message, Question& answered, std::vector<Reference>&& byIndex) {
+    Call& call = *answered.call;
+    if (message.isResults() && !answered.isLate) {
+      if (!byIndex.empty()) call.setResults(kj::mv(byIndex), Content(message.getResults().getContent()).met);
+      call.isOver = true;
+      Vat::shareResults(call);
     } else if (message.isException()) {
-      answered.call->isOver = true;
+      call.isOver = true;
     } else if (message.isTakeFromOtherQuestion() && !answered.isLate) {
       auto other = answering.find(message.getTakeFromOtherQuestion());
       if (other != answering.end()) Vat::takeResults(answered.call, other->second.call);
     }
-    answered.isReturned = true;
-    if (message.getReleaseParamCaps()) giveBack(exports, answered.broughtByCall);
-    if (answered.isFinished) asked.erase(found);
   }
 
   void receivedResolve(rpc::Resolve::Reader message, std::vector<Reference>& references) {
@@ -481,10 +516,11 @@ private:
 };
 
 inline Reference Vat::asNumbered(const Reference& given, Way way) {
-  if (given.view == nullptr || given.view->isSettled) return given;
+  if (given.view == nullptr || (given.view->isSettled && !given.view->isBroken)) return given;
   if (way != 0 && neverComes(given) && wayOf(given) != way) return proxyOf(lastOf(given));
   Reference wrapped = lastOf(given).view->wrapped;
-  if (way != 0 && wrapped.number != 0 && neverComes(wrapped) && wayOf(wrapped) == way) return wrapped;
+  bool isOpen = wrapped.number != 0 && !wrapped.view->isProxy && neverComes(wrapped);
+  if (way != 0 && isOpen && wayOf(wrapped) == way) return wrapped;
   for (auto end: ends) {
     Reference known = end->numbered(given);
     if (known.number != 0) return known;

@@ -54,7 +54,7 @@ inline Reference givenBy(Vat& vat, const Reference& reference, ClientHook& hook)
   if (end.getBrand() != nullptr || vat.hosted.count(&end) > 0 || end.whenMoreResolved() != nullptr) return reference;
   Reference behind = vat.proxiedOn(reference);
   if (behind.number == 0) return reference;
-  return isSettled(behind) ? behind : vat.proxyOf(behind);
+  return isSettled(behind) && Vat::givenProxy(behind).number == 0 ? behind : vat.proxyOf(behind);
 }
 
 // The reference of a capability that the program gives away. A broken one gets a VOW and a BREAK, since it goes out

@@ -27,6 +27,7 @@ struct View {
   std::shared_ptr<Call> call;
   Path path;
   bool isSettled = false;    // an object, a broken promise, or what came as senderHosted: it turns no more
+  bool isBroken = false;     // a broken promise
   Way import = 0;            // the way by which it came as a number of the peer
   Way cameBack = 0;          // the way by which it came back
   bool isProxy = false;      // the runtime put a proxy of its own before it
@@ -188,6 +189,18 @@ inline bool leadsTo(const Reference& from, const Reference& to) {
   return follow(from, [&](const Reference& at) { return areSame(at, to); });
 }
 
+// Whether what is given may go out under the number of a promise: that became it, or the promise of it, or another
+// promise on its way. A broken capability gets a promise each time that it is given away, and goes out under the number
+// of the first one.
+inline bool takesOver(const Reference& promise, const Reference& given) {
+  if (promise.view->isBroken && given.view->isBroken) return true;
+  Reference vow = vowOf(given);
+  return follow(promise, [&](const Reference& at) {
+    if (areSame(at, given) || (vow.number != 0 && areSame(at, vow))) return true;
+    return at.view != nullptr && !at.view->isSettled && leadsTo(given, at);
+  });
+}
+
 // Whether nothing more can be known of where it leads.
 inline bool isSettled(const Reference& from) {
   auto view = lastOf(from).view.get();
@@ -195,11 +208,26 @@ inline bool isSettled(const Reference& from) {
   return view->call != nullptr && answering(*view->call).isOver;
 }
 
-// What a call has come to lead to.
-inline Reference endOfGoal(const Call& call) {
-  if (call.goalCall == nullptr) return lastOf(call.goal);
+// Where the way of a call begins: none while it is addressed to a result that isn't known.
+inline const Reference& startOfGoal(const Call& call) {
+  static const Reference none;
+  if (call.goalCall == nullptr) return call.goal;
   auto field = answering(*call.goalCall).fieldAt(call.goalPath);
-  return field == nullptr ? Reference() : lastOf(*field);
+  return field == nullptr ? none : *field;
+}
+
+// What a call has come to lead to.
+inline Reference endOfGoal(const Call& call) { return lastOf(startOfGoal(call)); }
+
+// Whether a reference leads to an object, also through proxies of the runtime.
+inline bool leadsBehindProxies(Reference from, const Reference& object) {
+  for (int steps = 0; steps < 100; steps++) {
+    if (leadsTo(from, object)) return true;
+    auto end = lastOf(from).view;
+    if (end == nullptr || end->wrapped.number == 0) return false;
+    from = end->wrapped;
+  }
+  return false;
 }
 
 // The connection over which a call was sent, or the one that answers it.

@@ -98,7 +98,7 @@ public:
     if (hasResults && !results.byIndex.empty()) {
       auto way = returnsBy(*call);
       for (auto& reference: results.byIndex) {
-        if (reference.view != nullptr && !reference.view->isSettled) reference = vat->asNumbered(reference, way);
+        reference = vat->asNumbered(reference, way);
       }
       Content content(inner->getResults(capnp::MessageSize { 0, 0 }).asReader());
       call->setResults(kj::mv(results.byIndex), content.met);
@@ -119,8 +119,8 @@ private:
   auto handOn(kj::Own<capnp::RequestHook>&& request, TailCall&& tailCall) -> decltype(tailCall(kj::mv(request))) {
     auto made = dynamic_cast<Request*>(request.get());
     if (made == nullptr) return tailCall(kj::mv(request));
-    if (made->begin()) vat->answerBy(call, Vat::goingOn(made->call));
-    return made->whileSending([&] { return tailCall(kj::mv(made->inner)); });
+    if (made->begin()) vat->answerBy(call, made->goingOn());
+    return made->whileSending([&] { return tailCall(made->handedOn()); });
   }
 };
 
@@ -177,14 +177,26 @@ private:
   // a promise which isn't from `promise`: they have no MAKE yet.
   std::shared_ptr<Call> delivered(AnyPointer::Reader params, uint64_t interfaceId, uint16_t methodId) {
     auto call = vat->callOf(params, interfaceId, methodId);
+    if (call == nullptr) call = vat->turnedCall(params, interfaceId, methodId, reference);
     if (call == nullptr) {
       call = vat->newCall(interfaceId, methodId);
       vat->make(*call, reference);
     } else {
       vat->forget(*call);
+      call = behindProxies(kj::mv(call));
     }
     vat->deliver(*call, object);
     return call;
+  }
+
+  // Where a proxy of the runtime leads to this object, it is the proxy's own call that comes here.
+  std::shared_ptr<Call> behindProxies(std::shared_ptr<Call> call) {
+    auto on = vat->throughProxies(call, [](const Call&) { return false; });
+    if (on != call) {
+      on->paramsByIndex = call->paramsByIndex;
+      on->paramsAsMet = call->paramsAsMet;
+    }
+    return on;
   }
 };
 

@@ -79,7 +79,7 @@ public:
 
   // A promise that is settled without a capability: it isn't hosted, so it must not go out as if it were.
   void breakPromise(const Reference& promise) {
-    promise.view->isSettled = true;
+    promise.view->isSettled = promise.view->isBroken = true;
     begin(0x04, [&] { log.number(promise.number); });
   }
 
@@ -118,6 +118,21 @@ public:
     given.call = view->call;
     call.vows.push_back(given);
     if (wayOf(*view->call) != 0 || call.isOver) keepVows(call);
+    return promise;
+  }
+
+  // What the runtime gives out for such a result under another number is the promise to which the first one turned.
+  Reference promiseBehind(const Reference& promise, const Reference& result) {
+    auto view = lastOf(result).view;
+    if (view == nullptr || view->call == nullptr) return promise;
+    for (auto& given: answering(*view->call).vows) {
+      if (given.number != promise.number || given.isKept) continue;
+      Reference behind = vow();
+      fulfil(promise, behind);
+      given.number = behind.number;
+      given.view = behind.view;
+      return behind;
+    }
     return promise;
   }
 
@@ -169,13 +184,20 @@ public:
     return sure.number == 0 ? maybe : sure;
   }
 
+  // The object that such a proxy was given away as. Number 0 where it wasn't.
+  static Reference givenProxy(const Reference& wrapped) {
+    Reference proxy;
+    proxy.view = wrapped.view->proxy.lock();
+    if (proxy.view != nullptr) proxy.number = wrapped.view->proxyNumber;
+    return proxy;
+  }
+
   // The object that a proxy of the runtime is: a vat that gives it away hosts it, and it calls what it stands before.
   Reference proxyOf(const Reference& wrapped) {
     auto& view = *wrapped.view;
-    Reference proxy;
-    proxy.number = view.proxyNumber;
-    proxy.view = view.proxy.lock();
-    if (proxy.view != nullptr) return proxy;
+    Reference proxy = givenProxy(wrapped);
+    if (proxy.number != 0) return proxy;
+    hasProxies = true;
     uint64_t object = newObject();
     proxy = host(object);
     proxy.view->wrapped = wrapped;
@@ -192,10 +214,13 @@ public:
   }
 
   // A call that leads to a proxy has come to that object, which makes the same call on what it stands before, and
-  // answers by that one. What goes on.
-  std::shared_ptr<Call> throughProxies(std::shared_ptr<Call> call) {
+  // answers by that one. What goes on. `isSentBefore` says of a call whether the runtime hasn't come so far yet.
+  template <typename IsSentBefore>
+  std::shared_ptr<Call> throughProxies(std::shared_ptr<Call> call, IsSentBefore&& isSentBefore) {
+    if (!hasProxies) return call;
     for (int steps = 0;; steps++) {
       call = goingOn(kj::mv(call));
+      if (isSentBefore(*call)) return call;
       Reference end = endOfGoal(*call);
       if (end.view == nullptr || end.view->wrapped.number == 0 || steps == 100) return call;
       auto made = newCall(call->interfaceId, call->methodId);
@@ -349,6 +374,30 @@ public:
     forget(*call);
   }
 
+  // A call through a proxy of the runtime, where what this stands before has turned meanwhile: the runtime sends a copy
+  // there, of which nobody knows where it lies.
+  void noteTurned(const std::shared_ptr<Call>& call) {
+    auto on = goingOn(call);
+    if (on->isGone) return;
+    turned.erase(std::remove_if(turned.begin(), turned.end(), [](auto& one) { return one.expired(); }), turned.end());
+    on->paramsAsMet = call->paramsAsMet;
+    turned.push_back(on);
+  }
+
+  // The first of these that may be what is delivered to an object, or sent on, with these parameters.
+  std::shared_ptr<Call> turnedCall(AnyPointer::Reader params, uint64_t interfaceId, uint16_t methodId,
+                                   const Reference& object) {
+    for (size_t at = 0; at < turned.size(); at++) {
+      auto call = turned[at].lock();
+      if (call == nullptr || call->isGone || call->interfaceId != interfaceId || call->methodId != methodId) continue;
+      if (object.number != 0 && !leadsBehindProxies(call->goal, object)) continue;
+      turned.erase(turned.begin() + at);
+      call->paramsByIndex = byIndexOf(Content(params).met, call->paramsAsMet);
+      return call;
+    }
+    return nullptr;
+  }
+
 private:
   Log log;
   uint32_t number;
@@ -356,6 +405,8 @@ private:
   std::string reason;  // why it stopped
   uint64_t lastReference = 0, lastCall = 0, lastObject = 0;
   std::unordered_map<const void*, std::shared_ptr<Call>> callAt;
+  std::vector<std::weak_ptr<Call>> turned;
+  bool hasProxies = false;  // some were given away
 
   template <typename Fields>
   void begin(uint8_t kind, Fields&& fields) {

@@ -306,10 +306,35 @@ while read -r name; do
   esac || differ "expected.txt has $name, which isn't there"
 done < <(awk -F ' [|] ' '/^[a-z].* [|] / { print $1 }' expected.txt)
 
+# The scripts of tests/storm, each as a conversation: with each capnp, and with vats of both by turns. Each prints the
+# line of scripts/expected.txt, and its unrecorded twin sends the same frames and delivers in the same order.
+replayed=()
+replay() {
+  local client="$1" server="$2" driver="$root/tests/storm/drivers/cpp/build" printed="logs/storm-$1-$2" of
+  driver="$driver/$client/storm$([ "$client" = "$server" ] || echo ",$driver/$server/storm")"
+  of="${client}$([ "$client" = "$server" ] || echo "-$server")"
+  grep -q "^[a-z_]* |[^|]* $of " "$root/tests/storm/scripts/expected.txt" || return 0
+  "$root/tests/storm/storm" replay --driver "$driver" --vataudit "$(realpath "$program")" > "$printed" 2>&1 ||
+    { cat "$printed"; differ "tests/storm replays otherwise with $of"; }
+  replayed+=("$(tail -n 1 "$printed"), with capnp $of")
+}
+if [ -z "$unproved" ] && command -v python3 > /dev/null; then
+  for folder in "${folders[@]}"; do
+    make --quiet -C "$root/tests/storm/drivers/cpp" ${folder:+"PREFIX=$folder"} 2> logs/storm ||
+      { cat logs/storm; differ "the driver of tests/storm wasn't built"; }
+  done
+  for client in "${versions[@]}"; do
+    for server in "${versions[@]}"; do replay "$client" "$server"; done
+  done
+fi
+
 printf '%s\n' "${ran[@]}" | sed 's/^/conversations: /'
+[ "${#replayed[@]}" -eq 0 ] || printf '%s\n' "${replayed[@]}" | sed 's/^/tests\/storm: /'
 [ "${#versions[@]}" -gt 1 ] ||
   echo "NOT run: capnp 1.1, and client and server of different versions; CAPNP_1_1 has to name the folder where it is installed"
 [ -n "$gtest" ] || echo "NOT run: the fixture with GoogleTest, which isn't installed (Debian: libgtest-dev)"
 command -v cmake > /dev/null || echo "NOT run: the CMake package; there is no cmake"
 [ -z "$unproved" ] || echo "NOT run: the fixture for tests; it wants a built program"
+[ "${#replayed[@]}" -gt 0 ] ||
+  echo "NOT run: the scripts of tests/storm; they want a built program, Python 3, and capnp 0.9.2 or 1.1.0"
 echo "recorder: $count logs of $cases conversations, $audited: all as expected"

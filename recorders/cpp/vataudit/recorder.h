@@ -33,7 +33,7 @@
 // - Where a method names its results beforehand by `setPipeline`, no record says so before they are there. A call that
 //   goes on to such a result before is told `no .. rule GOAL`. A method that ends by `tailCall` is recorded, by
 //   ANSWERBY.
-// - Two lines of the audit come from sound programs: docs/RECORDING.md, "Where C++ gets `no`".
+// - Three lines of the audit come from sound programs: docs/RECORDING.md, "Where C++ gets `no`".
 //
 // This file is made: recorders/cpp/parts has what it is made of. With VATAUDIT_OFF defined nothing of it is left but
 // capnp's own classes under these names.
@@ -362,6 +362,7 @@ struct View {
   std::shared_ptr<Call> call;
   Path path;
   bool isSettled = false;    // an object, a broken promise, or what came as senderHosted: it turns no more
+  bool isBroken = false;     // a broken promise
   Way import = 0;            // the way by which it came as a number of the peer
   Way cameBack = 0;          // the way by which it came back
   bool isProxy = false;      // the runtime put a proxy of its own before it
@@ -523,6 +524,18 @@ inline bool leadsTo(const Reference& from, const Reference& to) {
   return follow(from, [&](const Reference& at) { return areSame(at, to); });
 }
 
+// Whether what is given may go out under the number of a promise: that became it, or the promise of it, or another
+// promise on its way. A broken capability gets a promise each time that it is given away, and goes out under the number
+// of the first one.
+inline bool takesOver(const Reference& promise, const Reference& given) {
+  if (promise.view->isBroken && given.view->isBroken) return true;
+  Reference vow = vowOf(given);
+  return follow(promise, [&](const Reference& at) {
+    if (areSame(at, given) || (vow.number != 0 && areSame(at, vow))) return true;
+    return at.view != nullptr && !at.view->isSettled && leadsTo(given, at);
+  });
+}
+
 // Whether nothing more can be known of where it leads.
 inline bool isSettled(const Reference& from) {
   auto view = lastOf(from).view.get();
@@ -530,11 +543,26 @@ inline bool isSettled(const Reference& from) {
   return view->call != nullptr && answering(*view->call).isOver;
 }
 
-// What a call has come to lead to.
-inline Reference endOfGoal(const Call& call) {
-  if (call.goalCall == nullptr) return lastOf(call.goal);
+// Where the way of a call begins: none while it is addressed to a result that isn't known.
+inline const Reference& startOfGoal(const Call& call) {
+  static const Reference none;
+  if (call.goalCall == nullptr) return call.goal;
   auto field = answering(*call.goalCall).fieldAt(call.goalPath);
-  return field == nullptr ? Reference() : lastOf(*field);
+  return field == nullptr ? none : *field;
+}
+
+// What a call has come to lead to.
+inline Reference endOfGoal(const Call& call) { return lastOf(startOfGoal(call)); }
+
+// Whether a reference leads to an object, also through proxies of the runtime.
+inline bool leadsBehindProxies(Reference from, const Reference& object) {
+  for (int steps = 0; steps < 100; steps++) {
+    if (leadsTo(from, object)) return true;
+    auto end = lastOf(from).view;
+    if (end == nullptr || end->wrapped.number == 0) return false;
+    from = end->wrapped;
+  }
+  return false;
 }
 
 // The connection over which a call was sent, or the one that answers it.
@@ -732,7 +760,7 @@ public:
 
   // A promise that is settled without a capability: it isn't hosted, so it must not go out as if it were.
   void breakPromise(const Reference& promise) {
-    promise.view->isSettled = true;
+    promise.view->isSettled = promise.view->isBroken = true;
     begin(0x04, [&] { log.number(promise.number); });
   }
 
@@ -771,6 +799,21 @@ public:
     given.call = view->call;
     call.vows.push_back(given);
     if (wayOf(*view->call) != 0 || call.isOver) keepVows(call);
+    return promise;
+  }
+
+  // What the runtime gives out for such a result under another number is the promise to which the first one turned.
+  Reference promiseBehind(const Reference& promise, const Reference& result) {
+    auto view = lastOf(result).view;
+    if (view == nullptr || view->call == nullptr) return promise;
+    for (auto& given: answering(*view->call).vows) {
+      if (given.number != promise.number || given.isKept) continue;
+      Reference behind = vow();
+      fulfil(promise, behind);
+      given.number = behind.number;
+      given.view = behind.view;
+      return behind;
+    }
     return promise;
   }
 
@@ -822,13 +865,20 @@ public:
     return sure.number == 0 ? maybe : sure;
   }
 
+  // The object that such a proxy was given away as. Number 0 where it wasn't.
+  static Reference givenProxy(const Reference& wrapped) {
+    Reference proxy;
+    proxy.view = wrapped.view->proxy.lock();
+    if (proxy.view != nullptr) proxy.number = wrapped.view->proxyNumber;
+    return proxy;
+  }
+
   // The object that a proxy of the runtime is: a vat that gives it away hosts it, and it calls what it stands before.
   Reference proxyOf(const Reference& wrapped) {
     auto& view = *wrapped.view;
-    Reference proxy;
-    proxy.number = view.proxyNumber;
-    proxy.view = view.proxy.lock();
-    if (proxy.view != nullptr) return proxy;
+    Reference proxy = givenProxy(wrapped);
+    if (proxy.number != 0) return proxy;
+    hasProxies = true;
     uint64_t object = newObject();
     proxy = host(object);
     proxy.view->wrapped = wrapped;
@@ -845,10 +895,13 @@ public:
   }
 
   // A call that leads to a proxy has come to that object, which makes the same call on what it stands before, and
-  // answers by that one. What goes on.
-  std::shared_ptr<Call> throughProxies(std::shared_ptr<Call> call) {
+  // answers by that one. What goes on. `isSentBefore` says of a call whether the runtime hasn't come so far yet.
+  template <typename IsSentBefore>
+  std::shared_ptr<Call> throughProxies(std::shared_ptr<Call> call, IsSentBefore&& isSentBefore) {
+    if (!hasProxies) return call;
     for (int steps = 0;; steps++) {
       call = goingOn(kj::mv(call));
+      if (isSentBefore(*call)) return call;
       Reference end = endOfGoal(*call);
       if (end.view == nullptr || end.view->wrapped.number == 0 || steps == 100) return call;
       auto made = newCall(call->interfaceId, call->methodId);
@@ -1002,6 +1055,30 @@ public:
     forget(*call);
   }
 
+  // A call through a proxy of the runtime, where what this stands before has turned meanwhile: the runtime sends a copy
+  // there, of which nobody knows where it lies.
+  void noteTurned(const std::shared_ptr<Call>& call) {
+    auto on = goingOn(call);
+    if (on->isGone) return;
+    turned.erase(std::remove_if(turned.begin(), turned.end(), [](auto& one) { return one.expired(); }), turned.end());
+    on->paramsAsMet = call->paramsAsMet;
+    turned.push_back(on);
+  }
+
+  // The first of these that may be what is delivered to an object, or sent on, with these parameters.
+  std::shared_ptr<Call> turnedCall(AnyPointer::Reader params, uint64_t interfaceId, uint16_t methodId,
+                                   const Reference& object) {
+    for (size_t at = 0; at < turned.size(); at++) {
+      auto call = turned[at].lock();
+      if (call == nullptr || call->isGone || call->interfaceId != interfaceId || call->methodId != methodId) continue;
+      if (object.number != 0 && !leadsBehindProxies(call->goal, object)) continue;
+      turned.erase(turned.begin() + at);
+      call->paramsByIndex = byIndexOf(Content(params).met, call->paramsAsMet);
+      return call;
+    }
+    return nullptr;
+  }
+
 private:
   Log log;
   uint32_t number;
@@ -1009,6 +1086,8 @@ private:
   std::string reason;  // why it stopped
   uint64_t lastReference = 0, lastCall = 0, lastObject = 0;
   std::unordered_map<const void*, std::shared_ptr<Call>> callAt;
+  std::vector<std::weak_ptr<Call>> turned;
+  bool hasProxies = false;  // some were given away
 
   template <typename Fields>
   void begin(uint8_t kind, Fields&& fields) {
@@ -1185,7 +1264,8 @@ public:
         continue;
       }
       auto& known = found->second.reference;
-      if (leadsTo(known, given) || vowOf(given).number == known.number) return known;
+      bool isBroken = known.view->isBroken && given.view->isBroken;
+      if (isBroken || leadsTo(known, given) || vowOf(given).number == known.number) return known;
       at++;
     }
     return Reference();
@@ -1220,6 +1300,9 @@ private:
 
   bool sentCall(rpc::Call::Reader message, std::shared_ptr<Call> call, bool isWrittenHere, uint64_t& number,
                 std::vector<Reference>& references) {
+    if (call == nullptr) {
+      call = vat->turnedCall(message.getParams().getContent(), message.getInterfaceId(), message.getMethodId(), {});
+    }
     if (call == nullptr || call->number == 0) {
       vat->stop("a Call is sent, and no MAKE or received Call stands before it: was it made through a client of a "
                 "promise that isn't from `promise`?");
@@ -1228,7 +1311,8 @@ private:
     auto payload = message.getParams();
     auto given = isWrittenHere ? call->paramsByIndex : copied(payload, call->paramsAsMet);
     call->isGone = true;
-    Question opened = question(vat->throughProxies(call), false);
+    auto isSentBefore = [&](const Call& on) { return goesTo(startOfGoal(on), message.getTarget()); };
+    Question opened = question(vat->throughProxies(call, isSentBefore), false);
     opened.call->isGone = true;
     opened.call->dropGoal();
     opened.call->wentBy = way();
@@ -1240,6 +1324,23 @@ private:
     if (!give(payload.getCapTable(), given, true, references, opened.broughtByCall)) return false;
     asked[message.getQuestionId()] = kj::mv(opened);
     return true;
+  }
+
+  // Whether a reference leads to the target of a Call.
+  bool goesTo(const Reference& from, rpc::MessageTarget::Reader target) const {
+    return follow(from, [&](const Reference& at) { return at.view != nullptr && isTarget(*at.view, target); });
+  }
+
+  bool isTarget(const View& view, rpc::MessageTarget::Reader target) const {
+    if (target.isImportedCap()) {
+      auto found = imports.find(target.getImportedCap());
+      return found != imports.end() && found->second.reference.view.get() == &view;
+    }
+    auto found = target.isPromisedAnswer() ? asked.find(target.getPromisedAnswer().getQuestionId()) : asked.end();
+    if (found == asked.end() || view.path != pathOf(target.getPromisedAnswer())) return false;
+    const Call* at = view.call.get();
+    while (at != nullptr && at != found->second.call.get()) at = at->answeredBy.get();
+    return at != nullptr;
   }
 
   bool sentReturn(rpc::Return::Reader message, std::vector<Reference>& references) {
@@ -1346,7 +1447,8 @@ private:
       if (isPromised(at) || isPromised(vowOf(at))) return false;
       return open = &at, true;
     });
-    return vat->promiseOf(*open);
+    Reference promise = vat->promiseOf(*open);
+    return isPromised(promise) ? vat->promiseBehind(promise, *open) : promise;
   }
 
   bool isPromised(const Reference& reference) const {
@@ -1368,7 +1470,7 @@ private:
   // first one, too.
   static Reference introducedAgain(const Reference& known, const Reference& given, bool isCall) {
     if (leadsTo(given, known)) return given;
-    if (leadsTo(known, given) || vowOf(given).number == known.number) return known;
+    if (takesOver(known, given)) return known;
     return isCall && known.view->wrapped.number != 0 && leadsTo(given, known.view->wrapped) ? known : given;
   }
 
@@ -1445,21 +1547,33 @@ private:
     auto found = asked.find(message.getAnswerId());
     if (found == asked.end()) return;
     Question& answered = found->second;
+    std::vector<Reference> byIndex;
     if (message.isResults() && !answered.isLate) {
-      auto payload = message.getResults();
-      auto byIndex = take(payload.getCapTable(), references, answered.broughtByReturn);
-      if (!byIndex.empty()) answered.call->setResults(kj::mv(byIndex), Content(payload.getContent()).met);
-      answered.call->isOver = true;
-      Vat::shareResults(*answered.call);
+      byIndex = take(message.getResults().getCapTable(), references, answered.broughtByReturn);
+    }
+    if (!isUnasked(message.getAnswerId())) takeReturn(message, answered, kj::mv(byIndex));
+    answered.isReturned = true;
+    if (message.getReleaseParamCaps()) giveBack(exports, answered.broughtByCall);
+    if (answered.isFinished) asked.erase(found);
+  }
+
+  // From 1.0 on the runtime gives such a number to a call that it sends for its pipeline alone. It doesn't look at a
+  // Return that comes for one: what was named of the results stays the answer's, and never comes.
+  static bool isUnasked(uint32_t question) { return question >> 31 != 0; }
+
+  // What a Return says of the results of its call.
+  void takeReturn(rpc::Return::Reader message, Question& answered, std::vector<Reference>&& byIndex) {
+    Call& call = *answered.call;
+    if (message.isResults() && !answered.isLate) {
+      if (!byIndex.empty()) call.setResults(kj::mv(byIndex), Content(message.getResults().getContent()).met);
+      call.isOver = true;
+      Vat::shareResults(call);
     } else if (message.isException()) {
-      answered.call->isOver = true;
+      call.isOver = true;
     } else if (message.isTakeFromOtherQuestion() && !answered.isLate) {
       auto other = answering.find(message.getTakeFromOtherQuestion());
       if (other != answering.end()) Vat::takeResults(answered.call, other->second.call);
     }
-    answered.isReturned = true;
-    if (message.getReleaseParamCaps()) giveBack(exports, answered.broughtByCall);
-    if (answered.isFinished) asked.erase(found);
   }
 
   void receivedResolve(rpc::Resolve::Reader message, std::vector<Reference>& references) {
@@ -1546,10 +1660,11 @@ private:
 };
 
 inline Reference Vat::asNumbered(const Reference& given, Way way) {
-  if (given.view == nullptr || given.view->isSettled) return given;
+  if (given.view == nullptr || (given.view->isSettled && !given.view->isBroken)) return given;
   if (way != 0 && neverComes(given) && wayOf(given) != way) return proxyOf(lastOf(given));
   Reference wrapped = lastOf(given).view->wrapped;
-  if (way != 0 && wrapped.number != 0 && neverComes(wrapped) && wayOf(wrapped) == way) return wrapped;
+  bool isOpen = wrapped.number != 0 && !wrapped.view->isProxy && neverComes(wrapped);
+  if (way != 0 && isOpen && wayOf(wrapped) == way) return wrapped;
   for (auto end: ends) {
     Reference known = end->numbered(given);
     if (known.number != 0) return known;
@@ -1629,7 +1744,7 @@ inline Reference givenBy(Vat& vat, const Reference& reference, ClientHook& hook)
   if (end.getBrand() != nullptr || vat.hosted.count(&end) > 0 || end.whenMoreResolved() != nullptr) return reference;
   Reference behind = vat.proxiedOn(reference);
   if (behind.number == 0) return reference;
-  return isSettled(behind) ? behind : vat.proxyOf(behind);
+  return isSettled(behind) && Vat::givenProxy(behind).number == 0 ? behind : vat.proxyOf(behind);
 }
 
 // The reference of a capability that the program gives away. A broken one gets a VOW and a BREAK, since it goes out
@@ -1862,6 +1977,23 @@ private:
 };
 using Tag = OfVersion<TagWith>;
 
+// A copy of a request whose promise turned meanwhile. The runtime sends such a request as a call of its own, even where
+// a method hands its call on by it: so it isn't to see over which connection the copy goes.
+class TurnedRequest final: public capnp::RequestHook {
+public:
+  explicit TurnedRequest(kj::Own<capnp::RequestHook> inner): inner(kj::mv(inner)) {}
+
+  capnp::RemotePromise<AnyPointer> send() override { return inner->send(); }
+  kj::Promise<void> sendStreaming() override { return inner->sendStreaming(); }
+#if CAPNP_VERSION >= 1000000
+  AnyPointer::Pipeline sendForPipeline() override { return inner->sendForPipeline(); }
+#endif
+  const void* getBrand() override { return nullptr; }
+
+private:
+  kj::Own<capnp::RequestHook> inner;
+};
+
 // A request of the program. MAKE is recorded as it is sent, so before the runtime's SEND.
 class Request final: public capnp::RequestHook {
 public:
@@ -1917,19 +2049,30 @@ public:
       call->paramsAsMet = asMet(Content(builder.asReader()).met, call->paramsByIndex);
     }
     followTurn();
-    if (isLocal()) {
-      vat->keep(call, builder.asReader());
-    } else {
-      vat->throughProxies(call);
-    }
+    if (isLocal()) vat->keep(call, builder.asReader());
     return vat->isRecording();
+  }
+
+  // The call by which a method hands its own on: a Return may name it.
+  std::shared_ptr<Call> goingOn() {
+    return isLocal() ? call : vat->throughProxies(call, [](const Call&) { return false; });
+  }
+
+  // The runtime's request, for a method that hands its call on by it.
+  kj::Own<capnp::RequestHook> handedOn() {
+    if (turned.empty()) return kj::mv(inner);
+    return kj::heap<TurnedRequest>(kj::mv(inner));
   }
 
   // What the runtime answers when this call is handed to it.
   template <typename Send>
   auto whileSending(Send&& send) -> decltype(send()) {
+    bool isProxied = !isLocal() && hook->getBrand() != inner->getBrand();
     Meanwhile meanwhile(vat->sending, call);
-    KJ_DEFER(vat->settle());
+    KJ_DEFER({
+      if (isProxied) vat->noteTurned(call);
+      vat->settle();
+    });
     return send();
   }
 
@@ -2099,7 +2242,7 @@ public:
     if (hasResults && !results.byIndex.empty()) {
       auto way = returnsBy(*call);
       for (auto& reference: results.byIndex) {
-        if (reference.view != nullptr && !reference.view->isSettled) reference = vat->asNumbered(reference, way);
+        reference = vat->asNumbered(reference, way);
       }
       Content content(inner->getResults(capnp::MessageSize { 0, 0 }).asReader());
       call->setResults(kj::mv(results.byIndex), content.met);
@@ -2120,8 +2263,8 @@ private:
   auto handOn(kj::Own<capnp::RequestHook>&& request, TailCall&& tailCall) -> decltype(tailCall(kj::mv(request))) {
     auto made = dynamic_cast<Request*>(request.get());
     if (made == nullptr) return tailCall(kj::mv(request));
-    if (made->begin()) vat->answerBy(call, Vat::goingOn(made->call));
-    return made->whileSending([&] { return tailCall(kj::mv(made->inner)); });
+    if (made->begin()) vat->answerBy(call, made->goingOn());
+    return made->whileSending([&] { return tailCall(made->handedOn()); });
   }
 };
 
@@ -2178,14 +2321,26 @@ private:
   // a promise which isn't from `promise`: they have no MAKE yet.
   std::shared_ptr<Call> delivered(AnyPointer::Reader params, uint64_t interfaceId, uint16_t methodId) {
     auto call = vat->callOf(params, interfaceId, methodId);
+    if (call == nullptr) call = vat->turnedCall(params, interfaceId, methodId, reference);
     if (call == nullptr) {
       call = vat->newCall(interfaceId, methodId);
       vat->make(*call, reference);
     } else {
       vat->forget(*call);
+      call = behindProxies(kj::mv(call));
     }
     vat->deliver(*call, object);
     return call;
+  }
+
+  // Where a proxy of the runtime leads to this object, it is the proxy's own call that comes here.
+  std::shared_ptr<Call> behindProxies(std::shared_ptr<Call> call) {
+    auto on = vat->throughProxies(call, [](const Call&) { return false; });
+    if (on != call) {
+      on->paramsByIndex = call->paramsByIndex;
+      on->paramsAsMet = call->paramsAsMet;
+    }
+    return on;
   }
 };
 

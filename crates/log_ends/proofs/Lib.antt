@@ -1,0 +1,11 @@
+pub mod Numbering
+pub mod Keys
+pub mod Lists
+pub mod Passing
+pub mod AllRows
+pub mod Fitting
+pub mod Places
+pub mod Pairing
+pub mod NewNumbers
+pub mod Kept
+pub mod OnlyPairs

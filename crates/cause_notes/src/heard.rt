@@ -5,7 +5,7 @@ use audit_core::{Breach, Report};
 use case_book::Findings;
 use report_lines::{Answer, Fault, report_sentence, why_sentence};
 use std::mem;
-use vat_rules::{Outcome, VatFinding};
+use vat_rules::{Outcome, SlimFinding, SlimOutcome, VatFinding};
 use wire_logs::WireAnswer;
 
 /// What was heard of the answer that was said last.
@@ -112,10 +112,20 @@ pub(crate) fn report_of(finding: &VatFinding) -> Option<Report> {
 }
 
 /// What is heard of the finding of a log.
-fn of_finding(finding: &VatFinding) -> Told {
-    match report_of(finding) {
-        Some(report) => of_report(&report),
-        None => Told::Nothing,
+fn of_finding(finding: &SlimFinding) -> Told {
+    let vat = finding.log().vat();
+    match finding.outcome() {
+        SlimOutcome::Good(_) => Told::Nothing,
+        SlimOutcome::Broken { at, rule } => of_report(&Report::Vat {
+            vat,
+            at: *at,
+            rule: Breach::Rule(*rule),
+        }),
+        SlimOutcome::Outside { at, why } => of_report(&Report::OutsideVat {
+            vat,
+            at: *at,
+            why: *why,
+        }),
     }
 }
 

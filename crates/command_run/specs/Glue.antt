@@ -16,7 +16,7 @@ use Rattle.vat_log.specs.declared.body.Body.{Body}
 use Rattle.vat_log.specs.declared.error.LogError.{LogError}
 use Rattle.vat_log.specs.Log.{Log}
 use Rattle.vat_log.specs.Reading.{log_of}
-use Rattle.vat_rules.specs.declared.finding.VatFinding.{VatFinding}
+use Rattle.vat_rules.specs.declared.slim.finding.SlimFinding.{SlimFinding}
 use Rattle.command_run.specs.declared.output.Failed.{Failed}
 use Rattle.command_run.specs.declared.output.Failed.TheVariants.{Out, File}
 use Rattle.command_run.specs.RecordAnswers.{first_ones}
@@ -29,7 +29,7 @@ use Rattle.command_run.specs.Runs.{Writing}
 use Rattle.picture.specs.declared.window.Asked.{Asked}
 
 -- a finding, or why there is none, as an answer
-abbrev pub answer_of : Result VatFinding Fault → Answer
+abbrev pub answer_of : Result SlimFinding Fault → Answer
 answer_of (Ok found) = Finding found
 answer_of (Err fault) = answer.Fault fault
 

@@ -7,7 +7,7 @@ use audit_core::Report;
 use report_lines::{Answer, breach_code, code_of, word_of};
 use serde_json::{Value, json};
 use std::alloc::{AllocError, Global};
-use vat_rules::{Outcome, VatFinding, Why};
+use vat_rules::{SlimFinding, SlimOutcome, Why};
 
 /// A record of a vat breaks what has this code.
 fn broken_object(alloc: Global, vat: u32, at: u64, code: &str) -> Result<Value, AllocError> {
@@ -21,16 +21,16 @@ fn outside_object(alloc: Global, vat: u32, at: u64, why: Why) -> Result<Value, A
 }
 
 /// What the audit of a vat's log found.
-fn finding_object(alloc: Global, finding: &VatFinding) -> Result<Value, AllocError> {
+fn finding_object(alloc: Global, finding: &SlimFinding) -> Result<Value, AllocError> {
     let vat = finding.log().vat();
     let records = finding.log().len();
     match finding.outcome() {
-        Outcome::Good(story) => {
+        SlimOutcome::Good(story) => {
             let delivered = story.delivered();
             json!(in alloc; {"kind": "good", "vat": vat, "records": records, "delivered": delivered})
         }
-        Outcome::Broken { at, rule } => broken_object(alloc, vat, *at, code_of(*rule)),
-        Outcome::Outside { at, why } => outside_object(alloc, vat, *at, *why),
+        SlimOutcome::Broken { at, rule } => broken_object(alloc, vat, *at, code_of(*rule)),
+        SlimOutcome::Outside { at, why } => outside_object(alloc, vat, *at, *why),
     }
 }
 

@@ -12,7 +12,7 @@ use vat_log::{
     Body, LogError, LogWriter, Record, VatLog, parse_log, raise, write_later_log,
     write_lent_later_log, write_lent_log,
 };
-use vat_rules::{Outcome, audit_vat};
+use vat_rules::{Outcome, SlimOutcome, audit_slim, audit_vat};
 use worked_cases::{
     Refused, ask_again, bytes_of_later_log, bytes_of_log, bytes_of_new_log, is_so, log,
 };
@@ -126,6 +126,17 @@ fn is_good(alloc: Global, log: &Arc<VatLog>, delivered: u64) -> Result<bool, Ref
     })
 }
 
+/// Whether the audit that keeps no record finds the same.
+fn is_good_in_short(alloc: Global, log: &Arc<VatLog>, delivered: u64) -> Result<bool, Refused> {
+    let found = audit_slim(alloc, log, Limits::default())?;
+    Ok(match found.outcome() {
+        SlimOutcome::Good(story) => {
+            story.records() == log.len() as u64 && story.delivered() == delivered
+        }
+        _ => false,
+    })
+}
+
 /// The message of a frame by an edition.
 fn message_text(alloc: Global, frame: &Frame, edition: Edition) -> Result<String, Refused> {
     let message = read_message(alloc, frame, Limits::default(), edition)?;
@@ -188,5 +199,7 @@ pub fn try_log(
         return tally.count(rt, "a log", false);
     };
     tally.count(rt, "audit_vat", is_so(|| is_good(alloc, &log, delivered)))?;
+    let is_slim = is_so(|| is_good_in_short(alloc, &log, delivered));
+    tally.count(rt, "audit_slim", is_slim)?;
     try_frames(rt, alloc, &log, tally)
 }

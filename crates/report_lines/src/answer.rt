@@ -14,14 +14,14 @@ use rpc_view::RpcMessage;
 use std::fmt;
 use std::fmt::{Display, Formatter};
 use vat_log::VatLog;
-use vat_rules::VatFinding;
+use vat_rules::SlimFinding;
 use wire_logs::WireLine;
 
 /// What is answered to an input. It is shown as its line (docs/FORMATS.md), without the line's end.
 #[derive(Debug, Drop)]
 pub enum Answer {
     /// What the audit of a vat's log found.
-    Finding(VatFinding),
+    Finding(SlimFinding),
     /// What the audit of a case found.
     Report(Report),
     /// The message of a frame.

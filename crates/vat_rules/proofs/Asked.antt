@@ -19,11 +19,6 @@ use Rattle.vat_rules.specs.Judged.{IsGoodBy, BreaksFirst}
 use Rattle.vat_rules.specs.Telling.{seen_of}
 use Rattle.vat_rules.specs.Glue.Facts.{standing_of, sight_with}
 use Rattle.vat_rules.specs.Glue.Bare.{IsBare, may_break, asked, asks_messages, message_rules, may_break_carrying, asked_carrying, later_rules, MeetsEach}
-use Rattle.vat_rules.specs.Glue.Taking.{IsTaken}
-use Rattle.vat_log.specs.declared.body.Body.{Body}
-use Rattle.vat_rules.specs.Events.{Reader, event_of}
-use Rattle.vat_rules.specs.LogFacts.{Sight}
-use Rattle.vat_rules.proofs.Taken.{taken}
 use Rattle.vat_rules.proofs.Judging.{all_met}
 
 nothing_given : (n : ℕ) → 0 ≤ n
@@ -245,12 +240,6 @@ pub bare_seen : (before : Past) (e : DecodedRecord) → IsBare e → seen_of bef
 bare_seen before (Wire sent k c rs m) bare = ap (λ xs. sight_with (map (view_of_reference (Wire sent k c rs m ∷ before)) xs) (standing_of before (Wire sent k c rs m))) (none_seen before (Wire sent k c rs m) sent k c rs m bare.unnoted)
 bare_seen before (Host r object) bare = absurd (false≢true (sym bare.message))
 bare_seen before _ bare = absurd (false≢true (sym bare.message))
-
--- such a record is taken where it is good and was applied
-pub bare_taken : (edition : Edition) (read : Reader) (before : Past) (b : Body) (e : DecodedRecord) (after : Past) (seen longer : List Sight) → IsBare e → event_of read b ≡ Ok e → IsGoodBy edition before e →
-    after ≡ e ∷ before → longer ≡ seen ++ sight_with [] (standing_of before e) ∷ [] → IsTaken edition read before b after seen longer
-bare_taken edition read before b e after seen longer bare is good state more =
-    taken edition read before b e after seen longer is good state (more ∙ ap (λ s. seen ++ s ∷ []) (sym (bare_seen before e bare)))
 
 all_noted : (sent : Bool) (k c : ℕ) (rs : List ℕ) (m : RpcMessage) → new_references (Wire sent k c rs m) ++ named_references (Wire sent k c rs m) ≡ rs
 all_noted true k c rs m = refl

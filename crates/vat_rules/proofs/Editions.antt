@@ -1,5 +1,5 @@
 -- What is good by the first edition is good by the later one, and is read so.
-use Rattle.std.proofs.Common.{◌≡◌, inl, inr, refl, sym, ◌∙◌, ap, subst, ℕ, zero, suc, ◌+◌, ◌<◌, List, [], ◌∷◌, ◌++◌, Bool, true, false, not, ◌||◌, Option, Some, None, if◌then◌else◌, length, take, arith}
+use Rattle.std.proofs.Common.{◌≡◌, inl, inr, refl, sym, ◌∙◌, ap, subst, ℕ, zero, suc, ◌+◌, ◌<◌, List, [], ◌∷◌, ◌++◌, Bool, true, false, not, Option, Some, None, if◌then◌else◌, length, take, arith}
 use Rattle.std.specs.Prelude.{Result, Ok, Err, is_some, slice_get, reverse, IsSomeAnd, count_by}
 use Rattle.std.specs.List.{AllByRecursion, cons_option, filter_map}
 use Rattle.std.proofs.lemmas.Bool.{cases_Bool, not-true, false≢true}
@@ -16,22 +16,20 @@ use Rattle.vat_log.specs.declared.body.Body.{Body}
 use Rattle.vat_log.specs.declared.body.Body.TheVariants as body
 use Rattle.vat_view.specs.declared.record.table_key.TableKey.{TableKey}
 use Rattle.vat_view.specs.Past.{Past, point, id, is, names, last_since}
-use Rattle.vat_view.specs.Questions.{is_late, opens, opening, call_at, call_of, question_returned_lightly, returns_lightly, is_returned_lightly}
+use Rattle.vat_view.specs.Questions.{opens, opening, call_at, call_of, question_returned_lightly, returns_lightly, is_returned_lightly}
 use Rattle.vat_view.specs.Views.{view_of_target}
 use Rattle.vat_view.specs.Connections.{abort_sent_on, aborts, is_aborted, is_aborted_here, reached_over, is_another, is_elsewhere, LeadsElsewhere}
-use Rattle.vat_rules.specs.declared.rule.Rule.{Rule}
 use Rattle.vat_rules.specs.declared.rule.Rule.TheVariants as rule
 use Rattle.vat_rules.specs.declared.outcome.Why.{Why}
 use Rattle.vat_rules.specs.declared.outcome.Outcome.TheVariants.{Good}
 use Rattle.vat_rules.specs.Types.{Edition, First, Later, RpcMessage, Abort, TakeFrom, Return, Sender, Disembargo, DecodedRecord, Host, Vow, Fulfil, Break, Make, Field, Deliver, Answer, AnswerBy, Fault, Wire, View, Object, Promise, FieldOf, Import}
-use Rattle.vat_rules.specs.Rules.{Meets}
 use Rattle.vat_rules.specs.Judged.{IsGoodBy}
 use Rattle.vat_rules.specs.OfConnections.{IsOpen, KeepsEmbargo}
 use Rattle.vat_rules.specs.OfResults.{ReturnsTaken, ReturnsKnown}
 use Rattle.vat_rules.specs.LogFacts.{Told}
 use Rattle.vat_rules.specs.Events.{Reader, with_message, event_of, event_or_none, events_before, past_at}
 use Rattle.vat_rules.specs.Telling.{entries_back, is_delivery, told_of}
-use Rattle.vat_rules.specs.First.{IsReadAs, IsGoodAt, AllGood, IsFirst}
+use Rattle.vat_rules.specs.First.{AllGood, IsFirst}
 use Rattle.vat_rules.specs.Audit.{read_as, why_of, reads_by, reads_within, edition_of_version, edition_of, IsTrueOf}
 use Rattle.vat_rules.proofs.Firsts.{told, past_at-more}
 use Rattle.vat_rules.proofs.Once.{passed_or, passed_later, passed_now, clash}

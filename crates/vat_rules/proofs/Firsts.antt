@@ -1,9 +1,9 @@
 -- One record more of a log that is good so far.
 use Rattle.std.proofs.Common.{◌≡◌, ℕ, suc, ◌+◌, ◌<◌, List, [], ◌∷◌, ◌++◌, take, length, map, refl, sym, ◌∙◌, ap, arith, below_more, subst}
 use Rattle.std.specs.Prelude.{Option, Some, Ok, slice_get, reverse, IsSomeAnd, count_by}
-use Rattle.std.specs.List.{filter_map, zip}
+use Rattle.std.specs.List.{filter_map}
 use Rattle.std.proofs.Math.Seq.{take-suc}
-use Rattle.std.proofs.lemmas.List.{reverse-append, reverse-reverse, length-reverse, map-append}
+use Rattle.std.proofs.lemmas.List.{reverse-append, reverse-reverse, map-append}
 use Rattle.std.proofs.lemmas.List.Elements.{filter_map-append}
 use Rattle.std.proofs.lemmas.Option.{slice_get_within, get_or_from_slice_get}
 use Rattle.vat_log.specs.declared.body.Body.{Body}
@@ -12,10 +12,9 @@ use Rattle.vat_rules.specs.declared.outcome.Outcome.TheVariants.{Good, Broken}
 use Rattle.vat_rules.specs.declared.rule.Rule.{Rule}
 use Rattle.vat_view.specs.Past.{Past}
 use Rattle.vat_rules.specs.Rules.{rules}
-use Rattle.vat_rules.specs.LogFacts.{Sight, Entry, Told}
+use Rattle.vat_rules.specs.LogFacts.{Entry, Told}
 use Rattle.vat_rules.specs.Events.{Reader, event_of, event_or_none, events_before, past_at}
-use Rattle.vat_rules.specs.Telling.{seen_of, entry_of, entries_back, is_delivery}
-use Rattle.vat_rules.specs.Glue.Facts.{seen_back, entries_with}
+use Rattle.vat_rules.specs.Telling.{entry_of, entries_back, is_delivery}
 use Rattle.vat_rules.specs.Judged.{IsGoodBy, BreaksFirst}
 use Rattle.vat_rules.specs.First.{IsGoodAt, AllGood, IsFirst}
 
@@ -47,38 +46,20 @@ pub past_at-more : (read : Reader) (log : List Body) (at : ℕ) (b : Body) (e : 
     past_at read log (at + 1) ≡ e ∷ past_at read log at
 past_at-more read log at b e here is = ap reverse (events_before-more read log at b e here is) ∙ reverse-append (events_before read log at) (e ∷ [])
 
-length-seen : (past : Past) → length (seen_back past) ≡ length past
-length-seen [] = refl
-length-seen (e ∷ before) = ap suc (length-seen before)
+-- what is gathered, with one more record behind it
+pub gathered_more : (past more : Past) (e : DecodedRecord) (so_far longer : List Entry) → more ≡ e ∷ past → longer ≡ so_far ++ entry_of past e ∷ [] →
+    so_far ≡ reverse (entries_back past) → longer ≡ reverse (entries_back more)
+gathered_more past more e so_far longer same put is =
+    put ∙ ap (λ xs. xs ++ entry_of past e ∷ []) is ∙ sym (reverse-append (entry_of past e ∷ []) (entries_back past)) ∙ ap (λ p. reverse (entries_back p)) (sym same)
 
--- as much is seen as there are records
-pub as_many : (past : Past) (seen : List Sight) → seen ≡ reverse (seen_back past) → length past ≡ length seen
-as_many past seen is = sym (length-seen past) ∙ sym (length-reverse (seen_back past)) ∙ ap length (sym is)
-
--- what is seen, with what was seen of that record put behind what was seen before
-pub seen_more : (past more : Past) (e : DecodedRecord) (seen longer : List Sight) → more ≡ e ∷ past → longer ≡ seen ++ seen_of past e ∷ [] →
-    seen ≡ reverse (seen_back past) → longer ≡ reverse (seen_back more)
-seen_more past more e seen longer same put so_far =
-    put ∙ ap (λ xs. xs ++ seen_of past e ∷ []) so_far ∙ sym (reverse-append (seen_of past e ∷ []) (seen_back past)) ∙ ap (λ p. reverse (seen_back p)) (sym same)
-
-zip_behind : {A B : Type 0} (xs : List A) (ys : List B) (x : A) (y : B) → length xs ≡ length ys → zip (xs ++ x ∷ []) (ys ++ y ∷ []) ≡ zip xs ys ++ (x, y) ∷ []
-zip_behind [] [] x y len = refl
-zip_behind [] (b ∷ ys) x y len = absurd (let no : ⊥ = omega (arith, len) in no)
-zip_behind (a ∷ xs) [] x y len = absurd (let no : ⊥ = omega (arith, len) in no)
-zip_behind (a ∷ xs) (b ∷ ys) x y len = ap (λ ps. (a, b) ∷ ps) (zip_behind xs ys x y (let shorter : length xs ≡ length ys = omega (arith, len) in shorter))
-
--- records with what was seen of each are the entries
-pub same_entries : (past : Past) → entries_with (reverse past) (reverse (seen_back past)) ≡ reverse (entries_back past)
-same_entries [] = refl
-same_entries (e ∷ before) =
-    let entry : (DecodedRecord × Sight) → Entry = λ p. record { event = p.0; seen = p.1 } in
-    let len : length (reverse before) ≡ length (reverse (seen_back before)) = length-reverse before ∙ sym (length-seen before) ∙ sym (length-reverse (seen_back before)) in
-    ap (λ es. entries_with es (reverse (seen_back (e ∷ before)))) (reverse-append (e ∷ []) before)
-    ∙ ap (λ ss. entries_with (reverse before ++ e ∷ []) ss) (reverse-append (seen_of before e ∷ []) (seen_back before))
-    ∙ ap (map entry) (zip_behind (reverse before) (reverse (seen_back before)) e (seen_of before e) len)
-    ∙ map-append entry (zip (reverse before) (reverse (seen_back before))) ((e, seen_of before e) ∷ [])
-    ∙ ap (λ xs. xs ++ entry_of before e ∷ []) (same_entries before)
-    ∙ sym (reverse-append (entry_of before e ∷ []) (entries_back before))
+-- the records of the entries are the records
+events_back : (past : Past) → map (λ (entry : Entry). entry.event) (reverse (entries_back past)) ≡ reverse past
+events_back [] = refl
+events_back (e ∷ before) =
+    ap (λ xs. map (λ (entry : Entry). entry.event) xs) (reverse-append (entry_of before e ∷ []) (entries_back before))
+    ∙ map-append (λ (entry : Entry). entry.event) (reverse (entries_back before)) (entry_of before e ∷ [])
+    ∙ ap (λ es. es ++ e ∷ []) (events_back before)
+    ∙ sym (reverse-append (e ∷ []) before)
 
 -- a record is read as what its body gives
 pub read_at : (P : Body → Type 0) (log : List Body) (at : ℕ) (b : Body) → slice_get log at ≡ Some b → P b → IsSomeAnd (slice_get log at) P
@@ -97,16 +78,16 @@ good-more edition read log at b e past here is before is_good good =
     below_more _ at good (e, read_at (λ b. event_of read b ≡ Ok e) log at b here is, subst (λ p. IsGoodBy edition p e) before is_good)
 
 -- a story is what its events tell
-same_story : (past : Past) (events : List DecodedRecord) (seen : List Sight) → past ≡ reverse events → seen ≡ reverse (seen_back past) →
-    told (entries_with (reverse past) seen) (count_by is_delivery (reverse past)) ≡ told (reverse (entries_back (reverse events))) (count_by is_delivery events)
-same_story past events seen is seen_is =
-    ap (λ ss. told (entries_with (reverse past) ss) (count_by is_delivery (reverse past))) seen_is
-    ∙ ap (λ es. told es (count_by is_delivery (reverse past))) (same_entries past)
+same_story : (past : Past) (events : List DecodedRecord) (gathered : List Entry) → past ≡ reverse events → gathered ≡ reverse (entries_back past) →
+    told gathered (count_by is_delivery (map (λ (entry : Entry). entry.event) gathered)) ≡ told (reverse (entries_back (reverse events))) (count_by is_delivery events)
+same_story past events gathered is gathered_is =
+    ap (λ es. told es (count_by is_delivery (map (λ (entry : Entry). entry.event) es))) gathered_is
+    ∙ ap (λ es. told (reverse (entries_back past)) (count_by is_delivery es)) (events_back past)
     ∙ ap (λ p. told (reverse (entries_back p)) (count_by is_delivery (reverse p))) is
     ∙ ap (λ es. told (reverse (entries_back (reverse events))) (count_by is_delivery es)) (reverse-reverse events)
 
 -- all records are good
-pub is_first-Good : (edition : Edition) (read : Reader) (log : List Body) (past : Past) (seen : List Sight) (story : Told) → AllGood edition read log (length log) →
-    past ≡ past_at read log (length log) → seen ≡ reverse (seen_back past) → story ≡ told (entries_with (reverse past) seen) (count_by is_delivery (reverse past)) →
+pub is_first-Good : (edition : Edition) (read : Reader) (log : List Body) (past : Past) (gathered : List Entry) (story : Told) → AllGood edition read log (length log) →
+    past ≡ past_at read log (length log) → gathered ≡ reverse (entries_back past) → story ≡ told gathered (count_by is_delivery (map (λ (entry : Entry). entry.event) gathered)) →
     IsFirst edition read log (Good story)
-is_first-Good edition read log past seen story good whole seen_is is = (good, is ∙ same_story past (events_before read log (length log)) seen whole seen_is)
+is_first-Good edition read log past gathered story good whole gathered_is is = (good, is ∙ same_story past (events_before read log (length log)) gathered whole gathered_is)

@@ -3,8 +3,10 @@ pub mod Judging
 pub mod Messages
 pub mod Firsts
 pub mod Taken
+pub mod SlimOutcomes
 pub mod Unique
 pub mod Once
 pub mod Entries
 pub mod Editions
 pub mod Asked
+pub mod Twice

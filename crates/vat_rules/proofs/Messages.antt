@@ -1,5 +1,5 @@
 -- Which rules a record without a message can't break, and which one with a message can't.
-use Rattle.std.proofs.Common.{◌≡◌, ◌≤◌, ℕ, List, ◌∷◌, ◌++◌, map, refl, sym, arith}
+use Rattle.std.proofs.Common.{◌≡◌, ◌≤◌, ℕ, ◌∷◌, ◌++◌, map, refl, sym, arith}
 use Rattle.std.proofs.lemmas.Bool.{false≢true}
 use Rattle.std.specs.Prelude.{[], true, false, None}
 use Rattle.vat_view.specs.Past.{Past}
@@ -7,7 +7,6 @@ use Rattle.vat_view.specs.Views.{view_of_target, view_of_reference}
 use Rattle.vat_view.specs.Bindings.{new_references, named_references}
 use Rattle.vat_rules.specs.Types.{Edition, First, Later, DecodedRecord, Host, Vow, Make, Field, Wire}
 use Rattle.vat_rules.specs.declared.rule.Rule.TheVariants as rule
-use Rattle.vat_rules.specs.LogFacts.{Sight}
 use Rattle.vat_rules.specs.Rules.{Meets}
 use Rattle.vat_rules.specs.Judged.{IsGoodBy}
 use Rattle.vat_rules.specs.Telling.{seen_of}

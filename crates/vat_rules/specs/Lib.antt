@@ -13,4 +13,5 @@ pub mod Telling
 pub mod First
 pub mod Audit
 pub mod Editions
+pub mod Slim
 pub mod Glue

@@ -1,8 +1,9 @@
 -- The rules on capability tables: what is given away is what is noted, and what comes in is noted.
-use Rattle.std.specs.Prelude.{◌≡◌, ℕ, [], Bool, true, false, Option, Some, None, IsTrue, slice_get, option_and_then}
+use Rattle.std.specs.Prelude.{◌≡◌, ℕ, [], Bool, true, false, Option, Some, None, IsTrue, slice_get}
 use Rattle.std.specs.List.{AllByRecursion}
 use Rattle.vat_rules.specs.Types.{Descriptor, NoCap, SenderHosted, Return, DecodedRecord, Wire, View, Object, Import}
-use Rattle.vat_view.specs.Past.{Past, record_at}
+use Rattle.vat_view.specs.Past.{Past}
+use Rattle.vat_view.specs.Arrivals.{came_hosted}
 use Rattle.vat_view.specs.Questions.{is_late}
 use Rattle.vat_view.specs.Lives.{descriptors, KeepsKinds}
 use Rattle.vat_view.specs.Views.{references, placed_references, view_of_reference, view_of_descriptor}
@@ -29,10 +30,6 @@ is_cap_at (Some _) = true
 abbrev pub is_hosted : Option Descriptor → Bool
 is_hosted (Some (SenderHosted n)) = true
 is_hosted _ = false
-
--- the descriptor at this place of the record of this number is senderHosted
-abbrev pub came_hosted : Past → ℕ → ℕ → Bool
-came_hosted past number place = is_hosted (option_and_then (λ e. slice_get (descriptors e) place) (record_at number past))
 
 -- an own object, or an import that came as senderHosted
 abbrev pub is_hosted_end : Past → View → Bool

@@ -1,19 +1,19 @@
 //! The audit of one log.
 
-ghost use Rattle.std.specs.Prelude.{◌≡◌, [], IfOk, MatchOption, count_by, length, reverse};
+ghost use Rattle.std.specs.Prelude.{◌≡◌, ◌∷◌, [], ◌++◌, IfOk, OnOk, MatchOption, count_by, length, map, reverse};
 ghost use Rattle.std.specs.Arc.{arc_value};
-ghost use Rattle.vat_rules.specs.Telling.{is_delivery};
+ghost use Rattle.vat_view.specs.Past.{Past};
+ghost use Rattle.vat_rules.specs.Telling.{is_delivery, entry_of, entries_back};
 ghost use Rattle.vat_rules.specs.Events.{past_at};
 ghost use Rattle.vat_rules.specs.First.{AllGood};
 ghost use Rattle.vat_rules.specs.Audit.{IsTrueOf, reads_by, edition_of};
-ghost use Rattle.vat_rules.specs.Glue.Facts.{seen_back, entries_with};
-ghost use Rattle.vat_rules.specs.Glue.Taking.{refused_at};
+ghost use Rattle.vat_rules.specs.Glue.Taking.{IsKnown, IsOwnIfKnown, refused_at};
 
-use crate::facts::compact::RecordFacts;
+use crate::facts::gathered::Gathered;
 use crate::facts::story::Story;
 use crate::finding::VatFinding;
 use crate::outcome::Outcome;
-use crate::taking::{Refusal, take};
+use crate::taking::{Refusal, Taken, facts_of, take};
 use rpc_view::{Edition, Limits};
 use std::alloc::{AllocError, Global};
 use std::sync::Arc;
@@ -22,7 +22,7 @@ use vat_view::{DecodedRecord, VatState};
 
 /// Whether a record delivers a call.
 #[tactic(auto, unfolding(crate::specs::Telling::is_delivery))]
-fn is_delivery(event: &DecodedRecord) -> bool
+pub(crate) fn is_delivery(event: &DecodedRecord) -> bool
     ensures { result ≡ is_delivery event.now }
 {
     matches!(event, DecodedRecord::Deliver { .. })
@@ -41,17 +41,15 @@ fn deliveries(events: &[DecodedRecord]) -> u64
     delivered
 }
 
-/// What records tell that were applied, with what was seen of each.
-fn story_of(state: VatState, seen: Vec<RecordFacts>) -> Story
-    requires { length state ≡ length seen.items }
+/// What records tell that were gathered.
+fn story_of(gathered: Gathered) -> Story
     ensures { result ≡ record {
-      entries = entries_with (reverse state) seen.items;
-      delivered = count_by is_delivery (reverse state);
+      entries = gathered;
+      delivered = count_by is_delivery (map (λ entry. entry.event) gathered);
     } }
 {
-    let events = state.into_events();
-    let delivered = deliveries(&events);
-    Story::new(events, seen, delivered)
+    let delivered = deliveries(gathered.events());
+    Story::new(gathered, delivered)
 }
 
 /// The edition of rpc.capnp by which a log is judged: its version says it.
@@ -76,6 +74,22 @@ fn refused_at(at: u64, refusal: Refusal) -> Outcome
     }
 }
 
+/// Puts a record behind those that were gathered that was applied to the state last.
+fn gather(
+    alloc: Global,
+    state: &VatState,
+    gathered: &mut Gathered,
+    taken: Taken,
+) -> Result<(), AllocError>
+    requires { IsOwnIfKnown taken.event taken.known }
+    ensures { (before : Past) → state.now ≡ taken.event ∷ before → IsKnown before taken.event taken.known
+        → OnOk result (gathered.new ≡ gathered.old ++ entry_of before taken.event ∷ []) }
+{
+    let Taken { event, known } = taken;
+    let seen = facts_of(alloc, state, &event, known)?;
+    gathered.push(event, seen)
+}
+
 /// Judges the records of a log in turn by the log's edition, to the first that is outside or breaks a rule, and applies
 /// those before it.
 fn judge_each(
@@ -83,16 +97,16 @@ fn judge_each(
     log: &VatLog,
     limits: Limits,
     state: &mut VatState,
-    seen: &mut Vec<RecordFacts>,
+    gathered: &mut Gathered,
 ) -> Result<Option<Outcome>, AllocError>
     requires applied { state.old ≡ [] }
-    requires seen { seen.old.items ≡ [] }
+    requires gathered { gathered.old ≡ [] }
     ensures { IfOk result (λ o. MatchOption o
         (AllGood (edition_of log.now) (reads_by (edition_of log.now) limits)
         log.now.records (length log.now.records)
         × (state.new ≡ past_at (reads_by (edition_of log.now) limits)
         log.now.records (length log.now.records))
-        × (seen.new.items ≡ reverse (seen_back state.new)))
+        × (gathered.new ≡ reverse (entries_back state.new)))
         (λ outcome. IsTrueOf log.now limits outcome)) }
 {
     let edition = edition_of(log);
@@ -100,8 +114,9 @@ fn judge_each(
         let Some(stored) = log.get(at) else {
             unreachable!()
         };
-        if let Some(refusal) = take(alloc, edition, limits, state, seen, stored.body())? {
-            return Ok(Some(refused_at(at as u64, refusal)));
+        match take(alloc, edition, limits, state, stored.body())? {
+            Ok(taken) => gather(alloc, state, gathered, taken)?,
+            Err(refusal) => return Ok(Some(refused_at(at as u64, refusal))),
         }
     }
     Ok(None)
@@ -112,10 +127,10 @@ fn outcome_of(alloc: Global, log: &VatLog, limits: Limits) -> Result<Outcome, Al
     ensures { IfOk result (λ outcome. IsTrueOf log.now limits outcome) }
 {
     let mut state = VatState::new(alloc);
-    let mut seen = Vec::with_capacity(alloc, log.len())?;
-    match judge_each(alloc, log, limits, &mut state, &mut seen)? {
+    let mut gathered = Gathered::with_room(alloc, log.len())?;
+    match judge_each(alloc, log, limits, &mut state, &mut gathered)? {
         Some(outcome) => Ok(outcome),
-        None => Ok(Outcome::Good(story_of(state, seen))),
+        None => Ok(Outcome::Good(story_of(gathered))),
     }
 }
 

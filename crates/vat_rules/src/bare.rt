@@ -1,12 +1,11 @@
 //! Records whose message carries no capability: which rule they break first, and what is kept of them. More than half of
 //! all messages are such.
 
-ghost use Rattle.std.specs.Prelude.{◌≡◌, ◌∷◌, [], ◌++◌, Ok, IfOk, OnOk, IsTrue, MatchOption};
+ghost use Rattle.std.specs.Prelude.{◌≡◌, ◌∷◌, [], Ok, IfOk, IsTrue, MatchOption, MatchResult};
 ghost use Rattle.vat_log.specs.declared.body.Body.{Body};
 ghost use Rattle.vat_rules.specs.Events.{Reader, event_of};
 ghost use Rattle.vat_rules.specs.Glue.Taking.{IsTaken, IsRefused};
 ghost use Rattle.std.specs.Option.{option_copied};
-ghost use Rattle.vat_view.specs.Sound.{IsSound};
 ghost use Rattle.vat_view.specs.Questions.{is_late};
 ghost use Rattle.vat_view.specs.Views.{view_of_target, views_of_descriptors};
 ghost use Rattle.vat_rules.specs.Types.{Edition};
@@ -24,7 +23,7 @@ use crate::of_connections::{is_open, keeps_embargo};
 use crate::of_promises::resolves_promise;
 use crate::of_results::returns_known;
 use crate::rule::Rule;
-use crate::taking::Refusal;
+use crate::taking::{Known, Refusal, Taken, apply_good};
 use rpc_view::{Edition, RpcMessage};
 use std::alloc::{AllocError, Global};
 use vat_view::{DecodedRecord, VatState, View};
@@ -213,46 +212,29 @@ pub(crate) fn bare_rule_broken(
     }
 }
 
-/// Applies a good record whose message carries no capability, and puts what is seen of it behind what was seen of those
-/// before.
-fn apply_bare(
-    state: &mut VatState,
-    seen: &mut Vec<RecordFacts>,
-    event: DecodedRecord,
-    facts: RecordFacts,
-) -> Result<(), AllocError>
-    requires sound { IsSound state.old event }
-    requires told { facts ≡ sight_with [] (standing_of state.old event) }
-    ensures state { OnOk result (state.new ≡ event ∷ state.old) }
-    ensures seen { OnOk result (seen.new.items ≡ seen.old.items
-        ++ sight_with [] (standing_of state.old event) ∷ []) }
-{
-    state.apply(event)?;
-    seen.push(facts)?;
-    Ok(())
-}
-
 /// Judges a record by an edition whose message carries no capability, and applies it if it is good; else the first rule
 /// that it breaks.
 pub(crate) fn take_bare(
     alloc: Global,
     edition: Edition,
     state: &mut VatState,
-    seen: &mut Vec<RecordFacts>,
     event: DecodedRecord,
-) -> Result<Option<Refusal>, AllocError>
-    requires bare { IsBare event }
-    ensures { (read : Reader) (body : Body) → event_of read body ≡ Ok event → IfOk result (λ r. MatchOption r
-        (IsTaken edition read state.old body state.new seen.old.items seen.new.items)
+) -> Result<Result<Taken, Refusal>, AllocError>
+    requires { IsBare event }
+    ensures { (read : Reader) (body : Body) → event_of read body ≡ Ok event → IfOk result (λ r. MatchResult r
+        (IsTaken edition read state.old body state.new)
         (IsRefused edition read state.old body)) }
 {
     let facts = facts_of_bare(alloc, state, &event)?;
     match bare_rule_broken(edition, state, &event, &facts) {
         Ok(None) => {
-            apply_bare(state, seen, event, facts)?;
-            Ok(None)
+            apply_good(state, &event)?;
+            Ok(Ok(Taken {
+                event,
+                known: Known::Bare(facts),
+            }))
         }
-        Ok(Some(rule)) => Ok(Some(Refusal::Broken(rule))),
+        Ok(Some(rule)) => Ok(Err(Refusal::Broken(rule))),
         Err(error) => Err(error),
     }
 }

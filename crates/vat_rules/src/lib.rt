@@ -5,10 +5,10 @@
 //! `specs/OfResults.antt`, `specs/OfPromises.antt` and `specs/OfConnections.antt`, and of `vat_view` where a state of
 //! numbers asks for them itself; `specs/Rules.antt` lists
 //! them in their order. The outcome of a log is said in `specs/First.antt` and `specs/Audit.antt`, and [`audit_vat`]
-//! answers just that. Laws of good logs: each record turns only views that stay ([`good_records_turn_once`]), and each
-//! opening of a question has at most one Return and one Finish ([`good_openings_are_closed_once`]). A log is read and
-//! judged by the edition of rpc.capnp that its version says ([`edition_of`]), and one that is good by it is good by the
-//! later edition, and tells the same ([`good_logs_are_good`]).
+//! answers just that; [`audit_slim`] answers the same and keeps no record. Laws of good logs: each record turns only views
+//! that stay ([`good_records_turn_once`]), and each opening of a question has at most one Return and one Finish
+//! ([`good_openings_are_closed_once`]). A log is read and judged by the edition of rpc.capnp that its version says
+//! ([`edition_of`]), and one that is good by it is good by the later edition, and tells the same ([`good_logs_are_good`]).
 #![tactic(auto)]
 
 mod audit;
@@ -27,7 +27,9 @@ mod of_promises;
 mod of_results;
 mod outcome;
 mod own;
+mod result_paths;
 mod rule;
+mod slim;
 mod taking;
 
 pub use audit::{audit_vat, edition_of};
@@ -40,3 +42,6 @@ pub use laws::{
 };
 pub use outcome::{Outcome, Why};
 pub use rule::Rule;
+pub use slim::audit::audit_slim;
+pub use slim::finding::{SlimFinding, SlimOutcome};
+pub use slim::story::SlimStory;

@@ -1,19 +1,17 @@
 //! The rules on calls: where they are, where they go, and when they are answered.
 
 ghost use Rattle.std.specs.Prelude.{◌≡◌, ◌&&◌, ◌||◌, not, Decides, IfOk, IsTrue, IsSomeAnd, Some};
-ghost use Rattle.std.specs.List.{list_any};
 ghost use Rattle.std.specs.Option.{option_copied};
-ghost use Rattle.std.specs.Str.{bytes_eq as same_path};
 ghost use Rattle.vat_rules.specs.Types.{Object};
 ghost use Rattle.vat_view.specs.Views.{view_of_target};
 ghost use Rattle.vat_view.specs.Calls.{request_of, goal_of, is_at_vat, is_served, is_settled};
 ghost use Rattle.vat_rules.specs.Ways.{LeadsTo};
-ghost use Rattle.vat_rules.specs.OfCalls.{IsHere, GoesToGoal, distinct_paths, MayAnswer};
+ghost use Rattle.vat_rules.specs.OfCalls.{IsHere, GoesToGoal, MayAnswer};
 
 use crate::leads::leads_to;
-use cap_frame::Path;
+use crate::result_paths::distinct_paths;
 use rpc_view::RpcMessage;
-use std::alloc::AllocError;
+use std::alloc::{AllocError, Global};
 use vat_view::{DecodedRecord, VatState, View};
 
 /// Whether a call that is delivered or sent on is at the vat.
@@ -89,28 +87,6 @@ pub(crate) fn goes_to_goal(
     }
 }
 
-/// Whether a result stands at a path.
-fn contains_path(results: &[(u64, Path)], path: &Path) -> bool
-    ensures { result ≡ list_any (λ b. same_path path.now b.1) results.now }
-{
-    results
-        .iter()
-        .any(|other| path.as_slice() == other.1.as_slice())
-}
-
-/// Whether no path stands twice among the results.
-fn distinct_paths(results: &[(u64, Path)]) -> bool
-    ensures { result ≡ distinct_paths results.now }
-{
-    for (index, (_, path)) in results.iter().enumerate() {
-        let (_, rest) = results.split_at(index + 1);
-        if contains_path(rest, path) {
-            return false;
-        }
-    }
-    true
-}
-
 /// Whether a call was delivered here or is that of a received Bootstrap, and has no answer or fault.
 fn awaits_answer(state: &VatState, call: u64) -> bool
     ensures { result ≡ (is_served call state.now && not (is_settled call state.now)) }
@@ -126,15 +102,19 @@ fn was_here(state: &VatState, call: u64) -> bool
 }
 
 /// Whether a call that is answered or faulted may be.
-pub(crate) fn may_answer(state: &VatState, event: &DecodedRecord) -> bool
-    ensures { Decides result (MayAnswer state.now event.now) }
+pub(crate) fn may_answer(
+    alloc: Global,
+    state: &VatState,
+    event: &DecodedRecord,
+) -> Result<bool, AllocError>
+    ensures { IfOk result (λ may. Decides may (MayAnswer state.now event.now)) }
 {
     match event {
         DecodedRecord::Answer { call, results } => {
-            awaits_answer(state, *call) && distinct_paths(results.as_slice())
+            Ok(awaits_answer(state, *call) && distinct_paths(alloc, results.as_slice())?)
         }
-        DecodedRecord::AnswerBy { call, .. } => awaits_answer(state, *call),
-        DecodedRecord::Fault { call } => was_here(state, *call) && !state.is_settled(*call),
-        _ => true,
+        DecodedRecord::AnswerBy { call, .. } => Ok(awaits_answer(state, *call)),
+        DecodedRecord::Fault { call } => Ok(was_here(state, *call) && !state.is_settled(*call)),
+        _ => Ok(true),
     }
 }

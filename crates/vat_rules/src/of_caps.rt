@@ -8,7 +8,7 @@ ghost use Rattle.vat_view.specs.Lives.{descriptors};
 ghost use Rattle.vat_view.specs.Borrowed.{as_view};
 ghost use Rattle.vat_view.specs.Views.{places, references, placed_references, view_of_reference, view_of_descriptor, views_of_descriptors};
 ghost use Rattle.vat_rules.specs.Ways.{EndsIn};
-ghost use Rattle.vat_rules.specs.OfCaps.{is_sent, is_received, is_light_return, is_cap_at, is_hosted, came_hosted, is_hosted_end, NotesView, Describes, BindsEach};
+ghost use Rattle.vat_rules.specs.OfCaps.{is_sent, is_received, is_light_return, is_cap_at, is_hosted, is_hosted_end, NotesView, Describes, BindsEach};
 ghost use Rattle.vat_rules.specs.Glue.Facts.{view_at, standing_of};
 
 use crate::facts::meanings::Meanings;
@@ -62,23 +62,13 @@ fn is_hosted(descriptor: Option<&Descriptor>) -> bool
     matches!(descriptor, Some(Descriptor::SenderHosted(_)))
 }
 
-/// Whether the descriptor at this place of the record of this number is senderHosted.
-fn came_hosted(state: &VatState, number: usize, place: usize) -> bool
-    ensures { result ≡ came_hosted state.now number place }
-{
-    match state.event_at(number) {
-        Some(event) => is_hosted(event.descriptors().get(place)),
-        None => false,
-    }
-}
-
 /// Whether a view is an own object, or an import that came as senderHosted.
 fn is_hosted_end(state: &VatState, end: BorrowedView<'_>) -> bool
     ensures { result ≡ is_hosted_end state.now (as_view end.entry) }
 {
     match end {
         BorrowedView::Object(_) => true,
-        BorrowedView::Import(number, place) => came_hosted(state, number, place),
+        BorrowedView::Import(number, place) => state.came_hosted(number, place),
         BorrowedView::Promise(_) | BorrowedView::Field(_, _) => false,
     }
 }

@@ -1,15 +1,11 @@
-//! Records without a message: which rule they break first, and what is kept of them.
+//! Records without a message: which rule they break first.
 
-ghost use Rattle.std.specs.Prelude.{◌≡◌, ◌∷◌, [], ◌++◌, true, length, IfOk, OnOk, MatchOption};
-ghost use Rattle.vat_view.specs.Sound.{IsSound};
+ghost use Rattle.std.specs.Prelude.{◌≡◌, true, IfOk, MatchOption};
 ghost use Rattle.vat_rules.specs.Types.{Edition};
 ghost use Rattle.vat_rules.specs.Rules.{rules};
 ghost use Rattle.vat_rules.specs.Judged.{IsGoodBy, BreaksFirst};
-ghost use Rattle.vat_rules.specs.Telling.{seen_of};
 ghost use Rattle.vat_rules.specs.Glue.Taking.{is_own, binds_alone};
 
-use crate::facts::compact::RecordFacts;
-use crate::facts::lookup::own_facts;
 use crate::of_calls::{goes_to_goal, is_here, may_answer};
 use crate::of_promises::keeps_vow;
 use crate::rule::Rule;
@@ -32,6 +28,7 @@ fn binds_alone(event: &DecodedRecord) -> bool
 /// The first rule that a record without a message breaks, if it breaks one, by the state of the records before it. Such
 /// a record can break five of them alone, by whatever edition.
 pub(crate) fn own_rule_broken(
+    alloc: Global,
     state: &VatState,
     event: &DecodedRecord,
 ) -> Result<Option<Rule>, AllocError>
@@ -55,30 +52,8 @@ pub(crate) fn own_rule_broken(
     if !goes_to_goal(state, event, None)? {
         return Ok(Some(Rule::Goal));
     }
-    if !may_answer(state, event) {
+    if !may_answer(alloc, state, event)? {
         return Ok(Some(Rule::Answer));
     }
     Ok(None)
-}
-
-/// Applies a good record without a message, and puts what is seen of it behind what was seen of those before.
-pub(crate) fn apply_own(
-    alloc: Global,
-    state: &mut VatState,
-    seen: &mut Vec<RecordFacts>,
-    event: DecodedRecord,
-) -> Result<(), AllocError>
-    requires own { is_own event ≡ true }
-    requires sound { IsSound state.old event }
-    requires as_many { length state.old ≡ length seen.old.items }
-    ensures state { OnOk result (state.new ≡ event ∷ state.old) }
-    ensures seen { OnOk result
-        (seen.new.items ≡ seen.old.items ++ seen_of state.old event ∷ []) }
-{
-    state.apply(event)?;
-    let Some(event) = state.event_at(seen.len()) else {
-        unreachable!()
-    };
-    seen.push(own_facts(alloc, state, event)?)?;
-    Ok(())
 }

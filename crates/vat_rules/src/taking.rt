@@ -1,23 +1,22 @@
 //! One record more of a log: read, judged, and applied where it is good.
 
-ghost use Rattle.std.specs.Prelude.{◌≡◌, ◌∷◌, [], ◌++◌, true, false, length, None, Ok, IfOk, OnOk, IsOkAnd, MatchOption};
+ghost use Rattle.std.specs.Prelude.{◌≡◌, ◌∷◌, true, false, Ok, IfOk, OnOk, MatchOption, MatchResult};
+ghost use Rattle.vat_view.specs.Past.{Past};
 ghost use Rattle.vat_view.specs.Sound.{IsSound};
 ghost use Rattle.vat_rules.specs.Events.{Reader, event_of};
-ghost use Rattle.vat_rules.specs.Telling.{seen_references};
+ghost use Rattle.vat_rules.specs.Telling.{seen_of};
 ghost use Rattle.vat_log.specs.declared.body.Body.TheVariants.{Field, Answer};
 ghost use Rattle.vat_rules.specs.Audit.{reads_by};
-ghost use Rattle.vat_rules.specs.Glue.Facts.{standing_of, sight_with};
-ghost use Rattle.vat_rules.specs.Glue.Taking.{has_frame, is_own, IsTaken, IsRefused};
+ghost use Rattle.vat_rules.specs.Glue.Taking.{has_frame, is_own, IsKnown, IsOwnIfKnown, IsTaken, IsRefused};
 
 use crate::bare::{is_bare, take_bare};
 use crate::decode::{flat_event, frame_in, noted_beside, why_of, wire};
 use crate::facts::compact::RecordFacts;
-use crate::facts::lookup::{standing_of, views_of_references};
+use crate::facts::lookup::{own_facts, standing_of, views_of_references};
 use crate::facts::meanings::Meanings;
-use crate::facts::view_list::ViewList;
 use crate::judge::rule_broken;
 use crate::outcome::Why;
-use crate::own::{apply_own, own_rule_broken};
+use crate::own::own_rule_broken;
 use crate::rule::Rule;
 use cap_frame::Path;
 use rpc_view::{Edition, Limits, ViewError, read_bytes};
@@ -34,39 +33,51 @@ pub(crate) enum Refusal {
     Broken(Rule),
 }
 
-/// Applies a good record, and answers what its references stand for then.
-fn apply_good(
-    alloc: Global,
-    state: &mut VatState,
-    number: usize,
-    event: DecodedRecord,
-) -> Result<ViewList, AllocError>
-    requires sound { IsSound state.old event }
-    requires number { length state.old ≡ number }
-    ensures state { IfOk result (λ references. state.new ≡ event ∷ state.old) }
-    ensures references { IfOk result (λ references. references ≡ seen_references state.old event) }
-{
-    state.apply(event)?;
-    let Some(event) = state.event_at(number) else {
-        unreachable!()
-    };
-    views_of_references(alloc, state, event)
+/// What is known of a good record when it has been judged.
+#[derive(Drop)]
+pub(crate) enum Known {
+    /// It has no message.
+    Own,
+    /// What is seen of it; its message carries no capability.
+    Bare(RecordFacts),
+    /// What its numbers stand for, apart from its references.
+    Full(Meanings),
 }
 
-/// Puts what is seen of a record that was applied behind what was seen of those before.
-fn keep(
-    alloc: Global,
-    seen: &mut Vec<RecordFacts>,
-    references: Result<ViewList, AllocError>,
-    standing: Meanings,
-) -> Result<Option<Refusal>, AllocError>
-    ensures none { IfOk result (λ r. r ≡ None) }
-    ensures seen { OnOk result (IsOkAnd references
-        (λ references. seen.new.items ≡ seen.old.items ++ sight_with references standing ∷ [])) }
+/// A good record that was applied.
+#[derive(Drop)]
+pub(crate) struct Taken {
+    pub(crate) event: DecodedRecord,
+    pub(crate) known: Known,
+}
+
+/// Applies a good record.
+pub(crate) fn apply_good(state: &mut VatState, event: &DecodedRecord) -> Result<(), AllocError>
+    requires { IsSound state.old event.now }
+    ensures { OnOk result (state.new ≡ event.now ∷ state.old) }
 {
-    let facts = RecordFacts::new(alloc, references?, standing)?;
-    seen.push(facts)?;
-    Ok(None)
+    state.apply(event)
+}
+
+/// What is seen of a record, by the state that it was applied to last.
+pub(crate) fn facts_of(
+    alloc: Global,
+    state: &VatState,
+    taken: &DecodedRecord,
+    known: Known,
+) -> Result<RecordFacts, AllocError>
+    requires { IsOwnIfKnown taken.now known }
+    ensures { (before : Past) → state.now ≡ taken.now ∷ before → IsKnown before taken.now known
+        → IfOk result (λ seen. seen ≡ seen_of before taken.now) }
+{
+    match known {
+        Known::Own => own_facts(alloc, state, taken),
+        Known::Bare(seen) => Ok(seen),
+        Known::Full(standing) => {
+            let references = views_of_references(alloc, state, taken)?;
+            RecordFacts::new(alloc, references, standing)
+        }
+    }
 }
 
 /// Judges a record with a message by an edition, and applies it if it is good; else the first rule that it breaks.
@@ -74,22 +85,23 @@ fn take_message(
     alloc: Global,
     edition: Edition,
     state: &mut VatState,
-    seen: &mut Vec<RecordFacts>,
     event: DecodedRecord,
-) -> Result<Option<Refusal>, AllocError>
-    requires message { is_own event ≡ false }
-    requires as_many { length state.old ≡ length seen.old.items }
-    ensures { (read : Reader) (body : Body) → event_of read body ≡ Ok event → IfOk result (λ r. MatchOption r
-        (IsTaken edition read state.old body state.new seen.old.items seen.new.items)
+) -> Result<Result<Taken, Refusal>, AllocError>
+    requires { is_own event ≡ false }
+    ensures { (read : Reader) (body : Body) → event_of read body ≡ Ok event → IfOk result (λ r. MatchResult r
+        (IsTaken edition read state.old body state.new)
         (IsRefused edition read state.old body)) }
 {
     let standing = standing_of(alloc, state, &event)?;
     match rule_broken(alloc, edition, state, &event, &standing) {
         Ok(None) => {
-            let references = apply_good(alloc, state, seen.len(), event);
-            keep(alloc, seen, references, standing)
+            apply_good(state, &event)?;
+            Ok(Ok(Taken {
+                event,
+                known: Known::Full(standing),
+            }))
         }
-        Ok(Some(rule)) => Ok(Some(Refusal::Broken(rule))),
+        Ok(Some(rule)) => Ok(Err(Refusal::Broken(rule))),
         Err(error) => Err(error),
     }
 }
@@ -100,13 +112,11 @@ fn take_framed(
     edition: Edition,
     limits: Limits,
     state: &mut VatState,
-    seen: &mut Vec<RecordFacts>,
     body: &Body,
-) -> Result<Option<Refusal>, AllocError>
-    requires framed { has_frame body.now ≡ true }
-    requires as_many { length state.old ≡ length seen.old.items }
-    ensures { IfOk result (λ r. MatchOption r
-        (IsTaken edition (reads_by edition limits) state.old body.now state.new seen.old.items seen.new.items)
+) -> Result<Result<Taken, Refusal>, AllocError>
+    requires { has_frame body.now ≡ true }
+    ensures { IfOk result (λ r. MatchResult r
+        (IsTaken edition (reads_by edition limits) state.old body.now state.new)
         (IsRefused edition (reads_by edition limits) state.old body.now)) }
 {
     let references = noted_beside(body)?;
@@ -114,13 +124,13 @@ fn take_framed(
         Ok(message) => {
             let event = wire(body, references, message);
             if is_bare(&event) {
-                take_bare(alloc, edition, state, seen, event)
+                take_bare(alloc, edition, state, event)
             } else {
-                take_message(alloc, edition, state, seen, event)
+                take_message(alloc, edition, state, event)
             }
         }
         Err(ViewError::OutOfMemory) => Err(AllocError),
-        Err(error) => Ok(Some(Refusal::Outside(why_of(error)))),
+        Err(error) => Ok(Err(Refusal::Outside(why_of(error)))),
     }
 }
 
@@ -128,21 +138,22 @@ fn take_framed(
 fn take_own(
     alloc: Global,
     state: &mut VatState,
-    seen: &mut Vec<RecordFacts>,
     event: DecodedRecord,
-) -> Result<Option<Refusal>, AllocError>
-    requires own { is_own event ≡ true }
-    requires as_many { length state.old ≡ length seen.old.items }
-    ensures { (edition : Edition) (read : Reader) (body : Body) → event_of read body ≡ Ok event → IfOk result (λ r. MatchOption r
-        (IsTaken edition read state.old body state.new seen.old.items seen.new.items)
+) -> Result<Result<Taken, Refusal>, AllocError>
+    requires { is_own event ≡ true }
+    ensures { (edition : Edition) (read : Reader) (body : Body) → event_of read body ≡ Ok event → IfOk result (λ r. MatchResult r
+        (IsTaken edition read state.old body state.new)
         (IsRefused edition read state.old body)) }
 {
-    match own_rule_broken(state, &event) {
+    match own_rule_broken(alloc, state, &event) {
         Ok(None) => {
-            apply_own(alloc, state, seen, event)?;
-            Ok(None)
+            apply_good(state, &event)?;
+            Ok(Ok(Taken {
+                event,
+                known: Known::Own,
+            }))
         }
-        Ok(Some(rule)) => Ok(Some(Refusal::Broken(rule))),
+        Ok(Some(rule)) => Ok(Err(Refusal::Broken(rule))),
         Err(error) => Err(error),
     }
 }
@@ -151,14 +162,12 @@ fn take_own(
 fn take_field(
     alloc: Global,
     state: &mut VatState,
-    seen: &mut Vec<RecordFacts>,
     reference: u64,
     call: u64,
     path: &Path,
-) -> Result<Option<Refusal>, AllocError>
-    requires { length state.old ≡ length seen.old.items }
-    ensures { (edition : Edition) (read : Reader) → IfOk result (λ r. MatchOption r
-        (IsTaken edition read state.old (Field reference call path.now) state.new seen.old.items seen.new.items)
+) -> Result<Result<Taken, Refusal>, AllocError>
+    ensures { (edition : Edition) (read : Reader) → IfOk result (λ r. MatchResult r
+        (IsTaken edition read state.old (Field reference call path.now) state.new)
         (IsRefused edition read state.old (Field reference call path.now))) }
 {
     let path = path.copy()?;
@@ -167,24 +176,22 @@ fn take_field(
         call,
         path,
     };
-    take_own(alloc, state, seen, event)
+    take_own(alloc, state, event)
 }
 
 /// Judges a stored ANSWER, and applies it if it is good; else the first rule that it breaks.
 fn take_answer(
     alloc: Global,
     state: &mut VatState,
-    seen: &mut Vec<RecordFacts>,
     call: u64,
     results: &ResultReferences,
-) -> Result<Option<Refusal>, AllocError>
-    requires { length state.old ≡ length seen.old.items }
-    ensures { (edition : Edition) (read : Reader) → IfOk result (λ r. MatchOption r
-        (IsTaken edition read state.old (Answer call results.now) state.new seen.old.items seen.new.items)
+) -> Result<Result<Taken, Refusal>, AllocError>
+    ensures { (edition : Edition) (read : Reader) → IfOk result (λ r. MatchResult r
+        (IsTaken edition read state.old (Answer call results.now) state.new)
         (IsRefused edition read state.old (Answer call results.now))) }
 {
     let results = results.copy()?;
-    take_own(alloc, state, seen, DecodedRecord::Answer { call, results })
+    take_own(alloc, state, DecodedRecord::Answer { call, results })
 }
 
 /// Judges a stored record by an edition, and applies it if it is good; else why it isn't.
@@ -193,24 +200,22 @@ pub(crate) fn take(
     edition: Edition,
     limits: Limits,
     state: &mut VatState,
-    seen: &mut Vec<RecordFacts>,
     body: &Body,
-) -> Result<Option<Refusal>, AllocError>
-    requires { length state.old ≡ length seen.old.items }
-    ensures { IfOk result (λ r. MatchOption r
-        (IsTaken edition (reads_by edition limits) state.old body.now state.new seen.old.items seen.new.items)
+) -> Result<Result<Taken, Refusal>, AllocError>
+    ensures { IfOk result (λ r. MatchResult r
+        (IsTaken edition (reads_by edition limits) state.old body.now state.new)
         (IsRefused edition (reads_by edition limits) state.old body.now)) }
 {
     match body {
         Body::Send { .. } | Body::Receive { .. } => {
-            take_framed(alloc, edition, limits, state, seen, body)
+            take_framed(alloc, edition, limits, state, body)
         }
         Body::Field {
             reference,
             call,
             path,
-        } => take_field(alloc, state, seen, *reference, *call, path),
-        Body::Answer { call, results } => take_answer(alloc, state, seen, *call, results),
-        _ => take_own(alloc, state, seen, flat_event(body)),
+        } => take_field(alloc, state, *reference, *call, path),
+        Body::Answer { call, results } => take_answer(alloc, state, *call, results),
+        _ => take_own(alloc, state, flat_event(body)),
     }
 }

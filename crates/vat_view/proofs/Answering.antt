@@ -1,7 +1,6 @@
 -- What the tables answer is what looking back finds.
 use Rattle.std.proofs.Common.{◌≡◌, ◌+◌, ◌≤◌, inl, inr, refl, sym, ◌∙◌, ap, ap₂, subst, ℕ, List, [], ◌∷◌, map, length, count_by, Bool, true, false, not, ◌&&◌, ◌||◌, Option, Some, None, if◌then◌else◌, option_map, option_and_then, arith}
-use Rattle.std.specs.Prelude.{is_some, Decides, slice_get, reverse, Result, Ok, Err, IfOk}
-use Rattle.std.proofs.lemmas.List.{length-reverse}
+use Rattle.std.specs.Prelude.{is_some, Decides, slice_get, Result, Ok, Err, IfOk}
 use Rattle.std.proofs.lemmas.Bool.{cases_Bool, and_parts, false≢true}
 use Rattle.vat_view.specs.declared.tables.questions.Questions.{Questions}
 use Rattle.vat_view.specs.declared.tables.exports_imports.ExportsImports.{ExportsImports}
@@ -190,10 +189,10 @@ module _ (past : Past) (questions : Questions) (lives : ExportsImports) (bound :
   targeted_known _ = refl
 
   -- a table of what a record introduces that comes next
-  pub begun_next : (e : DecodedRecord) (begun : Introduced) (late : Bool) (number : ℕ) (items : List DecodedRecord) → late ≡ late_by (question_at questions) e → number ≡ length items → reverse items ≡ past →
+  pub begun_next : (e : DecodedRecord) (begun : Introduced) (late : Bool) (number : ℕ) (items : Past) → late ≡ late_by (question_at questions) e → number ≡ length items → items ≡ past →
       AreBegun (origins_if late number e) begun → AreBegun (origins past e) begun
   begun_next e begun late number items is_late place view_is starts i =
-      starts i ∙ ap₂ (λ b n. first_in i (origins_if b n e)) (is_late ∙ late_is e) (place ∙ sym (length-reverse items) ∙ ap (λ l. length l) view_is)
+      starts i ∙ ap₂ (λ b n. first_in i (origins_if b n e)) (is_late ∙ late_is e) (place ∙ ap (λ l. length l) view_is)
 
   module _ (e : DecodedRecord) (begun : Introduced) (starts : AreBegun (origins past e) begun) where
     pub each_known : (d : Descriptor) → view_by (bound_at bound) lives begun (question_at questions) e d ≡ descriptor_view (view_of_reference past) past e d

@@ -1,6 +1,6 @@
 -- Where lives begin: what one record more does to the table is what it does to what looking back finds.
-use Rattle.std.proofs.Common.{◌≡◌, ◌<◌, ◌≤◌, inl, inr, refl, sym, ◌∙◌, ap, ℕ, [], ◌∷◌, length, count_by, Bool, true, false, ◌||◌, Option, Some, None, if◌then◌else◌, option_map, arith}
-use Rattle.std.specs.Prelude.{find, is_none}
+use Rattle.std.proofs.Common.{◌≡◌, ◌<◌, ◌≤◌, inl, inr, refl, sym, ◌∙◌, ap, ℕ, [], ◌∷◌, length, zero-add, count_by, Bool, true, false, ◌||◌, Option, Some, None, if◌then◌else◌, option_map, arith}
+use Rattle.std.specs.Prelude.{find, is_none, slice_get}
 use Rattle.std.specs.List.{position_from, filter_map}
 use Rattle.std.specs.Option.{option_or}
 use Rattle.std.proofs.lemmas.Bool.{cases_Bool, false≢true, ltb-true, ltb-false}
@@ -34,14 +34,14 @@ module _ (i : TableKey) (before : Past) (e : DecodedRecord) where
   abbrev there : ℕ → Birth
   there place = record { from = point before e; place = place }
 
-  same_origins : (o : Option ℕ) → option_map (origin_there (length before) e i 0 (places e)) o ≡ option_map origin_of (option_map there o)
+  same_origins : (o : Option ℕ) → option_map (origin_there (length before) e i (λ q. slice_get (descriptors e) q) 0 (places e)) o ≡ option_map origin_of (option_map there o)
   same_origins (Some q) = refl
   same_origins None = refl
 
   pub begun : (in_life late : Bool) → in_life ≡ false → late ≡ false →
       option_map (λ x. x.1) (find (λ x. same_id i x.0) (if late then [] else origins_from (length before) e 0 0 (descriptors e)))
       ≡ option_map origin_of (if in_life || late then None else option_map there (position_from (λ d. names i (number_introduced e d)) 0 (descriptors e)))
-  begun false false h l = first_origin (length before) e i (descriptors e) 0 0 ∙ same_origins (position_from (λ d. names i (number_introduced e d)) 0 (descriptors e))
+  begun false false h l = first_origin (length before) e i (λ q. slice_get (descriptors e) q) (descriptors e) 0 0 (λ j. ap (λ q. slice_get (descriptors e) q) (zero-add j)) ∙ same_origins (position_from (λ d. names i (number_introduced e d)) 0 (descriptors e))
   begun true late h l = absurd (false≢true (sym h))
   begun false true h l = absurd (false≢true (sym l))
 

@@ -14,13 +14,11 @@ use Rattle.vat_view.specs.declared.tables.references.BoundReferences.{BoundRefer
 use Rattle.vat_view.specs.declared.tables.references.Binding.{Binding}
 use Rattle.vat_view.specs.declared.tables.handovers.Handover.{Handover}
 use Rattle.vat_view.specs.declared.tables.handovers.HandedCall.{HandedCall}
-use Rattle.vat_view.specs.declared.record.unsettled.Unsettled.{Unsettled}
-use Rattle.vat_view.specs.declared.record.unsettled.Unsettled.TheVariants.{Promise as PromiseToKeep, Results as ResultsOf, Import as ImportToResolve}
-use Rattle.vat_view.specs.declared.walks.turn_target.Landing.{Landing}
-use Rattle.vat_view.specs.declared.walks.turn_target.Landing.TheVariants.{Reference as ToReference, Call as ToCall}
-use Rattle.vat_view.specs.Types.{DecodedRecord, View, Object, Promise, FieldOf, Import}
+use Rattle.vat_view.specs.declared.walks.landing.Landing.{Landing}
+use Rattle.vat_view.specs.declared.walks.landing.Landing.TheVariants.{Reference as ToReference, Call as ToCall}
+use Rattle.vat_view.specs.Types.{View, Object, Promise, FieldOf, Import}
 use Rattle.vat_view.specs.Glue.Tables.{bound_at}
-use Rattle.vat_view.specs.Glue.TurnTables.{field_path, turn_target, Settler, landing_of, landing_view, settler_at, handover_at, by_handover, handovers_len, call_behind_by, settler_numbered, settler_by, landed_by, bound_len, most_turns, turns_of, after_turns}
+use Rattle.vat_view.specs.Glue.TurnTables.{field_path, Turning, landing_of, landing_view, settled_at, handover_at, by_handover, handovers_len, call_behind_by, turning_by, landed_by, bound_len, most_turns, turns_of, after_turns}
 use Rattle.vat_view.proofs.Walking.{IsFew, cases_option, none_some, some_same, reached_more}
 use Rattle.vat_view.proofs.Settled.{turn_landing}
 
@@ -81,24 +79,20 @@ bound_path r (e ∷ es) b h = inner (bound_path r es b) (is_eq (nat_cmp r e.0)) 
 
 -- ---- where a view lands
 
--- a field that lands on a call was handed over
-pub landing_call : (path : List ℕ) (s : Option Settler) (d : ℕ) → option_and_then (landing_of path) s ≡ Some (ToCall d) → (e : DecodedRecord) × (s ≡ Some (e, Some d))
-landing_call path None d h = absurd (none_some (ToCall d) h)
-landing_call path (Some (e, Some by)) d h = let same : by ≡ d = cc in (e, ap (λ x. Some (e, Some x)) same)
-landing_call path (Some (e, None)) d h = absurd (plain (turn_target path e) h)
-  where
-    plain : (o : Option ℕ) → option_map ToReference o ≡ Some (ToCall d) → ⊥
-    plain (Some r) g = cc
-    plain None g = cc
+-- what lands on a call has that call behind it
+landing_call : (r by : Option ℕ) (d : ℕ) → landing_of (r, by) ≡ Some (ToCall d) → by ≡ Some d
+landing_call r (Some by) d h = let same : by ≡ d = cc in ap (λ x. Some x) same
+landing_call (Some r) None d h = let no : ⊥ = cc in absurd no
+landing_call None None d h = absurd (none_some (ToCall d) h)
 
-module _ (events : List DecodedRecord) (table : Settlements) where
-  behind_call : (p : Unsettled) (n : Option ℕ) (e : DecodedRecord) (d : ℕ) → option_and_then (settler_numbered table events p) n ≡ Some (e, Some d) → (k : ℕ) × (call_behind_by table p k ≡ Some d)
-  behind_call p None e d h = absurd (none_some (e, Some d) h)
-  behind_call p (Some k) e d h = inner (slice_get events k) h
+module _ (table : Settlements) where
+  -- so the call behind the settling of a view is this one
+  behind_call : (v : View) (d : ℕ) → landed_by table v ≡ Some (ToCall d) → (k : ℕ) × (call_behind_by table v k ≡ Some d)
+  behind_call v d h = inner (settled_at table v) h
     where
-      inner : (o : Option DecodedRecord) → option_map {U = Settler} (λ x. (x, call_behind_by table p k)) o ≡ Some (e, Some d) → (k : ℕ) × (call_behind_by table p k ≡ Some d)
-      inner None g = absurd (none_some (e, Some d) g)
-      inner (Some x) g = (k, ap (λ s. s.1) (some_same (x, call_behind_by table p k) (e, Some d) g))
+      inner : (o : Option (ℕ × Option ℕ)) → option_and_then landing_of (option_map {U = Turning} (λ s. (s.1, call_behind_by table v s.0)) o) ≡ Some (ToCall d) → (k : ℕ) × (call_behind_by table v k ≡ Some d)
+      inner None g = absurd (none_some (ToCall d) g)
+      inner (Some s) g = (s.0, landing_call s.1 (call_behind_by table v s.0) d g)
 
   handed_so : (o : Option Handover) (k d : ℕ) → by_handover k o ≡ Some d → (h : Handover) × (o ≡ Some h) × (h.by ≡ d)
   handed_so None k d h = absurd (none_some d h)
@@ -111,17 +105,12 @@ module _ (events : List DecodedRecord) (table : Settlements) where
   abbrev IsHanded : View → ℕ → Type 0
   IsHanded v d = (c : ℕ) × (path : List ℕ) × (h : Handover) × (v ≡ FieldOf c path) × (handover_at table c ≡ Some h) × (h.by ≡ d)
 
-  handed_over : (v : View) (d : ℕ) → landed_by events table v ≡ Some (ToCall d) → IsHanded v d
+  handed_over : (v : View) (d : ℕ) → landed_by table v ≡ Some (ToCall d) → IsHanded v d
   handed_over (Object object) d h = absurd (none_some (ToCall d) h)
-  handed_over (Promise p) d h =
-      let s = landing_call [] (option_and_then (settler_numbered table events (PromiseToKeep p)) (settler_at table (PromiseToKeep p))) d h in
-      let k = behind_call (PromiseToKeep p) (settler_at table (PromiseToKeep p)) s.0 d s.1 in absurd (none_some d k.1)
-  handed_over (Import i place) d h =
-      let s = landing_call [] (option_and_then (settler_numbered table events (ImportToResolve i place)) (settler_at table (ImportToResolve i place))) d h in
-      let k = behind_call (ImportToResolve i place) (settler_at table (ImportToResolve i place)) s.0 d s.1 in absurd (none_some d k.1)
+  handed_over (Promise p) d h = let k = behind_call (Promise p) d h in absurd (none_some d k.1)
+  handed_over (Import i place) d h = let k = behind_call (Import i place) d h in absurd (none_some d k.1)
   handed_over (FieldOf c path) d h =
-      let s = landing_call path (option_and_then (settler_numbered table events (ResultsOf c)) (settler_at table (ResultsOf c))) d h in
-      let k = behind_call (ResultsOf c) (settler_at table (ResultsOf c)) s.0 d s.1 in
+      let k = behind_call (FieldOf c path) d h in
       let o = handed_so (handover_at table c) k.0 d k.1 in (c, path, o.0, refl, o.1, o.2)
 
 -- the entry of a handed call
@@ -140,9 +129,9 @@ bound_entry None w h = absurd (none_some w h)
 
 -- ---- the turns of a walk
 
-module _ (events : List DecodedRecord) (table : Settlements) (bound : BoundReferences) (a : View) where
+module _ (table : Settlements) (bound : BoundReferences) (a : View) where
   abbrev turnings : View → Option View
-  turnings v = turns_of events table bound v
+  turnings v = turns_of table bound v
 
   abbrev paths : List (List ℕ)
   paths = field_path a ∷ bound_paths bound.entries
@@ -153,16 +142,16 @@ module _ (events : List DecodedRecord) (table : Settlements) (bound : BoundRefer
   paths_len : length paths ≡ bound_len bound + 1
   paths_len = let mapped = length-map bound.entries (λ e. field_path e.1.view) in omega (arith, mapped)
 
-  lands_so : (v w : View) (l : Landing) → landed_by events table v ≡ Some l → turnings v ≡ Some w → landing_view (bound_at bound) (field_path v) l ≡ Some w
+  lands_so : (v w : View) (l : Landing) → landed_by table v ≡ Some l → turnings v ≡ Some w → landing_view (bound_at bound) (field_path v) l ≡ Some w
   lands_so v w l lands e =
       sym (ap (λ o. option_and_then (landing_view (bound_at bound) (field_path v)) o) lands)
-      ∙ sym (turn_landing (bound_at bound) (field_path v) (settler_by table events v)) ∙ e
+      ∙ sym (turn_landing (bound_at bound) (field_path v) (turning_by table v)) ∙ e
 
-  lands_somewhere : (v w : View) → turnings v ≡ Some w → (l : Landing) × (landed_by events table v ≡ Some l)
-  lands_somewhere v w e = elim (cases_option (landed_by events table v)) [
+  lands_somewhere : (v w : View) → turnings v ≡ Some w → (l : Landing) × (landed_by table v ≡ Some l)
+  lands_somewhere v w e = elim (cases_option (landed_by table v)) [
     | inl none ↦ absurd (none_some w
         (sym (ap (λ o. option_and_then (landing_view (bound_at bound) (field_path v)) o) none)
-        ∙ sym (turn_landing (bound_at bound) (field_path v) (settler_by table events v)) ∙ e))
+        ∙ sym (turn_landing (bound_at bound) (field_path v) (turning_by table v)) ∙ e))
     | inr l ↦ l
   ]
 
@@ -195,7 +184,7 @@ module _ (events : List DecodedRecord) (table : Settlements) (bound : BoundRefer
   numbered v None = 0
 
   abbrev pub turn_number : View → ℕ
-  turn_number v = numbered v (landed_by events table v)
+  turn_number v = numbered v (landed_by table v)
 
   -- what stands at a reference's place
   to_reference : (r : ℕ) (w : View) → bound_at bound r ≡ Some w → (spot r bound.entries < bound_len bound) × (option_map (λ binding. binding.view) (value_there bound.entries (spot r bound.entries)) ≡ Some w)
@@ -204,15 +193,15 @@ module _ (events : List DecodedRecord) (table : Settlements) (bound : BoundRefer
       let place = found r bound.entries b.0 b.1 in (place.0, ap (λ o. option_map (λ binding. binding.view) o) place.1 ∙ ap (λ x. Some x) b.2)
 
   -- what stands at a call's place
-  to_call : (v : View) (d : ℕ) → landed_by events table v ≡ Some (ToCall d) → (call_spot v < calls) × (option_and_then (λ o. option_map (λ handed. handed.handover.by) o) (value_there table.handovers.entries (call_spot v)) ≡ Some d)
+  to_call : (v : View) (d : ℕ) → landed_by table v ≡ Some (ToCall d) → (call_spot v < calls) × (option_and_then (λ o. option_map (λ handed. handed.handover.by) o) (value_there table.handovers.entries (call_spot v)) ≡ Some d)
   to_call v d lands =
-      let it = handed_over events table v d lands in
+      let it = handed_over table v d lands in
       let entry = handed_entry table.handovers.entries it.0 it.2 it.4 in
       let place = found it.0 table.handovers.entries (Some entry.0) entry.1 in
       subst (λ x. (call_spot x < calls) × (option_and_then (λ o. option_map (λ handed. handed.handover.by) o) (value_there table.handovers.entries (call_spot x)) ≡ Some d)) (sym it.3)
       (place.0, ap (λ o. option_and_then (λ x. option_map (λ handed. handed.handover.by) x) o) place.1 ∙ ap (λ n. Some n) (ap (λ x. x.by) entry.2 ∙ it.5))
 
-  number_below : (v w : View) (l : Landing) → landed_by events table v ≡ Some l → turnings v ≡ Some w → has_path (field_path v) paths ≡ true → numbered v (Some l) < most_turns table bound
+  number_below : (v w : View) (l : Landing) → landed_by table v ≡ Some l → turnings v ≡ Some w → has_path (field_path v) paths ≡ true → numbered v (Some l) < most_turns table bound
   number_below v w (ToReference r) lands e had = let place = to_reference r w (lands_so v w (ToReference r) lands e) in let near = place.0 in omega (arith, near)
   number_below v w (ToCall d) lands e had =
       let place = to_call v d lands in
@@ -220,8 +209,8 @@ module _ (events : List DecodedRecord) (table : Settlements) (bound : BoundRefer
       let near : path_spot (field_path v) paths < bound_len bound + 1 = subst (λ n. path_spot (field_path v) paths < n) paths_len row.0 in
       let below = mul-add-lt (path_spot (field_path v) paths) calls (call_spot v) (bound_len bound + 1) near place.0 in omega (arith, below)
 
-  one_call : (v w x y : View) (d g : ℕ) → landed_by events table v ≡ Some (ToCall d) → turnings v ≡ Some w → has_path (field_path v) paths ≡ true →
-      landed_by events table x ≡ Some (ToCall g) → turnings x ≡ Some y → has_path (field_path x) paths ≡ true →
+  one_call : (v w x y : View) (d g : ℕ) → landed_by table v ≡ Some (ToCall d) → turnings v ≡ Some w → has_path (field_path v) paths ≡ true →
+      landed_by table x ≡ Some (ToCall g) → turnings x ≡ Some y → has_path (field_path x) paths ≡ true →
       path_spot (field_path v) paths * calls + call_spot v ≡ path_spot (field_path x) paths * calls + call_spot x → w ≡ y
   one_call v w x y d g lands e had others f has same =
       let place = to_call v d lands in
@@ -237,8 +226,8 @@ module _ (events : List DecodedRecord) (table : Settlements) (bound : BoundRefer
       some_same w y (sym (lands_so v w (ToCall d) lands e) ∙ ap₂ (λ c p. Some (FieldOf c p)) by path ∙ lands_so x y (ToCall g) others f)
 
   -- turns of one number go to one view
-  one_turn : (v w x y : View) (l m : Landing) → landed_by events table v ≡ Some l → turnings v ≡ Some w → has_path (field_path v) paths ≡ true →
-      landed_by events table x ≡ Some m → turnings x ≡ Some y → has_path (field_path x) paths ≡ true → numbered v (Some l) ≡ numbered x (Some m) → w ≡ y
+  one_turn : (v w x y : View) (l m : Landing) → landed_by table v ≡ Some l → turnings v ≡ Some w → has_path (field_path v) paths ≡ true →
+      landed_by table x ≡ Some m → turnings x ≡ Some y → has_path (field_path x) paths ≡ true → numbered v (Some l) ≡ numbered x (Some m) → w ≡ y
   one_turn v w x y (ToReference r) (ToReference s) lands e had others f has same =
       let here = to_reference r w (lands_so v w (ToReference r) lands e) in
       let there = to_reference s y (lands_so x y (ToReference s) others f) in

@@ -1,8 +1,7 @@
 -- The table of connections after a record, and what it says.
-use Rattle.std.proofs.Common.{◌≡◌, refl, sym, ◌∙◌, ap, ap₂, subst, ℕ, List, [], ◌∷◌, ◌++◌, Bool, true, false, Option, Some, if◌then◌else◌}
-use Rattle.std.specs.Prelude.{◌||◌, is_some, reverse}
+use Rattle.std.proofs.Common.{◌≡◌, refl, ◌∙◌, ap, ap₂, ℕ, ◌∷◌, Bool, true, false, Option, Some, if◌then◌else◌}
+use Rattle.std.specs.Prelude.{◌||◌, is_some}
 use Rattle.std.specs.Option.{option_or}
-use Rattle.std.proofs.lemmas.List.{reverse-append}
 use Rattle.vat_view.specs.declared.tables.connections.Connections.{Connections}
 use Rattle.vat_view.specs.Types.{Bootstrap, Call, DecodedRecord, Wire}
 use Rattle.vat_view.specs.Past.{Past, Point, point, is}
@@ -48,13 +47,9 @@ connected_more before e table other more kept = record {
   aborted_here = λ k. more.aborted_here k ∙ ap (λ b. is k (abort_sent_on e) || b) (kept.aborted_here k) ∙ passed_either (is k (abort_sent_on e)) (point before e) _;
 }
 
--- ---- the state, whose records stand with the oldest first
-
-pub connected_applied : (items other pushed : List DecodedRecord) (e : DecodedRecord) (table room more : Connections) → other ≡ items → pushed ≡ other ++ e ∷ [] →
-    SaysSame table room → SaysMore e room more → AreConnected (reverse items) table → AreConnected (reverse pushed) more
-connected_applied items other pushed e table room more same is_pushed says adds kept =
-    subst (λ l. AreConnected l more) (sym (ap (λ l. reverse l) (is_pushed ∙ ap (λ l. l ++ e ∷ []) same) ∙ reverse-append items (e ∷ [])))
-    (connected_more (reverse items) e room more adds (connected_same (reverse items) table room says kept))
+-- after one more record, for which room was made
+pub connected_applied : (before : Past) (e : DecodedRecord) (table room more : Connections) → SaysSame table room → SaysMore e room more → AreConnected before table → AreConnected (e ∷ before) more
+connected_applied before e table room more says adds kept = connected_more before e room more adds (connected_same before table room says kept)
 
 -- the table as it was
 pub says_itself : (table : Connections) → SaysSame table table

@@ -8,14 +8,13 @@ use Rattle.vat_view.specs.declared.tables.references.BoundReferences.{BoundRefer
 use Rattle.vat_view.specs.declared.tables.handovers.Handovers.{Handovers}
 use Rattle.vat_view.specs.declared.tables.references.Binding.{Binding}
 use Rattle.vat_view.specs.declared.tables.references.Shortcut.{Shortcut}
-use Rattle.vat_view.specs.declared.walks.turn_target.Landing.{Landing}
-use Rattle.vat_view.specs.declared.walks.turn_target.Landing.TheVariants.{Reference as ToReference, Call as ToCall}
-use Rattle.vat_view.specs.Types.{DecodedRecord, View, FieldOf}
+use Rattle.vat_view.specs.declared.walks.landing.Landing.{Landing}
+use Rattle.vat_view.specs.declared.walks.landing.Landing.TheVariants.{Reference as ToReference, Call as ToCall}
+use Rattle.vat_view.specs.Types.{View, FieldOf}
 use Rattle.vat_view.specs.Glue.Tables.{bound_at}
-use Rattle.vat_view.specs.Glue.TurnTables.{field_path, landing_of, landing_view, landed_reference, landed_call, landed_by, reference_by, call_onward_by, call_ahead_in, IsOwnOrOldCall, IsCallAhead, AreCallsAhead, settler_by, turns_of, after_turns, Reaches, TurnsAndThen, TurnsOn, ReachesByTurns, own_leap, ahead_in, ahead_at, onward_by, IsOwnOrOld, IsAhead, AreAhead, HaveAhead}
+use Rattle.vat_view.specs.Glue.TurnTables.{field_path, Turning, landing_of, landing_view, landed_reference, landed_call, landed_by, reference_by, call_onward_by, call_ahead_in, IsOwnOrOldCall, IsCallAhead, AreCallsAhead, turning_by, settled_with, by_handover, number_in, handover_at, target_in, turned_in, turns_of, after_turns, Reaches, TurnsAndThen, TurnsOn, ReachesByTurns, own_leap, ahead_in, ahead_at, onward_by, IsOwnOrOld, IsAhead, AreAhead, HaveAhead}
 use Rattle.vat_view.proofs.Walking.{cases_option, none_some, some_same, dead, reached_more, reached_at, reached_none}
 use Rattle.vat_view.proofs.Settled.{turn_landing}
-use Rattle.vat_view.proofs.Bounded.{landing_call}
 
 -- ---- what is bound has a reference ahead, and no other
 
@@ -45,12 +44,12 @@ none_is_ahead turn table empty r q some = let it = ahead_bound table r q some in
 
 -- ---- turns and landings
 
-module _ (events : List DecodedRecord) (table : Settlements) (bound : BoundReferences) where
+module _ (table : Settlements) (bound : BoundReferences) where
   abbrev turnings : View → Option View
-  turnings v = turns_of events table bound v
+  turnings v = turns_of table bound v
 
-  pub lands_turn : (v : View) → turnings v ≡ option_and_then (landing_view (bound_at bound) (field_path v)) (landed_by events table v)
-  lands_turn v = turn_landing (bound_at bound) (field_path v) (settler_by table events v)
+  pub lands_turn : (v : View) → turnings v ≡ option_and_then (landing_view (bound_at bound) (field_path v)) (landed_by table v)
+  lands_turn v = turn_landing (bound_at bound) (field_path v) (turning_by table v)
 
   lands_there : (o : Option Landing) (r : ℕ) → option_and_then landed_reference o ≡ Some r → o ≡ Some (ToReference r)
   lands_there (Some (ToReference s)) r h = ap (λ x. Some (ToReference x)) (some_same s r h)
@@ -58,8 +57,8 @@ module _ (events : List DecodedRecord) (table : Settlements) (bound : BoundRefer
   lands_there None r h = absurd (none_some r h)
 
   -- a view that lands on a reference turns to that one's view
-  pub reference_turn : (v : View) (r : ℕ) → reference_by events table v ≡ Some r → turnings v ≡ bound_at bound r
-  reference_turn v r h = lands_turn v ∙ ap (λ o. option_and_then (landing_view (bound_at bound) (field_path v)) o) (lands_there (landed_by events table v) r h)
+  pub reference_turn : (v : View) (r : ℕ) → reference_by table v ≡ Some r → turnings v ≡ bound_at bound r
+  reference_turn v r h = lands_turn v ∙ ap (λ o. option_and_then (landing_view (bound_at bound) (field_path v)) o) (lands_there (landed_by table v) r h)
 
 -- ---- walks that hop
 
@@ -110,17 +109,17 @@ module _ {A : Type 0} (f : A → Option A) where
       ends.1 last
 
 -- what is ahead of the landing of the one ahead is further ahead, by the turns to it, the one of the landing and its own
-pub further_ahead : (events : List DecodedRecord) (table : Settlements) (bound : BoundReferences) → HaveAhead events table bound → (r next count : ℕ) (near far : Shortcut) →
-    onward_by events table bound r ≡ Some next → ahead_at bound r ≡ Some near → ahead_at bound next ≡ Some far → count ≡ near.turns + far.turns + 1 →
-    IsAhead (turns_of events table bound) bound r (record { to = far.to; turns = count })
-further_ahead events table bound ahead r next count near far lands is_near is_far sum =
-    let f : View → Option View = λ v. turns_of events table bound v in
+pub further_ahead : (table : Settlements) (bound : BoundReferences) → HaveAhead table bound → (r next count : ℕ) (near far : Shortcut) →
+    onward_by table bound r ≡ Some next → ahead_at bound r ≡ Some near → ahead_at bound next ≡ Some far → count ≡ near.turns + far.turns + 1 →
+    IsAhead (turns_of table bound) bound r (record { to = far.to; turns = count })
+further_ahead table bound ahead r next count near far lands is_near is_far sum =
+    let f : View → Option View = λ v. turns_of table bound v in
     let first = ahead.0 r near is_near in
     let second = ahead.0 next far is_far in
     let v : View = first.1 in
-    let landed : reference_by events table v ≡ Some next =
-    ap (λ o. option_and_then (reference_by events table) o) (sym first.3) ∙ ap (λ o. option_and_then (reference_by events table) (option_and_then (λ leap. bound_at bound leap.to) o)) (sym is_near) ∙ lands in
-    let turn : f v ≡ Some second.0 = reference_turn events table bound v next landed ∙ second.2 in (
+    let landed : reference_by table v ≡ Some next =
+    ap (λ o. option_and_then (reference_by table) o) (sym first.3) ∙ ap (λ o. option_and_then (reference_by table) (option_and_then (λ leap. bound_at bound leap.to) o)) (sym is_near) ∙ lands in
+    let turn : f v ≡ Some second.0 = reference_turn table bound v next landed ∙ second.2 in (
       first.0,
       second.1,
       first.2,
@@ -130,11 +129,11 @@ further_ahead events table bound ahead r next count near far lands is_near is_fa
     )
 
 -- where another reference's one ahead is remembered, the one ahead of this lands where it did
-pub onward_kept : (events : List DecodedRecord) (table : Settlements) (old new : BoundReferences) (reference : ℕ) (leap : Shortcut) → ((r : ℕ) → bound_at new r ≡ bound_at old r) →
+pub onward_kept : (table : Settlements) (old new : BoundReferences) (reference : ℕ) (leap : Shortcut) → ((r : ℕ) → bound_at new r ≡ bound_at old r) →
     ((r : ℕ) (q : Shortcut) → ahead_at new r ≡ Some q → (ahead_at old r ≡ Some q) ⊎ ((r ≡ reference) × (q ≡ leap))) → (r after : ℕ) → (r ≡ reference → ⊥) →
-    onward_by events table old r ≡ Some after → onward_by events table new r ≡ Some after
-onward_kept events table old new reference leap views kept r after apart lands = elim (cases_option (ahead_at old r)) [
-  | inl none ↦ absurd (none_some after (ap (λ o. option_and_then (reference_by events table) (option_and_then (λ l. bound_at old l.to) o)) (sym none) ∙ lands))
+    onward_by table old r ≡ Some after → onward_by table new r ≡ Some after
+onward_kept table old new reference leap views kept r after apart lands = elim (cases_option (ahead_at old r)) [
+  | inl none ↦ absurd (none_some after (ap (λ o. option_and_then (reference_by table) (option_and_then (λ l. bound_at old l.to) o)) (sym none) ∙ lands))
   | inr near ↦
       let it = ahead_bound old r near.0 near.1 in
       let now = bound_ahead new r it.0 (views r ∙ it.1) in
@@ -142,9 +141,9 @@ onward_kept events table old new reference leap views kept r after apart lands =
         | inl was ↦ now.1 ∙ sym was
         | inr here ↦ absurd (apart here.0)
       ] in
-      ap (λ o. option_and_then (reference_by events table) (option_and_then (λ l. bound_at new l.to) o)) (same ∙ near.1)
-      ∙ ap (λ o. option_and_then (reference_by events table) o) (views near.0.to)
-      ∙ ap (λ o. option_and_then (reference_by events table) (option_and_then (λ l. bound_at old l.to) o)) (sym near.1) ∙ lands
+      ap (λ o. option_and_then (reference_by table) (option_and_then (λ l. bound_at new l.to) o)) (same ∙ near.1)
+      ∙ ap (λ o. option_and_then (reference_by table) o) (views near.0.to)
+      ∙ ap (λ o. option_and_then (reference_by table) (option_and_then (λ l. bound_at old l.to) o)) (sym near.1) ∙ lands
 ]
 
 -- ---- counted walks
@@ -209,15 +208,15 @@ landing_more named other more path (ToReference r) w e = more r w e
 landing_more named other more path (ToCall c) w e = e
 
 -- where turns land as before, and bound references keep their views, views turn as before
-pub turns_more : (events after : List DecodedRecord) (table other : Settlements) (old new : BoundReferences) → ((r : ℕ) (w : View) → bound_at old r ≡ Some w → bound_at new r ≡ Some w) →
-    ((v : View) (l : Landing) → landed_by events table v ≡ Some l → landed_by after other v ≡ Some l) →
-    (v w : View) → turns_of events table old v ≡ Some w → turns_of after other new v ≡ Some w
-turns_more events after table other old new named lands v w e = elim (cases_option (landed_by events table v)) [
-  | inl none ↦ absurd (none_some w (ap (λ o. option_and_then (landing_view (bound_at old) (field_path v)) o) (sym none) ∙ sym (lands_turn events table old v) ∙ e))
+pub turns_more : (table other : Settlements) (old new : BoundReferences) → ((r : ℕ) (w : View) → bound_at old r ≡ Some w → bound_at new r ≡ Some w) →
+    ((v : View) (l : Landing) → landed_by table v ≡ Some l → landed_by other v ≡ Some l) →
+    (v w : View) → turns_of table old v ≡ Some w → turns_of other new v ≡ Some w
+turns_more table other old new named lands v w e = elim (cases_option (landed_by table v)) [
+  | inl none ↦ absurd (none_some w (ap (λ o. option_and_then (landing_view (bound_at old) (field_path v)) o) (sym none) ∙ sym (lands_turn table old v) ∙ e))
   | inr l ↦
-      lands_turn after other new v ∙ ap (λ o. option_and_then (landing_view (bound_at new) (field_path v)) o) (lands v l.0 l.1)
+      lands_turn other new v ∙ ap (λ o. option_and_then (landing_view (bound_at new) (field_path v)) o) (lands v l.0 l.1)
       ∙ landing_more (bound_at old) (bound_at new) named (field_path v) l.0 w
-      (ap (λ o. option_and_then (landing_view (bound_at old) (field_path v)) o) (sym l.1) ∙ sym (lands_turn events table old v) ∙ e)
+      (ap (λ o. option_and_then (landing_view (bound_at old) (field_path v)) o) (sym l.1) ∙ sym (lands_turn table old v) ∙ e)
 ]
 
 module _ (f g : View → Option View) (old new : BoundReferences) (more : (v w : View) → f v ≡ Some w → g v ≡ Some w)
@@ -272,8 +271,21 @@ module _ (f g : View → Option View) (old new : Handovers) (more : (v w : View)
   ]
 
 -- a field lands on a call whatever its path
-lands_anyhow : (events : List DecodedRecord) (table : Settlements) (x d : ℕ) → landed_by events table (FieldOf x []) ≡ Some (ToCall d) → (path : List ℕ) → landed_by events table (FieldOf x path) ≡ Some (ToCall d)
-lands_anyhow events table x d h path = let s = landing_call [] (settler_by table events (FieldOf x [])) d h in ap (λ o. option_and_then (landing_of path) o) s.1
+behind : (r s by : Option ℕ) (d : ℕ) → landing_of (r, by) ≡ Some (ToCall d) → landing_of (s, by) ≡ Some (ToCall d)
+behind r s (Some c) d g = g
+behind (Some r) s None d g = absurd (let no : ⊥ = cc in no)
+behind None s None d g = absurd (none_some (ToCall d) g)
+
+abbrev landing_at : Settlements → ℕ → List ℕ → Option ℕ → Option Landing
+landing_at table x at o =
+    option_and_then landing_of (option_map {U = Turning} (λ s. (s.1, by_handover s.0 (handover_at table x))) (settled_with (target_in at (turned_in table.turned x)) o))
+
+lands_anyhow : (table : Settlements) (x d : ℕ) → landed_by table (FieldOf x []) ≡ Some (ToCall d) → (path : List ℕ) → landed_by table (FieldOf x path) ≡ Some (ToCall d)
+lands_anyhow table x d h path = inner (number_in table.results x) h
+  where
+    inner : (o : Option ℕ) → landing_at table x [] o ≡ Some (ToCall d) → landing_at table x path o ≡ Some (ToCall d)
+    inner None g = absurd (none_some (ToCall d) g)
+    inner (Some number) g = behind (target_in [] (turned_in table.turned x)) (target_in path (turned_in table.turned x)) (by_handover number (handover_at table x)) d g
 
 call_there : (o : Option Landing) (d : ℕ) → option_and_then landed_call o ≡ Some d → o ≡ Some (ToCall d)
 call_there (Some (ToCall c)) d h = ap (λ x. Some (ToCall x)) (some_same c d h)
@@ -281,29 +293,29 @@ call_there (Some (ToReference r)) d h = absurd (none_some d h)
 call_there None d h = absurd (none_some d h)
 
 -- a field that lands on a call turns to that one's field
-pub call_turn : (events : List DecodedRecord) (table : Settlements) (bound : BoundReferences) (v : View) (d : ℕ) → landed_by events table v ≡ Some (ToCall d) →
-    turns_of events table bound v ≡ Some (FieldOf d (field_path v))
-call_turn events table bound v d h = lands_turn events table bound v ∙ ap (λ o. option_and_then (landing_view (bound_at bound) (field_path v)) o) h
+pub call_turn : (table : Settlements) (bound : BoundReferences) (v : View) (d : ℕ) → landed_by table v ≡ Some (ToCall d) →
+    turns_of table bound v ≡ Some (FieldOf d (field_path v))
+call_turn table bound v d h = lands_turn table bound v ∙ ap (λ o. option_and_then (landing_view (bound_at bound) (field_path v)) o) h
 
 -- a walk by a turn to a call's field, and by the turns to the one ahead
-pub call_hop : (events : List DecodedRecord) (table : Settlements) (bound : BoundReferences) → HaveAhead events table bound → (v : View) (d : ℕ) (leap : Shortcut) → landed_by events table v ≡ Some (ToCall d) →
-    leap ≡ unwrap_or (call_ahead_in table.handovers d) (own_leap d) → TurnsAndThen (turns_of events table bound) v leap.turns (FieldOf leap.to (field_path v))
-call_hop events table bound ahead v d leap lands is =
-    let f : View → Option View = λ v. turns_of events table bound v in
-    ap (λ o. after_turns f leap.turns o) (call_turn events table bound v d lands)
+pub call_hop : (table : Settlements) (bound : BoundReferences) → HaveAhead table bound → (v : View) (d : ℕ) (leap : Shortcut) → landed_by table v ≡ Some (ToCall d) →
+    leap ≡ unwrap_or (call_ahead_in table.handovers d) (own_leap d) → TurnsAndThen (turns_of table bound) v leap.turns (FieldOf leap.to (field_path v))
+call_hop table bound ahead v d leap lands is =
+    let f : View → Option View = λ v. turns_of table bound v in
+    ap (λ o. after_turns f leap.turns o) (call_turn table bound v d lands)
     ∙ subst (λ l. after_turns f l.turns (Some (FieldOf d (field_path v))) ≡ Some (FieldOf l.to (field_path v))) (sym is) (call_near f table.handovers ahead.1 d (field_path v))
 
 -- what is ahead of the call where the fields of the one ahead land is further ahead
-pub further_call_ahead : (events : List DecodedRecord) (table : Settlements) (bound : BoundReferences) → HaveAhead events table bound → (c next count : ℕ) (near far : Shortcut) →
-    call_onward_by events table c ≡ Some next → near ≡ unwrap_or (call_ahead_in table.handovers c) (own_leap c) → far ≡ unwrap_or (call_ahead_in table.handovers next) (own_leap next) →
-    count ≡ near.turns + far.turns + 1 → IsCallAhead (turns_of events table bound) c (record { to = far.to; turns = count })
-further_call_ahead events table bound ahead c next count near far lands is_near is_far sum path =
-    let f : View → Option View = λ v. turns_of events table bound v in
+pub further_call_ahead : (table : Settlements) (bound : BoundReferences) → HaveAhead table bound → (c next count : ℕ) (near far : Shortcut) →
+    call_onward_by table c ≡ Some next → near ≡ unwrap_or (call_ahead_in table.handovers c) (own_leap c) → far ≡ unwrap_or (call_ahead_in table.handovers next) (own_leap next) →
+    count ≡ near.turns + far.turns + 1 → IsCallAhead (turns_of table bound) c (record { to = far.to; turns = count })
+further_call_ahead table bound ahead c next count near far lands is_near is_far sum path =
+    let f : View → Option View = λ v. turns_of table bound v in
     let first : after_turns f near.turns (Some (FieldOf c path)) ≡ Some (FieldOf near.to path) =
     subst (λ l. after_turns f l.turns (Some (FieldOf c path)) ≡ Some (FieldOf l.to path)) (sym is_near) (call_near f table.handovers ahead.1 c path) in
     let second : after_turns f far.turns (Some (FieldOf next path)) ≡ Some (FieldOf far.to path) =
     subst (λ l. after_turns f l.turns (Some (FieldOf next path)) ≡ Some (FieldOf l.to path)) (sym is_far) (call_near f table.handovers ahead.1 next path) in
-    let landed : landed_by events table (FieldOf near.to []) ≡ Some (ToCall next) =
-    call_there (landed_by events table (FieldOf near.to [])) next (ap (λ l. option_and_then landed_call (landed_by events table (FieldOf l.to []))) is_near ∙ lands) in
-    let turn : f (FieldOf near.to path) ≡ Some (FieldOf next path) = call_turn events table bound (FieldOf near.to path) next (lands_anyhow events table near.to next landed path) in
+    let landed : landed_by table (FieldOf near.to []) ≡ Some (ToCall next) =
+    call_there (landed_by table (FieldOf near.to [])) next (ap (λ l. option_and_then landed_call (landed_by table (FieldOf l.to []))) is_near ∙ lands) in
+    let turn : f (FieldOf near.to path) ≡ Some (FieldOf next path) = call_turn table bound (FieldOf near.to path) next (lands_anyhow table near.to next landed path) in
     reached_at f near.turns (suc far.turns) count (Some (FieldOf c path)) (omega (arith, sum)) ∙ ap (λ o. after_turns f (suc far.turns) o) first ∙ ap (λ o. after_turns f far.turns o) turn ∙ second

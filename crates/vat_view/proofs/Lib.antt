@@ -18,10 +18,13 @@ pub mod Learning
 pub mod Keeping
 pub mod Answering
 pub mod Tallying
+pub mod Finding
+pub mod Turned
 pub mod Turning
 pub mod Using
 pub mod Walking
 pub mod Connecting
+pub mod Importing
 pub mod Landed
 pub mod Handed
 pub mod Settled

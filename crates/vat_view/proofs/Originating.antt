@@ -8,7 +8,7 @@ use Rattle.std.proofs.lemmas.List.Sums.{sum_by-cons}
 use Rattle.vat_view.specs.declared.record.origin.Origin.{Origin}
 use Rattle.vat_view.specs.Types.{Descriptor, NoCap, SenderHosted, SenderPromise, ReceiverHosted, ReceiverAnswer, DecodedRecord, Wire, TableKey}
 use Rattle.vat_view.specs.Past.{same_id, names}
-use Rattle.vat_view.specs.Lives.{number_introduced}
+use Rattle.vat_view.specs.Lives.{number_introduced, is_promised}
 use Rattle.vat_view.specs.Views.{places_from, references}
 use Rattle.vat_view.specs.Glue.Tables.{is_cap, origin_by, origins_from}
 
@@ -47,7 +47,7 @@ module _ (n : ℕ) (e : DecodedRecord) where
     pub origins_counted : (ds : List Descriptor) (p b : ℕ) → count_by (λ x. same_id i x.0) (origins_from n e p b ds) ≡ count_by (same_id i) (filter_map (number_introduced e) ds)
     origins_counted [] p b = refl
     origins_counted (d ∷ ds) p b =
-        counted_cons (number_introduced e d) (record { number = n; place = p; reference = slice_get (references e) b }) (origins_from n e (p + 1) (b + (if is_cap d then 1 else 0)) ds)
+        counted_cons (number_introduced e d) (record { number = n; place = p; promised = is_promised (Some d); reference = slice_get (references e) b }) (origins_from n e (p + 1) (b + (if is_cap d then 1 else 0)) ds)
         (filter_map (number_introduced e) ds) (origins_counted ds (p + 1) (b + (if is_cap d then 1 else 0)))
 
 -- ---- as looking back finds them
@@ -97,13 +97,23 @@ pub found_later : {A : Type 0} (test : A → Bool) (xs : List A) (p q : ℕ) →
 found_later test [] p q h = absurd (let no : ⊥ = cc in no)
 found_later test (x ∷ xs) p q h = later_if (test x) p q (position_from test (p + 1) xs) (found_later test xs (p + 1) q) h
 
-module _ (n : ℕ) (e : DecodedRecord) (i : TableKey) where
-  -- the origin of a life that began at this place
+module _ (n : ℕ) (e : DecodedRecord) (i : TableKey) (g : ℕ → Option Descriptor) where
+  -- the origin of a life that began at this place, where these are the descriptors by place
   abbrev pub origin_there : ℕ → List ℕ → ℕ → Origin
-  origin_there b ps q = record { number = n; place = q; reference = noted_at (drop b (references e)) ps q }
+  origin_there b ps q = record { number = n; place = q; promised = is_promised (g q); reference = noted_at (drop b (references e)) ps q }
 
-  abbrev at_place : ℕ → Option ℕ → Origin
-  at_place q r = record { number = n; place = q; reference = r }
+  abbrev at_place : ℕ → Option Descriptor → Option ℕ → Origin
+  at_place q d r = record { number = n; place = q; promised = is_promised d; reference = r }
+
+  -- these descriptors stand from this place on
+  abbrev pub Shows : ℕ → List Descriptor → Type 0
+  Shows p ds = (j : ℕ) → g (p + j) ≡ slice_get ds j
+
+  shows_first : (p : ℕ) (d : Descriptor) (ds : List Descriptor) → Shows p (d ∷ ds) → g p ≡ Some d
+  shows_first p d ds shows = ap (λ x. g x) (sym (add-zero p)) ∙ shows 0
+
+  shows_next : (p : ℕ) (d : Descriptor) (ds : List Descriptor) → Shows p (d ∷ ds) → Shows (p + 1) ds
+  shows_next p d ds shows j = (let same : p + 1 + j ≡ p + suc j = omega arith in ap (λ x. g x) same) ∙ shows (suc j)
 
   skipped : (o : Option TableKey) (f : Origin) (xs : List (TableKey × Origin)) → names i o ≡ false →
       find (λ x. same_id i x.0) (cons_option (option_map (λ j. (j, f)) o) xs) ≡ find (λ x. same_id i x.0) xs
@@ -129,23 +139,24 @@ module _ (n : ℕ) (e : DecodedRecord) (i : TableKey) where
       ap (λ rs. noted_at rs ps q) (more_drop b) ∙ sym (tail_drop (references e) b ps p q (ne_eqb p q (λ same. let no : ⊥ = omega (arith, le, same) in no)))
   next_places false p b q ps le = ap (λ x. noted_at (drop x (references e)) ps q) (add-zero b)
 
-  pub first_origin : (ds : List Descriptor) (p b : ℕ) → option_map (λ x. x.1) (find (λ x. same_id i x.0) (origins_from n e p b ds))
+  pub first_origin : (ds : List Descriptor) (p b : ℕ) → Shows p ds → option_map (λ x. x.1) (find (λ x. same_id i x.0) (origins_from n e p b ds))
       ≡ option_map (origin_there b (places_from p ds)) (position_from (λ d. names i (number_introduced e d)) p ds)
-  first_origin [] p b = refl
-  first_origin (d ∷ ds) p b = elim (cases_Bool (names i (number_introduced e d))) [
+  first_origin [] p b shows = refl
+  first_origin (d ∷ ds) p b shows = elim (cases_Bool (names i (number_introduced e d))) [
     | inl here ↦
-        let f : Origin = record { number = n; place = p; reference = slice_get (references e) b } in
+        let f : Origin = record { number = n; place = p; promised = is_promised (Some d); reference = slice_get (references e) b } in
         let cap : is_cap d ≡ true = must_be (cases_Bool (is_cap d)) here in
         taken (number_introduced e d) f (origins_from n e (p + 1) (b + (if is_cap d then 1 else 0)) ds) here
-        ∙ ap (λ r. Some (at_place p r)) (get_drop (references e) b ∙ noted_first (drop b (references e)) (places_from (p + 1) ds) p
+        ∙ ap (λ x. Some (at_place p x (slice_get (references e) b))) (sym (shows_first p d ds shows))
+        ∙ ap (λ r. Some (at_place p (g p) r)) (get_drop (references e) b ∙ noted_first (drop b (references e)) (places_from (p + 1) ds) p
         ∙ ap (λ ps. noted_at (drop b (references e)) ps p) (sym (places_cons p d ds ∙ ap (λ c. if c then p ∷ places_from (p + 1) ds else places_from (p + 1) ds) cap)))
         ∙ sym (ap (λ c. option_map (origin_there b (places_from p (d ∷ ds))) (if c then Some p else position_from (λ d. names i (number_introduced e d)) (p + 1) ds)) here)
     | inr apart ↦
         ap (λ o. option_map (λ x. x.1) o) (skipped (number_introduced e d) _ (origins_from n e (p + 1) (b + (if is_cap d then 1 else 0)) ds) apart)
-        ∙ first_origin ds (p + 1) (b + (if is_cap d then 1 else 0))
+        ∙ first_origin ds (p + 1) (b + (if is_cap d then 1 else 0)) (shows_next p d ds shows)
         ∙ map_found (origin_there (b + (if is_cap d then 1 else 0)) (places_from (p + 1) ds)) (origin_there b (places_from p (d ∷ ds)))
         (position_from (λ d. names i (number_introduced e d)) (p + 1) ds)
-        (λ q found. ap (λ r. at_place q r) (next_places (is_cap d) p b q (places_from (p + 1) ds) (found_later (λ d. names i (number_introduced e d)) ds (p + 1) q found)
+        (λ q found. ap (λ r. at_place q (g q) r) (next_places (is_cap d) p b q (places_from (p + 1) ds) (found_later (λ d. names i (number_introduced e d)) ds (p + 1) q found)
         ∙ ap (λ ps. noted_at (drop b (references e)) ps q) (sym (places_cons p d ds))))
         ∙ sym (ap (λ c. option_map (origin_there b (places_from p (d ∷ ds))) (if c then Some p else position_from (λ d. names i (number_introduced e d)) (p + 1) ds)) apart)
   ]

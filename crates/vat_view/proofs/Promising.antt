@@ -1,18 +1,17 @@
 -- Of which kind lives are, by the tables.
-use Rattle.std.proofs.Common.{◌≡◌, ◌<◌, ◌≤◌, inl, inr, refl, sym, ◌∙◌, ap, ap₂, ℕ, zero, suc, List, [], ◌∷◌, ◌++◌, length, Bool, true, false, Option, Some, None, if◌then◌else◌, option_map, option_and_then, arith}
-use Rattle.std.specs.Prelude.{is_some, reverse, nat_lt, slice_get}
+use Rattle.std.proofs.Common.{◌≡◌, ◌<◌, ◌≤◌, inl, inr, refl, sym, ◌∙◌, ap, ap₂, ℕ, [], ◌∷◌, length, Bool, true, false, Option, Some, None, if◌then◌else◌, option_map, arith}
+use Rattle.std.specs.Prelude.{is_some, nat_lt}
 use Rattle.std.specs.Option.{option_or}
 use Rattle.std.proofs.lemmas.Bool.{cases_Bool, lt-ltb, le-ltb}
-use Rattle.std.proofs.lemmas.List.{length-reverse, reverse-append, reverse-reverse}
 use Rattle.vat_view.specs.declared.record.origin.Origin.{Origin}
 use Rattle.vat_view.specs.declared.tables.questions.Questions.{Questions}
 use Rattle.vat_view.specs.declared.tables.exports_imports.ExportsImports.{ExportsImports}
 use Rattle.vat_view.specs.declared.tables.resolves.Resolves.{Resolves}
 use Rattle.vat_view.specs.Types.{DecodedRecord, TableKey}
 use Rattle.vat_view.specs.Past.{Past, Point, point, names, record_index, last_answer, last_where, last_since}
-use Rattle.vat_view.specs.Lives.{Birth, birth, begins, promise_resolved, is_resolved, is_in_life, is_promised, descriptors, began_promised}
+use Rattle.vat_view.specs.Lives.{Birth, birth, begins, promise_resolved, is_resolved, is_in_life, began_promised}
 use Rattle.vat_view.specs.Glue.Tables.{held_origin, origin_of, IsTabled}
-use Rattle.vat_view.specs.Glue.KindTables.{resolve_at, last_resolve, AreResolved, promised_at, resolved_since}
+use Rattle.vat_view.specs.Glue.KindTables.{resolve_at, last_resolve, AreResolved, resolved_since}
 use Rattle.vat_view.proofs.Meaning.{held_known}
 use Rattle.vat_view.proofs.Viewed.{birth_of, begins_parts, cases_option}
 
@@ -47,41 +46,13 @@ where_below test (e ∷ before) p h = elim (cases_Bool (test before e)) [
 
 -- ---- the kind of a life
 
-get_last : {A : Type 0} (xs : List A) (x : A) → slice_get (xs ++ x ∷ []) (length xs) ≡ Some x
-get_last [] x = refl
-get_last (y ∷ xs) x = get_last xs x
+promised_from : (o : Option Birth) → option_map (λ origin. origin.promised) (option_map origin_of o) ≡ option_map began_promised o
+promised_from (Some b) = refl
+promised_from None = refl
 
-get_front : {A : Type 0} (xs ys : List A) (k : ℕ) (x : A) → slice_get xs k ≡ Some x → slice_get (xs ++ ys) k ≡ Some x
-get_front [] ys k x h = absurd (none_some h)
-get_front (z ∷ xs) ys zero x h = h
-get_front (z ∷ xs) ys (suc k) x h = get_front xs ys k x h
-
--- the record where a life began stands at its number
-pub birth_stands : (i : TableKey) (past : Past) (b : Birth) → last_answer (begins i) past ≡ Some b → slice_get (reverse past) (record_index b.from) ≡ Some b.from.event
-birth_stands i [] b h = absurd (none_some h)
-birth_stands i (e ∷ before) b h = ap (λ l. slice_get l (record_index b.from)) (reverse-append (e ∷ []) before) ∙ elim (cases_option (begins i before e)) [
-  | inl some ↦
-      let same : begins i before e ≡ Some b = some.1 ∙ sym (ap (λ o. option_or o (last_answer (begins i) before)) some.1) ∙ h in
-      let from : b.from ≡ point before e = begins_number i before e b same in
-      ap (λ p. slice_get (reverse before ++ e ∷ []) (record_index p)) from ∙ ap (λ n. slice_get (reverse before ++ e ∷ []) n) (sym (length-reverse before))
-      ∙ get_last (reverse before) e ∙ ap (λ p. Some p.event) (sym from)
-  | inr none ↦ get_front (reverse before) (e ∷ []) (record_index b.from) b.from.event
-      (birth_stands i before b (sym (ap (λ o. option_or o (last_answer (begins i) before)) none) ∙ h))
-]
-
-module _ (past : Past) (items : List DecodedRecord) (view_is : reverse items ≡ past) (questions : Questions) (lives : ExportsImports) (tabled : IsTabled past questions lives) (i : TableKey) where
-  pub promised_known : option_map (promised_at items) (held_origin lives i) ≡ option_map began_promised (birth i past)
-  promised_known = ap (λ o. option_map (promised_at items) o) (held_known past questions lives tabled i) ∙ elim (cases_Bool (is_in_life i past)) [
-    | inl alive ↦
-        let b = birth_of i past alive in
-        let stands : slice_get items (record_index b.0.from) ≡ Some b.0.from.event =
-        ap (λ l. slice_get l (record_index b.0.from)) (sym (reverse-reverse items) ∙ ap (λ l. reverse l) view_is) ∙ birth_stands i past b.0 b.2 in
-        ap (λ o. option_map (promised_at items) (option_map origin_of o)) b.1
-        ∙ ap (λ o. Some (is_promised (option_and_then (λ e. slice_get (descriptors e) b.0.place) o))) stands ∙ sym (ap (λ o. option_map began_promised o) b.1)
-    | inr out ↦
-        ap (λ x. option_map (promised_at items) (option_map origin_of (if x then last_answer (begins i) past else None))) out
-        ∙ sym (ap (λ x. option_map began_promised (if x then last_answer (begins i) past else None)) out)
-  ]
+pub promised_known : (past : Past) (questions : Questions) (lives : ExportsImports) → IsTabled past questions lives → (i : TableKey) →
+    option_map (λ origin. origin.promised) (held_origin lives i) ≡ option_map began_promised (birth i past)
+promised_known past questions lives tabled i = ap (λ o. option_map (λ origin. origin.promised) o) (held_known past questions lives tabled i) ∙ promised_from (birth i past)
 
 -- ---- the Resolve of a life
 

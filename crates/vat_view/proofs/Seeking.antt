@@ -1,18 +1,18 @@
 -- What the code's walks to views of a kind answer.
-use Rattle.std.proofs.Common.{◌≡◌, ◌↔◌, refl, sym, ◌∙◌, ap, subst, ℕ, List, Bool, Option, Some, None, IsTrue}
-use Rattle.std.specs.Prelude.{Decides, slice_get, option_and_then, reverse}
+use Rattle.std.proofs.Common.{◌≡◌, ◌↔◌, refl, sym, ◌∙◌, ap, subst, ℕ, Bool, Option, Some, None, IsTrue}
+use Rattle.std.specs.Prelude.{Decides, option_map}
 use Rattle.std.proofs.lemmas.Bool.{false≢true, eqb-true, eq-eqb}
-use Rattle.std.proofs.lemmas.List.{reverse-reverse}
+use Rattle.vat_view.specs.declared.tables.arrivals.Arrivals.{Arrivals}
 use Rattle.vat_view.specs.declared.tables.connections.Connections.{Connections}
 use Rattle.vat_view.specs.declared.walks.reachable.Sought.TheVariants.{Over, Elsewhere}
-use Rattle.vat_view.specs.Types.{Edition, First, Later, DecodedRecord, View, Object, Promise, FieldOf, Import}
+use Rattle.vat_view.specs.Types.{Edition, First, Later, View, Object, Promise, FieldOf, Import}
 use Rattle.vat_view.specs.Past.{Past, is}
 use Rattle.vat_view.specs.Walks.{Next, next, Leads}
-use Rattle.vat_view.specs.Connections.{connection_of, reached_over, is_elsewhere}
+use Rattle.vat_view.specs.Connections.{reached_over, is_elsewhere}
 use Rattle.vat_view.specs.Glue.TurnTables.{turned_to}
+use Rattle.vat_view.specs.Glue.ArrivalTables.{AreArrived}
 use Rattle.vat_view.specs.Glue.ConnectionTables.{AreConnected, over_by, is_elsewhere_by, sought_by, ReachesOne}
 use Rattle.vat_view.proofs.Walking.{none_some, some_same, step, reached_same, leads_reach, reached_leads}
-use Rattle.vat_view.proofs.Settled.{record_there}
 
 is_decides : (k : ℕ) (o : Option ℕ) → Decides (is k o) (o ≡ Some k)
 is_decides k (Some m) = ((λ h. ap (λ n. Some n) (eqb-true m k h)), λ e. eq-eqb m k (some_same m k e))
@@ -36,25 +36,23 @@ module _ (going : View → Next) (past : Past) (same : (v : View) → going v �
 
 -- ---- the connections of views by a state are those by the records that were applied
 
-module _ (items given : List DecodedRecord) (past : Past) (table : Connections) (view_is : reverse items ≡ past) (same : given ≡ items)
-    (kept : AreConnected (reverse items) table) where
-  over_there : (v : View) → over_by items table v ≡ reached_over (reverse items) v
+module _ (items past : Past) (arrivals : Arrivals) (table : Connections) (view_is : items ≡ past) (came : AreArrived items arrivals) (kept : AreConnected items table) where
+  over_there : (v : View) → over_by arrivals table v ≡ reached_over items v
   over_there (Object object) = refl
   over_there (Promise p) = refl
   over_there (FieldOf call path) = kept.asked call
-  over_there (Import number place) =
-      ap (λ o. option_and_then connection_of o) (ap (λ l. slice_get l number) (sym (reverse-reverse items)) ∙ record_there (reverse items) number)
+  over_there (Import number place) = ap (λ o. option_map (λ a. a.connection) o) (came number place)
 
-  over_so : (v : View) → over_by given table v ≡ reached_over past v
-  over_so v = ap (λ l. over_by l table v) same ∙ over_there v ∙ ap (λ p. reached_over p v) view_is
+  over_so : (v : View) → over_by arrivals table v ≡ reached_over past v
+  over_so v = over_there v ∙ ap (λ p. reached_over p v) view_is
 
-  pub over_decides : (k : ℕ) (v : View) → Decides (sought_by given table (Over k) v) (reached_over past v ≡ Some k)
+  pub over_decides : (k : ℕ) (v : View) → Decides (sought_by arrivals table (Over k) v) (reached_over past v ≡ Some k)
   over_decides k v = subst (λ o. Decides (is k o) (reached_over past v ≡ Some k)) (sym (over_so v)) (is_decides k (reached_over past v))
 
   elsewhere_is : (edition : Edition) (k : ℕ) (v : View) → is_elsewhere_by edition k v (reached_over past v) ≡ is_elsewhere edition k past v
   elsewhere_is First k v = refl
   elsewhere_is Later k v = refl
 
-  pub elsewhere_decides : (edition : Edition) (k : ℕ) (v : View) → Decides (sought_by given table (Elsewhere k edition) v) (IsTrue (is_elsewhere edition k past v))
+  pub elsewhere_decides : (edition : Edition) (k : ℕ) (v : View) → Decides (sought_by arrivals table (Elsewhere k edition) v) (IsTrue (is_elsewhere edition k past v))
   elsewhere_decides edition k v =
       subst (λ b. Decides b (IsTrue (is_elsewhere edition k past v))) (sym (ap (λ o. is_elsewhere_by edition k v o) (over_so v) ∙ elsewhere_is edition k v)) ((λ h. h), λ h. h)

@@ -1,16 +1,17 @@
 -- Records by their kind: one that turns no view settles nothing, takes no results and resolves no promise, and one that
 -- may turn views asks nothing and aborts no connection.
-use Rattle.std.proofs.Common.{◌≡◌, inl, refl, sym, ℕ, true, false, Option, None}
+use Rattle.std.proofs.Common.{◌≡◌, inl, refl, sym, ℕ, true, false, Option, Some, None, if◌then◌else◌}
 use Rattle.std.proofs.lemmas.Bool.{false≢true}
 use Rattle.vat_view.specs.declared.tables.question.Question.{Question}
 use Rattle.vat_view.specs.declared.tables.exports_imports.ExportsImports.{ExportsImports}
 use Rattle.vat_view.specs.declared.tables.settlements.Settlements.{Settlements}
 use Rattle.vat_view.specs.declared.tables.settlements.Settling.{Settling}
+use Rattle.vat_view.specs.declared.tables.turned.Turned.TheVariants.{Nowhere}
 use Rattle.vat_view.specs.declared.tables.connections.Connections.{Connections}
-use Rattle.vat_view.specs.Types.{Return, Resolve, DecodedRecord, Fulfil, Break, Answer, AnswerBy, Fault, Wire, View, TableKey}
+use Rattle.vat_view.specs.Types.{Return, Resolve, DecodedRecord, Fulfil, Break, Answer, AnswerBy, Fault, Wire, View, Object, Promise, FieldOf, Import, TableKey}
 use Rattle.vat_view.specs.Lives.{promise_resolved}
 use Rattle.vat_view.specs.Glue.Asking.{taken_from_by}
-use Rattle.vat_view.specs.Glue.TurnTables.{may_turn, settled_by, SaysSameTurns, IsNoted}
+use Rattle.vat_view.specs.Glue.TurnTables.{may_turn, field_path, turn_target, settled_by, settled_at, settles, SaysSameTurns, IsNoted}
 use Rattle.vat_view.proofs.Connecting.{SaysMore}
 
 pub settles_none : (named : ℕ → Option View) (lives : ExportsImports) (known : TableKey → Option Question) (e : DecodedRecord) → may_turn e ≡ false → None ≡ settled_by named lives known e
@@ -35,13 +36,25 @@ resolves_none _ h = refl
 
 -- nothing is settled, and the table says what it said
 abbrev pub nothing_settled : Settling
-nothing_settled = record { settled = None; by = None }
+nothing_settled = record { settled = None; by = None; turned = Nowhere }
+
+none_noted : {A : Type 0} (v : View) (x y : A) → y ≡ (if settles v None then x else y)
+none_noted (Object object) x y = refl
+none_noted (Promise p) x y = refl
+none_noted (FieldOf call path) x y = refl
+none_noted (Import i place) x y = refl
+
+pub still_turned : (e : DecodedRecord) (v : View) → settles v None ≡ true → None ≡ turn_target (field_path v) e
+still_turned e (Object object) h = absurd (false≢true h)
+still_turned e (Promise p) h = absurd (false≢true h)
+still_turned e (FieldOf call path) h = absurd (false≢true h)
+still_turned e (Import i place) h = absurd (false≢true h)
 
 pub says_still : (table : Settlements) → SaysSameTurns table table
-says_still table = record { settlers = λ p. refl; handed = λ c. refl }
+says_still table = record { settlers = λ v. refl; handed = λ c. refl }
 
 pub noted_still : (number : ℕ) (table : Settlements) → IsNoted nothing_settled number table table
-noted_still number table = record { settlers = λ p. refl; handed = λ c. refl; ahead = λ c q h. inl h }
+noted_still number table = record { settlers = λ v. none_noted v (Some (number, None)) (settled_at table v); handed = λ c. refl; ahead = λ c q h. inl h }
 
 pub asks_none : (table : Connections) (e : DecodedRecord) → may_turn e ≡ true → SaysMore e table table
 asks_none table (Fulfil r to) h = record { asked = λ c. refl; aborted = λ k. refl; aborted_here = λ k. refl }

@@ -1,8 +1,9 @@
 -- The connections over which views are reached, and those that were aborted (rpc.capnp, the comments of Disembargo and
 -- of Message.abort).
-use Rattle.std.specs.Prelude.{◌≡◌, ℕ, ◌==◌, Bool, true, false, not, ◌||◌, Option, Some, None, if◌then◌else◌, option_and_then, IsTrue}
+use Rattle.std.specs.Prelude.{◌≡◌, ℕ, ◌==◌, Bool, true, false, not, ◌||◌, Option, Some, None, if◌then◌else◌, option_map, IsTrue}
 use Rattle.vat_view.specs.Types.{Edition, First, Later, Bootstrap, Call, Abort, DecodedRecord, Wire, View, Object, Promise, FieldOf, Import}
-use Rattle.vat_view.specs.Past.{Past, is, last_answer, record_at}
+use Rattle.vat_view.specs.Past.{Past, is, last_answer}
+use Rattle.vat_view.specs.Arrivals.{arrived}
 use Rattle.vat_view.specs.Calls.{has_passed}
 use Rattle.vat_view.specs.Walks.{Leads}
 
@@ -42,15 +43,10 @@ asks call _ = None
 abbrev pub asked_on : ℕ → Past → Option ℕ
 asked_on call past = last_answer (λ before e. asks call e) past
 
--- the connection on which a record's frame passed
-abbrev pub connection_of : DecodedRecord → Option ℕ
-connection_of (Wire sent k call references m) = Some k
-connection_of _ = None
-
--- the connection over which a view is reached: an import over the one that brought it, a field over the one on which
--- its call was asked; an own object or promise over none
+-- the connection over which a view is reached: an import over the one over which it came in, a field over the one on
+-- which its call was asked; an own object or promise over none
 abbrev pub reached_over : Past → View → Option ℕ
-reached_over past (Import number place) = option_and_then connection_of (record_at number past)
+reached_over past (Import number place) = option_map (λ a. a.connection) (arrived past number place)
 reached_over past (FieldOf call path) = asked_on call past
 reached_over past _ = None
 

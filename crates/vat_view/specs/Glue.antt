@@ -1,7 +1,9 @@
 -- For the code's contracts, and no part of the meaning: the tables, and what looking back finds for them.
+pub mod ArrivalTables
 pub mod Asking
 pub mod CallTables
 pub mod ConnectionTables
+pub mod FieldTargets
 pub mod Ids
 pub mod Kept
 pub mod KindTables

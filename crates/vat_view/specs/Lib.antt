@@ -6,6 +6,7 @@ pub mod Views
 pub mod Walks
 pub mod Calls
 pub mod Loopbacks
+pub mod Arrivals
 pub mod Connections
 pub mod Uses
 pub mod Bindings

@@ -6,9 +6,10 @@
 //! often export and import numbers are held, and their lives (`specs/Lives.antt`); what references, numbers, descriptors
 //! and targets stand for (`specs/Views.antt`, and of a number as its vat names it `specs/Numbers.antt`); where views turn,
 //! and where that leads (`specs/Walks.antt`); calls at the vat, and what is known of their results (`specs/Calls.antt`);
-//! loopbacks (`specs/Loopbacks.antt`); over which connections views are reached, and which were aborted
-//! (`specs/Connections.antt`); and what a record uses (`specs/Uses.antt`) and binds (`specs/Bindings.antt`). What holds of all logs by these definitions is promised by
-//! the functions of `src/laws.rt`, which do nothing.
+//! loopbacks (`specs/Loopbacks.antt`); which imports came in (`specs/Arrivals.antt`); over which connections views are
+//! reached, and which were aborted (`specs/Connections.antt`); and what a record uses (`specs/Uses.antt`) and binds
+//! (`specs/Bindings.antt`). What holds of all logs by these definitions is promised by the functions of `src/laws.rt`,
+//! which do nothing.
 #![tactic(auto)]
 
 mod apply;

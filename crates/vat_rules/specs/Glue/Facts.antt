@@ -1,12 +1,12 @@
 -- For the code's contracts, and no part of the meaning: what a record's numbers stand for
 -- before it is applied, looked up at once.
-use Rattle.std.specs.Prelude.{ℕ, List, [], ◌∷◌, map, Option, Some, None, slice_get, unwrap_or}
+use Rattle.std.specs.Prelude.{ℕ, List, map, Option, None, slice_get, unwrap_or}
 use Rattle.std.specs.List.{zip}
 use Rattle.vat_rules.specs.Types.{DecodedRecord, View}
 use Rattle.vat_view.specs.Past.{Past}
 use Rattle.vat_view.specs.Views.{view_of_target, views_of_descriptors}
 use Rattle.vat_view.specs.Questions.{is_late}
-use Rattle.vat_rules.specs.Telling.{seen_question, seen_taken, seen_promise, seen_released, seen_of}
+use Rattle.vat_rules.specs.Telling.{seen_question, seen_taken, seen_promise, seen_released}
 use Rattle.vat_rules.specs.Glue.Standing.{Standing}
 use Rattle.vat_rules.specs.LogFacts.{Sight, Entry}
 
@@ -25,11 +25,6 @@ standing_of before e = record {
 -- the view of these at a place, if one is there
 abbrev pub view_at : ℕ → List (Option View) → Option View
 view_at place views = unwrap_or (slice_get views place) None
-
--- what is seen of each record, the newest first
-abbrev pub seen_back : Past → List Sight
-seen_back [] = []
-seen_back (e ∷ before) = seen_of before e ∷ seen_back before
 
 -- records, each with what is seen of it
 abbrev pub entries_with : List DecodedRecord → List Sight → List Entry

@@ -1,18 +1,21 @@
 -- For the code's contracts, and no part of the meaning: one record more of a log.
-use Rattle.std.specs.Prelude.{◌≡◌, ℕ, List, [], ◌∷◌, ◌++◌, Bool, true, false, Ok, Err}
+use Rattle.std.specs.Prelude.{◌≡◌, ℕ, List, [], ◌∷◌, Bool, true, false, ⊤, Ok, Err}
 use Rattle.vat_log.specs.declared.body.Body.{Body}
 use Rattle.vat_log.specs.declared.body.Body.TheVariants as body
 use Rattle.vat_view.specs.Past.{Past}
 use Rattle.vat_rules.specs.Types.{Edition, DecodedRecord, Host, Vow, Make, Field, Wire}
-use Rattle.vat_rules.specs.LogFacts.{Sight}
 use Rattle.vat_rules.specs.Rules.{rules}
 use Rattle.vat_rules.specs.Events.{Reader, event_of}
 use Rattle.vat_rules.specs.Judged.{IsGoodBy, BreaksFirst}
 use Rattle.vat_rules.specs.Telling.{seen_of}
 use Rattle.vat_rules.specs.declared.outcome.Outcome.{Outcome}
 use Rattle.vat_rules.specs.declared.outcome.Outcome.TheVariants as outcome
+use Rattle.vat_rules.specs.Glue.Facts.{standing_of}
+use Rattle.vat_rules.specs.declared.taking.Known.{Known}
+use Rattle.vat_rules.specs.declared.taking.Known.TheVariants.{Own, Bare, Full}
 use Rattle.vat_rules.specs.declared.taking.Refusal.{Refusal}
 use Rattle.vat_rules.specs.declared.taking.Refusal.TheVariants.{Outside, Broken}
+use Rattle.vat_rules.specs.declared.taking.Taken.{Taken}
 
 -- a stored record has a frame
 abbrev pub has_frame : Body → Bool
@@ -53,14 +56,24 @@ is_flat (body.Field r call path) = false
 is_flat (body.Answer call results) = false
 is_flat _ = true
 
--- a stored record is read as this one, which is good and was put behind those before it, with what is seen of it behind
--- what was seen of those
-pub record IsTaken (edition : Edition) (read : Reader) (before : Past) (b : Body) (after : Past) (seen longer : List Sight) : Type 0 where
-  pub event : DecodedRecord
-  pub is : event_of read b ≡ Ok event
-  pub good : IsGoodBy edition before event
-  pub state : after ≡ event ∷ before
-  pub more : longer ≡ seen ++ seen_of before event ∷ []
+-- what is known of a record after it was judged: that it has no message, all that is seen of it, or what its numbers
+-- stand for apart from its references
+abbrev pub IsKnown : Past → DecodedRecord → Known → Type 0
+IsKnown before e Own = is_own e ≡ true
+IsKnown before e (Bare seen) = seen ≡ seen_of before e
+IsKnown before e (Full standing) = (is_own e ≡ false) × (standing ≡ standing_of before e)
+
+-- only a record without a message is known to be one
+abbrev pub IsOwnIfKnown : DecodedRecord → Known → Type 0
+IsOwnIfKnown e Own = is_own e ≡ true
+IsOwnIfKnown e _ = ⊤
+
+-- a stored record is read as this one, which is good and was put behind those before it
+pub record IsTaken (edition : Edition) (read : Reader) (before : Past) (b : Body) (after : Past) (taken : Taken) : Type 0 where
+  pub is : event_of read b ≡ Ok taken.event
+  pub good : IsGoodBy edition before taken.event
+  pub state : after ≡ taken.event ∷ before
+  pub known : IsKnown before taken.event taken.known
 
 -- a stored record isn't good for this reason
 abbrev pub IsRefused : Edition → Reader → Past → Body → Refusal → Type 0

@@ -2,6 +2,7 @@
 
 pub(crate) mod alike;
 pub(crate) mod compact;
+pub(crate) mod gathered;
 pub(crate) mod lookup;
 pub(crate) mod meanings;
 pub(crate) mod role;

@@ -1,14 +1,16 @@
 -- For the code's contracts, and no part of the meaning: the table of connections, and walks to views of a kind.
-use Rattle.std.specs.Prelude.{◌≡◌, ℕ, ◌==◌, List, Bool, true, false, not, ◌||◌, Option, Some, None, if◌then◌else◌, option_and_then, unwrap_or, is_some, slice_get, IsTrue}
+use Rattle.std.specs.Prelude.{◌≡◌, ℕ, ◌==◌, Bool, true, false, not, ◌||◌, Option, Some, None, if◌then◌else◌, option_map, option_and_then, unwrap_or, is_some, IsTrue}
 use Rattle.std.specs.Ordering.{nat_cmp}
 use Rattle.std.specs.BTreeMap.{BTreeMap, get}
 use Rattle.rising_table.specs.Entries.{entry_at}
+use Rattle.vat_view.specs.declared.tables.arrivals.Arrivals.{Arrivals}
 use Rattle.vat_view.specs.declared.tables.connections.Connections.{Connections}
 use Rattle.vat_view.specs.declared.walks.reachable.Sought.{Sought}
 use Rattle.vat_view.specs.declared.walks.reachable.Sought.TheVariants.{Over, Elsewhere}
 use Rattle.vat_view.specs.Types.{Edition, First, Later, Bootstrap, Call, DecodedRecord, Wire, View, FieldOf, Import}
 use Rattle.vat_view.specs.Past.{Past, is}
-use Rattle.vat_view.specs.Connections.{is_aborted, is_aborted_here, asked_on, connection_of, is_own, is_another}
+use Rattle.vat_view.specs.Connections.{is_aborted, is_aborted_here, asked_on, is_own, is_another}
+use Rattle.vat_view.specs.Glue.ArrivalTables.{arrival_at}
 use Rattle.vat_view.specs.Glue.TurnTables.{after_turns}
 
 -- the call for which a record asks a question of this vat's, with the connection
@@ -54,11 +56,11 @@ pub record AreConnected (past : Past) (table : Connections) : Type 0 where
 
 -- ---- walks to views of a kind
 
--- the connection over which a view is reached, by the table, among these records with the oldest first
-abbrev pub over_by : List DecodedRecord → Connections → View → Option ℕ
-over_by events table (Import number place) = option_and_then connection_of (slice_get events number)
-over_by events table (FieldOf call path) = asked_at table call
-over_by events table _ = None
+-- the connection over which a view is reached, by the tables
+abbrev pub over_by : Arrivals → Connections → View → Option ℕ
+over_by arrivals table (Import number place) = option_map (λ a. a.connection) (arrival_at arrivals number place)
+over_by arrivals table (FieldOf call path) = asked_at table call
+over_by arrivals table _ = None
 
 -- a view is elsewhere than over this connection, where it is reached over that one or none
 abbrev pub is_elsewhere_by : Edition → ℕ → View → Option ℕ → Bool
@@ -70,9 +72,9 @@ abbrev pub is_sought : Sought → View → Option ℕ → Bool
 is_sought (Over k) v over = is k over
 is_sought (Elsewhere k edition) v over = is_elsewhere_by edition k v over
 
--- the same by the table
-abbrev pub sought_by : List DecodedRecord → Connections → Sought → View → Bool
-sought_by events table sought v = is_sought sought v (over_by events table v)
+-- the same by the tables
+abbrev pub sought_by : Arrivals → Connections → Sought → View → Bool
+sought_by arrivals table sought v = is_sought sought v (over_by arrivals table v)
 
 -- one that passes a test is reached by some number of turns
 abbrev pub ReachesOne : {A : Type 0} → (A → Option A) → (A → Bool) → A → Type 0

@@ -1,5 +1,5 @@
 -- For the code's contracts, and no part of the meaning: the table of Resolves, and the kinds of lives.
-use Rattle.std.specs.Prelude.{◌≡◌, ℕ, nat_lt, List, Bool, true, false, not, ◌&&◌, Option, Some, None, option_map, option_and_then, unwrap_or, is_some, slice_get}
+use Rattle.std.specs.Prelude.{◌≡◌, ℕ, nat_lt, Bool, true, false, not, ◌&&◌, Option, Some, None, option_map, option_and_then, is_some}
 use Rattle.std.specs.Bool.{beq}
 use Rattle.std.specs.BTreeMap.{get}
 use Rattle.std.specs.Option.{option_or, option_map_or}
@@ -9,7 +9,7 @@ use Rattle.vat_view.specs.declared.record.origin.Origin.{Origin}
 use Rattle.vat_view.specs.declared.tables.resolves.Resolves.{Resolves}
 use Rattle.vat_view.specs.Types.{Descriptor, DecodedRecord, TableKey}
 use Rattle.vat_view.specs.Past.{Past, Point, names, record_index, last_where}
-use Rattle.vat_view.specs.Lives.{descriptors, number_introduced, is_promised, promise_resolved}
+use Rattle.vat_view.specs.Lives.{number_introduced, is_promised, promise_resolved}
 use Rattle.vat_view.specs.Glue.Tables.{id_cmp, held_origin, begun_origin}
 
 -- the record that the table has for a promise
@@ -29,27 +29,18 @@ last_resolve i past = last_where (λ before e. names i (promise_resolved e)) pas
 abbrev pub AreResolved : Past → Resolves → Type 0
 AreResolved past table = (i : TableKey) → resolve_at table i ≡ option_map record_index (last_resolve i past)
 
--- whether a life that began so began with a senderPromise, in these records with the oldest first
-abbrev pub promised_at : List DecodedRecord → Origin → Bool
-promised_at events origin = is_promised (option_and_then (λ e. slice_get (descriptors e) origin.place) (slice_get events origin.number))
-
 -- whether the last Resolve came after the record where a life began
 abbrev pub resolved_since : Option Origin → Option ℕ → Bool
 resolved_since (Some origin) (Some last) = nat_lt origin.number last
 resolved_since (Some origin) None = false
 resolved_since None last = false
 
--- whether a life that began so, in these records with the oldest first or in the one that comes next, began with a
--- senderPromise
-abbrev pub promised_by : List DecodedRecord → DecodedRecord → Origin → Bool
-promised_by events next origin = is_promised (slice_get (descriptors (unwrap_or (slice_get events origin.number) next)) origin.place)
-
--- whether a descriptor of the record that comes next is of the kind of a life that began so, if one did
-abbrev pub of_kind_by : List DecodedRecord → DecodedRecord → Descriptor → Option Origin → Bool
-of_kind_by events next d origin = option_map_or (λ origin. beq (promised_by events next origin) (is_promised (Some d))) origin true
+-- whether a descriptor is of the kind of a life that began so, if one did
+abbrev pub of_kind_by : Descriptor → Option Origin → Bool
+of_kind_by d origin = option_map_or (λ origin. beq origin.promised (is_promised (Some d))) origin true
 
 -- whether the number that a descriptor of the record that comes next introduces keeps its kind, by the tables before
 -- it and what it introduces
-abbrev pub keeps_by : List DecodedRecord → ExportsImports → Introduced → Resolves → DecodedRecord → Descriptor → Bool
-keeps_by events lives begun resolves next d =
-    option_map_or (λ i. of_kind_by events next d (option_or (held_origin lives i) (begun_origin begun i)) && not (resolved_since (held_origin lives i) (resolve_at resolves i))) (number_introduced next d) true
+abbrev pub keeps_by : ExportsImports → Introduced → Resolves → DecodedRecord → Descriptor → Bool
+keeps_by lives begun resolves next d =
+    option_map_or (λ i. of_kind_by d (option_or (held_origin lives i) (begun_origin begun i)) && not (resolved_since (held_origin lives i) (resolve_at resolves i))) (number_introduced next d) true

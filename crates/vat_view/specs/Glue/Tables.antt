@@ -21,7 +21,7 @@ use Rattle.vat_view.specs.Questions.{is_late, question_returned, question_return
 use Rattle.vat_view.specs.Uses.{UsesQuestions}
 use Rattle.vat_view.specs.Bindings.{Refers, NotesEach}
 use Rattle.vat_view.specs.Views.{placed_references, references, view_of_reference}
-use Rattle.vat_view.specs.Lives.{GivesBackHeld, Birth, begins, is_in_life, descriptors, number_introduced, introductions, introductions_at, introduced_count, released_count, held}
+use Rattle.vat_view.specs.Lives.{GivesBackHeld, Birth, begins, is_in_life, descriptors, number_introduced, is_promised, began_promised, introductions, introductions_at, introduced_count, released_count, held}
 
 -- the order of numbers in tables
 abbrev pub id_cmp : TableKey → TableKey → Ordering
@@ -63,7 +63,7 @@ life_at table i = value_at table.entries i
 
 -- where a number's life began, by what is kept of it
 abbrev pub begun_at : Life → Origin
-begun_at life = record { number = life.number; place = life.place; reference = if life.noted then Some life.reference else None }
+begun_at life = record { number = life.number; place = life.place; promised = life.promised; reference = if life.noted then Some life.reference else None }
 
 -- how often the table says that a number is held
 abbrev pub count_at : ExportsImports → TableKey → ℕ
@@ -82,10 +82,10 @@ kept_origin None origin = origin
 abbrev pub raised_origin : ℕ → Option Origin → TableKey → List (TableKey × Origin) → Option Origin
 raised_origin count origin i introduced = if count == 0 then option_or (option_map (λ x. x.1) (find (λ x. same_id i x.0) introduced)) origin else origin
 
--- where a life began: the number of its record, the descriptor's place there, and the reference noted for that, if
--- there is one
+-- where a life began: the number of its record, the descriptor's place there, whether that is a senderPromise, and
+-- the reference noted for it, if there is one
 abbrev pub origin_of : Birth → Origin
-origin_of b = record { number = record_index b.from; place = b.place; reference = option_map (λ n. n.0) (find (λ n. n.1 == b.place) (placed_references b.from.event)) }
+origin_of b = record { number = record_index b.from; place = b.place; promised = began_promised b; reference = option_map (λ n. n.0) (find (λ n. n.1 == b.place) (placed_references b.from.event)) }
 
 -- whether a descriptor isn't none
 abbrev pub is_cap : Descriptor → Bool
@@ -95,7 +95,7 @@ is_cap _ = true
 -- what a descriptor at a place introduces, with its origin, where so many references were noted before it
 abbrev pub origin_by : ℕ → DecodedRecord → ℕ → ℕ → Descriptor → Option (TableKey × Origin)
 origin_by number e place before d =
-    option_map (λ i. (i, record { number = number; place = place; reference = slice_get (references e) before })) (number_introduced e d)
+    option_map (λ i. (i, record { number = number; place = place; promised = is_promised (Some d); reference = slice_get (references e) before })) (number_introduced e d)
 
 -- what descriptors introduce, from a place on
 abbrev pub origins_from : ℕ → DecodedRecord → ℕ → ℕ → List Descriptor → List (TableKey × Origin)

@@ -1,6 +1,6 @@
 -- For the code's contracts, and no part of the meaning: the table of turns, what looking back finds for its keys, and
 -- walks by so many turns.
-use Rattle.std.specs.Prelude.{◌≡◌, ◌⊎◌, ◌≤◌, ℕ, zero, suc, ◌+◌, ◌*◌, ◌==◌, ◌&&◌, List, ◌∷◌, [], Bool, true, false, Option, Some, None, if◌then◌else◌, option_map, option_and_then, find, slice_get, is_some, unwrap_or, length}
+use Rattle.std.specs.Prelude.{◌≡◌, ◌⊎◌, ◌≤◌, ℕ, zero, suc, ◌+◌, ◌*◌, ◌==◌, ◌&&◌, ◌||◌, List, ◌∷◌, [], Bool, true, false, Option, Some, None, if◌then◌else◌, option_map, option_and_then, find, is_some, unwrap_or, length}
 use Rattle.std.specs.declared.cmp.Ordering.{Ordering}
 use Rattle.std.specs.BTreeMap.{get}
 use Rattle.std.specs.Option.{option_or}
@@ -16,11 +16,15 @@ use Rattle.vat_view.specs.declared.record.unsettled.Unsettled.{Unsettled}
 use Rattle.vat_view.specs.declared.record.unsettled.Unsettled.TheVariants.{Promise as PromiseToKeep, Results as ResultsOf, Import as ImportToResolve}
 use Rattle.vat_view.specs.declared.tables.settlements.Settlements.{Settlements}
 use Rattle.vat_view.specs.declared.tables.settlements.Settling.{Settling}
+use Rattle.vat_view.specs.declared.tables.turned.Turned.{Turned}
+use Rattle.vat_view.specs.declared.tables.turned.Turned.TheVariants.{Nowhere, Reference as ToOne, Field as OneField, Fields as ManyFields}
+use Rattle.vat_view.specs.declared.tables.turned.Ended.{Ended}
+use Rattle.vat_view.specs.declared.tables.turned.Ended.TheVariants.{Open as Unended, Nowhere as EndedNowhere, Reference as EndedAt}
 use Rattle.vat_view.specs.declared.tables.handovers.Handovers.{Handovers}
 use Rattle.vat_view.specs.declared.tables.handovers.Handover.{Handover}
 use Rattle.vat_view.specs.declared.tables.handovers.HandedCall.{HandedCall}
-use Rattle.vat_view.specs.declared.walks.turn_target.Landing.{Landing}
-use Rattle.vat_view.specs.declared.walks.turn_target.Landing.TheVariants.{Reference as ToReference, Call as ToCall}
+use Rattle.vat_view.specs.declared.walks.landing.Landing.{Landing}
+use Rattle.vat_view.specs.declared.walks.landing.Landing.TheVariants.{Reference as ToReference, Call as ToCall}
 use Rattle.vat_view.specs.contracts.record.unsettled.UnsettledOrd.TheImpl as pending_order
 use Rattle.vat_view.specs.Types.{Outcome, Results, Elsewhere, Return, Resolve, DecodedRecord, Fulfil, Break, Answer, AnswerBy, Fault, Wire, View, Object, Promise, FieldOf, Import, TableKey}
 use Rattle.vat_view.specs.Past.{Past, Point, id, record_index, last_answer, last_where, Each}
@@ -30,6 +34,7 @@ use Rattle.vat_view.specs.Views.{placed_references, view_of_reference}
 use Rattle.vat_view.specs.Calls.{answerer, call_taken_from}
 use Rattle.vat_view.specs.Walks.{Next, turns, stays, on_to, next}
 use Rattle.vat_view.specs.Bindings.{is_bound}
+use Rattle.vat_view.specs.Glue.FieldTargets.{target_among}
 use Rattle.vat_view.specs.Glue.Tables.{bound_at, held_origin}
 
 -- ---- what records settle
@@ -119,14 +124,44 @@ may_turn _ = false
 abbrev pub reference_at : DecodedRecord → ℕ → Option ℕ
 reference_at e place = option_map (λ n. n.0) (find (λ n. n.1 == place) (placed_references e))
 
+-- the reference that ANSWER gives at a path
+abbrev pub answered_at : List ℕ → List (ℕ × List ℕ) → Option ℕ
+answered_at path results = option_map (λ answer. answer.0) (find (λ answer. same_path answer.1 path) results)
+
+-- the reference noted for what a Return's results have at a path
+abbrev pub returned_at : (ℕ → Option ℕ) → List ℕ → List (List ℕ × ℕ) → Option ℕ
+returned_at noted path fields = option_and_then (λ field. noted field.1) (find (λ field. same_path field.0 path) fields)
+
 -- the reference to which a record turns a view of this path that it settles
 abbrev pub turn_target : List ℕ → DecodedRecord → Option ℕ
 turn_target path (Fulfil r to) = Some to
-turn_target path (Answer c results) = option_map (λ answer. answer.0) (find (λ answer. same_path answer.1 path) results)
-turn_target path (Wire s k c rs (Return q release (Results payload) light)) =
-    option_and_then (λ field. reference_at (Wire s k c rs (Return q release (Results payload) light)) field.1) (find (λ field. same_path field.0 path) payload.fields)
+turn_target path (Answer c results) = answered_at path results
+turn_target path (Wire s k c rs (Return q release (Results payload) light)) = returned_at (reference_at (Wire s k c rs (Return q release (Results payload) light))) path payload.fields
 turn_target path (Wire s k c rs (Resolve n resolution)) = reference_at (Wire s k c rs (Resolve n resolution)) 0
 turn_target path _ = None
+
+-- the same as it is kept without the record
+abbrev pub target_in : List ℕ → Turned → Option ℕ
+target_in path Nowhere = None
+target_in path (ToOne r) = Some r
+target_in path (OneField r at) = if same_path at path then Some r else None
+target_in path (ManyFields fields) = target_among path fields
+
+-- the same of one result, as it is kept
+abbrev pub answer_target : ℕ × List ℕ → Option ℕ × List ℕ
+answer_target answer = (Some answer.0, answer.1)
+
+abbrev pub field_target : (ℕ → Option ℕ) → List ℕ × ℕ → Option ℕ × List ℕ
+field_target noted field = (noted field.1, field.0)
+
+-- it is kept where a record turns each view that it settles
+abbrev pub IsTurned : DecodedRecord → Turned → Type 0
+IsTurned e turned = (path : List ℕ) → target_in path turned ≡ turn_target path e
+
+-- every view is turned nowhere, by its kind
+abbrev pub is_nowhere : Turned → Bool
+is_nowhere Nowhere = true
+is_nowhere _ = false
 
 -- a record that settled something, and the call by whose results it did, if there is one
 abbrev pub Settler : Type 0
@@ -139,10 +174,25 @@ goes named path (Some (e, Some by)) = turns (FieldOf by path)
 goes named path (Some (e, None)) = on_to (option_and_then named (turn_target path e))
 goes named path None = stays
 
--- the same as the code has it: the reference or the call to which it turns
-abbrev pub landing_of : List ℕ → Settler → Option Landing
-landing_of path (e, Some by) = Some (ToCall by)
-landing_of path (e, None) = option_map ToReference (turn_target path e)
+-- how a record that settled a view turns it: to the view of a reference, or where there is a call by whose results it
+-- did, to the same field of that
+abbrev pub Turning : Type 0
+Turning = Option ℕ × Option ℕ
+
+-- where a view of this path goes by that
+abbrev pub goes_to : (ℕ → Option View) → List ℕ → Option Turning → Next
+goes_to named path (Some (r, Some by)) = turns (FieldOf by path)
+goes_to named path (Some (r, None)) = on_to (option_and_then named r)
+goes_to named path None = stays
+
+-- how a settler turns a view of this path
+abbrev pub turning_of : List ℕ → Settler → Turning
+turning_of path s = (turn_target path s.0, s.1)
+
+-- the reference or the call to which it turns
+abbrev pub landing_of : Turning → Option Landing
+landing_of (r, Some by) = Some (ToCall by)
+landing_of (r, None) = option_map ToReference r
 
 -- the view to which it turns so
 abbrev pub landing_view : (ℕ → Option View) → List ℕ → Landing → Option View
@@ -166,6 +216,13 @@ settler_at_point p q = (q.event, call_behind p q.before q.event)
 abbrev pub settler_of : View → Past → Option Settler
 settler_of v past = option_and_then (λ p. option_map (settler_at_point p) (settler p past)) (awaited_by v)
 
+-- the last record that settled a view, and its number with the reference to which it turned that
+abbrev pub last_settler : View → Past → Option Point
+last_settler v past = option_and_then (λ p. settler p past) (awaited_by v)
+
+abbrev pub settled_as : View → Point → ℕ × Option ℕ
+settled_as v q = (record_index q, turn_target (field_path v) q.event)
+
 -- the record of this number answers by this call
 abbrev pub handing : ℕ → ℕ → Handover
 handing number by = record { number = number; by = by }
@@ -188,22 +245,61 @@ LandsBound before e = (path : List ℕ) (r : ℕ) → turn_target path e ≡ Som
 abbrev pub pending_cmp : Unsettled → Unsettled → Ordering
 pending_cmp = (pending_order.ghosts).cmp
 
--- the number of the record that a row of the table has under a key
+-- how something ended: the number of the record, and the reference to which it turned, if it did
+abbrev pub ended : Ended → Option (ℕ × Option ℕ)
+ended Unended = None
+ended (EndedNowhere number) = Some (number, None)
+ended (EndedAt number r) = Some (number, Some r)
+
+-- what the rows of the table have under a key: how a promise ended, the number of the record that settled a call, and
+-- where a call's results are turned
+abbrev pub ended_in : List (ℕ × Ended) → ℕ → Option (ℕ × Option ℕ)
+ended_in entries k = option_and_then ended (entry_at entries k)
+
 abbrev pub number_in : List (ℕ × Option ℕ) → ℕ → Option ℕ
 number_in entries k = option_and_then (λ number. number) (entry_at entries k)
 
--- the number of the record that the table has for this
-abbrev pub settler_at : Settlements → Unsettled → Option ℕ
-settler_at table (PromiseToKeep p) = number_in table.promises p
-settler_at table (ResultsOf c) = number_in table.results c
-settler_at table (ImportToResolve i place) = option_and_then (λ number. number) (get pending_cmp table.imports (ImportToResolve i place))
+abbrev pub turned_in : List (ℕ × Turned) → ℕ → Turned
+turned_in entries k = unwrap_or (entry_at entries k) Nowhere
 
--- the table has room for what is settled
-abbrev pub has_room_to_settle : Settlements → Option Unsettled → Bool
-has_room_to_settle table (Some (PromiseToKeep p)) = is_some (entry_at table.promises p)
-has_room_to_settle table (Some (ResultsOf c)) = is_some (entry_at table.results c)
-has_room_to_settle table (Some (ImportToResolve i place)) = is_some (get pending_cmp table.imports (ImportToResolve i place))
-has_room_to_settle table None = true
+-- a number with a target beside it
+abbrev pub settled_with : Option ℕ → Option ℕ → Option (ℕ × Option ℕ)
+settled_with target (Some number) = Some (number, target)
+settled_with target None = None
+
+-- the number of the record that settled a view, by the table, and the reference to which it turned that
+abbrev pub settled_at : Settlements → View → Option (ℕ × Option ℕ)
+settled_at table (Object object) = None
+settled_at table (Promise p) = ended_in table.promises p
+settled_at table (FieldOf c path) = settled_with (target_in path (turned_in table.turned c)) (number_in table.results c)
+settled_at table (Import i place) = option_and_then ended (get pending_cmp table.imports (ImportToResolve i place))
+
+-- a view that waits for this
+abbrev pub waiting : Unsettled → View
+waiting (PromiseToKeep p) = Promise p
+waiting (ResultsOf c) = FieldOf c []
+waiting (ImportToResolve i place) = Import i place
+
+-- something is settled, and a view waits for it
+abbrev pub settles : View → Option Unsettled → Bool
+settles (Object object) s = false
+settles (Promise p) s = is_this (PromiseToKeep p) s
+settles (FieldOf c path) s = is_this (ResultsOf c) s
+settles (Import i place) s = is_this (ImportToResolve i place) s
+
+-- a row has room for where a call's results are turned: it takes none where that is nowhere
+abbrev pub has_room_for_turned : List (ℕ × Turned) → ℕ → Turned → Bool
+has_room_for_turned entries c turned = is_nowhere turned || is_some (entry_at entries c)
+
+-- the table has room for what is settled, and for where its views are turned
+abbrev pub has_room_for : Settlements → Turned → Option Unsettled → Bool
+has_room_for table turned (Some (PromiseToKeep p)) = is_some (entry_at table.promises p)
+has_room_for table turned (Some (ResultsOf c)) = is_some (entry_at table.results c) && has_room_for_turned table.turned c turned
+has_room_for table turned (Some (ImportToResolve i place)) = is_some (get pending_cmp table.imports (ImportToResolve i place))
+has_room_for table turned None = true
+
+abbrev pub has_room_to_settle : Settlements → Settling → Bool
+has_room_to_settle table s = has_room_for table s.turned s.settled
 
 -- what the table of calls that were answered by others has of a call
 abbrev pub handed_call_in : Handovers → ℕ → Option HandedCall
@@ -253,19 +349,20 @@ handed_call (Some (ResultsOf c)) (Some by) = Some c
 handed_call _ _ = None
 
 -- what the table has of a call after the record of this number settled so
-abbrev pub handover_after : Settling → ℕ → ℕ → Option Handover → Option Handover
-handover_after settling number c old =
-    if is_this (ResultsOf c) settling.settled then option_or (option_map (handing number) settling.by) old else old
+abbrev pub handover_after : Option Unsettled → Option ℕ → ℕ → ℕ → Option Handover → Option Handover
+handover_after settled by number c old =
+    if is_this (ResultsOf c) settled then option_or (option_map (handing number) by) old else old
 
 -- a table says the same as before
 pub record SaysSameTurns (old new : Settlements) : Type 0 where
-  pub settlers : (p : Unsettled) → settler_at new p ≡ settler_at old p
+  pub settlers : (v : View) → settled_at new v ≡ settled_at old v
   pub handed : (c : ℕ) → handover_at new c ≡ handover_at old c
 
 -- a table says what it said before, and that the record of this number settled so
 pub record IsNoted (settling : Settling) (number : ℕ) (old new : Settlements) : Type 0 where
-  pub settlers : (p : Unsettled) → settler_at new p ≡ (if is_this p settling.settled then Some number else settler_at old p)
-  pub handed : (c : ℕ) → handover_at new c ≡ handover_after settling number c (handover_at old c)
+  pub settlers : (v : View) → settled_at new v
+      ≡ (if settles v settling.settled then Some (number, target_in (field_path v) settling.turned) else settled_at old v)
+  pub handed : (c : ℕ) → handover_at new c ≡ handover_after settling.settled settling.by number c (handover_at old c)
   pub ahead : IsOwnOrOldCall old.handovers new.handovers
 
 -- the call by whose results the record of this number settled, where the last record that did so has this number
@@ -273,34 +370,31 @@ abbrev pub by_handover : ℕ → Option Handover → Option ℕ
 by_handover number (Some handover) = if handover.number == number then Some handover.by else None
 by_handover number None = None
 
--- the table of turns at a point of a log: for each thing it has the last record that settled it, and for each call the
--- last that answered it by another; each view goes where the record that settled it says, and what it goes to is bound
+-- the table of turns at a point of a log: for each view it has the number of the last record that settled it and where
+-- that turned it, and for each call the last that answered it by another; each view goes where the record that settled it
+-- says, and what it goes to is bound
 pub record AreSettled (past : Past) (table : Settlements) : Type 0 where
-  pub settlers : (p : Unsettled) → settler_at table p ≡ option_map record_index (settler p past)
+  pub settlers : (v : View) → settled_at table v ≡ option_map (settled_as v) (last_settler v past)
   pub handed : (c : ℕ) → handover_at table c ≡ handover_of c past
   pub going : (v : View) → next past v ≡ goes (view_of_reference past) (field_path v) (settler_of v past)
   pub landed : Each LandsBound past
 
--- the call by whose results the record of this number settled something, by the table
-abbrev pub call_behind_by : Settlements → Unsettled → ℕ → Option ℕ
-call_behind_by table (ResultsOf c) number = by_handover number (handover_at table c)
+-- the call by whose results the record of this number settled a view, by the table: only of a field
+abbrev pub call_behind_by : Settlements → View → ℕ → Option ℕ
+call_behind_by table (FieldOf c path) number = by_handover number (handover_at table c)
 call_behind_by table _ number = None
 
--- the record of this number, which settled something, with that call, among these records with the oldest first
-abbrev pub settler_numbered : Settlements → List DecodedRecord → Unsettled → ℕ → Option Settler
-settler_numbered table events p number = option_map (λ e. (e, call_behind_by table p number)) (slice_get events number)
-
--- the record that settled a view, by the table
-abbrev pub settler_by : Settlements → List DecodedRecord → View → Option Settler
-settler_by table events v = option_and_then (λ p. option_and_then (settler_numbered table events p) (settler_at table p)) (awaited_by v)
+-- how the record that settled a view turns it, by the table
+abbrev pub turning_by : Settlements → View → Option Turning
+turning_by table v = option_map (λ s. (s.1, call_behind_by table v s.0)) (settled_at table v)
 
 -- where a view goes next, by the table
-abbrev pub goes_by : List DecodedRecord → Settlements → (ℕ → Option View) → View → Next
-goes_by events table named v = goes named (field_path v) (settler_by table events v)
+abbrev pub goes_by : Settlements → (ℕ → Option View) → View → Next
+goes_by table named v = goes_to named (field_path v) (turning_by table v)
 
 -- the reference or call to which the record that settled a view turns it, by the table
-abbrev pub landed_by : List DecodedRecord → Settlements → View → Option Landing
-landed_by events table v = option_and_then (landing_of (field_path v)) (settler_by table events v)
+abbrev pub landed_by : Settlements → View → Option Landing
+landed_by table v = option_and_then landing_of (turning_by table v)
 
 -- the reference, where it is one
 abbrev pub landed_reference : Landing → Option ℕ
@@ -308,8 +402,8 @@ landed_reference (ToReference r) = Some r
 landed_reference (ToCall c) = None
 
 -- the reference to which it turns, where it turns to one
-abbrev pub reference_by : List DecodedRecord → Settlements → View → Option ℕ
-reference_by events table v = option_and_then landed_reference (landed_by events table v)
+abbrev pub reference_by : Settlements → View → Option ℕ
+reference_by table v = option_and_then landed_reference (landed_by table v)
 
 -- how many references are bound
 abbrev pub bound_len : BoundReferences → ℕ
@@ -338,8 +432,8 @@ abbrev pub view_ahead_at : BoundReferences → ℕ → Option (View × ℕ)
 view_ahead_at table r = option_and_then (λ leap. option_map (λ v. (v, leap.turns)) (bound_at table leap.to)) (ahead_at table r)
 
 -- where the reference ahead of this one lands
-abbrev pub onward_by : List DecodedRecord → Settlements → BoundReferences → ℕ → Option ℕ
-onward_by events table bound r = option_and_then (reference_by events table) (option_and_then (λ leap. bound_at bound leap.to) (ahead_at bound r))
+abbrev pub onward_by : Settlements → BoundReferences → ℕ → Option ℕ
+onward_by table bound r = option_and_then (reference_by table) (option_and_then (λ leap. bound_at bound leap.to) (ahead_at bound r))
 
 -- ---- walks
 
@@ -349,8 +443,8 @@ turned_to (turns v) = Some v
 turned_to _ = None
 
 -- the same by the table
-abbrev pub turn_by : List DecodedRecord → Settlements → (ℕ → Option View) → View → Option View
-turn_by events table named v = turned_to (goes_by events table named v)
+abbrev pub turn_by : Settlements → (ℕ → Option View) → View → Option View
+turn_by table named v = turned_to (goes_by table named v)
 
 -- what is reached by n turns, if there is something
 abbrev pub after_turns : {A : Type 0} → (A → Option A) → ℕ → Option A → Option A
@@ -390,8 +484,8 @@ abbrev pub AreAhead : (View → Option View) → BoundReferences → Type 0
 AreAhead turn table = (r : ℕ) (q : Shortcut) → ahead_at table r ≡ Some q → IsAhead turn table r q
 
 -- the turns by the tables
-abbrev pub turns_of : List DecodedRecord → Settlements → BoundReferences → View → Option View
-turns_of events table bound v = turn_by events table (bound_at bound) v
+abbrev pub turns_of : Settlements → BoundReferences → View → Option View
+turns_of table bound v = turn_by table (bound_at bound) v
 
 -- a call is ahead of another: each of the other's fields leads, by exactly so many of these turns, to its own
 abbrev pub IsCallAhead : (View → Option View) → ℕ → Shortcut → Type 0
@@ -406,9 +500,9 @@ abbrev pub landed_call : Landing → Option ℕ
 landed_call (ToReference r) = None
 landed_call (ToCall c) = Some c
 
-abbrev pub call_onward_by : List DecodedRecord → Settlements → ℕ → Option ℕ
-call_onward_by events table c = option_and_then landed_call (landed_by events table (FieldOf (unwrap_or (call_ahead_in table.handovers c) (own_leap c)).to []))
+abbrev pub call_onward_by : Settlements → ℕ → Option ℕ
+call_onward_by table c = option_and_then landed_call (landed_by table (FieldOf (unwrap_or (call_ahead_in table.handovers c) (own_leap c)).to []))
 
 -- the references and calls ahead are ahead by the turns of these tables
-abbrev pub HaveAhead : List DecodedRecord → Settlements → BoundReferences → Type 0
-HaveAhead events table bound = AreAhead (turns_of events table bound) bound × AreCallsAhead (turns_of events table bound) table.handovers
+abbrev pub HaveAhead : Settlements → BoundReferences → Type 0
+HaveAhead table bound = AreAhead (turns_of table bound) bound × AreCallsAhead (turns_of table bound) table.handovers

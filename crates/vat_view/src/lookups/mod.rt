@@ -4,3 +4,4 @@ pub(crate) mod headings;
 pub(crate) mod meaning;
 pub(crate) mod settling;
 pub(crate) mod table_answers;
+pub(crate) mod turning;

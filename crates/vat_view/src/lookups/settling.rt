@@ -1,12 +1,13 @@
 //! What a record settles, so that views turn.
 
-ghost use Rattle.std.specs.Prelude.{◌≡◌, None, if◌then◌else◌};
+ghost use Rattle.std.specs.Prelude.{◌≡◌, None, IfOk, if◌then◌else◌};
 ghost use Rattle.vat_view.specs.Glue.Tables.{bound_at, question_at, held_origin};
 ghost use Rattle.vat_view.specs.Glue.Asking.{question_taken_here, named_answerer, call_taken_here, taken_from_by};
-ghost use Rattle.vat_view.specs.Glue.TurnTables.{promise_of, results_by, import_by, settled_by, may_turn};
+ghost use Rattle.vat_view.specs.Glue.TurnTables.{promise_of, results_by, import_by, settled_by, may_turn, IsTurned};
 
 use crate::apply::tables::is_late;
 use crate::lookups::meaning::call_of;
+use crate::lookups::turning::turned_by;
 use crate::record::decoded::DecodedRecord;
 use crate::record::table_key::TableKey;
 use crate::record::unsettled::Unsettled;
@@ -16,6 +17,7 @@ use crate::tables::references::BoundReferences;
 use crate::tables::settlements::Settling;
 use crate::view::View;
 use rpc_view::{Outcome, RpcMessage};
+use std::alloc::{AllocError, Global};
 
 /// Whether a record may turn views, by its kind: whether it may settle something, or resolves a promise.
 pub(crate) fn may_turn(event: &DecodedRecord) -> bool
@@ -180,19 +182,24 @@ pub(crate) fn taken_from_by(questions: &Questions, event: &DecodedRecord) -> Opt
     named_answerer(event).or(call_taken_here(questions, event))
 }
 
-/// What a record settles, and the call by whose results it does, by the tables before it.
+/// What a record settles, the call by whose results it does, and where it turns what waits for that, by the tables
+/// before it.
 pub(crate) fn settling_of(
+    alloc: Global,
     questions: &Questions,
     lives: &ExportsImports,
     bound: &BoundReferences,
     event: &DecodedRecord,
-) -> Settling
-    ensures settled { result.settled ≡ settled_by (bound_at bound.now) lives.now
-        (question_at questions.now) event.now }
-    ensures by { result.by ≡ taken_from_by (question_at questions.now) event.now }
+) -> Result<Settling, AllocError>
+    ensures settled { IfOk result (λ settling. settling.settled
+        ≡ settled_by (bound_at bound.now) lives.now (question_at questions.now) event.now) }
+    ensures by { IfOk result
+        (λ settling. settling.by ≡ taken_from_by (question_at questions.now) event.now) }
+    ensures turned { IfOk result (λ settling. IsTurned event.now settling.turned) }
 {
-    Settling {
+    Ok(Settling {
         settled: settled_by(questions, lives, bound, event),
         by: taken_from_by(questions, event),
-    }
+        turned: turned_by(alloc, event)?,
+    })
 }

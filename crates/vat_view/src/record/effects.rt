@@ -1,9 +1,9 @@
 //! What one record does to the numbers of its connection.
 
-ghost use Rattle.std.specs.Prelude.{◌≡◌, [], IfOk, if◌then◌else◌};
+ghost use Rattle.std.specs.Prelude.{◌≡◌, [], IfOk, Some, if◌then◌else◌};
 ghost use Rattle.std.specs.List.{filter_map};
 ghost use Rattle.vat_view.specs.Questions.{question_opened, question_returned, question_returned_lightly, question_finished, question_released, question_taken, asks_elsewhere, noted_call};
-ghost use Rattle.vat_view.specs.Lives.{descriptors, number_introduced, promise_resolved};
+ghost use Rattle.vat_view.specs.Lives.{descriptors, number_introduced, is_promised, promise_resolved};
 ghost use Rattle.vat_view.specs.Views.{references};
 ghost use Rattle.vat_view.specs.Glue.Tables.{is_cap, origin_by, origins_from};
 ghost use Rattle.vat_view.specs.Glue.Plain.{has_message};
@@ -267,6 +267,13 @@ pub(crate) fn is_cap(descriptor: &Descriptor) -> bool
     !matches!(descriptor, Descriptor::NoCap)
 }
 
+/// Whether a descriptor is a senderPromise.
+pub(crate) fn is_promise(descriptor: &Descriptor) -> bool
+    ensures { result ≡ is_promised (Some descriptor.now) }
+{
+    matches!(descriptor, Descriptor::SenderPromise(_))
+}
+
 /// What a descriptor at a place of a record introduces, with its origin, where so many references were noted before
 /// it.
 pub(crate) fn origin_by(
@@ -285,6 +292,7 @@ pub(crate) fn origin_by(
         Origin {
             number,
             place,
+            promised: is_promise(descriptor),
             reference,
         },
     ))

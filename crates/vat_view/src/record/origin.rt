@@ -12,6 +12,8 @@ pub(crate) struct Origin {
     pub(crate) number: usize,
     /// The place of the descriptor in the record's table, counted from 0.
     pub(crate) place: usize,
+    /// Whether that descriptor is a senderPromise.
+    pub(crate) promised: bool,
     /// The reference noted for that descriptor, if there is one.
     pub(crate) reference: Option<u64>,
 }
@@ -25,6 +27,8 @@ pub(crate) struct Life {
     number: u32,
     /// The place of the descriptor there.
     place: u32,
+    /// Whether that descriptor is a senderPromise.
+    promised: bool,
     /// Whether a reference was noted for that descriptor.
     noted: bool,
     /// That reference.
@@ -46,6 +50,7 @@ impl Life {
             count,
             number,
             place,
+            promised: origin.promised,
             noted: origin.reference.is_some(),
             reference: origin.reference.unwrap_or(0),
         })
@@ -63,6 +68,7 @@ impl Life {
         Origin {
             number: self.number as usize,
             place: self.place as usize,
+            promised: self.promised,
             reference,
         }
     }

@@ -1,8 +1,9 @@
-//! What can be asked of connections, and of the loopbacks on them.
+//! What can be asked of connections, of imports that came in over them, and of the loopbacks on them.
 
 ghost use Rattle.std.specs.Prelude.{◌≡◌, ◌<◌, Decides, is_some};
 ghost use Rattle.vat_view.specs.declared.view.View.{View};
 ghost use Rattle.std.specs.Option.{option_copied};
+ghost use Rattle.vat_view.specs.Arrivals.{came_hosted};
 ghost use Rattle.vat_view.specs.Connections.{is_aborted, is_aborted_here};
 ghost use Rattle.vat_view.specs.Loopbacks.{loopback_of, embargoed_view, IsHeldUp};
 
@@ -25,6 +26,17 @@ impl VatState {
         ensures { result ≡ is_aborted_here connection self.now }
     {
         self.tables.connections.is_aborted_here(connection)
+    }
+}
+
+/// What can be asked of imports.
+impl VatState {
+    /// Whether the import came in as senderHosted that stands at this place of the record of this number, both counted
+    /// from 0, as its view has them (rpc.capnp, `CapDescriptor.senderHosted`).
+    pub fn came_hosted(&self, number: usize, place: usize) -> bool
+        ensures { result ≡ came_hosted self.now number place }
+    {
+        self.tables.arrivals.is_hosted(number, place)
     }
 }
 

@@ -19,11 +19,7 @@ impl VatState {
     pub fn stays(&self, view: &View) -> bool
         ensures { IsTrue result ↔ (next self.now view.now ≡ stays) }
     {
-        hops::stays(
-            self.events.as_slice(),
-            &self.tables.turns,
-            BorrowedView::of(view),
-        )
+        hops::stays(&self.tables.turns, BorrowedView::of(view))
     }
 
     /// Whether a view leads to another, by 0 or more turns. Each of its walks, four at most, comes to at most as many views
@@ -33,7 +29,6 @@ impl VatState {
         ensures { IsTrue result ↔ Leads self.now from.now to.now }
     {
         hops::leads(
-            self.events.as_slice(),
             &self.tables.turns,
             &self.tables.bound,
             BorrowedView::of(from),
@@ -46,7 +41,6 @@ impl VatState {
         ensures { IsTrue result ↔ LeadsByTurns self.now from.now to.now }
     {
         hops::leads_by_turns(
-            self.events.as_slice(),
             &self.tables.turns,
             &self.tables.bound,
             BorrowedView::of(from),
@@ -61,12 +55,7 @@ impl VatState {
             (λ end. IsEnd self.now view.now (as_view end)) }
     {
         let view = BorrowedView::of(view);
-        hops::end(
-            self.events.as_slice(),
-            &self.tables.turns,
-            &self.tables.bound,
-            view,
-        )
+        hops::end(&self.tables.turns, &self.tables.bound, view)
     }
 
     /// Whether a view leads, by 0 or more turns, to one that is reached over this connection: an import that came in
@@ -74,12 +63,11 @@ impl VatState {
     pub fn leads_over(&self, from: &View, connection: u32) -> bool
         ensures { Decides result (LeadsOver self.now from.now connection) }
     {
-        let events = self.events.as_slice();
         let sought = Sought::Over(connection);
         leads_to(
-            events,
             &self.tables.turns,
             &self.tables.bound,
+            &self.tables.arrivals,
             &self.tables.connections,
             BorrowedView::of(from),
             sought,
@@ -93,12 +81,11 @@ impl VatState {
     pub fn leads_elsewhere(&self, from: &View, connection: u32, edition: Edition) -> bool
         ensures { Decides result (LeadsElsewhere edition self.now from.now connection) }
     {
-        let events = self.events.as_slice();
         let sought = Sought::Elsewhere(connection, edition);
         leads_to(
-            events,
             &self.tables.turns,
             &self.tables.bound,
+            &self.tables.arrivals,
             &self.tables.connections,
             BorrowedView::of(from),
             sought,

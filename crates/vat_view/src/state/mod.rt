@@ -1,17 +1,12 @@
 //! The state of a vat's numbers after some records of its log.
 
-ghost use Rattle.std.specs.Prelude.{◌≡◌, ◌<◌, [], ◌∷◌, ◌++◌, IfOk, OnOk, OnErr, reverse};
+ghost use Rattle.std.specs.Prelude.{◌≡◌, [], ◌∷◌, IfOk, OnOk, OnErr};
 ghost use Rattle.vat_view.specs.declared.view.View.{View};
-ghost use Rattle.std.specs.Option.{option_copied};
-ghost use Rattle.std.specs.Vec.{vec_len, vec_capacity};
-ghost use Rattle.vat_view.specs.Past.{record_at};
 ghost use Rattle.vat_view.specs.Numbers.{number_held, number_stands};
 ghost use Rattle.vat_view.specs.Lives.{GivesBackHeld};
 ghost use Rattle.vat_view.specs.Uses.{UsesQuestions, UsesNumbers};
 ghost use Rattle.vat_view.specs.Views.{view_of_reference};
 ghost use Rattle.vat_view.specs.Bindings.{Refers, NotesEach};
-ghost use Rattle.vat_view.specs.Sound.{IsSound};
-ghost use Rattle.vat_view.specs.Glue.Whole.{AreWhole};
 
 mod calls;
 mod connections;
@@ -25,36 +20,37 @@ use crate::record::decoded::DecodedRecord;
 use crate::record::number::Number;
 use crate::tables::all_tables::AllTables;
 use crate::view::View;
-use crate::walks::hops;
 use cap_frame::Path;
+use erased::Erased;
 use std::alloc::{AllocError, Global};
 use std::fmt::{self, Debug, Formatter, Write};
 use std::marker::Model;
 
 /// What a vat's numbers are after the records that were applied. Contracts see it as the list of these, the newest
-/// first.
+/// first; it keeps no record, but what the tables have of each, and how many there are.
 #[derive(Drop)]
 pub struct VatState {
-    events: Vec<DecodedRecord>,
+    past: Erased<DecodedRecord>,
+    count: usize,
     tables: AllTables,
 }
 
 impl Model for VatState {
-    ghost use Rattle.std.specs.Prelude.{List, reverse};
+    ghost use Rattle.std.specs.Prelude.{List};
     ghost use Rattle.vat_view.specs.declared.record.decoded.DecodedRecord.{DecodedRecord};
     ghost use Rattle.vat_view.specs.Glue.Whole.{AreWhole};
 
     ghost Value = { List DecodedRecord };
 
-    ghost view = { λ state. reverse state.events.items };
+    ghost view = { λ state. state.past.items };
 
-    ghost invariant = { λ state. AreWhole state.events.items state.tables };
+    ghost invariant = { λ state. AreWhole state.past.items state.count state.tables };
 }
 
 impl Debug for VatState {
     fn fmt<W: Write>(&self, f: &mut Formatter<W>) -> fmt::Result {
         f.debug_struct("VatState")
-            .field("events", &self.events)
+            .field("records", &self.count)
             .finish()
     }
 }
@@ -65,7 +61,8 @@ impl VatState {
         ensures { result ≡ [] }
     {
         VatState {
-            events: Vec::new(alloc),
+            past: Erased::new(),
+            count: 0,
             tables: AllTables::new(alloc),
         }
     }
@@ -121,64 +118,40 @@ impl VatState {
         }
     }
 
-    /// The record of this number among those applied, counted from 0, if there are so many. An import's view has the
-    /// number of the record that brought it.
-    pub fn event_at(&self, number: usize) -> Option<&DecodedRecord>
-        ensures { option_copied result ≡ record_at number self.now }
-    {
-        hops::event_at(self.events.as_slice(), number)
-    }
-
     /// Applies a record, which keeps the rules that are named after those applied.
     ///
     /// # Errors
     ///
     /// Out of memory, and then the state is as it was.
-    pub fn apply(&mut self, event: DecodedRecord) -> Result<(), AllocError>
-        requires refers { Refers self.old event }
-        requires uses { UsesQuestions self.old event }
-        requires numbers { UsesNumbers self.old event }
-        requires gives { GivesBackHeld self.old event }
-        requires notes { NotesEach self.old event }
-        ensures ok { OnOk result (self.new ≡ event ∷ self.old) }
+    pub fn apply(&mut self, event: &DecodedRecord) -> Result<(), AllocError>
+        requires refers { Refers self.old event.now }
+        requires uses { UsesQuestions self.old event.now }
+        requires numbers { UsesNumbers self.old event.now }
+        requires gives { GivesBackHeld self.old event.now }
+        requires notes { NotesEach self.old event.now }
+        ensures ok { OnOk result (self.new ≡ event.now ∷ self.old) }
         ensures err { OnErr result (self.new ≡ self.old) }
     {
-        self.shorten(&event);
-        tell(&mut self.events, &mut self.tables, &event)?;
-        self.events.push_reserved(event);
+        self.shorten(event);
+        let Some(count) = self.count.checked_add(1) else {
+            return Err(AllocError);
+        };
+        self.tables.tell(self.count, event)?;
+        self.past = self.past.with(event);
+        self.count = count;
         Ok(())
     }
 
-    /// The records that were applied, in their order, the oldest first. It takes no memory.
-    pub fn into_events(self) -> Vec<DecodedRecord>
-        ensures { result.items ≡ reverse self }
+    /// The records that were applied, the newest first, as clauses alone see them.
+    pub fn into_past(self) -> Erased<DecodedRecord>
+        ensures { result.items ≡ self }
     {
-        let VatState { events, .. } = self;
-        events
+        let VatState { past, .. } = self;
+        past
     }
 
     /// Where its memory comes from.
     pub(crate) fn allocator(&self) -> Global {
-        *self.events.allocator()
+        self.tables.lives.allocator()
     }
-}
-
-/// Tells the tables of one more record, and makes room for it behind these. Where memory is refused, the tables are of
-/// these alone.
-fn tell(
-    events: &mut Vec<DecodedRecord>,
-    tables: &mut AllTables,
-    event: &DecodedRecord,
-) -> Result<(), AllocError>
-    ensures same { events.new.items ≡ events.old.items }
-    ensures room { OnOk result (vec_len events.new < vec_capacity events.new) }
-    ensures ok { OnOk result
-        (AreWhole events.old.items tables.old → IsSound (reverse events.old.items) event.now
-        → AreWhole (events.old.items ++ event.now ∷ []) tables.new) }
-    ensures err { OnErr result
-        (AreWhole events.old.items tables.old → IsSound (reverse events.old.items) event.now
-        → AreWhole events.old.items tables.new) }
-{
-    events.reserve(1)?;
-    tables.tell(events.len(), event)
 }

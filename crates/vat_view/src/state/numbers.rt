@@ -34,7 +34,7 @@ impl VatState {
         ensures { result ≡ option_map began_promised (birth number self.now) }
     {
         match self.tables.lives.origin_of(number) {
-            Some(origin) => Some(kinds::promised_at(&self.events, origin)),
+            Some(origin) => Some(origin.promised),
             None => None,
         }
     }
@@ -85,9 +85,9 @@ impl VatState {
         ensures { IfOk result (λ view. view
             ≡ descriptor_view (view_of_reference self.now) self.now event.now descriptor.now) }
     {
-        let alloc = *self.events.allocator();
+        let alloc = self.allocator();
         let late = tables::is_late(&self.tables.questions, event);
-        let begun = bindings::introduced_by(alloc, late, self.events.len(), event)?;
+        let begun = bindings::introduced_by(alloc, late, self.count, event)?;
         bindings::view_by(
             &self.tables.bound,
             &self.tables.lives,
@@ -110,9 +110,9 @@ impl VatState {
     ) -> Result<Vec<Option<View>>, AllocError>
         ensures { IfOk result (λ views. views.items ≡ views_of_descriptors self.now event.now) }
     {
-        let alloc = *self.events.allocator();
+        let alloc = self.allocator();
         let late = tables::is_late(&self.tables.questions, event);
-        let begun = bindings::introduced_by(alloc, late, self.events.len(), event)?;
+        let begun = bindings::introduced_by(alloc, late, self.count, event)?;
         table_answers::views_of_descriptors(
             alloc,
             &self.tables.bound,
@@ -134,7 +134,7 @@ impl VatState {
         if !has_message(event) {
             return Ok(true);
         }
-        let alloc = *self.events.allocator();
+        let alloc = self.allocator();
         table_answers::gives_back_held(alloc, &self.tables.questions, &self.tables.lives, event)
     }
 
@@ -148,15 +148,9 @@ impl VatState {
     pub fn keeps_kinds(&self, event: &DecodedRecord) -> Result<bool, AllocError>
         ensures { IfOk result (λ keeps. Decides keeps (KeepsKinds self.now event.now)) }
     {
-        let alloc = *self.events.allocator();
+        let alloc = self.allocator();
         let late = tables::is_late(&self.tables.questions, event);
-        let begun = bindings::introduced_by(alloc, late, self.events.len(), event)?;
-        Ok(kinds::keeps_kinds(
-            &self.events,
-            &self.tables.lives,
-            &begun,
-            &self.tables.resolves,
-            event,
-        ))
+        let begun = bindings::introduced_by(alloc, late, self.count, event)?;
+        Ok(kinds::keeps_kinds(&self.tables.lives, &begun, &self.tables.resolves, event))
     }
 }

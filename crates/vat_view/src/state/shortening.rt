@@ -20,21 +20,14 @@ impl VatState {
     fn shorten_from(&mut self, reference: u64)
         ensures { self.new ≡ self.old }
     {
-        let events = self.events.as_slice();
-        shorten(
-            events,
-            &self.tables.turns,
-            &mut self.tables.bound,
-            reference,
-        );
+        shorten(&self.tables.turns, &mut self.tables.bound, reference);
     }
 
     /// Makes the walks from the fields of this call shorter.
     fn shorten_from_call(&mut self, call: u64)
         ensures { self.new ≡ self.old }
     {
-        let events = self.events.as_slice();
-        shorten_calls(events, &mut self.tables.turns, &self.tables.bound, call);
+        shorten_calls(&mut self.tables.turns, &self.tables.bound, call);
     }
 
     /// Makes a walk shorter that goes on so.
@@ -55,18 +48,13 @@ impl VatState {
     /// Where a walk by 1 or more turns goes on from what this number stands for.
     fn way_of_number(&self, number: TableKey) -> Option<WayOn> {
         let view = view_of_number(&self.tables.bound, &self.tables.lives, number)?;
-        way_after(
-            self.events.as_slice(),
-            &self.tables.turns,
-            &self.tables.bound,
-            view,
-        )
+        way_after(&self.tables.turns, &self.tables.bound, view)
     }
 
     /// Where a walk goes on from the goal of a call.
     fn way_of_goal(&self, call: u64) -> Option<WayOn> {
         let goal = BorrowedView::of(self.tables.calls.goal(call)?);
-        Some(way_from(self.events.as_slice(), &self.tables.turns, goal))
+        Some(way_from(&self.tables.turns, goal))
     }
 
     /// Makes the walks from these references shorter.
@@ -74,13 +62,7 @@ impl VatState {
         ensures { self.new ≡ self.old }
     {
         for reference in references {
-            let events = self.events.as_slice();
-            let way = way_from_reference(
-                events,
-                &self.tables.turns,
-                &self.tables.bound,
-                *reference,
-            );
+            let way = way_from_reference(&self.tables.turns, &self.tables.bound, *reference);
             self.shorten_way(way);
         }
     }
@@ -90,9 +72,8 @@ impl VatState {
         ensures { self.new ≡ self.old }
     {
         for (path, _) in fields {
-            let events = self.events.as_slice();
             let field = BorrowedView::Field(call, path.as_slice());
-            let way = way_after(events, &self.tables.turns, &self.tables.bound, field);
+            let way = way_after(&self.tables.turns, &self.tables.bound, field);
             self.shorten_way(way);
         }
     }
@@ -109,13 +90,13 @@ impl VatState {
                 BorrowedView::Field(call, path.as_slice())
             }
         };
-        Some(way_from(self.events.as_slice(), &self.tables.turns, view))
+        Some(way_from(&self.tables.turns, view))
     }
 
     /// Where a walk goes on from what the target of the senderLoopback stood for that waits under this number.
     fn way_of_waiting(&self, number: TableKey) -> Option<WayOn> {
         let view = BorrowedView::of(self.tables.waits.loopbacks.embargoed_view(number)?);
-        Some(way_from(self.events.as_slice(), &self.tables.turns, view))
+        Some(way_from(&self.tables.turns, view))
     }
 
     /// Makes the walk shorter that the rules ask for on a Disembargo: of one that asks for an echo from its target, and

@@ -1,16 +1,18 @@
 //! All tables of a vat's numbers.
 
-ghost use Rattle.std.specs.Prelude.{◌≡◌, [], ◌∷◌, ◌++◌, List, length, reverse, true, false, is_some, IsTrue, OnOk, OnErr};
-ghost use Rattle.vat_view.specs.declared.record.decoded.DecodedRecord.{DecodedRecord};
+ghost use Rattle.std.specs.Prelude.{◌≡◌, ◌+◌, [], ◌∷◌, length, true, false, Some, is_some, IsTrue, OnOk, OnErr};
+ghost use Rattle.vat_view.specs.Past.{Past};
 ghost use Rattle.vat_view.specs.Sound.{IsSound};
 ghost use Rattle.vat_view.specs.Loopbacks.{sender_loopback};
+ghost use Rattle.vat_view.specs.Glue.ArrivalTables.{arriving_over};
 ghost use Rattle.vat_view.specs.Glue.TurnTables.{may_turn};
-ghost use Rattle.vat_view.specs.Glue.Whole.{AreNoted, AreWhole};
+ghost use Rattle.vat_view.specs.Glue.Whole.{AreNoted, AreTold, AreWhole};
 
 use crate::apply::apply_record::apply_record;
 use crate::lookups::settling::{may_turn, settling_of};
 use crate::record::decoded::DecodedRecord;
-use crate::record::effects::promise_resolved;
+use crate::record::effects::{descriptors, promise_resolved};
+use crate::tables::arrivals::{Arrivals, arriving_over};
 use crate::tables::calls::Calls;
 use crate::tables::connections::Connections;
 use crate::tables::embargoes::Embargoes;
@@ -23,7 +25,7 @@ use crate::tables::settlements::Settlements;
 use crate::tables::waiting_calls::call_taken_by;
 use std::alloc::{AllocError, Global};
 
-/// What is kept of the records that were applied, beside these themselves.
+/// What is kept of the records that were applied.
 #[derive(Drop)]
 pub(crate) struct AllTables {
     pub(crate) questions: Questions,
@@ -34,12 +36,13 @@ pub(crate) struct AllTables {
     pub(crate) turns: Settlements,
     pub(crate) connections: Connections,
     pub(crate) waits: Embargoes,
+    pub(crate) arrivals: Arrivals,
 }
 
 impl AllTables {
     /// Before any record. It takes no memory.
     pub(crate) fn new(alloc: Global) -> AllTables
-        ensures { AreWhole [] result }
+        ensures { AreWhole [] 0 result }
     {
         AllTables {
             questions: Questions::new(alloc),
@@ -50,26 +53,27 @@ impl AllTables {
             turns: Settlements::new(alloc),
             connections: Connections::new(alloc),
             waits: Embargoes::new(alloc),
+            arrivals: Arrivals::new(alloc),
         }
     }
 
-    /// Tells one record that may turn views, which has this number in the log, to all tables but that of what waits.
-    /// None of these asks a question or aborts, so there is nothing to tell of connections. Where memory is refused,
-    /// the tables are of the records before.
+    /// Tells one record that may turn views, which has this number in the log, to all tables but those of what waits and
+    /// of arrivals. None of these asks a question or aborts, so there is nothing to tell of connections. Where memory is
+    /// refused, the tables are of the records before.
     fn note_turning(&mut self, number: usize, event: &DecodedRecord) -> Result<(), AllocError>
         requires { may_turn event.now ≡ true }
         ensures ok { OnOk result
-            ((events : List DecodedRecord) → number ≡ length events → AreNoted events self.old
-            → IsSound (reverse events) event.now
-            → AreNoted (events ++ event.now ∷ []) self.new) }
+            ((before : Past) → number ≡ length before → AreNoted before self.old
+            → IsSound before event.now → AreNoted (event.now ∷ before) self.new) }
         ensures err { OnErr result
-            ((events : List DecodedRecord) → number ≡ length events → AreNoted events self.old
-            → IsSound (reverse events) event.now
-            → AreNoted events self.new) }
+            ((before : Past) → number ≡ length before → AreNoted before self.old
+            → IsSound before event.now → AreNoted before self.new) }
         ensures waits { self.new.waits ≡ self.old.waits }
+        ensures arrivals { self.new.arrivals ≡ self.old.arrivals }
     {
-        let settling = settling_of(&self.questions, &self.lives, &self.bound, event);
-        self.turns.make_room(settling, number)?;
+        let alloc = self.lives.allocator();
+        let settling = settling_of(alloc, &self.questions, &self.lives, &self.bound, event)?;
+        self.turns.make_room(&settling, number)?;
         let promise = promise_resolved(event);
         self.resolves.room_for(promise)?;
         apply_record(
@@ -80,7 +84,7 @@ impl AllTables {
             &mut self.calls,
             event,
         )?;
-        let again = self.turns.has(settling);
+        let again = self.turns.has(settling.settled);
         self.bound.drop_ahead(again);
         self.turns.drop_calls_ahead(again);
         self.turns.note(settling, number);
@@ -88,19 +92,18 @@ impl AllTables {
         Ok(())
     }
 
-    /// Tells one record that turns no view, which has this number in the log, to all tables but that of what waits.
-    /// Where memory is refused, they are of the records before.
+    /// Tells one record that turns no view, which has this number in the log, to all tables but those of what waits and
+    /// of arrivals. Where memory is refused, they are of the records before.
     fn note_still(&mut self, number: usize, event: &DecodedRecord) -> Result<(), AllocError>
         requires { may_turn event.now ≡ false }
         ensures ok { OnOk result
-            ((events : List DecodedRecord) → number ≡ length events → AreNoted events self.old
-            → IsSound (reverse events) event.now
-            → AreNoted (events ++ event.now ∷ []) self.new) }
+            ((before : Past) → number ≡ length before → AreNoted before self.old
+            → IsSound before event.now → AreNoted (event.now ∷ before) self.new) }
         ensures err { OnErr result
-            ((events : List DecodedRecord) → number ≡ length events → AreNoted events self.old
-            → IsSound (reverse events) event.now
-            → AreNoted events self.new) }
+            ((before : Past) → number ≡ length before → AreNoted before self.old
+            → IsSound before event.now → AreNoted before self.new) }
         ensures waits { self.new.waits ≡ self.old.waits }
+        ensures arrivals { self.new.arrivals ≡ self.old.arrivals }
     {
         self.connections.grow_for(event)?;
         apply_record(
@@ -115,18 +118,17 @@ impl AllTables {
         Ok(())
     }
 
-    /// Tells one record, which has this number in the log, to all tables but that of what waits. Where memory is
-    /// refused, they are of the records before. Most records turn no view, and there is less to tell of these.
+    /// Tells one record, which has this number in the log, to all tables but those of what waits and of arrivals. Where
+    /// memory is refused, they are of the records before. Most records turn no view, and there is less to tell of these.
     fn note(&mut self, number: usize, event: &DecodedRecord) -> Result<(), AllocError>
         ensures ok { OnOk result
-            ((events : List DecodedRecord) → number ≡ length events → AreNoted events self.old
-            → IsSound (reverse events) event.now
-            → AreNoted (events ++ event.now ∷ []) self.new) }
+            ((before : Past) → number ≡ length before → AreNoted before self.old
+            → IsSound before event.now → AreNoted (event.now ∷ before) self.new) }
         ensures err { OnErr result
-            ((events : List DecodedRecord) → number ≡ length events → AreNoted events self.old
-            → IsSound (reverse events) event.now
-            → AreNoted events self.new) }
+            ((before : Past) → number ≡ length before → AreNoted before self.old
+            → IsSound before event.now → AreNoted before self.new) }
         ensures waits { self.new.waits ≡ self.old.waits }
+        ensures arrivals { self.new.arrivals ≡ self.old.arrivals }
     {
         if may_turn(event) {
             self.note_turning(number, event)
@@ -135,17 +137,16 @@ impl AllTables {
         }
     }
 
-    /// Tells the tables of a record that asks for an echo.
+    /// Tells all tables but that of arrivals of a record that asks for an echo.
     fn tell_loopback(&mut self, number: usize, event: &DecodedRecord) -> Result<(), AllocError>
         requires { IsTrue (is_some (sender_loopback event.now)) }
         ensures ok { OnOk result
-            ((events : List DecodedRecord) → number ≡ length events → AreWhole events self.old
-            → IsSound (reverse events) event.now
-            → AreWhole (events ++ event.now ∷ []) self.new) }
+            ((before : Past) → number ≡ length before → AreTold before self.old
+            → IsSound before event.now → AreTold (event.now ∷ before) self.new) }
         ensures err { OnErr result
-            ((events : List DecodedRecord) → number ≡ length events → AreWhole events self.old
-            → IsSound (reverse events) event.now
-            → AreWhole events self.new) }
+            ((before : Past) → number ≡ length before → AreTold before self.old
+            → IsSound before event.now → AreTold before self.new) }
+        ensures arrivals { self.new.arrivals ≡ self.old.arrivals }
     {
         let looped = sender_loopback(&self.bound, &self.lives, &self.questions, number, event)?;
         self.waits.loopbacks.room_for(&looped)?;
@@ -154,17 +155,16 @@ impl AllTables {
         Ok(())
     }
 
-    /// Tells the tables of a record that asks for no echo.
+    /// Tells all tables but that of arrivals of a record that asks for no echo.
     fn tell_other(&mut self, number: usize, event: &DecodedRecord) -> Result<(), AllocError>
         requires { is_some (sender_loopback event.now) ≡ false }
         ensures ok { OnOk result
-            ((events : List DecodedRecord) → number ≡ length events → AreWhole events self.old
-            → IsSound (reverse events) event.now
-            → AreWhole (events ++ event.now ∷ []) self.new) }
+            ((before : Past) → number ≡ length before → AreTold before self.old
+            → IsSound before event.now → AreTold (event.now ∷ before) self.new) }
         ensures err { OnErr result
-            ((events : List DecodedRecord) → number ≡ length events → AreWhole events self.old
-            → IsSound (reverse events) event.now
-            → AreWhole events self.new) }
+            ((before : Past) → number ≡ length before → AreTold before self.old
+            → IsSound before event.now → AreTold before self.new) }
+        ensures arrivals { self.new.arrivals ≡ self.old.arrivals }
     {
         let taken = call_taken_by(&self.questions, event);
         self.waits
@@ -174,22 +174,63 @@ impl AllTables {
         Ok(())
     }
 
-    /// Tells the tables of one record, which has this number in the log. Where memory is refused, they are of the records
-    /// before.
-    pub(crate) fn tell(&mut self, number: usize, event: &DecodedRecord) -> Result<(), AllocError>
+    /// Tells all tables but that of arrivals of one record, which has this number in the log. Where memory is refused,
+    /// they are of the records before.
+    fn tell_others(&mut self, number: usize, event: &DecodedRecord) -> Result<(), AllocError>
         ensures ok { OnOk result
-            ((events : List DecodedRecord) → number ≡ length events → AreWhole events self.old
-            → IsSound (reverse events) event.now
-            → AreWhole (events ++ event.now ∷ []) self.new) }
+            ((before : Past) → number ≡ length before → AreTold before self.old
+            → IsSound before event.now → AreTold (event.now ∷ before) self.new) }
         ensures err { OnErr result
-            ((events : List DecodedRecord) → number ≡ length events → AreWhole events self.old
-            → IsSound (reverse events) event.now
-            → AreWhole events self.new) }
+            ((before : Past) → number ≡ length before → AreTold before self.old
+            → IsSound before event.now → AreTold before self.new) }
+        ensures arrivals { self.new.arrivals ≡ self.old.arrivals }
     {
         if asks_for_echo(event) {
             self.tell_loopback(number, event)
         } else {
             self.tell_other(number, event)
+        }
+    }
+
+    /// Tells the tables of one record that brings imports over a connection, and has this number in the log. Where memory
+    /// is refused, they are of the records before.
+    fn tell_arriving(
+        &mut self,
+        number: usize,
+        connection: u32,
+        event: &DecodedRecord,
+    ) -> Result<(), AllocError>
+        requires { arriving_over event.now ≡ Some connection }
+        ensures ok { OnOk result
+            ((before : Past) → AreWhole before number self.old → IsSound before event.now
+            → AreWhole (event.now ∷ before) (number + 1) self.new) }
+        ensures err { OnErr result
+            ((before : Past) → AreWhole before number self.old → IsSound before event.now
+            → AreWhole before number self.new) }
+    {
+        let alloc = self.lives.allocator();
+        self.arrivals
+            .put(alloc, number, connection, descriptors(event))?;
+        if self.tell_others(number, event).is_err() {
+            self.arrivals.forget(number);
+            return Err(AllocError);
+        }
+        Ok(())
+    }
+
+    /// Tells the tables of one record, which has this number in the log. Where memory is refused, they are of the records
+    /// before.
+    pub(crate) fn tell(&mut self, number: usize, event: &DecodedRecord) -> Result<(), AllocError>
+        ensures ok { OnOk result
+            ((before : Past) → AreWhole before number self.old → IsSound before event.now
+            → AreWhole (event.now ∷ before) (number + 1) self.new) }
+        ensures err { OnErr result
+            ((before : Past) → AreWhole before number self.old → IsSound before event.now
+            → AreWhole before number self.new) }
+    {
+        match arriving_over(event) {
+            Some(connection) => self.tell_arriving(number, connection, event),
+            None => self.tell_others(number, event),
         }
     }
 }

@@ -4,16 +4,16 @@ ghost use Rattle.std.specs.Prelude.{◌≡◌, ◌↔◌, IsTrue};
 ghost use Rattle.vat_view.specs.Past.{is};
 ghost use Rattle.vat_view.specs.Borrowed.{as_view};
 ghost use Rattle.vat_view.specs.Glue.Tables.{bound_at};
-ghost use Rattle.vat_view.specs.Connections.{connection_of, is_own, is_another};
+ghost use Rattle.vat_view.specs.Connections.{is_own, is_another};
 ghost use Rattle.vat_view.specs.Glue.TurnTables.{turn_by, HaveAhead};
 ghost use Rattle.vat_view.specs.Glue.ConnectionTables.{over_by, is_elsewhere_by, sought_by, ReachesOne};
 
 use crate::borrowed_view::BorrowedView;
-use crate::record::decoded::DecodedRecord;
+use crate::tables::arrivals::Arrivals;
 use crate::tables::connections::Connections;
 use crate::tables::references::BoundReferences;
 use crate::tables::settlements::Settlements;
-use crate::walks::hops::{event_at, further, most_turns, turned_to};
+use crate::walks::hops::{further, most_turns, turned_to};
 use rpc_view::Edition;
 
 /// Which views a walk seeks.
@@ -25,28 +25,18 @@ pub(crate) enum Sought {
     Elsewhere(u32, Edition),
 }
 
-/// The connection on which a record's frame passed.
-fn connection_of(event: &DecodedRecord) -> Option<u32>
-    ensures { result ≡ connection_of event.now }
-{
-    match event {
-        DecodedRecord::Wire { connection, .. } => Some(*connection),
-        _ => None,
-    }
-}
-
 /// The connection over which a view is reached.
 fn reached_over(
-    events: &[DecodedRecord],
+    arrivals: &Arrivals,
     connections: &Connections,
     view: BorrowedView<'_>,
 ) -> Option<u32>
-    ensures { result ≡ over_by events.now connections.now (as_view view.entry) }
+    ensures { result ≡ over_by arrivals.now connections.now (as_view view.entry) }
 {
     match view {
         BorrowedView::Object(_) | BorrowedView::Promise(_) => None,
         BorrowedView::Field(call, _) => connections.asked_on(call),
-        BorrowedView::Import(number, _) => connection_of(event_at(events, number)?),
+        BorrowedView::Import(number, place) => arrivals.over(number, place),
     }
 }
 
@@ -98,14 +88,14 @@ fn is_elsewhere(
 
 /// Whether a view is sought.
 fn is_sought(
-    events: &[DecodedRecord],
+    arrivals: &Arrivals,
     connections: &Connections,
     sought: Sought,
     view: BorrowedView<'_>,
 ) -> bool
-    ensures { result ≡ sought_by events.now connections.now sought (as_view view.entry) }
+    ensures { result ≡ sought_by arrivals.now connections.now sought (as_view view.entry) }
 {
-    let over = reached_over(events, connections, view);
+    let over = reached_over(arrivals, connections, view);
     match sought {
         Sought::Over(connection) => is_this(connection, over),
         Sought::Elsewhere(connection, edition) => is_elsewhere(edition, connection, view, over),
@@ -115,31 +105,31 @@ fn is_sought(
 /// Whether a view leads, by 0 or more turns, to one that is sought. A walk makes at most as many turns as one that doesn't
 /// go in a circle, so that it meets each view of a circle; beside it a walk hops, which may pass a view by.
 pub(crate) fn leads_to(
-    events: &[DecodedRecord],
     turns: &Settlements,
     bound: &BoundReferences,
+    arrivals: &Arrivals,
     connections: &Connections,
     from: BorrowedView<'_>,
     sought: Sought,
 ) -> bool
-    requires { HaveAhead events.now turns.now bound.now }
+    requires { HaveAhead turns.now bound.now }
     ensures { IsTrue result
-        ↔ ReachesOne (turn_by events.now turns.now (bound_at bound.now))
-        (sought_by events.now connections.now sought) (as_view from.entry) }
+        ↔ ReachesOne (turn_by turns.now (bound_at bound.now))
+        (sought_by arrivals.now connections.now sought) (as_view from.entry) }
 {
     let mut view = from;
     let mut far = from;
     for _made in 0..most_turns(turns, bound) {
-        if is_sought(events, connections, sought, far)
-            || is_sought(events, connections, sought, view)
+        if is_sought(arrivals, connections, sought, far)
+            || is_sought(arrivals, connections, sought, view)
         {
             return true;
         }
-        match turned_to(events, turns, bound, view) {
+        match turned_to(turns, bound, view) {
             Some(next) => view = next,
             None => return false,
         }
-        far = further(events, turns, bound, far);
+        far = further(turns, bound, far);
     }
-    is_sought(events, connections, sought, view)
+    is_sought(arrivals, connections, sought, view)
 }

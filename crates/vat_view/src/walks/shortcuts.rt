@@ -5,13 +5,12 @@ ghost use Rattle.vat_view.specs.Glue.Tables.{bound_at};
 ghost use Rattle.vat_view.specs.Glue.TurnTables.{turns_of, onward_by, call_onward_by, joined, IsJoined, SaysSameTurns, HaveAhead, IsAhead, IsCallAhead};
 
 use crate::borrowed_view::BorrowedView;
-use crate::record::decoded::DecodedRecord;
 use crate::record::table_key::TableKey;
 use crate::tables::exports_imports::ExportsImports;
 use crate::tables::references::{BoundReferences, Shortcut};
 use crate::tables::settlements::Settlements;
 use crate::walks::hops::{landed_by, reference_by, turned_to, view_of};
-use crate::walks::turn_target::Landing;
+use crate::walks::landing::Landing;
 
 /// How high a reference or a call stands among others: half of all stand at 0, a quarter at 1, and so on, in no order.
 fn level(number: u64) -> u32 {
@@ -28,16 +27,11 @@ fn joined(near: Shortcut, far: Shortcut) -> Option<Shortcut>
 }
 
 /// Where the reference ahead of this one lands.
-fn onward(
-    events: &[DecodedRecord],
-    turns: &Settlements,
-    bound: &BoundReferences,
-    reference: u64,
-) -> Option<u64>
-    ensures { result ≡ onward_by events.now turns.now bound.now reference }
+fn onward(turns: &Settlements, bound: &BoundReferences, reference: u64) -> Option<u64>
+    ensures { result ≡ onward_by turns.now bound.now reference }
 {
     let (view, _) = bound.view_ahead(reference)?;
-    reference_by(events, turns, BorrowedView::of(view))
+    reference_by(turns, BorrowedView::of(view))
 }
 
 /// What is ahead of `next`, as it is ahead of a reference whose one ahead lands on `next`, which itself lands on `after`.
@@ -58,20 +52,19 @@ fn longer(bound: &BoundReferences, reference: u64, next: u64, after: u64) -> Opt
 /// Remembers of a reference what is further ahead of it than the one now ahead of it, which lands on `next`, if there is
 /// one that suits it. Answers where the reference ahead of `next` lands.
 fn lengthen(
-    events: &[DecodedRecord],
     turns: &Settlements,
     bound: &mut BoundReferences,
     reference: u64,
     next: u64,
 ) -> Option<u64>
-    requires ahead { HaveAhead events.now turns.now bound.old }
-    requires lands { onward_by events.now turns.now bound.old reference ≡ Some next }
+    requires ahead { HaveAhead turns.now bound.old }
+    requires lands { onward_by turns.now bound.old reference ≡ Some next }
     ensures views { (r : ℕ) → bound_at bound.new r ≡ bound_at bound.old r }
-    ensures ahead { HaveAhead events.now turns.now bound.new }
+    ensures ahead { HaveAhead turns.now bound.new }
     ensures after { IfSome result
-        (λ after. onward_by events.now turns.now bound.new next ≡ Some after) }
+        (λ after. onward_by turns.now bound.new next ≡ Some after) }
 {
-    let after = onward(events, turns, bound, next)?;
+    let after = onward(turns, bound, next)?;
     if let Some(leap) = longer(bound, reference, next, after) {
         bound.remember(reference, leap);
     }
@@ -82,24 +75,19 @@ fn lengthen(
 /// ahead, if there is one that suits it. So a walk that is made again and again takes few hops, and so does one from
 /// each view that it passes by. It marks a reference now and then, and ends in a circle where it meets the last one
 /// marked. It takes no memory.
-pub(crate) fn shorten(
-    events: &[DecodedRecord],
-    turns: &Settlements,
-    bound: &mut BoundReferences,
-    from: u64,
-)
-    requires { HaveAhead events.now turns.now bound.old }
+pub(crate) fn shorten(turns: &Settlements, bound: &mut BoundReferences, from: u64)
+    requires { HaveAhead turns.now bound.old }
     ensures views { (r : ℕ) → bound_at bound.new r ≡ bound_at bound.old r }
-    ensures ahead { HaveAhead events.now turns.now bound.new }
+    ensures ahead { HaveAhead turns.now bound.new }
 {
-    let Some(first) = onward(events, turns, bound, from) else {
+    let Some(first) = onward(turns, bound, from) else {
         return;
     };
     let mut reference = from;
     let mut next = first;
     let mut mark = from;
     for step in 0..bound.len() {
-        let Some(after) = lengthen(events, turns, bound, reference, next) else {
+        let Some(after) = lengthen(turns, bound, reference, next) else {
             return;
         };
         if next == mark {
@@ -114,11 +102,11 @@ pub(crate) fn shorten(
 }
 
 /// The call where the fields of the call ahead of this one land.
-fn call_onward(events: &[DecodedRecord], turns: &Settlements, call: u64) -> Option<u64>
-    ensures { result ≡ call_onward_by events.now turns.now call }
+fn call_onward(turns: &Settlements, call: u64) -> Option<u64>
+    ensures { result ≡ call_onward_by turns.now call }
 {
     let near = turns.call_ahead(call);
-    match landed_by(events, turns, BorrowedView::Field(near.to, &[])) {
+    match landed_by(turns, BorrowedView::Field(near.to, &[])) {
         Some(Landing::Call(next)) => Some(next),
         _ => None,
     }
@@ -127,21 +115,20 @@ fn call_onward(events: &[DecodedRecord], turns: &Settlements, call: u64) -> Opti
 /// What is further ahead of a call than the one now ahead of it, which lands on `next`: what is ahead of `next`, as
 /// [`longer`] has it for references.
 fn longer_for_call(
-    events: &[DecodedRecord],
     turns: &Settlements,
     bound: &BoundReferences,
     call: u64,
     next: u64,
 ) -> Option<Shortcut>
-    requires ahead { HaveAhead events.now turns.now bound.now }
-    requires lands { call_onward_by events.now turns.now call ≡ Some next }
+    requires ahead { HaveAhead turns.now bound.now }
+    requires lands { call_onward_by turns.now call ≡ Some next }
     ensures { IfSome result
-        (λ leap. IsCallAhead (turns_of events.now turns.now bound.now) call leap) }
+        (λ leap. IsCallAhead (turns_of turns.now bound.now) call leap) }
 {
     if level(next) > level(call) {
         return None;
     }
-    let after = call_onward(events, turns, next)?;
+    let after = call_onward(turns, next)?;
     if level(after) <= level(next) {
         return None;
     }
@@ -153,19 +140,13 @@ fn longer_for_call(
 
 /// Remembers of a call what is further ahead of it than the one now ahead of it, which lands on `next`, if there is one
 /// that suits it.
-fn lengthen_for_call(
-    events: &[DecodedRecord],
-    turns: &mut Settlements,
-    bound: &BoundReferences,
-    call: u64,
-    next: u64,
-)
-    requires ahead { HaveAhead events.now turns.old bound.now }
-    requires lands { call_onward_by events.now turns.old call ≡ Some next }
+fn lengthen_for_call(turns: &mut Settlements, bound: &BoundReferences, call: u64, next: u64)
+    requires ahead { HaveAhead turns.old bound.now }
+    requires lands { call_onward_by turns.old call ≡ Some next }
     ensures same { SaysSameTurns turns.old turns.new }
-    ensures ahead { HaveAhead events.now turns.new bound.now }
+    ensures ahead { HaveAhead turns.new bound.now }
 {
-    let Some(leap) = longer_for_call(events, turns, bound, call, next) else {
+    let Some(leap) = longer_for_call(turns, bound, call, next) else {
         return;
     };
     turns.remember_call(call, leap);
@@ -173,23 +154,18 @@ fn lengthen_for_call(
 
 /// Makes the walks from the fields of this call shorter, as far as they go by calls: as [`shorten`] does by references. It
 /// takes no memory.
-pub(crate) fn shorten_calls(
-    events: &[DecodedRecord],
-    turns: &mut Settlements,
-    bound: &BoundReferences,
-    from: u64,
-)
-    requires { HaveAhead events.now turns.old bound.now }
+pub(crate) fn shorten_calls(turns: &mut Settlements, bound: &BoundReferences, from: u64)
+    requires { HaveAhead turns.old bound.now }
     ensures same { SaysSameTurns turns.old turns.new }
-    ensures ahead { HaveAhead events.now turns.new bound.now }
+    ensures ahead { HaveAhead turns.new bound.now }
 {
     let mut call = from;
     let mut mark = from;
     for step in 0..turns.handovers_len() {
-        let Some(next) = call_onward(events, turns, call) else {
+        let Some(next) = call_onward(turns, call) else {
             return;
         };
-        lengthen_for_call(events, turns, bound, call, next);
+        lengthen_for_call(turns, bound, call, next);
         if next == mark {
             return;
         }
@@ -210,16 +186,11 @@ pub(crate) struct WayOn {
 }
 
 /// The reference where the field of a call at a path lands, or a field to which it turns by calls.
-fn reference_beyond(
-    events: &[DecodedRecord],
-    turns: &Settlements,
-    call: u64,
-    path: &[u16],
-) -> Option<u64> {
+fn reference_beyond(turns: &Settlements, call: u64, path: &[u16]) -> Option<u64> {
     let mut call = call;
     for _passed in 0..turns.handovers_len() {
         let ahead = turns.call_ahead(call).to;
-        match landed_by(events, turns, BorrowedView::Field(ahead, path))? {
+        match landed_by(turns, BorrowedView::Field(ahead, path))? {
             Landing::Reference(reference) => return Some(reference),
             Landing::Call(next) => call = next,
         }
@@ -228,19 +199,15 @@ fn reference_beyond(
 }
 
 /// Where a walk goes on from a view.
-pub(crate) fn way_from(
-    events: &[DecodedRecord],
-    turns: &Settlements,
-    view: BorrowedView<'_>,
-) -> WayOn {
-    match landed_by(events, turns, view) {
+pub(crate) fn way_from(turns: &Settlements, view: BorrowedView<'_>) -> WayOn {
+    match landed_by(turns, view) {
         Some(Landing::Reference(reference)) => WayOn {
             call: None,
             reference: Some(reference),
         },
         Some(Landing::Call(call)) => WayOn {
             call: Some(call),
-            reference: reference_beyond(events, turns, call, view.path()),
+            reference: reference_beyond(turns, call, view.path()),
         },
         None => WayOn {
             call: None,
@@ -251,24 +218,22 @@ pub(crate) fn way_from(
 
 /// Where a walk by 1 or more turns goes on from a view after its first turn, if it turns.
 pub(crate) fn way_after<'a>(
-    events: &[DecodedRecord],
     turns: &Settlements,
     bound: &'a BoundReferences,
     view: BorrowedView<'a>,
 ) -> Option<WayOn> {
-    let next = turned_to(events, turns, bound, view)?;
-    Some(way_from(events, turns, next))
+    let next = turned_to(turns, bound, view)?;
+    Some(way_from(turns, next))
 }
 
 /// Where a walk goes on from the view of a reference.
 pub(crate) fn way_from_reference(
-    events: &[DecodedRecord],
     turns: &Settlements,
     bound: &BoundReferences,
     reference: u64,
 ) -> Option<WayOn> {
     let view = view_of(bound, reference)?;
-    Some(way_from(events, turns, view))
+    Some(way_from(turns, view))
 }
 
 /// What an export or import number stands for, lent.

@@ -1,8 +1,5 @@
-use Rattle.std.proofs.Common.{◌≡◌, length, arith, subst, ap, ◌∙◌}
-use Rattle.std.specs.List.{list_all}
-use Rattle.std.proofs.lemmas.Grind.{common_steps}
-use Rattle.vat_view.specs.Glue.KindTables.{AreResolved, keeps_by}
-use Rattle.vat_view.specs.Lives.{descriptors}
+use Rattle.std.proofs.Common.{subst}
+use Rattle.vat_view.specs.Glue.KindTables.{AreResolved}
 use Rattle.vat_view.specs.Glue.Kept.{AreKept}
 use Rattle.vat_view.proofs.Answering.{begun_next}
 use Rattle.vat_view.proofs.Alike.{keeps_decided}
@@ -10,11 +7,9 @@ use Rattle.vat_view.proofs.state.VatState.keeps_kinds.Goals as goal
 
 pub returns : goal.returns
 returns c =
-    let place : c.len.result ≡ length c.self.inside.events.items = grind (arith, common_steps) in
     let kept = subst (λ p. AreKept p c.self.inside.tables.questions c.self.inside.tables.lives c.self.inside.tables.bound c.self.inside.tables.calls) c.self.view_is c.self.invariant.0.0 in
-    keeps_decided c.args.self.now c.self.inside.events.items c.self.view_is c.args.event.now c.self.inside.tables.questions c.self.inside.tables.lives c.self.inside.tables.bound c.self.inside.tables.calls kept
+    keeps_decided c.args.self.now c.args.event.now c.self.inside.tables.questions c.self.inside.tables.lives c.self.inside.tables.bound c.self.inside.tables.calls kept
     c.self.inside.tables.resolves (subst (λ p. AreResolved p c.self.inside.tables.resolves) c.self.view_is c.self.invariant.0.1) c.in_ok-begun.begun
-    (begun_next c.args.self.now c.self.inside.tables.questions c.self.inside.tables.lives c.self.inside.tables.bound c.self.inside.tables.calls kept c.args.event.now c.in_ok-begun.begun c.is_late-late.result c.len.result
-    c.self.inside.events.items c.is_late-late.ensures place c.self.view_is c.in_ok-begun.ensures)
-    c.keeps_kinds.result
-    (c.keeps_kinds.ensures ∙ ap (λ l. list_all (keeps_by l c.self.inside.tables.lives c.in_ok-begun.begun c.self.inside.tables.resolves c.args.event.now) (descriptors c.args.event.now)) c.deref.ensures.value)
+    (begun_next c.args.self.now c.self.inside.tables.questions c.self.inside.tables.lives c.self.inside.tables.bound c.self.inside.tables.calls kept c.args.event.now c.in_ok-begun.begun c.is_late-late.result c.self.inside.count
+    c.self.inside.past.items c.is_late-late.ensures c.self.invariant.3 c.self.view_is c.in_ok-begun.ensures)
+    c.keeps_kinds.result c.keeps_kinds.ensures

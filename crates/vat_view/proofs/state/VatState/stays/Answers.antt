@@ -9,9 +9,9 @@ use Rattle.vat_view.proofs.state.VatState.stays.Goals as goal
 
 pub returns : goal.returns
 returns c =
-    let going : View → Next = λ v. goes_by c.as_slice.result.now c.self.inside.tables.turns (bound_at c.self.inside.tables.bound) v in
+    let going : View → Next = λ v. goes_by c.self.inside.tables.turns (bound_at c.self.inside.tables.bound) v in
     let same : (v : View) → going v ≡ next c.args.self.now v =
-    goes_so c.self.inside.events.items c.as_slice.result.now c.args.self.now c.self.inside.tables.questions c.self.inside.tables.lives c.self.inside.tables.bound c.self.inside.tables.turns
-    c.self.view_is c.as_slice.ensures.value c.self.invariant.0.0.tabled c.self.invariant.0.2 in
+    goes_so c.self.inside.past.items c.args.self.now c.self.inside.tables.questions c.self.inside.tables.lives c.self.inside.tables.bound c.self.inside.tables.turns
+    c.self.view_is c.self.invariant.0.0.tabled c.self.invariant.0.2 in
     subst (λ v. IsTrue c.stays.result ↔ (next c.args.self.now v ≡ stays)) c.of.ensures
-    (stays_known going c.args.self.now same c.as_slice.result.now c.self.inside.tables.turns (bound_at c.self.inside.tables.bound) (λ v. refl) (as_view c.of.result) c.stays.result c.stays.ensures)
+    (stays_known going c.args.self.now same c.self.inside.tables.turns (bound_at c.self.inside.tables.bound) (λ v. refl) (as_view c.of.result) c.stays.result c.stays.ensures)

@@ -4,4 +4,4 @@ use Rattle.vat_view.proofs.Hopping.{Walked}
 use Rattle.vat_view.proofs.walks.hops.end.Given as goal
 
 abbrev pub invariant-loop-hop : goal.invariant-loop-hop
-invariant-loop-hop l = Walked (turns_of l.events l.turns l.bound) l.hop (as_view l.fn.view) (as_view l.at) (as_view l.mark)
+invariant-loop-hop l = Walked (turns_of l.turns l.bound) l.hop (as_view l.fn.view) (as_view l.at) (as_view l.mark)

@@ -7,10 +7,10 @@ use Rattle.vat_view.proofs.walks.hops.nth.Goals as goal
 pub loop-left-preserved : goal.loop-left-preserved
 loop-left-preserved c =
     let made = c.in-Some.ensures in
-    sym (steps_left (turns_of c.args.events.now c.args.turns.now c.args.bound.now) (as_view c.loop-left.at) (as_view c.in-Some.next) c.in-Some.more c.loop-left.left (c.loop-left.left - (c.in-Some.more + 1)) made.1
+    sym (steps_left (turns_of c.args.turns.now c.args.bound.now) (as_view c.loop-left.at) (as_view c.in-Some.next) c.in-Some.more c.loop-left.left (c.loop-left.left - (c.in-Some.more + 1)) made.1
     (omega (arith, made.0)))
     ∙ c.loop-left.invariant
 
 pub returns-in-None : goal.returns-in-None
 returns-in-None c =
-    sym (no_step (turns_of c.args.events.now c.args.turns.now c.args.bound.now) (as_view c.loop-left.at) c.loop-left.left c.loop-left-test.true c.in-None.ensures) ∙ c.loop-left.invariant
+    sym (no_step (turns_of c.args.turns.now c.args.bound.now) (as_view c.loop-left.at) c.loop-left.left c.loop-left-test.true c.in-None.ensures) ∙ c.loop-left.invariant

@@ -12,8 +12,8 @@ use Rattle.vat_view.proofs.walks.reachable.leads_to.Goals as goal
 
 pub returns-in-None : goal.returns-in-None
 returns-in-None c =
-    let f = turn_by c.args.events.now c.args.turns.now (bound_at c.args.bound.now) in
-    let test : View → Bool = λ v. sought_by c.args.events.now c.args.connections.now c.args.sought v in (
+    let f = turn_by c.args.turns.now (bound_at c.args.bound.now) in
+    let test : View → Bool = λ v. sought_by c.args.arrivals.now c.args.connections.now c.args.sought v in (
       (λ h. let no : ⊥ = cc in absurd no),
       λ l. absurd (ended f (as_view c.args.from) (as_view c.loop-made.view) l.1 c.loop-made._made c.loop-made.invariant.here
           (λ e. let found : c.is_sought-else-is_sought.result ≡ true = c.is_sought-else-is_sought.ensures ∙ ap (λ v. test v) e ∙ l.3 in let no : ⊥ = cc in no)
@@ -22,8 +22,8 @@ returns-in-None c =
 
 pub loop-made-preserved : goal.loop-made-preserved
 loop-made-preserved c =
-    let f = turn_by c.args.events.now c.args.turns.now (bound_at c.args.bound.now) in
-    let test : View → Bool = λ v. sought_by c.args.events.now c.args.connections.now c.args.sought v in record {
+    let f = turn_by c.args.turns.now (bound_at c.args.bound.now) in
+    let test : View → Bool = λ v. sought_by c.args.arrivals.now c.args.connections.now c.args.sought v in record {
       ahead = on_from f (as_view c.args.from) (as_view c.loop-made.far) (as_view c.further-far.result) c.loop-made.invariant.ahead c.further-far.ensures;
       here = rw (add-one c.loop-made._made)
           (reached_more f c.loop-made._made (Some (as_view c.args.from)) ∙ ap (λ o. option_and_then f o) c.loop-made.invariant.here ∙ sym c.in-Some.ensures);
@@ -34,12 +34,12 @@ loop-made-preserved c =
 
 pub returns : goal.returns
 returns c =
-    let f = turn_by c.args.events.now c.args.turns.now (bound_at c.args.bound.now) in
-    let test : View → Bool = λ v. sought_by c.args.events.now c.args.connections.now c.args.sought v in (
+    let f = turn_by c.args.turns.now (bound_at c.args.bound.now) in
+    let test : View → Bool = λ v. sought_by c.args.arrivals.now c.args.connections.now c.args.sought v in (
       (λ h. (c.loop-made._made, (as_view c.loop-made.view), c.loop-made.invariant.here, sym c.is_sought-2.ensures ∙ h)),
       λ l. c.is_sought-2.ensures ∙ ap (λ v. test v)
-          (met f (as_view c.args.from) (turn_number c.args.events.now c.args.turns.now c.args.bound.now (as_view c.args.from)) _
-          (few c.args.events.now c.args.turns.now c.args.bound.now (as_view c.args.from)) (as_view c.loop-made.view) l.1 c.loop-made._made
+          (met f (as_view c.args.from) (turn_number c.args.turns.now c.args.bound.now (as_view c.args.from)) _
+          (few c.args.turns.now c.args.bound.now (as_view c.args.from)) (as_view c.loop-made.view) l.1 c.loop-made._made
           (omega (arith, c.loop-made-test.false, c.most_turns-made-end.ensures)) (omega (arith, c.loop-made.auto._made-end, c.most_turns-made-end.ensures)) c.loop-made.invariant.here
           (λ m lt e. c.loop-made.invariant.before m lt l.1 e l.3) l.0 l.2) ∙ l.3,
     )

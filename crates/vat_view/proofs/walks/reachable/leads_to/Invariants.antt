@@ -9,7 +9,7 @@ use Rattle.vat_view.proofs.walks.reachable.leads_to.Given as goal
 
 abbrev pub invariant-loop-made : goal.invariant-loop-made
 invariant-loop-made l = record {
-  ahead : Reaches (turn_by l.events l.turns (bound_at l.bound)) (as_view l.fn.from) (as_view l.far);
-  here : after_turns (turn_by l.events l.turns (bound_at l.bound)) l._made (Some (as_view l.fn.from)) ≡ Some (as_view l.view);
-  before : (m : ℕ) → m < l._made → (v : View) → after_turns (turn_by l.events l.turns (bound_at l.bound)) m (Some (as_view l.fn.from)) ≡ Some v → IsTrue (sought_by l.events l.connections l.sought v) → ⊥;
+  ahead : Reaches (turn_by l.turns (bound_at l.bound)) (as_view l.fn.from) (as_view l.far);
+  here : after_turns (turn_by l.turns (bound_at l.bound)) l._made (Some (as_view l.fn.from)) ≡ Some (as_view l.view);
+  before : (m : ℕ) → m < l._made → (v : View) → after_turns (turn_by l.turns (bound_at l.bound)) m (Some (as_view l.fn.from)) ≡ Some v → IsTrue (sought_by l.arrivals l.connections l.sought v) → ⊥;
 }

@@ -1,4 +1,4 @@
-use Rattle.std.proofs.Common.{◌≡◌, refl, ℕ, Some}
+use Rattle.std.proofs.Common.{◌≡◌, ℕ, Some}
 use Rattle.vat_view.specs.Types.{View}
 use Rattle.vat_view.specs.Glue.Tables.{bound_at}
 use Rattle.vat_view.specs.Glue.TurnTables.{turns_of}
@@ -9,9 +9,9 @@ use Rattle.vat_view.proofs.walks.shortcuts.lengthen_for_call.Goals as goal
 
 pub returns-clause-ahead : goal.returns-clause-ahead
 returns-clause-ahead c =
-    let events = c.args.events.now in let bound = c.args.bound.now in let old = c.args.turns.now in let new = c.remember_call.new.self in
+    let bound = c.args.bound.now in let old = c.args.turns.now in let new = c.remember_call.new.self in
     let named : (r : ℕ) (w : View) → bound_at bound r ≡ Some w → bound_at bound r ≡ Some w = λ r w e. e in
-    let more : (v w : View) → turns_of events old bound v ≡ Some w → turns_of events new bound v ≡ Some w = turns_same events events old new refl c.remember_call.ensures.same bound bound named in (
-      ahead_carried (turns_of events old bound) (turns_of events new bound) bound bound more named (none_ahead bound) c.requires.ahead.0,
-      calls_remembered (turns_of events old bound) (turns_of events new bound) old.handovers new.handovers more c.args.call c.in-Some.leap c.remember_call.ensures.ahead c.in-Some.ensures c.requires.ahead.1,
+    let more : (v w : View) → turns_of old bound v ≡ Some w → turns_of new bound v ≡ Some w = turns_same old new c.remember_call.ensures.same bound bound named in (
+      ahead_carried (turns_of old bound) (turns_of new bound) bound bound more named (none_ahead bound) c.requires.ahead.0,
+      calls_remembered (turns_of old bound) (turns_of new bound) old.handovers new.handovers more c.args.call c.in-Some.leap c.remember_call.ensures.ahead c.in-Some.ensures c.requires.ahead.1,
     )

@@ -6,6 +6,6 @@ use Rattle.vat_view.proofs.walks.shortcuts.shorten.Given as goal
 abbrev pub invariant-loop-step : goal.invariant-loop-step
 invariant-loop-step l = record {
   views : (r : ℕ) → bound_at l.bound r ≡ bound_at l.initial.bound r;
-  ahead : HaveAhead l.events l.turns l.bound;
-  lands : onward_by l.events l.turns l.bound l.reference ≡ Some l.next;
+  ahead : HaveAhead l.turns l.bound;
+  lands : onward_by l.turns l.bound l.reference ≡ Some l.next;
 }

@@ -4,5 +4,5 @@ use Rattle.vat_view.proofs.walks.shortcuts.shorten_calls.Given as goal
 abbrev pub invariant-loop-step : goal.invariant-loop-step
 invariant-loop-step l = record {
   same : SaysSameTurns l.initial.turns l.turns;
-  ahead : HaveAhead l.events l.turns l.bound;
+  ahead : HaveAhead l.turns l.bound;
 }

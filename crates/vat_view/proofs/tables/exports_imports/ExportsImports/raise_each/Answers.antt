@@ -11,7 +11,7 @@ use Rattle.vat_view.proofs.tables.exports_imports.ExportsImports.raise_each.Goal
 
 pub loop-index-preserved : goal.loop-index-preserved
 loop-index-preserved c =
-    let d : TableKey × Origin = (record { connection = 0; ours = false; number = 0 }, record { number = 0; place = 0; reference = None }) in
+    let d : TableKey × Origin = (record { connection = 0; ours = false; number = 0 }, record { number = 0; place = 0; promised = false; reference = None }) in
     let item : TableKey × Origin = get_or c.args.introduced.now c.loop-index.index d in
     let more = take_more c.args.introduced.now c.loop-index.index d c.loop-index-test.true in
     let good : is_err c.raise.result ≡ false = sym c.is_err.ensures.value ∙ c.if-is_err.false in

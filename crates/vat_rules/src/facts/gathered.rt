@@ -1,0 +1,65 @@
+//! What is gathered of a log's records as they are judged.
+
+ghost use Rattle.std.specs.Prelude.{◌≡◌, ◌∷◌, [], ◌++◌, map, IfOk, OnOk, OnErr};
+
+use crate::facts::compact::RecordFacts;
+use std::alloc::{AllocError, Global};
+use std::marker::Model;
+use vat_view::DecodedRecord;
+
+/// The records of a log so far, each with what its numbers stand for. Contracts see the list of these, in their order.
+#[derive(Debug, Drop)]
+pub(crate) struct Gathered {
+    events: Vec<DecodedRecord>,
+    seen: Vec<RecordFacts>,
+}
+
+impl Model for Gathered {
+    ghost use Rattle.std.specs.Prelude.{◌≡◌, List, length};
+    ghost use Rattle.vat_rules.specs.LogFacts.{Entry};
+    ghost use Rattle.vat_rules.specs.Glue.Facts.{entries_with};
+
+    ghost Value = { List Entry };
+
+    ghost view = { λ gathered. entries_with gathered.events.items gathered.seen.items };
+
+    ghost invariant = { λ gathered. length gathered.events.items ≡ length gathered.seen.items };
+}
+
+impl Gathered {
+    /// Nothing, with room for what is seen of so many records.
+    pub(crate) fn with_room(alloc: Global, records: usize) -> Result<Gathered, AllocError>
+        ensures { IfOk result (λ gathered. gathered ≡ []) }
+    {
+        Ok(Gathered {
+            events: Vec::new(alloc),
+            seen: Vec::with_capacity(alloc, records)?,
+        })
+    }
+
+    /// Puts a record behind these, with what its numbers stand for. Where memory is refused, nothing changes.
+    pub(crate) fn push(&mut self, event: DecodedRecord, seen: RecordFacts) -> Result<(), AllocError>
+        ensures ok { OnOk result
+            (self.new ≡ self.old ++ record { event = event; seen = seen } ∷ []) }
+        ensures err { OnErr result (self.new ≡ self.old) }
+    {
+        self.events.reserve(1)?;
+        self.seen.push(seen)?;
+        self.events.push_reserved(event);
+        Ok(())
+    }
+
+    /// The records, in their order.
+    pub(crate) fn events(&self) -> &[DecodedRecord]
+        ensures { result.now ≡ map (λ entry. entry.event) self.now }
+    {
+        &self.events
+    }
+
+    /// What the numbers of each record stand for, in the order of the records.
+    pub(crate) fn seen(&self) -> &[RecordFacts]
+        ensures { result.now ≡ map (λ entry. entry.seen) self.now }
+    {
+        &self.seen
+    }
+}

@@ -1,0 +1,39 @@
+use Rattle.std.proofs.Common.{sym, ◌∙◌, ap, subst, ◌==◌, ◌∷◌, None, map, if◌then◌else◌}
+use Rattle.vat_view.specs.Glue.ArrivalTables.{hosted_in, brought_over, arrival_at, AreArrived}
+use Rattle.vat_view.proofs.Binding.{any_err}
+use Rattle.vat_view.proofs.Importing.{arrivals_after, arrivals_forgotten}
+use Rattle.vat_view.proofs.Keeping.{one_more}
+use Rattle.vat_view.proofs.Learning.{err_gives}
+use Rattle.vat_view.proofs.Raising.{ok_gives}
+use Rattle.vat_view.proofs.tables.all_tables.AllTables.tell_arriving.Goals as goal
+
+pub returns-in_err-put-clause-err : goal.returns-in_err-put-clause-err
+returns-in_err-put-clause-err c = any_err c.from_residual.result (λ before whole sound. (
+  whole.0,
+  whole.1,
+  subst (λ a. AreArrived before a) (sym c.in_err-put.ensures.err) whole.2,
+  whole.3,
+))
+
+pub returns-clause-ok : goal.returns-clause-ok
+returns-clause-ok c = λ before whole sound.
+    let told = ok_gives c.tell_others.result (sym c.is_err.ensures.value ∙ c.if-is_err.false) c.tell_others.ensures.ok before whole.3 (whole.0, whole.1) sound in (
+      told.0,
+      told.1,
+      subst (λ a. AreArrived (c.args.event.now ∷ before) a) (sym c.tell_others.ensures.arrivals)
+          (arrivals_after before c.args.event.now c.args.self.now.arrivals c.put.new.self c.args.number c.args.connection whole.3 c.requires
+          (λ n p. c.in_ok-put.ensures.ok n p
+          ∙ ap (λ ds. if c.args.number == n then brought_over c.args.connection (map hosted_in ds) p else arrival_at c.args.self.now.arrivals n p) c.descriptors.ensures) whole.2),
+      one_more before c.args.number c.args.event.now whole.3,
+    )
+
+pub returns-then-is_err-clause-err : goal.returns-then-is_err-clause-err
+returns-then-is_err-clause-err c = λ before whole sound.
+    let told = err_gives c.tell_others.result (sym c.is_err.ensures.value ∙ c.if-is_err.true) c.tell_others.ensures.err before whole.3 (whole.0, whole.1) sound in (
+      told.0,
+      told.1,
+      arrivals_forgotten before c.args.self.now.arrivals c.put.new.self c.forget.new.self c.args.number
+          (λ p. brought_over c.args.connection (map hosted_in c.descriptors.result.now) p) whole.3 c.in_ok-put.ensures.ok
+          (λ n p. c.forget.ensures n p ∙ ap (λ a. if c.args.number == n then None else arrival_at a n p) c.tell_others.ensures.arrivals) whole.2,
+      whole.3,
+    )

@@ -1,0 +1,4 @@
+pub mod Points
+pub mod Lists
+pub mod Stepping
+pub mod Exact

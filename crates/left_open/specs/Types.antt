@@ -1,0 +1,10 @@
+-- The types of records, messages and views, passed on from one place. The view of a promise is here `PromiseView`.
+pub use Rattle.rpc_view.specs.declared.message.Descriptor.{Descriptor}
+pub use Rattle.rpc_view.specs.declared.message.Loopback.TheVariants.{Sender}
+pub use Rattle.rpc_view.specs.declared.message.RpcMessage.TheVariants.{Bootstrap, Call, Disembargo}
+pub use Rattle.vat_view.specs.declared.record.decoded.DecodedRecord.{DecodedRecord}
+pub use Rattle.vat_view.specs.declared.record.decoded.DecodedRecord.TheVariants.{Vow, Wire}
+pub use Rattle.vat_view.specs.declared.view.View.TheVariants.{Promise as PromiseView}
+pub use Rattle.vat_view.specs.declared.record.table_key.TableKey.{TableKey}
+pub use Rattle.left_open.specs.declared.kinds.Open.{Open}
+pub use Rattle.left_open.specs.declared.kinds.Open.TheVariants.{Question, Unfinished, Loopback, Promise, Number}

@@ -1,0 +1,65 @@
+//! Where numbers of connections began.
+
+ghost use Rattle.std.specs.Prelude.{◌≡◌, ℕ, None, Some, OnOk, if◌then◌else◌};
+ghost use Rattle.vat_view.specs.declared.record.table_key.TableKey.{TableKey};
+ghost use Rattle.vat_view.specs.Past.{names};
+ghost use Rattle.left_open.specs.Glue.{begun_in, is_at};
+
+use std::alloc::{AllocError, Global};
+use std::collections::BTreeMap;
+use vat_view::TableKey;
+
+/// Where what goes under each number began that isn't over: in which record, and at which place there, both counted from
+/// 0.
+#[derive(Drop)]
+pub(crate) struct Begun {
+    entries: BTreeMap<TableKey, (usize, usize)>,
+}
+
+impl Begun {
+    /// Before any began.
+    pub(crate) fn new(alloc: Global) -> Begun
+        ensures { (i : TableKey) → begun_in result i ≡ None }
+    {
+        Begun {
+            entries: BTreeMap::new(alloc),
+        }
+    }
+
+    /// Whether what goes under this number began in this record, at this place.
+    pub(crate) fn is_at(&self, number: TableKey, at: usize, place: usize) -> bool
+        ensures { result ≡ is_at at place (begun_in self.now number) }
+    {
+        match self.entries.get(&number) {
+            Some((in_record, at_place)) => *in_record == at && *at_place == place,
+            None => false,
+        }
+    }
+
+    /// Something begins under this number, if one is named, in this record, at this place.
+    pub(crate) fn begin(
+        &mut self,
+        number: Option<TableKey>,
+        at: usize,
+        place: usize,
+    ) -> Result<(), AllocError>
+        ensures { OnOk result
+            ((i : TableKey) → begun_in self.new i
+            ≡ (if names i number then Some (at, place) else begun_in self.old i)) }
+    {
+        if let Some(number) = number {
+            self.entries.insert(number, (at, place))?;
+        }
+        Ok(())
+    }
+
+    /// What goes under this number is over, if one is named.
+    pub(crate) fn end(&mut self, number: Option<TableKey>)
+        ensures { (i : TableKey) → begun_in self.new i
+            ≡ (if names i number then None else begun_in self.old i) }
+    {
+        if let Some(number) = number {
+            drop(self.entries.remove(&number));
+        }
+    }
+}

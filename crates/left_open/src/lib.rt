@@ -1,0 +1,17 @@
+//! What is open at the end of one log: what was begun and didn't come to its end.
+//!
+//! It stands on `vat_view`, whose definitions say what the numbers of a log stand for, and on `rpc_view` for its messages.
+//! What is open is said in `specs/Left.antt`: questions without a Return, or without a Finish that they need; loopbacks
+//! without an echo; promises of the vat's own that were neither kept nor broken; and exports and imports that are held.
+//! [`open_at_end`] lists just these, in the order of the records that opened them.
+#![tactic(auto)]
+
+mod begun;
+mod ending;
+mod kinds;
+mod listing;
+mod parts;
+mod watching;
+
+pub use ending::open_at_end;
+pub use kinds::Open;

@@ -1,7 +1,7 @@
 -- What a file of frames is, one right after another, and what may stand behind them.
-use Rattle.std.specs.Prelude.{◌≡◌, ℕ, List, ◌++◌, length, Err, IsErr}
+use Rattle.std.specs.Prelude.{◌≡◌, ℕ, List, ◌++◌, length, Err}
 use Rattle.std.specs.List.{All, flat_map}
-use Rattle.cap_frame.specs.declared.frame_error.FrameError.TheVariants.{TooManySegments}
+use Rattle.cap_frame.specs.declared.frame_error.FrameError.TheVariants.{Short, TooManySegments}
 use Rattle.cap_frame.specs.Segments.{IsOneFrame, segments_of, first_len_of}
 
 -- the bytes are these frames, one after another, and then a rest
@@ -9,12 +9,12 @@ pub record BeginsWith (bytes : List ℕ) (frames : List (List ℕ)) (rest : List
   pub parts : bytes ≡ flat_map (λ frame. frame) frames ++ rest
   pub each : All (λ frame. IsOneFrame (segments_of frame)) frames
 
--- the bytes are these frames and then so many bytes, at which no whole frame begins
+-- the bytes are these frames and then so many bytes: nothing, or a frame that is cut off
 pub record AreFrames (bytes : List ℕ) (frames : List (List ℕ)) (left : ℕ) : Type 0 where
   pub rest : List ℕ
   pub begins : BeginsWith bytes frames rest
   pub many : length rest ≡ left
-  pub ended : IsErr (first_len_of rest)
+  pub ended : first_len_of rest ≡ Err Short
 
 -- behind so many frames no frame can begin, since its table has too many segments
 pub record StopsAt (bytes : List ℕ) (count : ℕ) : Type 0 where

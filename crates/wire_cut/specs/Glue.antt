@@ -1,6 +1,6 @@
 -- What stands next in a file of frames.
-use Rattle.std.specs.Prelude.{◌≡◌, ℕ, ◌<◌, List, ◌++◌, length, Err, IsErr}
-use Rattle.cap_frame.specs.declared.frame_error.FrameError.TheVariants.{TooManySegments}
+use Rattle.std.specs.Prelude.{◌≡◌, ℕ, ◌<◌, List, ◌++◌, length, Err}
+use Rattle.cap_frame.specs.declared.frame_error.FrameError.TheVariants.{Short, TooManySegments}
 use Rattle.cap_frame.specs.Segments.{IsOneFrame, segments_of, first_len_of}
 use Rattle.wire_cut.specs.declared.cut.Next.{Next}
 use Rattle.wire_cut.specs.declared.cut.Next.TheVariants as next
@@ -11,7 +11,7 @@ use Rattle.wire_cut.specs.Frames.{StopsAt}
 -- a frame that is cut off, and what is left behind it; or what no whole frame begins
 abbrev pub IsNext : List ℕ → List ℕ → Next → Type 0
 IsNext old new (next.Whole frame) = (old ≡ frame ++ new) × IsOneFrame (segments_of frame) × (length new < length old)
-IsNext old new next.Cut = (new ≡ old) × IsErr (first_len_of old)
+IsNext old new next.Cut = (new ≡ old) × (first_len_of old ≡ Err Short)
 IsNext old new next.TooMany = (new ≡ old) × (first_len_of old ≡ Err TooManySegments)
 
 -- why a file isn't cut, but for running out of memory

@@ -61,8 +61,10 @@ fn cut_next(rest: &mut Bytes) -> Result<Next, AllocError>
 {
     match Frame::first_len(rest.as_slice()) {
         Ok(len) => Ok(Next::Whole(rest.split_to(len)?)),
+        Err(FrameError::Short) => Ok(Next::Cut),
         Err(FrameError::TooManySegments) => Ok(Next::TooMany),
-        Err(_) => Ok(Next::Cut),
+        Err(FrameError::Trailing) => unreachable!(),
+        Err(FrameError::NoRoot) => unreachable!(),
     }
 }
 

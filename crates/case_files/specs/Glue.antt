@@ -1,10 +1,12 @@
 -- This file serves the contracts of private functions alone, and is no part of the meaning.
-use Rattle.std.specs.Prelude.{◌≡◌, ℕ, List, codes, map, string_bytes, Option, Some, None, option_map, Result, Ok, Err}
-use Rattle.serde_json.specs.Data.{Data, array, item, member, no_items, no_members, number, object, string, unsigned}
+use Rattle.std.specs.Prelude.{◌≡◌, ◌≢◌, ◌⊎◌, ◌+◌, ◌<◌, ◌≤◌, ℕ, suc, List, length, map, slice_get, string_bytes, Option, Some, None, option_map, Result, Ok, Err}
+use Rattle.serde_json.specs.Data.{Data, depth}
 use Rattle.case_files.specs.declared.case_fault.CaseFault.{CaseFault}
 use Rattle.case_files.specs.declared.case_fault.CaseFault.TheVariants.{Form, OutOfMemory}
 use Rattle.case_files.specs.declared.case_file.CaseFile.{CaseFile}
-use Rattle.case_files.specs.CaseFile.{Listed}
+use Rattle.case_book.specs.declared.link.Link.{Link}
+use Rattle.case_files.specs.CaseFile.{Listed, listed_in}
+use Rattle.case_files.specs.FileNames.{case_name}
 
 -- an answer, seen by view
 abbrev pub seen_by : {A B : Type 0} → (A → B) → Result A CaseFault → Result B CaseFault
@@ -22,9 +24,27 @@ TellsInMemory view (Err _) said = ⊥
 abbrev pub listed_by : CaseFile → Listed
 listed_by file = record { logs = map string_bytes file.logs.items; links = file.links.items; order = option_map string_bytes file.order }
 
--- the case file of two logs, by their names, as a JSON value
-abbrev pub link_data : List ℕ → List ℕ → Data
-link_data first second =
-    let numbers = array (item (number (unsigned 0)) (item (number (unsigned 1)) (item (number (unsigned 2)) no_items))) in
-    object (member (codes "links") (array (item numbers no_items))
-    (member (codes "logs") (array (item (string first) (item (string second) no_items))) no_members))
+-- a JSON value nests so little that its text is read again
+abbrev pub IsShallow : ℕ → Data → Type 0
+IsShallow limit d = depth d ≤ limit
+
+-- a JSON value says a case file with these logs and links and no order
+pub record SaysCase (d : Data) (logs : List (List ℕ)) (links : List Link) : Type 0 where
+  pub says : listed_in d ≡ Some (record { logs = logs; links = links; order = None })
+  pub shallow : IsShallow 3 d
+
+-- a name stands in a list from a place on, or is that of the case file
+abbrev pub IsTaken : List (List ℕ) → ℕ → List ℕ → Type 0
+IsTaken names begin name = (name ≡ case_name) ⊎ ((k : ℕ) × (begin ≤ k) × (slice_get names k ≡ Some name))
+
+-- it doesn't stand from a place on and before another
+abbrev pub IsNotBefore : List (List ℕ) → List ℕ → ℕ → ℕ → Type 0
+IsNotBefore names name begin limit = (k : ℕ) → begin ≤ k → k < limit → slice_get names k ≡ Some name → ⊥
+
+-- nor is it that of the case file
+abbrev pub IsFree : List (List ℕ) → ℕ → List ℕ → Type 0
+IsFree names begin name = (name ≢ case_name) × IsNotBefore names name begin (length names)
+
+-- no name before a place stands behind itself once more, or is that of the case file
+abbrev pub AreApartUpTo : List (List ℕ) → ℕ → Type 0
+AreApartUpTo names place = (k : ℕ) → k < place → (name : List ℕ) → slice_get names k ≡ Some name → IsFree names (k + 1) name

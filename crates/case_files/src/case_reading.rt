@@ -11,6 +11,7 @@ use crate::source::Source;
 use case_book::{Case, Link};
 use merge_order::{Order, read_order};
 use std::alloc::Global;
+use std::convert::AsStr;
 use std::sync::Arc;
 use vat_log::{VatLog, parse_log};
 
@@ -26,6 +27,14 @@ fn read_case_file<S: Source>(
     case_file_of(alloc, bytes.as_slice())
 }
 
+/// One log, which isn't shared.
+fn read_own_log<S: Source>(alloc: Global, source: &mut S, name: &str) -> Result<VatLog, CaseFault>
+    ensures { LogComes S.read_gives name.now source.old result source.new }
+{
+    let bytes = source.read(name)?;
+    Ok(parse_log(alloc, bytes)?)
+}
+
 /// One log.
 fn read_log<S: Source>(alloc: Global, source: &mut S, name: &str) -> Result<Arc<VatLog>, CaseFault>
     ensures { LogComes S.read_gives name.now source.old (seen_by arc_value result) source.new }
@@ -33,6 +42,26 @@ fn read_log<S: Source>(alloc: Global, source: &mut S, name: &str) -> Result<Arc<
     let bytes = source.read(name)?;
     let log = parse_log(alloc, bytes)?;
     Ok(Arc::new(alloc, log)?)
+}
+
+/// The logs that a source has under these names, in their order.
+///
+/// # Errors
+///
+/// The first fault of a log, or of its reading.
+pub fn read_log_list<S: Source, N: AsStr>(
+    alloc: Global,
+    source: &mut S,
+    names: &[N],
+) -> Result<Vec<VatLog>, CaseFault>
+    ensures { LogsCome S.read_gives (map N.text names.now) source.old
+        (seen_by (λ logs. logs.items) result) source.new }
+{
+    let mut logs = Vec::new(alloc);
+    for name in names {
+        logs.push(read_own_log(alloc, source, name.as_str())?)?;
+    }
+    Ok(logs)
 }
 
 /// The logs of these names.

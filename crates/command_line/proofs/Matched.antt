@@ -1,12 +1,12 @@
 -- What clap's matches hold.
 use Rattle.std.proofs.Common.{◌≡◌, ◌⊎◌, ◌∙◌, ◌∷◌, ℕ, Bool, Result, Ok, Err, IfOk, IsErrAnd, true, inl, inr, List, [], Option, Some, None, IsSome, option_map, refl, sym, ap, ap₂, subst}
-use Rattle.clap.specs.Words.{App, HasKind, HasMatchesOf, Kinds, Row, Text, is_simple, is_simple_and_free, kind_of, first_of, first_value, fault_of, found_of, rows_of, subcommand_name_of, subcommand_of, subcommand_rows_of}
+use Rattle.clap.specs.Words.{App, HasKind, HasMatchesOf, Kinds, Row, Text, is_simple, is_simple_and_free, kind_of, first_of, all_of, first_value, fault_of, found_of, matched_of, raw_values, rows_of, subcommand_name_of, subcommand_of, subcommand_rows_of}
 use Rattle.clap.specs.declared.ArgMatches.{ArgMatches}
 use Rattle.clap.specs.Kinds.{FailsBy}
 use Rattle.clap.specs.declared.Error.{Error}
 use Rattle.clap.specs.declared.error.ErrorKind.TheVariants.{OutOfMemory, ValueValidation}
 use Rattle.clap.proofs.OnLiterals.{clap_on_literals}
-use Rattle.clap.proofs.WalkLemmas.{first_value-rows}
+use Rattle.clap.proofs.WalkLemmas.{first_value-rows, raw_values-rows}
 use Rattle.command_line.proofs.Faultless.{never}
 use Rattle.command_line.proofs.Named.{Named, Reader, name_of, reading, same_command, word_of}
 use Rattle.command_line.proofs.Reading.{Besides, reads}
@@ -42,6 +42,7 @@ pub record Matches (words : List Text) (name : Text) (given : ArgMatches) : Type
   pub has_file : first_of input rows ≡ Some file
   pub besides : Besides command words rows file
   pub each : (id : Text) → first_value (found_of given) id ≡ first_of id rows
+  pub all : (id : Text) → option_map raw_values (matched_of (found_of given) id) ≡ all_of id rows
 
 pub matched : (words : List Text) (m given : ArgMatches) (name : Text) → AreMatchesOf words m → Some name ≡ subcommand_name_of m
     → Some (rows_of (found_of given)) ≡ option_map (λ p. p.1) (subcommand_rows_of m) → Matches words name given
@@ -60,6 +61,7 @@ matched words m given name are named rows =
       has_file = r.1.1.1.1.0;
       besides = r.1.1.1.1.1;
       each = λ id. first_value-rows (found_of given) id ∙ ap (λ (q : Text × List Row). first_of id q.1) pair;
+      all = λ id. raw_values-rows (found_of given) id ∙ ap (λ (q : Text × List Row). all_of id q.1) pair;
     }
 
 -- matches always have a subcommand

@@ -27,6 +27,7 @@ pub data Named : Type 0 where
   graphing : Named
   framing : Named
   wiring : Named
+  joining : Named
 
 abbrev pub name_of : Named → Text
 name_of (reading r) = word_of r
@@ -38,6 +39,7 @@ name_of migrating = codes "migrate"
 name_of graphing = codes "graph"
 name_of framing = codes "frame"
 name_of wiring = codes "wire"
+name_of joining = codes "join"
 
 -- the names, as clap has them, of which the last is its own
 abbrev pub help_word : Text
@@ -45,7 +47,7 @@ help_word = codes "help"
 
 abbrev pub all_names : List Text
 all_names =
-    codes "check" ∷ codes "order" ∷ codes "graph" ∷ codes "run" ∷ codes "draw" ∷ codes "vat" ∷ codes "records" ∷ codes "frame" ∷ codes "frames" ∷ codes "migrate" ∷ codes "wire" ∷ help_word ∷ []
+    codes "check" ∷ codes "order" ∷ codes "graph" ∷ codes "run" ∷ codes "draw" ∷ codes "vat" ∷ codes "records" ∷ codes "frame" ∷ codes "frames" ∷ codes "migrate" ∷ codes "wire" ∷ codes "join" ∷ help_word ∷ []
 
 abbrev pub IsOneOf : List Text → Text → Type 0
 IsOneOf [] w = ⊥
@@ -63,8 +65,9 @@ which w (inr (inr (inr (inr (inr (inr (inr (inl is)))))))) = inl (framing, is)
 which w (inr (inr (inr (inr (inr (inr (inr (inr (inl is))))))))) = inl (reading of_frames, is)
 which w (inr (inr (inr (inr (inr (inr (inr (inr (inr (inl is)))))))))) = inl (migrating, is)
 which w (inr (inr (inr (inr (inr (inr (inr (inr (inr (inr (inl is))))))))))) = inl (wiring, is)
-which w (inr (inr (inr (inr (inr (inr (inr (inr (inr (inr (inr (inl is)))))))))))) = inr is
-which w (inr (inr (inr (inr (inr (inr (inr (inr (inr (inr (inr (inr none)))))))))))) = absurd none
+which w (inr (inr (inr (inr (inr (inr (inr (inr (inr (inr (inr (inl is)))))))))))) = inl (joining, is)
+which w (inr (inr (inr (inr (inr (inr (inr (inr (inr (inr (inr (inr (inl is))))))))))))) = inr is
+which w (inr (inr (inr (inr (inr (inr (inr (inr (inr (inr (inr (inr (inr none))))))))))))) = absurd none
 
 -- a command by its name
 abbrev by_name : Text → Named
@@ -72,7 +75,8 @@ by_name w =
     if bytes_eq w (codes "check") then checking else (if bytes_eq w (codes "order") then ordering else (if bytes_eq w (codes "graph") then graphing
     else (if bytes_eq w (codes "run") then reading of_run else (if bytes_eq w (codes "draw") then drawing else (if bytes_eq w (codes "vat") then reading of_vat
     else (if bytes_eq w (codes "records") then listing else (if bytes_eq w (codes "frame") then framing
-    else (if bytes_eq w (codes "migrate") then migrating else (if bytes_eq w (codes "wire") then wiring else reading of_frames)))))))))
+    else (if bytes_eq w (codes "migrate") then migrating else (if bytes_eq w (codes "wire") then wiring
+    else (if bytes_eq w (codes "join") then joining else reading of_frames))))))))))
 
 by_its_name : (c : Named) → by_name (name_of c) ≡ c
 by_its_name (reading of_run) = refl
@@ -86,6 +90,7 @@ by_its_name migrating = refl
 by_its_name graphing = refl
 by_its_name framing = refl
 by_its_name wiring = refl
+by_its_name joining = refl
 
 -- so no two have one name
 pub same_command : (a b : Named) → name_of a ≡ name_of b → a ≡ b
@@ -108,15 +113,16 @@ other_text a b differs is = let same : bytes_eq a b ≡ true = (bytes_eq-Decides
 
 -- a command that has none of the other names is `frames`
 pub last_command : (c : Named) (name : Text) → name ≡ name_of c → (name ≡ codes "check" → ⊥) → (name ≡ codes "order" → ⊥) → (name ≡ codes "graph" → ⊥) → (name ≡ codes "run" → ⊥)
-    → (name ≡ codes "draw" → ⊥) → (name ≡ codes "vat" → ⊥) → (name ≡ codes "records" → ⊥) → (name ≡ codes "frame" → ⊥) → (name ≡ codes "migrate" → ⊥) → (name ≡ codes "wire" → ⊥) → name ≡ codes "frames"
-last_command checking name is no_check no_order no_graph no_run no_draw no_vat no_records no_frame no_migrate no_wire = absurd (no_check is)
-last_command ordering name is no_check no_order no_graph no_run no_draw no_vat no_records no_frame no_migrate no_wire = absurd (no_order is)
-last_command drawing name is no_check no_order no_graph no_run no_draw no_vat no_records no_frame no_migrate no_wire = absurd (no_draw is)
-last_command graphing name is no_check no_order no_graph no_run no_draw no_vat no_records no_frame no_migrate no_wire = absurd (no_graph is)
-last_command (reading of_run) name is no_check no_order no_graph no_run no_draw no_vat no_records no_frame no_migrate no_wire = absurd (no_run is)
-last_command (reading of_vat) name is no_check no_order no_graph no_run no_draw no_vat no_records no_frame no_migrate no_wire = absurd (no_vat is)
-last_command listing name is no_check no_order no_graph no_run no_draw no_vat no_records no_frame no_migrate no_wire = absurd (no_records is)
-last_command framing name is no_check no_order no_graph no_run no_draw no_vat no_records no_frame no_migrate no_wire = absurd (no_frame is)
-last_command migrating name is no_check no_order no_graph no_run no_draw no_vat no_records no_frame no_migrate no_wire = absurd (no_migrate is)
-last_command wiring name is no_check no_order no_graph no_run no_draw no_vat no_records no_frame no_migrate no_wire = absurd (no_wire is)
-last_command (reading of_frames) name is no_check no_order no_graph no_run no_draw no_vat no_records no_frame no_migrate no_wire = is
+    → (name ≡ codes "draw" → ⊥) → (name ≡ codes "vat" → ⊥) → (name ≡ codes "records" → ⊥) → (name ≡ codes "frame" → ⊥) → (name ≡ codes "migrate" → ⊥) → (name ≡ codes "wire" → ⊥) → (name ≡ codes "join" → ⊥) → name ≡ codes "frames"
+last_command checking name is no_check no_order no_graph no_run no_draw no_vat no_records no_frame no_migrate no_wire no_join = absurd (no_check is)
+last_command ordering name is no_check no_order no_graph no_run no_draw no_vat no_records no_frame no_migrate no_wire no_join = absurd (no_order is)
+last_command drawing name is no_check no_order no_graph no_run no_draw no_vat no_records no_frame no_migrate no_wire no_join = absurd (no_draw is)
+last_command graphing name is no_check no_order no_graph no_run no_draw no_vat no_records no_frame no_migrate no_wire no_join = absurd (no_graph is)
+last_command (reading of_run) name is no_check no_order no_graph no_run no_draw no_vat no_records no_frame no_migrate no_wire no_join = absurd (no_run is)
+last_command (reading of_vat) name is no_check no_order no_graph no_run no_draw no_vat no_records no_frame no_migrate no_wire no_join = absurd (no_vat is)
+last_command listing name is no_check no_order no_graph no_run no_draw no_vat no_records no_frame no_migrate no_wire no_join = absurd (no_records is)
+last_command framing name is no_check no_order no_graph no_run no_draw no_vat no_records no_frame no_migrate no_wire no_join = absurd (no_frame is)
+last_command migrating name is no_check no_order no_graph no_run no_draw no_vat no_records no_frame no_migrate no_wire no_join = absurd (no_migrate is)
+last_command wiring name is no_check no_order no_graph no_run no_draw no_vat no_records no_frame no_migrate no_wire no_join = absurd (no_wire is)
+last_command joining name is no_check no_order no_graph no_run no_draw no_vat no_records no_frame no_migrate no_wire no_join = absurd (no_join is)
+last_command (reading of_frames) name is no_check no_order no_graph no_run no_draw no_vat no_records no_frame no_migrate no_wire no_join = is

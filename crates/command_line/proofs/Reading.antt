@@ -19,10 +19,10 @@ use Rattle.clap.specs.declared.builder.value_parser.ValueParser.{ValueParser}
 use Rattle.clap.specs.declared.builder.value_parser.ValueParser.TheVariants as parser
 use Rattle.clap.proofs.OnLiterals.{clap_on_literals}
 use Rattle.command_line.proofs.Faultless.{first_none, never, then_none}
-use Rattle.command_line.proofs.Filled.{AllBring, AreFull, Brings, default_row, first_passes, given_value, level_full, no_default, parser_by, replaced_full, row_value, values_pass}
-use Rattle.command_line.proofs.Named.{IsOneOf, Named, Reader, all_names, checking, drawing, framing, graphing, help_word, listing, migrating, name_of, of_frames, of_run, of_vat, ordering, reading, which, wiring, word_of}
+use Rattle.command_line.proofs.Filled.{AllBring, AreFull, Brings, default_row, first_passes, given_value, level_full, no_default, parser_by, replaced_full, row_value, values_full, values_pass}
+use Rattle.command_line.proofs.Named.{IsOneOf, Named, Reader, all_names, checking, drawing, framing, graphing, help_word, joining, listing, migrating, name_of, of_frames, of_run, of_vat, ordering, reading, which, wiring, word_of}
 use Rattle.command_line.proofs.One.{HasFile, at, dashes, help, holding, main, names, sub, word_plain, words_read}
-use Rattle.command_line.specs.Parser.{check, count, dot, draw, flag_rule, folder_rule, frame, graph, input, input_rule, later, migrate, most, number_rule, other, other_rule, path, path_rule, program, records, start, wire, workers, workers_rule, writer}
+use Rattle.command_line.specs.Parser.{check, count, dot, draw, flag_rule, folder_rule, frame, graph, input, input_rule, join, later, logs_rule, migrate, most, number_rule, other, other_rule, path, path_rule, program, records, start, wire, workers, workers_rule, writer}
 use Rattle.command_line.specs.Spelled.{IsChecked, SpellsOne}
 
 -- ---- the first word
@@ -91,6 +91,9 @@ frame_sub = unwrap_or (slice_get (built program).subs 7) frame.top
 abbrev wire_sub : Shape
 wire_sub = unwrap_or (slice_get (built program).subs 10) wire.top
 
+abbrev join_sub : Shape
+join_sub = unwrap_or (slice_get (built program).subs 11) join.top
+
 abbrev graph_sub : Shape
 graph_sub = unwrap_or (slice_get (built program).subs 2) graph.top
 
@@ -104,6 +107,7 @@ shape_by migrating = migrate_sub
 shape_by graphing = graph_sub
 shape_by framing = frame_sub
 shape_by wiring = wire_sub
+shape_by joining = join_sub
 
 -- past the name of a command the walk keeps the words
 stops : (h : Held) (waiting : Waiting) (n : ℕ) (ended : Bool) (name : Text) (seen words : List Text)
@@ -126,6 +130,7 @@ stop_at listing words = stops (holding None) idle 1 false (name_of listing) [] w
 stop_at migrating words = stops (holding None) idle 1 false (name_of migrating) [] words
 stop_at framing words = stops (holding None) idle 1 false (name_of framing) [] words
 stop_at wiring words = stops (holding None) idle 1 false (name_of wiring) [] words
+stop_at joining words = stops (holding None) idle 1 false (name_of joining) [] words
 
 -- the command that is entered reads the words that are left
 entered_level : (c : Named) (words : List Text) → entered_fault (built program) (Some (name_of c, words)) ≡ level_fault (shape_by c) [] nothing_held words false []
@@ -140,6 +145,7 @@ entered_level listing words = refl
 entered_level migrating words = refl
 entered_level framing words = refl
 entered_level wiring words = refl
+entered_level joining words = refl
 
 entered_rows : (c : Named) (words : List Text) → entered (built program) (Some (name_of c, words)) ≡ Some (name_of c, rows_after (shape_by c).rules [] words)
 entered_rows graphing words = refl
@@ -153,6 +159,7 @@ entered_rows listing words = refl
 entered_rows migrating words = refl
 entered_rows framing words = refl
 entered_rows wiring words = refl
+entered_rows joining words = refl
 
 no_command : (rest : List Text) → built_fault (built program) nothing_held (dashes ∷ rest) ≡ [] → ⊥
 unfolding clap_on_literals
@@ -197,6 +204,10 @@ brings_other [] rows e full = absurd (never e)
 brings_other (v ∷ vs) rows e full =
     replaced_full other _ CommandLine (v ∷ vs) rows (values_pass other (v ∷ vs) (then_none (repeat_fault false other rows) _ (then_none (range_kinds 1 1 (length (v ∷ vs))) _ e))) full
 
+brings_logs : Brings false (with_index 1 (filled logs_rule))
+brings_logs [] rows e full = absurd (never e)
+brings_logs (v ∷ vs) rows e full = values_full input _ CommandLine (v ∷ vs) rows (values_pass input (v ∷ vs) (then_none (range_kinds 1 1 (length (v ∷ vs))) _ e)) full
+
 brings_folder : Brings false (filled folder_rule)
 brings_folder [] rows e full = absurd (never e)
 brings_folder (v ∷ vs) rows e full =
@@ -237,6 +248,7 @@ brings drawing = (brings_case, tt, (brings_path, tt, (brings_number start refl, 
 brings migrating = (brings_case, tt, (brings_flag later refl, (refl, tt), (brings_path, tt, (brings_help, tt, tt))))
 brings graphing = (brings_case, tt, (brings_flag dot refl, (refl, tt), (brings_help, tt, tt)))
 brings wiring = (brings_case, tt, (brings_other, tt, (brings_folder, tt, (brings_help, tt, tt))))
+brings joining = (brings_logs, tt, (brings_path, tt, (brings_help, tt, tt)))
 brings framing = (brings_case, tt, (brings_flag later refl, (refl, tt), (brings_help, tt, tt)))
 brings listing = (brings_case, tt, (brings_number start refl, tt, (brings_number count refl, tt, (brings_help, tt, tt))))
 
@@ -272,6 +284,7 @@ Besides ordering words rows file = (out : Text) × (first_of path rows ≡ Some 
 Besides drawing words rows file = (out : Text) × ((first_of path rows ≡ Some out) × IsChecked 0 most (first_of start rows) × IsChecked 0 most (first_of count rows))
 Besides migrating words rows file = (out : Text) × (first_of path rows ≡ Some out)
 Besides wiring words rows file = (another : Text) × (first_of other rows ≡ Some another)
+Besides joining words rows file = (out : Text) × (first_of path rows ≡ Some out)
 Besides graphing words rows file = ⊤
 Besides framing words rows file = ⊤
 Besides listing words rows file = IsChecked 0 most (first_of start rows) × IsChecked 0 most (first_of count rows)
@@ -319,6 +332,12 @@ finds_by wiring first rest e full none =
     let file = given_value input rows given.0 full in
     let another = given_value other rows given.1 full in
     (file.0, (file.1, (another.0, another.1)))
+finds_by joining first rest e full none =
+    let rows = rows_after join_sub.rules [] rest in
+    let given = both_given (is_given input rows) (is_given path rows) none in
+    let file = given_value input rows given.0 full in
+    let out = given_value path rows given.1 full in
+    (file.0, (file.1, (out.0, out.1)))
 finds_by graphing first rest e full none =
     let rows = rows_after graph_sub.rules [] rest in
     let case = given_value input rows (one_given (is_given input rows) none) full in

@@ -17,7 +17,7 @@ use Rattle.clap.specs.declared.error.ErrorKind.TheVariants.{ValueValidation}
 use Rattle.clap.specs.declared.builder.value_parser.ValueParser.{ValueParser}
 use Rattle.clap.specs.declared.builder.value_parser.ValueParser.TheVariants as parser
 use Rattle.clap.proofs.OnLiterals.{clap_on_literals}
-use Rattle.command_line.proofs.Named.{Reader, checking, drawing, framing, graphing, listing, migrating, name_of, of_frames, of_run, of_vat, ordering, reader_of, wiring, word_of}
+use Rattle.command_line.proofs.Named.{Reader, checking, drawing, framing, graphing, joining, listing, migrating, name_of, of_frames, of_run, of_vat, ordering, reader_of, wiring, word_of}
 use Rattle.command_line.proofs.One.{at, dashes, given, holding, sub}
 use Rattle.command_line.proofs.Reading.{shape_by}
 use Rattle.command_line.specs.Parser.{most, path, program, start}
@@ -252,6 +252,23 @@ pub takes_wire_out : (first one another out : Text) → is_flag one ≡ false �
     → fault_of program (first ∷ name_of wiring ∷ one ∷ another ∷ codes "--out" ∷ out ∷ []) ≡ []
 unfolding clap_on_literals
 takes_wire_out first one another out e h f = ap (λ (k : Kinds). or_else k []) (wire_out_words one another out e h f)
+
+-- ---- join
+
+join_words : (one another out : Text) → is_flag one ≡ false → is_flag another ≡ false → is_flag out ≡ false
+    → level_fault (shape_by joining) [] nothing_held (one ∷ another ∷ codes "--out" ∷ out ∷ []) false [] ≡ []
+unfolding clap_on_literals
+join_words one another out e h f =
+    let is = plain_word_is one e in
+    let are = plain_word_is another h in
+    let too = plain_word_is out f in
+    rw (is.0, is.1, is.2, are.0, are.1, are.2, too.0, too.1, too.2) refl
+
+-- `join LOG LOG --out FOLDER` has no fault, where none is a flag
+pub takes_join : (first one another out : Text) → is_flag one ≡ false → is_flag another ≡ false → is_flag out ≡ false
+    → fault_of program (first ∷ name_of joining ∷ one ∷ another ∷ codes "--out" ∷ out ∷ []) ≡ []
+unfolding clap_on_literals
+takes_join first one another out e h f = ap (λ (k : Kinds). or_else k []) (join_words one another out e h f)
 
 -- ---- migrate
 

@@ -2,7 +2,7 @@
 use Rattle.std.specs.Prelude.{ℕ, List, [], ◌∷◌, Some, codes, true}
 use Rattle.clap.specs.Words.{App, Rule, new_app, new_rule, with_rule, with_subcommand}
 use Rattle.clap.specs.Simple.{on_top}
-use Rattle.clap.specs.declared.builder.action.ArgAction.TheVariants.{SetTrue}
+use Rattle.clap.specs.declared.builder.action.ArgAction.TheVariants.{Append, SetTrue}
 use Rattle.clap.specs.declared.builder.value_parser.ValueParser.TheVariants as parser
 
 -- by what clap knows the one thing that a command reads
@@ -104,6 +104,14 @@ folder_rule = record (new_rule path) { long = Some (codes "out"); value_names = 
 abbrev pub wire : App
 wire = with_rule (with_rule (with_rule (new_app (codes "wire")) input_rule) other_rule) folder_rule
 
+-- the logs that `join` reads, of which one at least has to be given
+abbrev pub logs_rule : Rule
+logs_rule = record (new_rule input) { action = Some Append; value_names = 1; required = true }
+
+-- `join LOG .. --out FOLDER`
+abbrev pub join : App
+join = with_rule (with_rule (new_app (codes "join")) logs_rule) path_rule
+
 -- the program, of which a command has to be given
 abbrev pub top : App
 top = on_top (λ s. record s { subcommand_required = true; arg_required_else_help = true }) (new_app (codes "vataudit"))
@@ -124,5 +132,9 @@ abbrev pub writing : App
 writing = with_subcommand reading migrate.top
 
 -- and with the one that reads the bytes of a connection
+abbrev pub wiring : App
+wiring = with_subcommand writing wire.top
+
+-- and with the one that joins logs
 abbrev pub program : App
-program = with_subcommand writing wire.top
+program = with_subcommand wiring join.top

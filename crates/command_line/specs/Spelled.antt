@@ -1,12 +1,12 @@
 -- How words spell commands.
-use Rattle.std.specs.Prelude.{◌≡◌, ◌⊎◌, ◌==◌, ◌≤◌, ⊤, ℕ, Bool, false, List, [], ◌∷◌, Option, Some, None, codes, option_map}
+use Rattle.std.specs.Prelude.{◌≡◌, ◌⊎◌, ◌==◌, ◌≤◌, ⊤, ℕ, Bool, false, List, [], ◌∷◌, Option, Some, None, codes, map, option_map}
 use Rattle.std.specs.Str.{bytes_eq}
 use Rattle.std.specs.Str.Parse.{IsNumeral, digits_value, without_leading_plus}
 use Rattle.command_line.specs.declared.command.Command.{Command}
-use Rattle.command_line.specs.declared.command.Command.TheVariants.{Check, Order, Graph, Run, Draw, Vat, Records, Frame, Frames, Migrate, Wire}
+use Rattle.command_line.specs.declared.command.Command.TheVariants.{Check, Order, Graph, Run, Draw, Vat, Records, Frame, Frames, Migrate, Wire, Join}
 use Rattle.clap.specs.Simple.{subcommand_rows_of}
 use Rattle.clap.specs.Values.{IsUnsignedIn}
-use Rattle.clap.specs.Words.{Row, fault_of, first_of, subcommand_of}
+use Rattle.clap.specs.Words.{Row, all_of, fault_of, first_of, subcommand_of}
 use Rattle.clap.specs.declared.ArgMatches.{ArgMatches}
 use Rattle.command_line.specs.Parser.{count, dot, input, later, other, path, program, start, workers}
 
@@ -92,6 +92,10 @@ abbrev pub SpellsWire : List (List ℕ) → List ℕ → List ℕ → Option (Li
 SpellsWire words one another out = (rows : List Row) ×
     (IsRead words (codes "wire") rows × (first_of input rows ≡ Some one) × (first_of other rows ≡ Some another) × (first_of path rows ≡ out))
 
+-- the words are read as `join LOG .. --out FOLDER`, and clap finds the logs and the folder in them
+abbrev pub SpellsJoin : List (List ℕ) → List (List ℕ) → List ℕ → Type 0
+SpellsJoin words names out = (rows : List Row) × (IsRead words (codes "join") rows × (all_of input rows ≡ Some names) × (first_of path rows ≡ Some out))
+
 -- the words spell the command
 abbrev pub Spells : List (List ℕ) → Command → Type 0
 Spells words (Check name many) = SpellsCheck words name.now many
@@ -105,6 +109,7 @@ Spells words (Frame hex is_later) = SpellsFlagged (codes "frame") later words he
 Spells words (Frames file) = SpellsOne (codes "frames") words file.now
 Spells words (Migrate file is_later out) = SpellsMigrate words file.now is_later out.now
 Spells words (Wire one another out) = SpellsWire words one.now another.now (option_map (λ name. name.now) out)
+Spells words (Join logs out) = SpellsJoin words (map (λ name. name.now) logs.items) out.now
 
 -- the name of a command that may be given one thing alone
 abbrev pub IsReader : List ℕ → Type 0
@@ -124,6 +129,7 @@ HasWorkers (Frame hex is_later) = ⊤
 HasWorkers (Frames name) = ⊤
 HasWorkers (Migrate file is_later out) = ⊤
 HasWorkers (Wire one another out) = ⊤
+HasWorkers (Join logs out) = ⊤
 
 -- the name of the file or folder that a command writes, if it writes one
 abbrev pub out_of : Command → Option (List ℕ)
@@ -138,3 +144,4 @@ out_of (Frame hex is_later) = None
 out_of (Frames name) = None
 out_of (Migrate file is_later out) = Some out.now
 out_of (Wire one another out) = option_map (λ name. name.now) out
+out_of (Join logs out) = Some out.now

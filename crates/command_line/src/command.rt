@@ -4,18 +4,18 @@ ghost use Rattle.std.specs.Prelude.{◌≡◌, ◌⊎◌, ◌≤◌, ℕ, List, 
 ghost use Rattle.clap.specs.Kinds.{FailsBy};
 ghost use Rattle.clap.specs.Simple.{subcommand_rows_of};
 ghost use Rattle.clap.specs.Values.{IsUnsignedIn};
-ghost use Rattle.clap.specs.Words.{fault_of, first_value, found_of, kind_of, subcommand_of};
+ghost use Rattle.clap.specs.Words.{fault_of, first_value, found_of, kind_of, matched_of, raw_values, subcommand_of};
 ghost use Rattle.command_line.specs.Parser.{most, program, workers};
 ghost use Rattle.command_line.specs.Spelled.{AreMatchesOf, HasWorkers, IsChecked, IsNumber, IsReader, Spells, is_flag, is_set, out_of};
 
 use crate::parser::{self, COUNT, DOT, FROM, INPUT, LATER, OTHER, OUT, WORKERS};
 use clap::error::ErrorKind;
 use clap::{ArgMatches, Error};
-use std::alloc::Global;
+use std::alloc::{AllocError, Global};
 use std::convert::AsStr;
 
 /// What the program is asked to do.
-#[derive(Clone, Copy, Debug, PartialEq, Eq)]
+#[derive(Debug, PartialEq, Eq, Drop)]
 pub enum Command<'a> {
     /// Audit the case that the source has under this name, by so many workers, 1 to 64.
     Check {
@@ -80,6 +80,12 @@ pub enum Command<'a> {
         b: &'a str,
         out: Option<&'a str>,
     },
+    /// Find which connection of which log is the other end of which, in the logs that the source has under these names, and
+    /// write the logs to a folder with numbers by which they make a case.
+    Join {
+        logs: Vec<&'a str>,
+        out: &'a str,
+    },
 }
 
 impl<'a> Command<'a> {
@@ -89,7 +95,7 @@ impl<'a> Command<'a> {
     {
         match self {
             Command::Order { out, .. } | Command::Draw { out, .. } => Some(out),
-            Command::Migrate { out, .. } => Some(out),
+            Command::Migrate { out, .. } | Command::Join { out, .. } => Some(out),
             Command::Wire { out, .. } => *out,
             Command::Check { .. } | Command::Graph { .. } | Command::Run { .. } => None,
             Command::Vat { .. } | Command::Records { .. } => None,
@@ -150,58 +156,78 @@ fn workers_of(given: &ArgMatches<'_>) -> u32
     workers
 }
 
+/// All that was given under a name.
+fn values_of<'a>(
+    alloc: Global,
+    given: &ArgMatches<'a>,
+    name: &str,
+) -> Result<Vec<&'a str>, AllocError>
+    requires { IsSome (first_value (found_of given.now) name.now) }
+    ensures { IfOk result (λ values. option_map raw_values (matched_of (found_of given.now) name.now)
+        ≡ Some (map (λ value. value.now) values.items)) }
+{
+    let Some(values) = given.get_strs(name) else {
+        unreachable!()
+    };
+    Vec::from_slice(alloc, values)
+}
+
 /// The command of words that `clap` took.
-fn command_in<'a>(matches: &ArgMatches<'a>) -> Command<'a>
+fn command_in<'a>(alloc: Global, matches: &ArgMatches<'a>) -> Result<Command<'a>, AllocError>
     requires { (words : List (List ℕ)) × AreMatchesOf words matches.now }
-    ensures spelled { (words : List (List ℕ)) → AreMatchesOf words matches.now
-        → Spells words result }
-    ensures workers { HasWorkers result }
+    ensures spelled { IfOk result (λ command. (words : List (List ℕ)) → AreMatchesOf words matches.now
+        → Spells words command) }
+    ensures workers { IfOk result HasWorkers }
 {
     let Some((name, given)) = matches.subcommand() else {
         unreachable!()
     };
     let input = value_of(given, INPUT);
     match name {
-        "check" => Command::Check {
+        "check" => Ok(Command::Check {
             case: input,
             workers: workers_of(given),
-        },
-        "order" => Command::Order {
+        }),
+        "order" => Ok(Command::Order {
             case: input,
             out: value_of(given, OUT),
-        },
-        "graph" => Command::Graph {
+        }),
+        "graph" => Ok(Command::Graph {
             case: input,
             dot: is_set(given, DOT),
-        },
-        "run" => Command::Run { case: input },
-        "draw" => Command::Draw {
+        }),
+        "run" => Ok(Command::Run { case: input }),
+        "draw" => Ok(Command::Draw {
             case: input,
             out: value_of(given, OUT),
             from: number_of(given, FROM),
             count: number_of(given, COUNT),
-        },
-        "vat" => Command::Vat { file: input },
-        "records" => Command::Records {
+        }),
+        "vat" => Ok(Command::Vat { file: input }),
+        "records" => Ok(Command::Records {
             file: input,
             from: number_of(given, FROM),
             count: number_of(given, COUNT),
-        },
-        "frame" => Command::Frame {
+        }),
+        "frame" => Ok(Command::Frame {
             hex: input,
             later: is_set(given, LATER),
-        },
-        "migrate" => Command::Migrate {
+        }),
+        "migrate" => Ok(Command::Migrate {
             file: input,
             later: is_set(given, LATER),
             out: value_of(given, OUT),
-        },
-        "wire" => Command::Wire {
+        }),
+        "wire" => Ok(Command::Wire {
             a: input,
             b: value_of(given, OTHER),
             out: given_value(given, OUT),
-        },
-        _ => Command::Frames { file: input },
+        }),
+        "join" => Ok(Command::Join {
+            logs: values_of(alloc, given, INPUT)?,
+            out: value_of(given, OUT),
+        }),
+        _ => Ok(Command::Frames { file: input }),
     }
 }
 
@@ -217,10 +243,24 @@ fn matches_of<'a, S: AsStr>(alloc: Global, words: &'a [S]) -> Result<ArgMatches<
     parser::command_line(alloc)?.try_get_matches_from(words)
 }
 
+/// The command of the words.
+///
+/// # Errors
+///
+/// `clap`'s: the fault of the words, or out of memory.
+fn read_command<'a, S: AsStr>(alloc: Global, words: &'a [S]) -> Result<Command<'a>, Error>
+    ensures kinds { FailsBy (fault_of program (map S.text words.entry.now)) result }
+    ensures spelled { IfOk result (λ command. Spells (map S.text words.entry.now) command) }
+    ensures workers { IfOk result HasWorkers }
+{
+    let matches = matches_of(alloc, words)?;
+    Ok(command_in(alloc, &matches)?)
+}
+
 /// The command that the words spell, of which the first is the program's name: `run CASE`, `vat FILE` or `frames FILE`, where
 /// before or after the last of these may stand `--`, and it may begin with a hyphen only after that or where it is `-`; or, as
 /// `clap` reads them, `check CASE` with `--workers N` if wanted, a number from 1 to 64, or `order CASE --out FILE`, or `wire A B`
-/// with `--out FOLDER` if wanted, or `graph CASE` with `--dot` if wanted, or `draw CASE --out FILE` with `--from I` and `--count N` if wanted, or `frame HEX` with
+/// with `--out FOLDER` if wanted, or `join LOG .. --out FOLDER`, or `graph CASE` with `--dot` if wanted, or `draw CASE --out FILE` with `--from I` and `--count N` if wanted, or `frame HEX` with
 /// `--later` if wanted, or `migrate FILE --out FILE` with `--later` if wanted, or `records FILE` with `--from I` and `--count N`
 /// if wanted, numbers of 64 bits.
 ///
@@ -287,6 +327,11 @@ pub fn command_of<'a, S: AsStr>(alloc: Global, words: &'a [S]) -> Result<Command
         ≡ first ∷ codes "wire" ∷ one ∷ another ∷ codes "--out" ∷ out ∷ []
         → is_flag one ≡ false → is_flag another ≡ false → is_flag out ≡ false
         → IfErr result (λ e. kind_of e ≡ ErrorKind.OutOfMemory) }
+    ensures taken_join { (first one another out : List ℕ)
+        → map S.text words.entry.now
+        ≡ first ∷ codes "join" ∷ one ∷ another ∷ codes "--out" ∷ out ∷ []
+        → is_flag one ≡ false → is_flag another ≡ false → is_flag out ≡ false
+        → IfErr result (λ e. kind_of e ≡ ErrorKind.OutOfMemory) }
     ensures taken_records { (first file : List ℕ)
         → map S.text words.entry.now ≡ first ∷ codes "records" ∷ file ∷ [] → is_flag file ≡ false
         → IfErr result (λ e. kind_of e ≡ ErrorKind.OutOfMemory) }
@@ -303,6 +348,6 @@ pub fn command_of<'a, S: AsStr>(alloc: Global, words: &'a [S]) -> Result<Command
         → IsErrAnd result
         (λ e. (kind_of e ≡ ErrorKind.OutOfMemory) ⊎ (kind_of e ≡ ErrorKind.ValueValidation)) }
 {
-    let matches = matches_of(alloc, words)?;
-    Ok(command_in(&matches))
+    let command = read_command(alloc, words)?;
+    Ok(command)
 }

@@ -496,3 +496,46 @@ pub const WIRE_B: &str = "What the other end sent, a path too; - is standard inp
 
 /// FOLDER of `wire`.
 pub const FOLDER: &str = "The folder that is made, for the two logs and their case";
+
+/// `join`, in the list of commands.
+pub const JOIN: &str = "Finds the other end of each connection of logs, and makes their case";
+
+pub const JOIN_LONG: &str = "\
+Finds which connection of which log is the other end of which, where each vat gave
+its connections numbers of its own, as a server that listens does. Two ends are
+those of one connection where each received the first frames that the other sent,
+and one received some. Prints one line, with C for a connection's number in its
+log, and V for the log's vat, or its place, counted from 1, where two logs have the
+same vat:
+
+  joined vats N links N        each connection has both its ends in the N logs
+  unmatched connection C vat V no end fits this one, or is left for it
+  ambiguous connection C vat V ends fit this one that differ
+
+  bad log NAME [OFFSET], bad case TooManyVats, bad case TooManyLinks, cannot read,
+  out of memory
+
+Where all are joined, FOLDER is made, with the logs and case.json, for check, run,
+graph and draw. In the new logs each connection has one number at both ends, the
+vats are 1, 2, .. where two had the same, and all else is as it was. The logs keep
+their files' names, or are 1.log, 2.log, .. where two have the same. Connections at
+which the same passed are paired in the order of the logs, with a note.";
+
+pub const JOIN_END: &str = "\
+Example:
+  $ vataudit join server.log clients/*.log --out joined
+  joined vats 101 links 100
+  $ vataudit check joined/case.json
+
+Exit status:
+  0  joined
+  1  an end without another, or with several
+  2  a log is bad or can't be read, a write failed, or the command line is wrong
+  3  memory ran out";
+
+/// LOG of `join`.
+pub const LOGS: &str =
+    "The logs of the vats, paths from the working directory; - is standard input";
+
+/// FOLDER of `join`.
+pub const JOIN_FOLDER: &str = "The folder that is made, for the logs and their case";

@@ -2,7 +2,7 @@
 
 ghost use Rattle.std.specs.Prelude.{◌≡◌, ℕ, List, IfOk, Some, codes, false};
 ghost use Rattle.clap.specs.Words.{Rule, app_of, new_rule, rule_of, with_subcommand};
-ghost use Rattle.command_line.specs.Parser.{check, draw, flag_rule, flagged, folder_rule, input_rule, judging, migrate, other_rule, path_rule, program, reader, reading, records, top, wire, workers_rule, writer, writing};
+ghost use Rattle.command_line.specs.Parser.{check, draw, flag_rule, flagged, folder_rule, input_rule, judging, migrate, other_rule, path_rule, program, reader, reading, records, top, wire, workers_rule, writer, writing, wiring, join, logs_rule};
 
 use crate::help;
 use clap::builder::ValueParser;
@@ -96,6 +96,30 @@ fn out<'a>(alloc: Global) -> Arg<'a>
         .value_name("FILE")
         .required(true)
         .help(help::OUT)
+}
+
+/// The logs that `join` reads, of which one at least has to be given.
+fn logs<'a>(alloc: Global) -> Arg<'a>
+    ensures rule { rule_of result ≡ logs_rule }
+    ensures local { result.global ≡ false }
+{
+    Arg::new(alloc, INPUT)
+        .value_name("LOG")
+        .required(true)
+        .action(ArgAction::Append)
+        .help(help::LOGS)
+}
+
+/// The option `--out FOLDER`, which has to be given.
+fn joined<'a>(alloc: Global) -> Arg<'a>
+    ensures rule { rule_of result ≡ path_rule }
+    ensures local { result.global ≡ false }
+{
+    Arg::new(alloc, OUT)
+        .long("out")
+        .value_name("FOLDER")
+        .required(true)
+        .help(help::JOIN_FOLDER)
 }
 
 /// The second file that `wire` reads, which has to be given.
@@ -364,7 +388,7 @@ fn with_migration<'a>(alloc: Global, readers: Command<'a>) -> Result<Command<'a>
 /// Out of memory.
 fn with_wire<'a>(alloc: Global, others: Command<'a>) -> Result<Command<'a>, AllocError>
     requires { app_of others ≡ writing }
-    ensures { IfOk result (λ c. app_of c ≡ program) }
+    ensures { IfOk result (λ c. app_of c ≡ wiring) }
 {
     let wire = Command::new(alloc, "wire")
         .about(help::WIRE)
@@ -374,6 +398,24 @@ fn with_wire<'a>(alloc: Global, others: Command<'a>) -> Result<Command<'a>, Allo
         .arg(other(alloc))?
         .arg(folder(alloc))?;
     others.subcommand(wire)
+}
+
+/// The program with its command that joins logs: `join LOG .. --out FOLDER`.
+///
+/// # Errors
+///
+/// Out of memory.
+fn with_join<'a>(alloc: Global, others: Command<'a>) -> Result<Command<'a>, AllocError>
+    requires { app_of others ≡ wiring }
+    ensures { IfOk result (λ c. app_of c ≡ program) }
+{
+    let join = Command::new(alloc, "join")
+        .about(help::JOIN)
+        .long_about(help::JOIN_LONG)
+        .after_help(help::JOIN_END)
+        .arg(logs(alloc))?
+        .arg(joined(alloc))?;
+    others.subcommand(join)
 }
 
 /// The program's command line, with its help.
@@ -390,5 +432,6 @@ pub(crate) fn command_line<'a>(alloc: Global) -> Result<Command<'a>, AllocError>
         .subcommand_required(true)
         .arg_required_else_help(true);
     let readers = with_files(alloc, with_cases(alloc, top)?)?;
-    with_wire(alloc, with_migration(alloc, readers)?)
+    let wired = with_wire(alloc, with_migration(alloc, readers)?)?;
+    with_join(alloc, wired)
 }

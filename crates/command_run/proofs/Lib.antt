@@ -1,4 +1,5 @@
 mod Falling
+mod Joins
 mod Listing
 mod Judged
 mod Mapped

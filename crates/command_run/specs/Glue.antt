@@ -1,4 +1,5 @@
 -- This file serves the contracts of private functions alone, and is no part of the meaning.
+use Rattle.std.specs.List.{flat_map}
 use Rattle.std.specs.Prelude.{◌≡◌, ◌⊎◌, ℕ, ◌-◌, Bool, List, ◌++◌, length, take, drop, Option, Some, None, Result, Ok, Err, option_map}
 use Rattle.report_lines.specs.declared.answer.Answer.{Answer}
 use Rattle.report_lines.specs.declared.answer.Answer.TheVariants.{Finding}
@@ -16,20 +17,24 @@ use Rattle.vat_log.specs.declared.body.Body.{Body}
 use Rattle.vat_log.specs.declared.error.LogError.{LogError}
 use Rattle.vat_log.specs.Log.{Log}
 use Rattle.vat_log.specs.Reading.{log_of}
-use Rattle.vat_rules.specs.declared.finding.VatFinding.{VatFinding}
+use Rattle.vat_log.specs.Spelling.{log_bytes}
+use Rattle.vat_rules.specs.declared.slim.finding.SlimFinding.{SlimFinding}
 use Rattle.command_run.specs.declared.output.Failed.{Failed}
 use Rattle.command_run.specs.declared.output.Failed.TheVariants.{Out, File}
 use Rattle.command_run.specs.RecordAnswers.{first_ones}
 use Rattle.command_run.specs.CommandAnswers.{AnswersMigration}
 use Rattle.command_run.specs.DrawAnswers.{IsDrawn}
+use Rattle.command_run.specs.JoinAnswers.{AreFilesOf}
+use Rattle.log_ends.specs.declared.end.EndPair.{EndPair}
 use Rattle.command_run.specs.declared.commands.draw_case.DrawAnswer.{DrawAnswer}
+use Rattle.command_run.specs.declared.commands.join_logs.JoinedFolder.{JoinedFolder}
 use Rattle.command_run.specs.declared.commands.migrate_log.MigrationAnswer.{MigrationAnswer}
 use Rattle.command_run.specs.declared.commands.wire_files.WireFolder.{WireFolder}
 use Rattle.command_run.specs.Runs.{Writing}
 use Rattle.picture.specs.declared.window.Asked.{Asked}
 
 -- a finding, or why there is none, as an answer
-abbrev pub answer_of : Result VatFinding Fault → Answer
+abbrev pub answer_of : Result SlimFinding Fault → Answer
 answer_of (Ok found) = Finding found
 answer_of (Err fault) = answer.Fault fault
 
@@ -86,3 +91,12 @@ IsMade made text status bytes =
 abbrev pub folder_bytes : Option WireFolder → Option (List ℕ)
 folder_bytes None = None
 folder_bytes (Some folder) = Some (folder.log_of_a ++ (folder.log_of_b ++ folder.case))
+
+-- the same of joined logs: their bytes, and behind them the case file
+abbrev pub joined_bytes : Option JoinedFolder → Option (List ℕ)
+joined_bytes None = None
+joined_bytes (Some folder) = Some (flat_map log_bytes folder.logs.items ++ folder.case)
+
+-- a folder has the files of joined logs
+abbrev pub IsFilesOf : List ℕ → List (List ℕ) → List Log → List EndPair → JoinedFolder → Type 0
+IsFilesOf folder names logs pairs made = AreFilesOf folder names logs pairs (flat_map log_bytes made.logs.items ++ made.case)

@@ -1,6 +1,7 @@
 pub mod Answers
 pub mod CommandAnswers
 pub mod Glue
+pub mod JoinAnswers
 pub mod OrderAnswers
 pub mod DrawAnswers
 pub mod MigrationAnswers

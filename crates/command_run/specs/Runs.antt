@@ -1,14 +1,15 @@
 -- What a run of a command asks its source for, and what it writes.
-use Rattle.std.specs.Prelude.{◌≡◌, ◌⊎◌, ℕ, List, Option, Some, None, Result, Ok, Err, IsSome, option_map}
+use Rattle.std.specs.Prelude.{◌≡◌, ◌⊎◌, ℕ, List, Option, Some, None, Result, Ok, Err, IsSome, map, option_map}
 use Rattle.std.specs.Io.KnownBytes.{Appends}
 use Rattle.case_files.specs.CaseReading.{Read, Reads}
 use Rattle.command_line.specs.declared.command.Command.{Command}
-use Rattle.command_line.specs.declared.command.Command.TheVariants.{Check, Order, Graph, Run, Draw, Vat, Records, Frame, Frames, Migrate, Wire}
+use Rattle.command_line.specs.declared.command.Command.TheVariants.{Check, Order, Graph, Run, Draw, Vat, Records, Frame, Frames, Migrate, Wire, Join}
 use Rattle.command_run.specs.declared.output.Failed.{Failed}
 use Rattle.command_run.specs.declared.output.Failed.TheVariants.{Out, File}
 use Rattle.command_run.specs.Answers.{edition_asked}
 use Rattle.command_run.specs.CommandAnswers.{AnswersFile, AnswersFrame, AnswersLogRecords, AnswersMigration, AnswersOrder, AnswersReportOf, AnswersSource}
 use Rattle.command_run.specs.DrawAnswers.{AnswersDraw}
+use Rattle.command_run.specs.JoinAnswers.{AnswersJoin}
 use Rattle.command_run.specs.ReportAnswers.{AnswersGraph, AnswersReport, AnswersRun}
 use Rattle.command_run.specs.WireAnswers.{AnswersWire}
 
@@ -22,7 +23,7 @@ NoFile answers text status bytes = answers text status × (bytes ≡ None)
 
 -- What a run asks its source for, and what is an answer then: a log is read once, by its name, to be audited, listed or
 -- migrated, as a file of frames is; a frame asks for nothing; a case is read with the files that it names; what the ends of a
--- connection sent is read from two files.
+-- connection sent is read from two files; the logs that are joined are read as they are listed.
 abbrev pub CarriesOut : {S : Type 0} → Reads S → Command → S → S → (Answering → Type 0) → Type 0
 CarriesOut gives (Vat file) old new writes = (read : Read) × gives old file.now read new × writes (NoFile (AnswersSource read))
 CarriesOut gives (Frame hex later) old new writes = (new ≡ old) × writes (NoFile (AnswersFrame (edition_asked later) hex.now))
@@ -36,6 +37,8 @@ CarriesOut gives (Draw name out first many) old new writes =
 CarriesOut gives (Migrate file later out) old new writes = (read : Read) × gives old file.now read new × writes (AnswersMigration later read)
 CarriesOut gives (Wire one another out) old new writes =
     writes (λ text status bytes. AnswersWire gives old one.now another.now (option_map (λ name. name.now) out) text status bytes new)
+CarriesOut gives (Join logs out) old new writes =
+    writes (λ text status bytes. AnswersJoin gives old (map (λ name. name.now) logs.items) out.now text status bytes new)
 CarriesOut gives (Order name out) old new writes = writes (λ text status bytes. AnswersOrder gives old name.now text status bytes new)
 
 -- what may come of writing: the writer, what was written, and the writer afterwards

@@ -10,6 +10,7 @@ use crate::commands::draw_case::say_drawn;
 use crate::commands::frame_list::say_frames;
 use crate::commands::graph::say_graph;
 use crate::commands::hex_frame::say_frame;
+use crate::commands::join_logs::say_join;
 use crate::commands::log_records::{RecordRange, say_records};
 use crate::commands::make_order::say_order;
 use crate::commands::migrate_log::say_migrated;
@@ -116,12 +117,15 @@ pub(crate) fn answer_heard<
             };
             say_wire(host, &asked, source, heard, out, file)
         }
+        Command::Join { logs, out: folder } => {
+            say_join(host.alloc, folder, logs, source, heard, out, file)
+        }
     }
 }
 
 /// Runs a command: writes its line, or its lines, to `out`, and answers the exit status. It is 0 where the log is good, the
 /// report of a case or what is found of a connection is yes, the message of each frame is said, the records are, or an order
-/// or a new log is made; 1 where a record breaks a rule, the report or what is found is a no, or no order exists; 2 where a
+/// or a new log is made, or logs are joined; 1 where a record breaks a rule, the report or what is found is a no, no order exists, or an end of a connection has no other end; 2 where a
 /// record or a message isn't judged, a message isn't read, or the input is bad, too long or can't be read; and 3 where memory
 /// ran out. To `file` go the bytes of an order, of a picture, of a new log or of a folder's files alone, before the line. Of
 /// the workers that audit a case one is the calling thread, and `rt` starts the others; the answer is the same for any number

@@ -1,13 +1,14 @@
 //! The object of an answer.
 
 use crate::fault_object::fault_object;
+use crate::join_object::join_object;
 use crate::message_object::message_object;
 use crate::wire_object::wire_object;
 use audit_core::Report;
 use report_lines::{Answer, breach_code, code_of, word_of};
 use serde_json::{Value, json};
 use std::alloc::{AllocError, Global};
-use vat_rules::{Outcome, VatFinding, Why};
+use vat_rules::{SlimFinding, SlimOutcome, Why};
 
 /// A record of a vat breaks what has this code.
 fn broken_object(alloc: Global, vat: u32, at: u64, code: &str) -> Result<Value, AllocError> {
@@ -21,16 +22,16 @@ fn outside_object(alloc: Global, vat: u32, at: u64, why: Why) -> Result<Value, A
 }
 
 /// What the audit of a vat's log found.
-fn finding_object(alloc: Global, finding: &VatFinding) -> Result<Value, AllocError> {
+fn finding_object(alloc: Global, finding: &SlimFinding) -> Result<Value, AllocError> {
     let vat = finding.log().vat();
     let records = finding.log().len();
     match finding.outcome() {
-        Outcome::Good(story) => {
+        SlimOutcome::Good(story) => {
             let delivered = story.delivered();
             json!(in alloc; {"kind": "good", "vat": vat, "records": records, "delivered": delivered})
         }
-        Outcome::Broken { at, rule } => broken_object(alloc, vat, *at, code_of(*rule)),
-        Outcome::Outside { at, why } => outside_object(alloc, vat, *at, *why),
+        SlimOutcome::Broken { at, rule } => broken_object(alloc, vat, *at, code_of(*rule)),
+        SlimOutcome::Outside { at, why } => outside_object(alloc, vat, *at, *why),
     }
 }
 
@@ -92,6 +93,7 @@ pub(crate) fn answer_object(alloc: Global, answer: &Answer) -> Result<Value, All
             json!(in alloc; {"kind": "migrated", "vat": vat, "records": records})
         }
         Answer::Wire(line) => wire_object(alloc, line),
+        Answer::Join(line) => join_object(alloc, line),
         Answer::Fault(fault) => fault_object(alloc, *fault),
     }
 }

@@ -9,6 +9,7 @@
 mod answer_object;
 mod edge_object;
 mod fault_object;
+mod join_object;
 mod json_lines;
 mod line;
 mod lists;

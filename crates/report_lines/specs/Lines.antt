@@ -15,8 +15,10 @@ use Rattle.wire_cut.specs.declared.end.End.{End}
 use Rattle.wire_cut.specs.declared.end.End.TheVariants as end
 use Rattle.wire_logs.specs.declared.line.WireLine.{WireLine}
 use Rattle.wire_logs.specs.declared.line.WireLine.TheVariants as wire
+use Rattle.report_lines.specs.declared.join_text.JoinLine.{JoinLine}
+use Rattle.report_lines.specs.declared.join_text.JoinLine.TheVariants as join
 use Rattle.report_lines.specs.declared.answer.Answer.{Answer}
-use Rattle.report_lines.specs.declared.answer.Answer.TheVariants.{Finding, Report, Message, Order, NoOrder, Migrated, Wire, Fault}
+use Rattle.report_lines.specs.declared.answer.Answer.TheVariants.{Finding, Report, Message, Order, NoOrder, Migrated, Wire, Join, Fault}
 use Rattle.report_lines.specs.Faults.{fault_status, fault_text}
 use Rattle.report_lines.specs.MessageText.{message_text}
 
@@ -117,6 +119,21 @@ wire_status (wire.Outside sender number reason) = 2
 wire_status (wire.BadFrame sender number) = 2
 wire_status _ = 1
 
+-- a connection, by its number in the log of a vat
+abbrev pub connection_text : ℕ → ℕ → List ℕ
+connection_text connection vat = codes "connection " ++ (decimal connection ++ (codes " vat " ++ decimal vat))
+
+-- what is answered of logs whose connections are joined
+abbrev pub join_text : JoinLine → List ℕ
+join_text (join.Joined vats links) = codes "joined vats " ++ (decimal vats ++ (codes " links " ++ decimal links))
+join_text (join.Unmatched connection vat) = codes "unmatched " ++ connection_text connection vat
+join_text (join.Ambiguous connection vat) = codes "ambiguous " ++ connection_text connection vat
+
+-- 0 where each end has its other end, else 1
+abbrev pub join_status : JoinLine → ℕ
+join_status (join.Joined vats links) = 0
+join_status _ = 1
+
 -- the text of an answer
 abbrev pub answer_text : Answer → List ℕ
 answer_text (Finding found) = log_outcome_text found.log.vat (length found.log.records) found.outcome
@@ -126,6 +143,7 @@ answer_text (Order steps) = codes "order steps " ++ decimal (length steps)
 answer_text NoOrder = no_order_text
 answer_text (Migrated log) = codes "migrated vat " ++ (decimal log.vat ++ (codes " records " ++ decimal (length log.records)))
 answer_text (Wire found) = wire_text found
+answer_text (Join found) = join_text found
 answer_text (Fault found) = fault_text found
 
 -- the exit status of an answer
@@ -137,6 +155,7 @@ answer_status (Order steps) = 0
 answer_status NoOrder = 1
 answer_status (Migrated log) = 0
 answer_status (Wire found) = wire_status found
+answer_status (Join found) = join_status found
 answer_status (Fault found) = fault_status found
 
 -- a line: a text and its end

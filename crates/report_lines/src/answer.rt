@@ -5,6 +5,7 @@ ghost use Rattle.report_lines.specs.Lines.{answer_status, answer_text};
 
 use crate::fault::Fault;
 use crate::finding_text::{outcome_status, put_outcome};
+use crate::join_text::{JoinLine, join_status, put_join};
 use crate::report_text::{put_no_order, put_report, report_status};
 use crate::shown::Shown;
 use crate::wire_text::{put_wire, wire_status};
@@ -14,14 +15,14 @@ use rpc_view::RpcMessage;
 use std::fmt;
 use std::fmt::{Display, Formatter};
 use vat_log::VatLog;
-use vat_rules::VatFinding;
+use vat_rules::SlimFinding;
 use wire_logs::WireLine;
 
 /// What is answered to an input. It is shown as its line (docs/FORMATS.md), without the line's end.
 #[derive(Debug, Drop)]
 pub enum Answer {
     /// What the audit of a vat's log found.
-    Finding(VatFinding),
+    Finding(SlimFinding),
     /// What the audit of a case found.
     Report(Report),
     /// The message of a frame.
@@ -34,12 +35,14 @@ pub enum Answer {
     Migrated(VatLog),
     /// What was found of the bytes of a connection.
     Wire(WireLine),
+    /// What was found of logs whose connections are joined.
+    Join(JoinLine),
     /// The input has a fault, or memory ran out.
     Fault(Fault),
 }
 
 impl Answer {
-    /// The exit status: 0 for a good log, a yes, a message, an order or a migrated log; 1 for a rule that is broken, each other no, or where
+    /// The exit status: 0 for a good log, a yes, a message, an order, a migrated log or joined ones; 1 for a rule that is broken, each other no, or where
     /// no order exists; 2 for a record or a message that isn't judged, what is too long, or a fault; 3 where memory ran out.
     pub fn status(&self) -> u8
         ensures { result ≡ answer_status self.now }
@@ -50,6 +53,7 @@ impl Answer {
             Answer::Message(_) | Answer::Order(_) | Answer::Migrated(_) => 0,
             Answer::NoOrder => 1,
             Answer::Wire(line) => wire_status(line),
+            Answer::Join(line) => join_status(line),
             Answer::Fault(fault) => fault.status(),
         }
     }
@@ -72,6 +76,7 @@ impl Display for Answer {
                 write!(f, "migrated vat {} records {}", log.vat(), log.len())
             }
             Answer::Wire(line) => put_wire(f, line),
+            Answer::Join(line) => put_join(f, line),
             Answer::Fault(fault) => write!(f, "{fault}"),
         }
     }

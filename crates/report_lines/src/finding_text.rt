@@ -2,11 +2,12 @@
 
 ghost use Rattle.std.specs.Prelude.{◌≡◌};
 ghost use Rattle.std.specs.Fmt.{WritesOnOk};
+ghost use Rattle.vat_rules.specs.Slim.{outcome_in};
 ghost use Rattle.report_lines.specs.Lines.{broken_text, code_of, outcome_status, log_outcome_text, outside_text, word_of};
 
 use std::fmt;
 use std::fmt::Formatter;
-use vat_rules::{Outcome, Rule, Why};
+use vat_rules::{Rule, SlimOutcome, Why};
 
 /// The code of a rule.
 pub fn code_of(rule: Rule) -> &'static str
@@ -63,28 +64,28 @@ pub fn put_outcome<W: fmt::Write>(
     f: &mut Formatter<W>,
     vat: u32,
     records: usize,
-    outcome: &Outcome,
+    outcome: &SlimOutcome,
 ) -> fmt::Result
     ensures { WritesOnOk W.write_str_gives f.old result
-        (log_outcome_text vat records outcome.now) f.new }
+        (log_outcome_text vat records (outcome_in outcome.now)) f.new }
 {
     match outcome {
-        Outcome::Good(story) => {
+        SlimOutcome::Good(story) => {
             let delivered = story.delivered();
             write!(f, "good vat {vat} records {records} delivered {delivered}")
         }
-        Outcome::Broken { at, rule } => put_broken(f, vat, *at, code_of(*rule)),
-        Outcome::Outside { at, why } => put_outside(f, vat, *at, *why),
+        SlimOutcome::Broken { at, rule } => put_broken(f, vat, *at, code_of(*rule)),
+        SlimOutcome::Outside { at, why } => put_outside(f, vat, *at, *why),
     }
 }
 
 /// The exit status for what an audit found.
-pub fn outcome_status(outcome: &Outcome) -> u8
-    ensures { result ≡ outcome_status outcome.now }
+pub fn outcome_status(outcome: &SlimOutcome) -> u8
+    ensures { result ≡ outcome_status (outcome_in outcome.now) }
 {
     match outcome {
-        Outcome::Good(_) => 0,
-        Outcome::Broken { .. } => 1,
-        Outcome::Outside { .. } => 2,
+        SlimOutcome::Good(_) => 0,
+        SlimOutcome::Broken { .. } => 1,
+        SlimOutcome::Outside { .. } => 2,
     }
 }

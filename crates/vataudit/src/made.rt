@@ -2,8 +2,9 @@
 
 use crate::new_file::NewFile;
 use crate::new_folder::NewFolder;
+use case_files::{CASE_FILE, file_names};
 use command_line::Command;
-use std::alloc::AllocError;
+use std::alloc::{AllocError, Global};
 use std::io;
 use std::io::Write;
 use std::rt::Files;
@@ -13,6 +14,25 @@ use std::rt::Files;
 pub enum Made<'a, R: Files> {
     File(NewFile<'a, R>),
     Folder(NewFolder<'a, R>),
+}
+
+/// The paths of the files of a folder, in the order in which they are written: those of its logs, and that of the case file.
+fn paths_of(alloc: Global, folder: &str, names: &[String]) -> Result<Vec<String>, AllocError> {
+    let mut paths = Vec::new(alloc);
+    for name in names {
+        paths.push(format!(in alloc; "{folder}/{name}")?)?;
+    }
+    paths.push(format!(in alloc; "{folder}/{CASE_FILE}")?)?;
+    Ok(paths)
+}
+
+/// The names of the logs that `wire` writes.
+fn wire_names(alloc: Global) -> Result<Vec<String>, AllocError> {
+    let mut names = Vec::new(alloc);
+    for name in ["A.log", "B.log"] {
+        names.push(String::from_str(alloc, name)?)?;
+    }
+    Ok(names)
 }
 
 impl<'a, R: Files + AllocGlobal> Made<'a, R> {
@@ -26,7 +46,14 @@ impl<'a, R: Files + AllocGlobal> Made<'a, R> {
             Command::Wire {
                 out: Some(name),
                 ..
-            } => Ok(Made::Folder(NewFolder::new(rt, name)?)),
+            } => {
+                let paths = paths_of(rt.alloc(), name, &wire_names(rt.alloc())?)?;
+                Ok(Made::Folder(NewFolder::new(rt, name, paths)))
+            }
+            Command::Join { logs, out: name } => {
+                let paths = paths_of(rt.alloc(), name, &file_names(rt.alloc(), logs)?)?;
+                Ok(Made::Folder(NewFolder::new(rt, name, paths)))
+            }
             command => Ok(Made::File(NewFile::new(rt, command.out()))),
         }
     }

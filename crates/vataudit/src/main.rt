@@ -2,8 +2,9 @@
 //! CASE` prints one line, `vataudit graph CASE` which vat came to have what of another's, `vataudit run CASE` the steps of
 //! their run, and `vataudit order CASE --out FILE` makes an order of their records. `vataudit vat FILE` prints one line for the
 //! log of one vat, `vataudit records FILE` a line for each record of a log, `vataudit frame HEX` the message of a frame, and
-//! `vataudit frames FILE` that of each frame of a file; `vataudit migrate FILE --out FILE` writes a log in another version; and
-//! `vataudit wire A B` prints one line for a connection, by the bytes that its ends sent.
+//! `vataudit frames FILE` that of each frame of a file; `vataudit migrate FILE --out FILE` writes a log in another version;
+//! `vataudit wire A B` prints one line for a connection, by the bytes that its ends sent; `vataudit join LOG .. --out FOLDER` finds
+//! the other end of each connection of logs, and makes their case.
 //! Beside the lines it notes on standard error what leads people to the cause of a no, of a record that isn't judged, of an
 //! input that is bad or can't be read and of a write that fails; `--quiet` before the command, or as the last word, leaves
 //! notes out. With `--json` in these places each line is a JSON object, and the last one has the notes. `vataudit --version` prints the version,
@@ -117,6 +118,7 @@ fn may_take_long(command: &Command<'_>) -> bool {
             | Command::Draw { .. }
             | Command::Vat { .. }
             | Command::Wire { .. }
+            | Command::Join { .. }
     )
 }
 

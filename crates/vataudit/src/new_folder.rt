@@ -2,13 +2,9 @@
 
 ghost use Rattle.std.specs.Prelude.{◌≤◌, length, IfOk};
 
-use std::alloc::AllocError;
 use std::io::{Error, Write};
 use std::rt::Files;
 use std::{fs, io};
-
-/// The files of the folder, in the order in which they are written.
-const NAMES: [&str; 3] = ["A.log", "B.log", "case.json"];
 
 /// A folder, which is made at the first write and may not be there before, with its files: what is written up to a flush
 /// stands in the first, what follows up to the next flush in the second, and so on. Where a write fails, the folder is taken
@@ -17,7 +13,8 @@ const NAMES: [&str; 3] = ["A.log", "B.log", "case.json"];
 pub struct NewFolder<'a, R: Files> {
     rt: &'a R,
     name: &'a str,
-    paths: [String; 3],
+    /// The paths of its files, in the order in which they are written.
+    paths: Vec<String>,
     is_made: bool,
     /// How many files were begun.
     begun: usize,
@@ -25,26 +22,16 @@ pub struct NewFolder<'a, R: Files> {
 }
 
 impl<'a, R: Files + AllocGlobal> NewFolder<'a, R> {
-    /// The folder of this name, which isn't made yet.
-    ///
-    /// # Errors
-    ///
-    /// Out of memory, for the paths of its files.
-    pub fn new(rt: &'a R, name: &'a str) -> Result<NewFolder<'a, R>, AllocError> {
-        let [first, second, third] = NAMES;
-        let alloc = rt.alloc();
-        Ok(NewFolder {
+    /// The folder of this name, which isn't made yet, with files of these paths.
+    pub fn new(rt: &'a R, name: &'a str, paths: Vec<String>) -> NewFolder<'a, R> {
+        NewFolder {
             rt,
             name,
-            paths: [
-                format!(in alloc; "{name}/{first}")?,
-                format!(in alloc; "{name}/{second}")?,
-                format!(in alloc; "{name}/{third}")?,
-            ],
+            paths,
             is_made: false,
             begun: 0,
             file: None,
-        })
+        }
     }
 
     /// Begins the next file, and makes the folder before the first one.

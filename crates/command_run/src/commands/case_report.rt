@@ -44,7 +44,7 @@ pub fn case_report<R: Threads + Wait + Sync, G: Watch + Sync, S: Source>(
     host.watch.begins(case.logs().len(), case.links().len());
     match audit_with_findings(host.rt, host.alloc, case, order, workers, host.watch) {
         Ok((report, findings)) => {
-            heard.keep(&report, findings);
+            heard.keep(host.alloc, &report, findings);
             Ok(report)
         }
         Err(error) => Err(fault_of(error)),

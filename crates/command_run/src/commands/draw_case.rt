@@ -82,7 +82,7 @@ fn drawing<R: Threads + Wait + Sync, G: Watch + Sync, S: Source>(
     match audit_with_findings(host.rt, host.alloc, case, order, 1, host.watch) {
         Ok((report, findings)) => {
             let picture = picture_bytes(host.alloc, &findings, &arranged, &report, asked)?;
-            heard.keep(&report, findings);
+            heard.keep(host.alloc, &report, findings);
             Ok(DrawAnswer {
                 answer: Answer::Report(report),
                 picture: Some(picture),

@@ -7,6 +7,7 @@ pub(crate) mod draw_case;
 pub(crate) mod frame_list;
 pub(crate) mod graph;
 pub(crate) mod hex_frame;
+pub(crate) mod join_logs;
 pub(crate) mod log_records;
 pub(crate) mod make_order;
 pub(crate) mod migrate_log;

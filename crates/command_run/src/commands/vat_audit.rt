@@ -15,17 +15,17 @@ use rpc_view::Limits;
 use std::alloc::Global;
 use std::sync::Arc;
 use vat_log::parse_log;
-use vat_rules::{VatFinding, audit_vat};
+use vat_rules::{SlimFinding, audit_slim};
 
 /// What the audit of the log that a source has under a name finds, within the default limits.
-fn finding<S: Source>(alloc: Global, source: &mut S, name: &str) -> Result<VatFinding, Fault>
+fn finding<S: Source>(alloc: Global, source: &mut S, name: &str) -> Result<SlimFinding, Fault>
     ensures { (read : Read) × S.read_gives source.old name.now read source.new
         × AnswersSource read (line (answer_text (answer_of result)))
         (answer_status (answer_of result)) }
 {
     let bytes = source.read(name)?;
     let log = Arc::new(alloc, parse_log(alloc, bytes)?)?;
-    Ok(audit_vat(alloc, &log, Limits::default())?)
+    Ok(audit_slim(alloc, &log, Limits::default())?)
 }
 
 /// Audits the log that a source has under a name, and says what was found.

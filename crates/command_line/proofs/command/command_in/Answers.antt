@@ -1,8 +1,8 @@
 use Rattle.std.proofs.Common.{◌∙◌, sym}
 use Rattle.clap.specs.Words.{first_value, found_of}
 use Rattle.command_line.proofs.Matched.{besides_of, checked_as, has_subcommand, input_there, is_some_by, matched, number_as, read_as, set_as, spells_one, thing_is}
-use Rattle.command_line.proofs.Named.{checking, drawing, framing, graphing, last_command, listing, migrating, of_frames, of_run, of_vat, ordering, wiring}
-use Rattle.command_line.specs.Parser.{count, dot, later, most, other, path, start, workers}
+use Rattle.command_line.proofs.Named.{checking, drawing, framing, graphing, joining, last_command, listing, migrating, of_frames, of_run, of_vat, ordering, wiring}
+use Rattle.command_line.specs.Parser.{count, dot, input, later, most, other, path, start, workers}
 use Rattle.command_line.proofs.command.command_in.Goals as goal
 
 pub unreachable-requires : goal.unreachable-requires
@@ -46,6 +46,15 @@ value_of-requires-in-wire c =
     let m = matched c.requires.0 c.args.matches.now c.in-Some.given.now c.in-Some.name.now c.requires.1 c.in-Some.ensures.name c.in-Some.ensures.rows in
     let another = besides_of m wiring c.in-wire.is in
     is_some_by (first_value (found_of c.in-Some.given.now) other) another.0 (m.each other ∙ another.1)
+
+pub values_of-requires : goal.values_of-requires
+values_of-requires c = input_there (matched c.requires.0 c.args.matches.now c.in-Some.given.now c.in-Some.name.now c.requires.1 c.in-Some.ensures.name c.in-Some.ensures.rows)
+
+pub value_of-requires-in-join : goal.value_of-requires-in-join
+value_of-requires-in-join c =
+    let m = matched c.requires.0 c.args.matches.now c.in-Some.given.now c.in-Some.name.now c.requires.1 c.in-Some.ensures.name c.in-Some.ensures.rows in
+    let out = besides_of m joining c.in-join.is in
+    is_some_by (first_value (found_of c.in-Some.given.now) path) out.0 (m.each path ∙ out.1)
 
 pub number_of-requires : goal.number_of-requires
 number_of-requires c =
@@ -114,6 +123,17 @@ returns-in-wire-clause-spelled c words are =
       ),
     )
 
+pub returns-in_ok-values_of-in-join-clause-spelled : goal.returns-in_ok-values_of-in-join-clause-spelled
+returns-in_ok-values_of-in-join-clause-spelled c words are =
+    let m = matched words c.args.matches.now c.in-Some.given.now c.in-Some.name.now are c.in-Some.ensures.name c.in-Some.ensures.rows in (
+      m.rows,
+      (
+        read_as m joining c.in-join.is,
+        sym (m.all input) ∙ c.in_ok-values_of-in-join.ensures,
+        sym (m.each path) ∙ c.value_of-in-join.ensures,
+      ),
+    )
+
 pub returns-in-records-clause-spelled : goal.returns-in-records-clause-spelled
 returns-in-records-clause-spelled c words are =
     let m = matched words c.args.matches.now c.in-Some.given.now c.in-Some.name.now are c.in-Some.ensures.name c.in-Some.ensures.rows in (
@@ -150,5 +170,5 @@ pub returns-in_default-name-clause-spelled : goal.returns-in_default-name-clause
 returns-in_default-name-clause-spelled c words are =
     let m = matched words c.args.matches.now c.in-Some.given.now c.in-Some.name.now are c.in-Some.ensures.name c.in-Some.ensures.rows in
     let not = c.in_default-name in
-    let is = last_command m.command c.in-Some.name.now m.named not.not-check not.not-order not.not-graph not.not-run not.not-draw not.not-vat not.not-records not.not-frame not.not-migrate not.not-wire in
+    let is = last_command m.command c.in-Some.name.now m.named not.not-check not.not-order not.not-graph not.not-run not.not-draw not.not-vat not.not-records not.not-frame not.not-migrate not.not-wire not.not-join in
     spells_one m of_frames _ is c.value_of-input.ensures

@@ -1,11 +1,14 @@
 //! What is heard of an answer, for what people are told beside it. No answer depends on it.
 
+use crate::joins::JoinNote;
+use crate::left::good_case::GoodCase;
 use crate::wires::wire_found::WireFound;
 use audit_core::{Breach, Report};
 use case_book::Findings;
 use report_lines::{Answer, Fault, report_sentence, why_sentence};
+use std::alloc::Global;
 use std::mem;
-use vat_rules::{Outcome, VatFinding};
+use vat_rules::{Outcome, SlimFinding, SlimOutcome, VatFinding};
 use wire_logs::WireAnswer;
 
 /// What was heard of the answer that was said last.
@@ -50,21 +53,29 @@ pub(crate) enum Told {
     NoOrder(&'static str),
     /// What was found of the bytes of a connection.
     Wire,
+    /// What was found of logs whose connections are joined.
+    Join,
+    /// The log of this vat is good.
+    GoodLog(u32),
+    /// The report of a case is yes.
+    Yes,
 }
 
-/// What was heard of the answer that was said last, and what was found of the case that it judges, where it isn't yes, or of
-/// the connection.
+/// What was heard of the answer that was said last, and what was found of the case that it judges, or its logs alone where
+/// the report is yes, or what was found of the connection.
 #[derive(Debug, Drop)]
 pub struct Heard {
     pub(crate) told: Told,
     pub(crate) findings: Option<Findings>,
+    pub(crate) good: Option<GoodCase>,
     pub(crate) wire: Option<WireFound>,
+    pub(crate) join: Option<JoinNote>,
 }
 
 /// What is heard of the report of a case.
 fn of_report(report: &Report) -> Told {
     let Some(rule) = report_sentence(report) else {
-        return Told::Nothing;
+        return Told::Yes;
     };
     match report {
         Report::Vat {
@@ -89,7 +100,7 @@ fn of_report(report: &Report) -> Told {
             rule,
         },
         Report::OrderStep(_) | Report::NoOrder => Told::NoOrder(rule),
-        Report::Yes { .. } => Told::Nothing,
+        Report::Yes { .. } => Told::Yes,
     }
 }
 
@@ -112,10 +123,20 @@ pub(crate) fn report_of(finding: &VatFinding) -> Option<Report> {
 }
 
 /// What is heard of the finding of a log.
-fn of_finding(finding: &VatFinding) -> Told {
-    match report_of(finding) {
-        Some(report) => of_report(&report),
-        None => Told::Nothing,
+fn of_finding(finding: &SlimFinding) -> Told {
+    let vat = finding.log().vat();
+    match finding.outcome() {
+        SlimOutcome::Good(_) => Told::GoodLog(vat),
+        SlimOutcome::Broken { at, rule } => of_report(&Report::Vat {
+            vat,
+            at: *at,
+            rule: Breach::Rule(*rule),
+        }),
+        SlimOutcome::Outside { at, why } => of_report(&Report::OutsideVat {
+            vat,
+            at: *at,
+            why: *why,
+        }),
     }
 }
 
@@ -125,7 +146,9 @@ impl Heard {
         Heard {
             told: Told::Nothing,
             findings: None,
+            good: None,
             wire: None,
+            join: None,
         }
     }
 
@@ -136,21 +159,28 @@ impl Heard {
             Answer::Report(report) => of_report(report),
             Answer::NoOrder => of_report(&Report::NoOrder),
             Answer::Wire(_) => Told::Wire,
+            Answer::Join(_) => Told::Join,
             Answer::Fault(fault) => Told::Fault(*fault),
             Answer::Message(_) | Answer::Order(_) | Answer::Migrated(_) => Told::Nothing,
         };
     }
 
-    /// Keeps what was found of a connection, but for its logs.
+    /// Keeps what was found of a connection, with its logs where all is explained.
     pub fn keep_wire(&mut self, answer: &WireAnswer) {
         self.wire = Some(WireFound::of(answer));
     }
 
-    /// Keeps what was found of a case beside its report, unless that is yes: then it is left to the system, which takes
-    /// all memory at once where the program ends.
-    pub fn keep(&mut self, report: &Report, findings: Findings) {
+    /// Keeps what people are told of logs whose connections are joined.
+    pub fn keep_join(&mut self, note: JoinNote) {
+        self.join = Some(note);
+    }
+
+    /// Keeps what was found of a case beside its report. Where that is yes, only the logs and links are kept: the rest is
+    /// left to the system, which takes all memory at once where the program ends. Where memory is refused less is kept.
+    pub fn keep(&mut self, alloc: Global, report: &Report, findings: Findings) {
         self.findings = match report {
             Report::Yes { .. } => {
+                self.good = GoodCase::of(alloc, findings.case()).ok();
                 mem::forget(findings);
                 None
             }

@@ -2,20 +2,22 @@
 //! input (docs/FORMATS.md). No contract says what they tell, and no answer depends on them.
 //!
 //! It stands on `report_lines`, which says records and rules, on `audit_core`, whose findings it tells of, on `vat_view`,
-//! whose state of a log says what its numbers stand for, and on the crates that read logs, frames and case files. [`Heard`]
+//! whose state of a log says what its numbers stand for, on `left_open`, which lists what is open at its end, and on the crates that read logs, frames and case files. [`Heard`]
 //! hears the answer that was said last and keeps the findings behind it; [`notes_of`] makes the notes beside it. A note says
 //! what was found in the records, and nothing else: where a search finds nothing the note is left out. A note costs one walk
 //! over the log that it tells of.
 //!
 //! Its rooms: `past`, what the records before made of a log's numbers; `rules`, a file for each family of rules: questions,
 //! lives of numbers, calls, goals, capability tables, results, promises, references, connections; `cases`, frames that differ,
-//! calls that overtake, what was found of the other logs; `wires`, connections that were judged by their bytes; `inputs`, bad
-//! inputs.
+//! calls that overtake, what was found of the other logs; `wires`, connections that were judged by their bytes; `joins`, logs whose
+//! connections were joined; `inputs`, bad inputs; `left`, what is open at the end, where nothing is wrong.
 #![tactic(auto)]
 
 mod cases;
 mod heard;
 mod inputs;
+mod joins;
+mod left;
 mod logs;
 mod notes;
 mod past;
@@ -25,5 +27,6 @@ mod wires;
 mod write_notes;
 
 pub use heard::Heard;
+pub use joins::{JoinNote, NotedEnd};
 pub use notes::notes_of;
 pub use write_notes::write_note;

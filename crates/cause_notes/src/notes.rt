@@ -5,6 +5,9 @@ use crate::cases::link_notes::{put_counterpart, put_received};
 use crate::cases::other_findings::{put_links, put_others};
 use crate::heard::{Heard, Told};
 use crate::inputs::bad_input::{message_sentence, put_fault};
+use crate::joins::put_join;
+use crate::left::good_case::GoodCase;
+use crate::left::good_notes::put_good;
 use crate::logs::{Logs, put_place};
 use crate::reading::message_at;
 use crate::rules::rule_notes::put_rule_cause;
@@ -51,7 +54,20 @@ fn put_unread_frame(
     }
 }
 
-/// Appends the notes of a no or an outside.
+/// Appends the notes of what is open at the end of a log that is good.
+fn put_good_log(
+    alloc: Global,
+    text: &mut String,
+    logs: &Logs<'_>,
+    vat: u32,
+) -> Result<(), AllocError> {
+    match logs.of_vat(alloc, vat)? {
+        Some(log) => put_good(alloc, text, logs.files, &GoodCase::of_log(alloc, log)?),
+        None => Ok(()),
+    }
+}
+
+/// Appends the notes of a good log, of a no or of an outside.
 fn put_told(
     alloc: Global,
     text: &mut String,
@@ -93,7 +109,8 @@ fn put_told(
             put_links(alloc, text, logs, Some(connection))
         }
         Told::NoOrder(rule) => write!(text, "note: rule: {rule}\n"),
-        Told::Nothing | Told::Fault(_) | Told::Wire => Ok(()),
+        Told::GoodLog(vat) => put_good_log(alloc, text, logs, vat),
+        Told::Nothing | Told::Fault(_) | Told::Wire | Told::Join | Told::Yes => Ok(()),
     }
 }
 
@@ -115,6 +132,14 @@ pub fn notes_of<S: RememberingSource>(
     }
     if let (Told::Wire, Some(found)) = (heard.told, &heard.wire) {
         put_wire(alloc, &mut text, source.kept(), found)?;
+        return Ok(text);
+    }
+    if let (Told::Join, Some(note)) = (heard.told, heard.join) {
+        put_join(&mut text, source.kept(), note)?;
+        return Ok(text);
+    }
+    if let (Told::Yes, Some(good)) = (heard.told, &heard.good) {
+        put_good(alloc, &mut text, source.kept(), good)?;
         return Ok(text);
     }
     let logs = Logs {

@@ -1,5 +1,6 @@
 //! Calls that overtake others.
 
+use crate::cases::embargoes::put_embargo_cause;
 use crate::logs::{Logs, put_place};
 use audit_core::run_of_findings;
 use run_model::{Message, Name, Step, vat_of};
@@ -9,10 +10,10 @@ use std::fmt::Write;
 
 /// A step of a run, with the record that it is.
 #[derive(Clone, Copy)]
-struct Placed<'a> {
-    vat: u32,
-    at: usize,
-    step: &'a Step,
+pub(super) struct Placed<'a> {
+    pub(super) vat: u32,
+    pub(super) at: usize,
+    pub(super) step: &'a Step,
 }
 
 /// The steps of a run, with the records that they are.
@@ -172,7 +173,8 @@ fn put_pair(
     )?;
     put_place(alloc, text, logs, vat, at)?;
     put_way(text, steps, overtaken)?;
-    put_way(text, steps, early)
+    put_way(text, steps, early)?;
+    put_embargo_cause(alloc, text, logs, steps, overtaken, early)
 }
 
 /// Appends the notes of the call that the record of this number overtakes, whose vat this is: both MAKEs, where the earlier

@@ -1,6 +1,7 @@
 //! Frames that were received and not sent so.
 
 use crate::cases::frame_fields::put_field;
+use crate::cases::link_shapes::Direction;
 use crate::logs::Logs;
 use crate::reading::{message_at, put_record};
 use bytes::Bytes;
@@ -12,23 +13,23 @@ use vat_log::{Body, VatLog};
 
 /// One direction of a connection in a log.
 #[derive(Clone, Copy)]
-struct Stream<'a> {
-    log: &'a VatLog,
+pub(super) struct Stream<'a> {
+    pub(super) log: &'a VatLog,
     connection: u32,
     sent: bool,
 }
 
 /// A frame of a direction: its record, and which it is of them, counted from 0.
 #[derive(Clone, Copy)]
-struct Passed<'a> {
-    at: usize,
-    message: u64,
-    frame: &'a Bytes,
+pub(super) struct Passed<'a> {
+    pub(super) at: usize,
+    pub(super) message: u64,
+    pub(super) frame: &'a Bytes,
 }
 
 impl<'a> Stream<'a> {
     /// The frame that the record of this number has on it.
-    fn frame_at(&self, at: usize) -> Option<&'a Bytes> {
+    pub(super) fn frame_at(&self, at: usize) -> Option<&'a Bytes> {
         match (self.sent, self.log.get(at)?.body()) {
             (
                 true,
@@ -77,17 +78,17 @@ impl<'a> Stream<'a> {
         found
     }
 
-    /// A frame of the same bytes: the first behind this number, or else the last before it.
+    /// The frame of the same bytes under another number, where there is just one.
     fn alike(&self, bytes: &Bytes, number: u64) -> Option<Passed<'a>> {
         let mut message = 0_u64;
         let mut found = None;
         for at in 0..self.log.len() {
             if let Some(frame) = self.frame_at(at) {
                 if message != number && frame.as_slice() == bytes.as_slice() {
+                    if found.is_some() {
+                        return None;
+                    }
                     found = Some(Passed { at, message, frame });
-                }
-                if message > number && found.is_some() {
-                    return found;
                 }
                 message = message.saturating_add(1);
             }
@@ -226,7 +227,19 @@ fn put_end(
     put_named(alloc, text, logs, stream.log, last.at)
 }
 
-/// Appends the notes of where the same bytes stand that were received, or sent, under this number.
+/// How long a frame is, at most, that may be the same as another one by chance.
+const COMMON: usize = 32;
+
+/// The frame of the same bytes under another number, where they are more than common and there is just one.
+fn distinct<'a>(stream: Stream<'a>, bytes: &Bytes, number: u64) -> Option<Passed<'a>> {
+    if bytes.len() <= COMMON {
+        return None;
+    }
+    stream.alike(bytes, number)
+}
+
+/// Appends the notes of where the same bytes stand that were received, or sent, under this number: those of a frame that is
+/// not short, where they stand just once.
 fn put_alike(
     text: &mut String,
     received: Stream<'_>,
@@ -234,7 +247,7 @@ fn put_alike(
     message: u64,
 ) -> Result<(), AllocError> {
     if let Some(frame) = received.message(message) {
-        if let Some(same) = sent.alike(frame.frame, message) {
+        if let Some(same) = distinct(sent, frame.frame, message) {
             let vat = sent.log.vat();
             let number = same.message;
             let at = same.at;
@@ -245,7 +258,7 @@ fn put_alike(
         }
     }
     if let Some(frame) = sent.message(message) {
-        if let Some(same) = received.alike(frame.frame, message) {
+        if let Some(same) = distinct(received, frame.frame, message) {
             let vat = received.log.vat();
             let number = same.message;
             let at = same.at;
@@ -281,6 +294,50 @@ pub(crate) fn put_received(
     }
 }
 
+/// Appends the note of a direction that brought what was received on another connection, if it did.
+fn put_if_crossed(
+    alloc: Global,
+    text: &mut String,
+    sent: Stream<'_>,
+    received: Stream<'_>,
+) -> Result<(), AllocError> {
+    if !Direction::of(alloc, sent, received)?.fits() {
+        return Ok(());
+    }
+    let (sender, other) = (sent.log.vat(), sent.connection);
+    let (receiver, connection) = (received.log.vat(), received.connection);
+    write!(
+        text,
+        "note: what vat {receiver} received on connection {connection} is what vat {sender} sent on connection {other}: their numbers may be crossed\n"
+    )
+}
+
+/// Appends the notes of what was sent on other connections, where it is what was received on this one.
+fn put_crossed(
+    alloc: Global,
+    text: &mut String,
+    logs: &Logs<'_>,
+    received: Stream<'_>,
+) -> Result<(), AllocError> {
+    let Some(findings) = logs.findings else {
+        return Ok(());
+    };
+    for link in findings.links() {
+        let connection = link.connection();
+        if connection != received.connection {
+            for log in [link.first(), link.second()] {
+                let sent = Stream {
+                    log,
+                    connection,
+                    sent: true,
+                };
+                put_if_crossed(alloc, text, sent, received)?;
+            }
+        }
+    }
+    Ok(())
+}
+
 /// Appends the notes of what the other end sent as this message, and where the two differ.
 pub(crate) fn put_counterpart(
     alloc: Global,
@@ -311,5 +368,10 @@ pub(crate) fn put_counterpart(
         (None, Some(_)) => put_end(alloc, text, logs, sent)?,
         _ => {}
     }
-    put_alike(text, received, sent, message)
+    let first = message as usize;
+    if Direction::of(alloc, sent, received)?.put(text, first)? {
+        return Ok(());
+    }
+    put_alike(text, received, sent, message)?;
+    put_crossed(alloc, text, logs, received)
 }

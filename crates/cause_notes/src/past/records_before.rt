@@ -17,27 +17,29 @@ pub(crate) struct Past<'a> {
     pub(crate) at: usize,
     /// The record.
     pub(crate) event: DecodedRecord,
-    /// The records before it, applied.
+    /// What the records before it came to.
     pub(crate) state: VatState,
+    /// These records.
+    pub(crate) events: Vec<DecodedRecord>,
     /// The lives of the numbers that are watched.
     pub(crate) lives: Lives,
 }
 
 /// Applies a record where it may be applied, and says whether it may.
-fn apply(state: &mut VatState, event: DecodedRecord) -> Result<bool, AllocError> {
-    if !state.refers(&event)? {
+fn apply(state: &mut VatState, event: &DecodedRecord) -> Result<bool, AllocError> {
+    if !state.refers(event)? {
         return Ok(false);
     }
-    if !state.uses_questions(&event) {
+    if !state.uses_questions(event) {
         return Ok(false);
     }
-    if !state.uses_numbers(&event) {
+    if !state.uses_numbers(event) {
         return Ok(false);
     }
-    if !state.gives_back_held(&event)? {
+    if !state.gives_back_held(event)? {
         return Ok(false);
     }
-    if !state.notes_each(&event) {
+    if !state.notes_each(event) {
         return Ok(false);
     }
     state.apply(event)?;
@@ -50,18 +52,20 @@ fn walk(
     log: &VatLog,
     at: usize,
     lives: &mut Lives,
-) -> Result<Option<VatState>, AllocError> {
+) -> Result<Option<(VatState, Vec<DecodedRecord>)>, AllocError> {
     let mut state = VatState::new(alloc);
+    let mut events = Vec::new(alloc);
     for number in 0..at {
         let Some(earlier) = decoded(alloc, log, number)? else {
             return Ok(None);
         };
-        if !apply(&mut state, earlier)? {
+        if !apply(&mut state, &earlier)? {
             return Ok(None);
         }
+        events.push(earlier)?;
         lives.see(&state, number);
     }
-    Ok(Some(state))
+    Ok(Some((state, events)))
 }
 
 impl<'a> Past<'a> {
@@ -74,12 +78,13 @@ impl<'a> Past<'a> {
         mut lives: Lives,
     ) -> Result<Option<Past<'a>>, AllocError> {
         match walk(alloc, log, at, &mut lives)? {
-            Some(state) => Ok(Some(Past {
+            Some((state, events)) => Ok(Some(Past {
                 alloc,
                 log,
                 at,
                 event,
                 state,
+                events,
                 lives,
             })),
             None => Ok(None),
@@ -102,6 +107,6 @@ impl<'a> Past<'a> {
 
     /// The record of this number among those before it.
     pub(crate) fn get(&self, number: usize) -> Option<&DecodedRecord> {
-        self.state.event_at(number)
+        self.events.get(number)
     }
 }

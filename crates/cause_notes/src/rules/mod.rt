@@ -3,6 +3,7 @@
 pub(crate) mod call_notes;
 pub(crate) mod connection_notes;
 pub(crate) mod desc_notes;
+pub(crate) mod embargo_notes;
 pub(crate) mod goal_notes;
 pub(crate) mod life_notes;
 pub(crate) mod promise_notes;

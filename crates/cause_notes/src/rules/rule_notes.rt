@@ -4,6 +4,7 @@ use crate::past::records_before::Past;
 use crate::rules::call_notes::{put_absent, put_answered};
 use crate::rules::connection_notes::put_closed;
 use crate::rules::desc_notes::{put_misdescribed, put_unpaired};
+use crate::rules::embargo_notes::put_embargo;
 use crate::rules::goal_notes::put_astray;
 use crate::rules::life_notes::{put_gone, put_miscounted};
 use crate::rules::promise_notes::{put_misresolved, put_unvowed};
@@ -44,6 +45,6 @@ pub(crate) fn put_rule_cause(
             let _ = put_unpaired(&past, text)?;
             Ok(())
         }
-        Rule::Emb => Ok(()),
+        Rule::Emb => put_embargo(&past, text),
     }
 }

@@ -3,6 +3,5 @@
 mod byte_kind;
 mod lack_text;
 mod messages;
-mod open_text;
 pub(crate) mod wire_found;
 pub(crate) mod wire_notes;

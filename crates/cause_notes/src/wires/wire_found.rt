@@ -1,9 +1,11 @@
 //! What was found of a connection.
 
-use wire_logs::{OpenAtEnd, Waiting, WireAnswer, WireLine};
+use std::sync::Arc;
+use vat_log::VatLog;
+use wire_logs::{Waiting, WireAnswer, WireLine};
 
-/// What was found of a connection, without its logs. Of two, the first is that of end A.
-#[derive(Clone, Copy, Debug)]
+/// What was found of a connection. Of two, the first is that of end A.
+#[derive(Debug, Drop)]
 pub(crate) struct WireFound {
     /// The line.
     pub(crate) line: WireLine,
@@ -13,8 +15,19 @@ pub(crate) struct WireFound {
     pub(crate) left: [u64; 2],
     /// The message of each end at which the explanation stops, and what it lacks.
     pub(crate) waiting: [Option<Waiting>; 2],
-    /// What is open at the end, where all is explained.
-    pub(crate) open: Option<[OpenAtEnd; 2]>,
+    /// The logs, where all is explained.
+    pub(crate) logs: Option<(Arc<VatLog>, Arc<VatLog>)>,
+}
+
+/// The logs of an answer, where all is explained. Where one has too many owners to count, none is kept.
+fn logs_of(answer: &WireAnswer) -> Option<(Arc<VatLog>, Arc<VatLog>)> {
+    let WireLine::Yes { .. } = answer.line else {
+        return None;
+    };
+    let logs = answer.logs.as_ref()?;
+    let of_a = Arc::try_clone(&logs.log_of_a).ok()?;
+    let of_b = Arc::try_clone(&logs.log_of_b).ok()?;
+    Some((of_a, of_b))
 }
 
 impl WireFound {
@@ -25,7 +38,7 @@ impl WireFound {
             frames: answer.frames,
             left: answer.left,
             waiting: answer.waiting,
-            open: answer.open,
+            logs: logs_of(answer),
         }
     }
 }

@@ -2,18 +2,20 @@
 
 use crate::inputs::bad_input::message_sentence;
 use crate::inputs::file_kind::kind_of;
+use crate::left::at_end::open_in;
+use crate::left::open_counts::OpenCounts;
 use crate::wires::byte_kind::{is_encrypted, is_packed};
 use crate::wires::lack_text::{ShownLack, may_come};
 use crate::wires::messages::{place_of, put_message};
-use crate::wires::open_text::ShownOpen;
 use crate::wires::wire_found::WireFound;
 use audit_core::{Breach, Report};
 use bytes::Bytes;
 use report_lines::{report_sentence, why_sentence};
 use std::alloc::{AllocError, Global};
 use std::fmt::Write;
+use vat_log::VatLog;
 use vat_rules::Why;
-use wire_logs::{End, Lack, OpenAtEnd, Waiting, WireLine};
+use wire_logs::{End, Lack, Waiting, WireLine};
 
 /// The two files, that of the first end before that of the second.
 #[derive(Clone, Copy)]
@@ -156,8 +158,16 @@ fn put_outside(
 }
 
 /// Appends the notes of what is open at an end, if anything is.
-fn put_open(text: &mut String, file: &(String, Bytes), open: OpenAtEnd) -> Result<(), AllocError> {
-    let shown = ShownOpen(open);
+fn put_open(
+    alloc: Global,
+    text: &mut String,
+    file: &(String, Bytes),
+    log: &VatLog,
+) -> Result<(), AllocError> {
+    let Some(list) = open_in(alloc, log)? else {
+        return Ok(());
+    };
+    let shown = OpenCounts::of(list.as_slice()).without_exports();
     if !shown.is_any() {
         return Ok(());
     }
@@ -167,15 +177,16 @@ fn put_open(text: &mut String, file: &(String, Bytes), open: OpenAtEnd) -> Resul
 
 /// Appends the notes of what is open at both ends, where all is explained.
 fn put_opens(
+    alloc: Global,
     text: &mut String,
     files: &WireFiles<'_>,
     found: &WireFound,
 ) -> Result<(), AllocError> {
-    let Some(open) = found.open else {
+    let Some((log_of_a, log_of_b)) = &found.logs else {
         return Ok(());
     };
-    put_open(text, files.of_a, at_end(open, End::A))?;
-    put_open(text, files.of_b, at_end(open, End::B))
+    put_open(alloc, text, files.of_a, log_of_a)?;
+    put_open(alloc, text, files.of_b, log_of_b)
 }
 
 /// Appends the note of what a file is that doesn't begin with a frame, where that is found.
@@ -268,7 +279,7 @@ fn put_line(
     found: &WireFound,
 ) -> Result<(), AllocError> {
     match found.line {
-        WireLine::Yes { .. } => put_opens(text, files, found),
+        WireLine::Yes { .. } => put_opens(alloc, text, files, found),
         WireLine::No { end, message, rule } => {
             put_no(alloc, text, files, found, (end, message), Some(rule))
         }

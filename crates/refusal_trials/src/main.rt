@@ -3,16 +3,18 @@
 //! A call that is refused memory is made again. `tests/refused` runs this program once for each of its allocations and
 //! refuses that one; each time all answers have to come as they must. An answer that doesn't is named in a line, and the
 //! exit status is then 1. The last line is how many came as they must. `rows.rt` says what must come, `of_logs.rt` makes
-//! the calls on one log, `of_cases.rt` those on a case, `of_taps.rt` those of a tap.
+//! the calls on one log, `of_cases.rt` those on a case, `of_joins.rt` those that join logs, `of_taps.rt` those of a tap.
 #![tactic(auto)]
 
 mod of_cases;
+mod of_joins;
 mod of_logs;
 mod of_taps;
 mod rows;
 mod tally;
 
 use of_cases::try_case;
+use of_joins::try_joining;
 use of_logs::{try_log, try_writing};
 use of_taps::try_tap;
 use rows::{ROWS, Row};
@@ -31,6 +33,7 @@ fn try_row<R: Print + Threads + Wait + Sync + AllocGlobal>(
     for ((number, records), delivered) in row.conversation.vats.iter().zip(row.delivered) {
         try_log(rt, rt.alloc(), (number, records), *delivered, tally)?;
     }
+    try_joining(rt, rt.alloc(), row, tally)?;
     try_case(rt, rt.alloc(), row, tally)
 }
 

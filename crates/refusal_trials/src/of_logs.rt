@@ -4,6 +4,7 @@ use crate::tally::{Tally, is_same_twice};
 use bytes::Bytes;
 use cap_frame::Frame;
 use cap_reader::{Limits, fields, root};
+use left_open::open_at_end;
 use rpc_view::{Edition, read_message};
 use std::alloc::Global;
 use std::io;
@@ -12,7 +13,7 @@ use vat_log::{
     Body, LogError, LogWriter, Record, VatLog, parse_log, raise, write_later_log,
     write_lent_later_log, write_lent_log,
 };
-use vat_rules::{Outcome, audit_vat};
+use vat_rules::{Outcome, SlimOutcome, audit_slim, audit_vat};
 use worked_cases::{
     Refused, ask_again, bytes_of_later_log, bytes_of_log, bytes_of_new_log, is_so, log,
 };
@@ -126,6 +127,27 @@ fn is_good(alloc: Global, log: &Arc<VatLog>, delivered: u64) -> Result<bool, Ref
     })
 }
 
+/// Whether the audit that keeps no record finds the same.
+fn is_good_in_short(alloc: Global, log: &Arc<VatLog>, delivered: u64) -> Result<bool, Refused> {
+    let found = audit_slim(alloc, log, Limits::default())?;
+    Ok(match found.outcome() {
+        SlimOutcome::Good(story) => {
+            story.records() == log.len() as u64 && story.delivered() == delivered
+        }
+        _ => false,
+    })
+}
+
+/// What is open at the end of a log, where all of its records are good.
+fn open_text(alloc: Global, log: &Arc<VatLog>) -> Result<String, Refused> {
+    let found = audit_vat(alloc, log, Limits::default())?;
+    let open = match found.outcome() {
+        Outcome::Good(story) => open_at_end(alloc, story.events())?,
+        _ => None,
+    };
+    Ok(format!(in alloc; "{open:?}")?)
+}
+
 /// The message of a frame by an edition.
 fn message_text(alloc: Global, frame: &Frame, edition: Edition) -> Result<String, Refused> {
     let message = read_message(alloc, frame, Limits::default(), edition)?;
@@ -188,5 +210,9 @@ pub fn try_log(
         return tally.count(rt, "a log", false);
     };
     tally.count(rt, "audit_vat", is_so(|| is_good(alloc, &log, delivered)))?;
+    let is_slim = is_so(|| is_good_in_short(alloc, &log, delivered));
+    tally.count(rt, "audit_slim", is_slim)?;
+    let is_open = is_same_twice(|| open_text(alloc, &log));
+    tally.count(rt, "open_at_end", is_open)?;
     try_frames(rt, alloc, &log, tally)
 }

@@ -15,6 +15,7 @@ mod loopbacks;
 mod machine;
 mod messages;
 mod naming;
+mod open_ends;
 mod orders;
 mod pointers;
 mod prefixes;

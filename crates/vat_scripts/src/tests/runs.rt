@@ -504,19 +504,40 @@ const WORDS: [(&[&str], Result<Command<'static>, ErrorKind>); 20] = [
 fn is_meant(
     alloc: Global,
     words: &[&str],
-    meant: Result<Command<'static>, ErrorKind>,
+    meant: &Result<Command<'static>, ErrorKind>,
 ) -> Result<bool, Refused> {
-    match command_of(alloc, words) {
-        Ok(command) => Ok(meant == Ok(command)),
-        Err(error) if error.kind() == ErrorKind::OutOfMemory => Err(Refused::OutOfMemory),
-        Err(error) => Ok(meant == Err(error.kind())),
+    match (command_of(alloc, words), meant) {
+        (Ok(command), Ok(meant)) => Ok(command == *meant),
+        (Err(error), _) if error.kind() == ErrorKind::OutOfMemory => Err(Refused::OutOfMemory),
+        (Err(error), Err(kind)) => Ok(error.kind() == *kind),
+        _ => Ok(false),
     }
 }
 
 #[test]
 fn words_are_commands(rt: HostRuntime) {
     for (words, meant) in &WORDS {
-        assert!(rt; is_so(|| is_meant(rt.alloc(), words, *meant)), "{words:?}");
+        assert!(rt; is_so(|| is_meant(rt.alloc(), words, meant)), "{words:?}");
+    }
+}
+
+/// Whether these words ask for both logs to be joined.
+fn asks_to_join(alloc: Global, words: &[&str]) -> Result<bool, Refused> {
+    let command = command_of(alloc, words).map_err(|error| refusal_of(&error))?;
+    let Command::Join { logs, out } = &command else {
+        return Ok(false);
+    };
+    Ok(logs.as_slice() == ["a", "b"].as_slice() && *out == "c")
+}
+
+#[test]
+fn logs_are_joined_before_and_behind_the_folder(rt: HostRuntime) {
+    for words in [
+        ["vataudit", "join", "a", "b", "--out", "c"],
+        ["vataudit", "join", "a", "--out", "c", "b"],
+        ["vataudit", "join", "--out", "c", "a", "b"],
+    ] {
+        assert!(rt; is_so(|| asks_to_join(rt.alloc(), &words)), "{words:?}");
     }
 }
 

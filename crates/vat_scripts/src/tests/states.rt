@@ -17,7 +17,7 @@ const ROWS: [(&str, &str); 3] = [
     (
         "",
         "r1 None; export None 0; answer None; call None None false false false false; \
-        opening None finished false promised None resolved false; record None; \
+        opening None finished false promised None resolved false; \
         stays true leads false by turns false end Some(Field(1, []))",
     ),
     (
@@ -27,7 +27,6 @@ const ROWS: [(&str, &str); 3] = [
         call Some(Asked { goal: Some(Field(1, Path { fields: [] })), interface: 4660, method: 2 }) \
         Some(Field(1, Path { fields: [] })) false true true true; \
         opening Some(1) finished false promised Some(false) resolved false; \
-        record Some(Answer { call: 1, results: ResultReferences { items: [(1, Path { fields: [] })] } }); \
         stays false leads true by turns false end Some(Object(7))",
     ),
     (
@@ -37,68 +36,58 @@ const ROWS: [(&str, &str); 3] = [
         call Some(Asked { goal: Some(Field(1, Path { fields: [] })), interface: 4660, method: 2 }) \
         Some(Field(1, Path { fields: [] })) false true false false; \
         opening Some(1) finished true promised None resolved false; \
-        record Some(Answer { call: 1, results: ResultReferences { items: [(1, Path { fields: [] })] } }); \
         stays false leads true by turns false end Some(Object(7))",
     ),
 ];
 
-/// The records of a vat that asks; what question 0 stands for then, how often import 0 is held, and whether the whole
-/// result of call 1 leads to what record 4 brought.
+/// The records of a vat that asks; what question 0 stands for then, how often import 0 is held, whether the whole result
+/// of call 1 leads to what record 4 brought, and whether that came as senderHosted.
 const ASKING: (&str, &str) = (
     "S0 c1 boot q0; FIELD r1 c1 []; MAKE c2 r1; S0 c2 call q1 answer 0 []; \
     R0 r2 ret q0 senderHosted 0@[]; R0 r3 ret q1 senderHosted 1@[0]",
-    "question Some(Field(1, Path { fields: [] })); held 1; leads true",
+    "question Some(Field(1, Path { fields: [] })); held 1; leads true; hosted true",
 );
 
 /// Records, one that comes next, and what is said of it: whether it keeps the kinds of numbers, its descriptors, and
-/// the references that it newly binds; and the records that are given back, how many and the first.
+/// the references that it newly binds.
 const NEXT: [(&str, &str, &str); 8] = [
-    (
-        "",
-        "HOST r4 7",
-        "keeps true; descriptors []; new [4]; 0 None",
-    ),
+    ("", "HOST r4 7", "keeps true; descriptors []; new [4]"),
     (
         "HOST r1 7; R0 c1 boot q0; S0 r1 ret q0 senderHosted 0@[]",
         "S0 r1 ret q1 senderHosted 0@[]",
-        "keeps true; descriptors [SenderHosted(0)]; new []; 3 Some(Host { reference: 1, object: 7 })",
+        "keeps true; descriptors [SenderHosted(0)]; new []",
     ),
     (
         "HOST r1 7; R0 c1 boot q0; S0 r1 ret q0 senderHosted 0@[]",
         "S0 r1 ret q1 senderPromise 0@[]",
-        "keeps false; descriptors [SenderPromise(0)]; new []; 3 Some(Host { reference: 1, object: 7 })",
+        "keeps false; descriptors [SenderPromise(0)]; new []",
     ),
     (
         "HOST r1 7; HOST r2 8",
         "R0 c2 r3 r4 call q1 answer 0 [] senderPromise 3 senderPromise 3",
-        "keeps true; descriptors [SenderPromise(3), SenderPromise(3)]; new [3, 4]; \
-        2 Some(Host { reference: 1, object: 7 })",
+        "keeps true; descriptors [SenderPromise(3), SenderPromise(3)]; new [3, 4]",
     ),
     (
         "HOST r1 7; HOST r2 8",
         "R0 c2 r3 r4 call q1 answer 0 [] senderPromise 3 senderHosted 3",
-        "keeps false; descriptors [SenderPromise(3), SenderHosted(3)]; new [3, 4]; \
-        2 Some(Host { reference: 1, object: 7 })",
+        "keeps false; descriptors [SenderPromise(3), SenderHosted(3)]; new [3, 4]",
     ),
     (
         "HOST r9 7; S0 c1 boot q0; R0 r1 r2 ret q0 senderHosted 5@[] senderPromise 0",
         "R0 r3 r4 ret q1 senderPromise 0@[] senderHosted 5",
-        "keeps true; descriptors [SenderPromise(0), SenderHosted(5)]; new [3, 4]; \
-        3 Some(Host { reference: 9, object: 7 })",
+        "keeps true; descriptors [SenderPromise(0), SenderHosted(5)]; new [3, 4]",
     ),
     (
         "HOST r9 7; S0 c1 boot q0; R0 r1 r2 ret q0 senderHosted 5@[] senderPromise 0; \
         R0 resolve promise 0 exception",
         "R0 r3 r4 ret q1 senderPromise 0@[] senderHosted 5",
-        "keeps false; descriptors [SenderPromise(0), SenderHosted(5)]; new [3, 4]; \
-        4 Some(Host { reference: 9, object: 7 })",
+        "keeps false; descriptors [SenderPromise(0), SenderHosted(5)]; new [3, 4]",
     ),
     (
         "HOST r9 7; S0 c1 boot q0; R0 r1 r2 ret q0 senderHosted 5@[] senderPromise 0; \
         R0 resolve promise 0 exception; S0 release id 0 count 1",
         "R0 r3 r4 ret q1 senderHosted 0@[] senderHosted 5",
-        "keeps true; descriptors [SenderHosted(0), SenderHosted(5)]; new [3, 4]; \
-        5 Some(Host { reference: 9, object: 7 })",
+        "keeps true; descriptors [SenderHosted(0), SenderHosted(5)]; new [3, 4]",
     ),
 ];
 
@@ -156,11 +145,21 @@ fn wire(
 }
 
 /// A stored record with its message read, of the kinds of these rows.
-fn event_of(alloc: Global, body: &Body) -> Result<DecodedRecord, Refused> {
+pub(crate) fn event_of(alloc: Global, body: &Body) -> Result<DecodedRecord, Refused> {
     match body {
         Body::Host { reference, object } => Ok(DecodedRecord::Host {
             reference: *reference,
             object: *object,
+        }),
+        Body::Vow { reference } => Ok(DecodedRecord::Vow {
+            reference: *reference,
+        }),
+        Body::Fulfil { reference, to } => Ok(DecodedRecord::Fulfil {
+            reference: *reference,
+            to: *to,
+        }),
+        Body::Break { reference } => Ok(DecodedRecord::Break {
+            reference: *reference,
         }),
         Body::Field {
             reference,
@@ -223,7 +222,7 @@ fn apply(state: &mut VatState, event: DecodedRecord) -> Result<(), Refused> {
             if state.opens_free(&event)
                 && state.uses_questions(&event)
                 && state.uses_numbers(&event)
-                && state.notes_each(&event) => { Ok(state.apply(event)?) }
+                && state.notes_each(&event) => { Ok(state.apply(&event)?) }
         _ => Err(Refused::Otherwise),
     }
 }
@@ -310,7 +309,7 @@ fn put_call(out: &mut String, state: &VatState) -> Result<(), Refused> {
     Ok(())
 }
 
-/// The question and the life of answer 0 and export 0, and record 3.
+/// The question and the life of answer 0 and export 0.
 fn put_lives(out: &mut String, state: &VatState) -> Result<(), Refused> {
     let answer = Number::Answer(0).on(0);
     let export = TableKey {
@@ -324,8 +323,6 @@ fn put_lives(out: &mut String, state: &VatState) -> Result<(), Refused> {
     let promised = state.began_promised(export);
     let resolved = state.is_resolved(export);
     write!(out, "promised {promised:?} resolved {resolved}; ")?;
-    let record = state.event_at(3);
-    write!(out, "record {record:?}; ")?;
     Ok(())
 }
 
@@ -386,11 +383,12 @@ fn leads_to_import(state: &VatState, from: &View) -> bool {
     state.leads(from, &View::Import(4, 0))
 }
 
-/// How often import 0 is held, and whether this field leads to what record 4 brought.
+/// How often import 0 is held, whether this field leads to what record 4 brought, and whether that came as senderHosted.
 fn put_import(out: &mut String, state: &VatState, field: &View) -> Result<(), Refused> {
     let held = state.held(0, Number::Import(0));
     let leads = leads_to_import(state, field);
-    write!(out, "; held {held}; leads {leads}")?;
+    let hosted = state.came_hosted(4, 0);
+    write!(out, "; held {held}; leads {leads}; hosted {hosted}")?;
     Ok(())
 }
 
@@ -443,7 +441,7 @@ fn first_event(alloc: Global, records: &str) -> Result<DecodedRecord, Refused> {
 fn put_parts(out: &mut String, event: &DecodedRecord) -> Result<(), Refused> {
     let descriptors = event.descriptors();
     let new = event.new_references();
-    write!(out, "descriptors {descriptors:?}; new {new:?}; ")?;
+    write!(out, "descriptors {descriptors:?}; new {new:?}")?;
     Ok(())
 }
 
@@ -460,25 +458,11 @@ fn put_next(alloc: Global, out: &mut String, state: &VatState, next: &str) -> Re
     put_event(out, state, &event)
 }
 
-/// How many records there are, and the first.
-fn put_count(out: &mut String, events: &[DecodedRecord]) -> Result<(), Refused> {
-    let (count, first) = (events.len(), events.first());
-    write!(out, "{count} {first:?}")?;
-    Ok(())
-}
-
-/// The records that are given back, how many and the first.
-fn put_events(out: &mut String, state: VatState) -> Result<(), Refused> {
-    let events = state.into_events();
-    put_count(out, &events)
-}
-
 /// Whether what is said of a record that comes next is told so.
 fn is_next_told(alloc: Global, records: &str, next: &str, told: &str) -> Result<bool, Refused> {
     let state = state_of(alloc, records)?;
     let mut out = String::new(alloc);
     put_next(alloc, &mut out, &state, next)?;
-    put_events(&mut out, state)?;
     Ok(out.as_str() == told)
 }
 

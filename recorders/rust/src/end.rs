@@ -409,6 +409,7 @@ impl End {
             .map(|number| number.reference.clone());
         let reference = match known {
             Some(known) if given.reference.is_promised_by(&known) => known,
+            Some(known) if is_call && known.is_broken() && given.reference.is_broken() => known,
             Some(_) => given.reference.clone(),
             None => self.first_exported(given, is_promise, is_call),
         };
@@ -430,7 +431,11 @@ impl End {
             (true, false) => exported.given_away(),
             (false, _) => {
                 self.vat.end_lost(&exported);
-                exported
+                // To the runtime a result that never came is a broken capability of this vat.
+                match is_call && exported.is_over(self.connection) && exported.is_broken() {
+                    true => self.vat.broken(),
+                    false => exported,
+                }
             }
         }
     }

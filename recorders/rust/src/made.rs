@@ -109,12 +109,15 @@ impl RequestHook for Request {
         } else if !call.is_gone.get() {
             vat.wait(&call);
         }
+        let wanted = Rc::new(Wanted(call.clone()));
         let pipeline = Pipeline {
             vat: vat.clone(),
             call: call.clone(),
+            wanted: wanted.clone(),
             inner: sent.pipeline.hook,
         };
         let promise = sent.promise.map_ok(move |response| {
+            drop(wanted);
             capability::Response::new(Response::over(&vat, &call, response.hook))
         });
         RemotePromise {
@@ -126,6 +129,16 @@ impl RequestHook for Request {
     fn tail_send(self: Box<Self>) -> Option<(u32, Promise<(), Error>, Box<dyn PipelineHook>)> {
         let (vat, call, inner) = self.begin();
         vat.while_sending(&call, || inner.tail_send())
+    }
+}
+
+/// What the program keeps of a call that it made, its promise or its pipeline. A call that waits in this vat is dropped
+/// with the last of it, if no client was made of its results.
+struct Wanted(Rc<Call>);
+
+impl Drop for Wanted {
+    fn drop(&mut self) {
+        self.0.is_dropped.set(!self.0.is_named.get());
     }
 }
 
@@ -177,6 +190,7 @@ impl RequestHook for Copied {
 struct Pipeline {
     vat: Rc<Vat>,
     call: Rc<Call>,
+    wanted: Rc<Wanted>,
     inner: Box<dyn PipelineHook>,
 }
 
@@ -185,12 +199,14 @@ impl PipelineHook for Pipeline {
         Box::new(Pipeline {
             vat: self.vat.clone(),
             call: self.call.clone(),
+            wanted: self.wanted.clone(),
             inner: self.inner.add_ref(),
         })
     }
 
     fn get_pipelined_cap(&self, ops: &[PipelineOp]) -> Box<dyn ClientHook> {
         let hook = self.inner.get_pipelined_cap(ops);
+        self.call.is_named.set(true);
         if !self.vat.is_recording() {
             return hook;
         }

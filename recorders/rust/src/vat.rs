@@ -163,6 +163,10 @@ pub(crate) struct Call {
     pub(crate) is_delivered: Cell<bool>,
     /// A Return for it was sent, or it was dropped.
     pub(crate) is_over: Cell<bool>,
+    /// The program has named one of its results.
+    pub(crate) is_named: Cell<bool>,
+    /// The program has dropped its promise and its pipeline.
+    pub(crate) is_dropped: Cell<bool>,
 }
 
 impl Call {
@@ -188,6 +192,8 @@ impl Call {
             is_ended: Cell::new(false),
             is_delivered: Cell::new(false),
             is_over: Cell::new(false),
+            is_named: Cell::new(false),
+            is_dropped: Cell::new(false),
         })
     }
 
@@ -429,7 +435,7 @@ impl Vat {
     }
 
     /// ANSWER stands before the Return, and before each call that goes on to one of the results.
-    pub(crate) fn answer(&self, call: &Rc<Call>, met: Vec<Met>, given: Vec<Option<Given>>) {
+    pub(crate) fn answer(&self, call: &Call, met: Vec<Met>, given: Vec<Option<Given>>) {
         call.set_results(met, given);
         // A null result that was given away is a broken capability to the runtime.
         for path in call.given_away.take() {
@@ -518,9 +524,13 @@ impl Vat {
         }
     }
 
-    /// FAULT: a call ends here without results.
+    /// FAULT: a call ends here without results. A result that was given away before is a broken capability to the
+    /// runtime, as one that is null.
     pub(crate) fn fault(&self, call: &Call) {
         call.is_over.set(true);
+        if call.is_delivered.get() && !call.is_ended.get() && !call.given_away.borrow().is_empty() {
+            return self.answer(call, Vec::new(), Vec::new());
+        }
         call.is_ended.set(true);
         let mut record = Record::new(0x09);
         record.u64(call.number.get());
@@ -651,7 +661,8 @@ impl Vat {
     }
 
     /// The call that has these parameters: by where they lie, or, where the runtime copied them, by what they are.
-    /// Of several that are alike it is the oldest, and one that is meant for this capability goes first.
+    /// Of several that are alike it is the oldest, and one that is meant for this capability goes first. One that the
+    /// program has dropped goes last: the runtime has let go of it.
     pub(crate) fn find(
         &self,
         interface_id: u64,
@@ -687,12 +698,10 @@ impl Vat {
             .peekable();
         alike.peek()?;
         let hash = Content::read(params, 0).hash;
-        let alike: Vec<_> = alike.filter(|call| call.hash.get() == hash).collect();
-        let meant = |call: &&&Rc<Call>| call.meant_for().map_or(false, |goal| leads_there(&goal));
+        let meant = |call: &Rc<Call>| call.meant_for().map_or(false, |goal| leads_there(&goal));
         alike
-            .iter()
-            .find(meant)
-            .or_else(|| alike.first())
-            .map(|call| (*call).clone())
+            .filter(|call| call.hash.get() == hash)
+            .min_by_key(|call| (call.is_dropped.get(), !meant(call)))
+            .cloned()
     }
 }

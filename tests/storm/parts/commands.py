@@ -177,11 +177,14 @@ def replay(arguments):
         for name in names:
             path = os.path.join(known.FOLDER, "scripts", name + ".storm")
             outcome = run.run(driver, arguments.vataudit, lines_of(path), os.path.join(place, name))
-            printed, shown = first_line(outcome.line), what_is_shown(outcome)
-            line, twin = wanted.get((name, version), ("nothing", "-"))
-            is_so = known.fits(line, printed) and twin == shown
+            printed = [first_line(outcome.line), what_is_shown(outcome)]
+            told = list(wanted.get((name, version), ("nothing", "-", None)))
+            if arguments.wire and told[2]:
+                printed.append(wire.worst(wire.verdicts(arguments.vataudit, outcome.folder)))
+            told = told[:len(printed)]
+            is_so = all(map(known.fits, told, printed))
             differ += not is_so
-            print("%s %s | %s | %s%s" % (name, version, printed, shown, "" if is_so else " | expected %s | %s" % (line, twin)))
+            print(" | ".join(["%s %s" % (name, version)] + printed + ([] if is_so else ["expected"] + told)))
     print("scripts %d as expected %d" % (len(names), len(names) - differ))
     return 1 if differ or not names else 0
 

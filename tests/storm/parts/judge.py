@@ -1,9 +1,11 @@
 """What is wrong with an outcome, as a kind: the same kind is the same fault, whatever the numbers."""
 
+import collections
 import itertools
 import re
 
-from .trees import body_of, trees
+from .lives import passed_before_a_loss
+from .trees import numbered_calls, trees
 
 
 # An address of this run, which an assertion of the runtime prints, into its exception's text too.
@@ -57,6 +59,25 @@ def overtaken(trace):
     return where
 
 
+def are_exchanged(frames, trace):
+    """Whether two calls that one end sent for one target came to one object in the other order. It sees calls that an
+    object of a script makes, too, of which the trace has no `sent`."""
+    came = {}
+    for at, line in enumerate(trace):
+        words = line.split()
+        if words[0] == "got" and len(words) == 5:
+            came[(words[3], words[4])] = (words[1], words[2]), at
+    for data in frames.values():
+        last = {}
+        for target, method, named in numbered_calls(data):
+            thing, at = came.get((method, named), (None, 0))
+            if thing and at < last.get((target, thing), 0):
+                return True
+            if thing:
+                last[(target, thing)] = at
+    return False
+
+
 def comparable(line):
     """A line of a trace without addresses. An assertion of the recorder's network has the text of the runtime's, but for
     the name of what it looks at."""
@@ -74,18 +95,22 @@ def is_lost(trace):
     return any(line.startswith("lost ") for line in trace)
 
 
-def said(frames, lost):
-    """What frames say, wherever their contents lie. Where a connection is lost capnp-rpc gives its imports back in the
-    order of a hash table, which is another one each time."""
-    return {name: releases_sorted(trees(data)) if lost else trees(data) for name, data in frames.items()}
+def is_lost_alike(trace, twin):
+    """Whether two traces are alike up to the line that tells of a lost connection, and behind it but for their order.
+    What waits for a lost connection ends in the order of a hash table, which is another one in each run of capnp-rpc."""
+    at = next((at for at, line in enumerate(twin) if line.startswith("lost ")), len(twin))
+    return trace[:at + 1] == twin[:at + 1] and collections.Counter(trace) == collections.Counter(twin)
 
 
-def releases_sorted(messages):
-    """The messages, of which Releases that follow one another are in the order of their numbers."""
-    result = []
-    for is_release, group in itertools.groupby(messages, lambda tree: body_of(tree)[0] == 6):
-        result += sorted(group, key=repr) if is_release else group
-    return result
+def are_said_alike(frames, twin, before):
+    """Whether two runs said the same, wherever their contents lie. So many frames of each file passed before a connection
+    was lost, and what comes behind them may come in another order; of none, if no connection was lost."""
+    for name in frames.keys() | twin.keys():
+        one, other = [list(map(repr, trees(each.get(name, b"")))) for each in (frames, twin)]
+        kept = len(one) if before is None else before.get(name, 0)
+        if one[:kept] != other[:kept] or collections.Counter(one) != collections.Counter(other):
+            return False
+    return True
 
 
 def differences(outcome):
@@ -97,13 +122,15 @@ def differences(outcome):
             outcome.ended, panic(outcome.said) if outcome.ended != "ok" else "",
             outcome.twin_ended, panic(outcome.twin_said) if outcome.twin_ended != "ok" else ""))
     traces = [[comparable(line) for line in trace] for trace in (outcome.trace, outcome.twin_trace)]
-    if traces[0] != traces[1]:
+    if traces[0] != traces[1] and not (outcome.is_copied and is_lost_alike(*traces)):
         got = [[line for line in trace if line.startswith("got ")] for trace in traces]
         kinds.append("twin delivers otherwise" if got[0] != got[1] else "twin answers otherwise")
     frames = [without_addresses(each) for each in (outcome.frames, outcome.twin_frames)]
-    lost = is_lost(outcome.twin_trace)
-    if frames[0] != frames[1] and not (outcome.is_copied and said(frames[0], lost) == said(frames[1], lost)):
+    before = passed_before_a_loss(frames[1], outcome.twin_orders) if is_lost(outcome.twin_trace) else None
+    if frames[0] != frames[1] and not (outcome.is_copied and are_said_alike(frames[0], frames[1], before)):
         kinds.append("twin sends other frames")
+    if before is None and outcome.orders != outcome.twin_orders:
+        kinds.append("twin passes its messages in another order")
     return kinds
 
 

@@ -3,7 +3,8 @@
 import os
 import re
 
-from .judge import differences, overtaken
+from .judge import are_exchanged, differences, overtaken
+from .lives import is_resolved_when_released
 from .trees import is_named_as_hosted
 
 FOLDER = os.path.dirname(os.path.dirname(os.path.realpath(__file__)))
@@ -31,6 +32,10 @@ class Known:
             # A program that panicked may not have written what it handed over last.
             is_cut = outcome.twin_ended != "ok" and not differences(outcome)
             return is_cut or any(map(is_named_as_hosted, outcome.twin_frames.values()))
+        if self.twin == "exchanged":
+            return are_exchanged(outcome.twin_frames, outcome.twin_trace)
+        if self.twin == "resolved when released":
+            return is_resolved_when_released(outcome.twin_frames, outcome.twin_orders)
         return self.twin == "same frames" and not differences(outcome) and outcome.frames != {}
 
 
@@ -52,12 +57,13 @@ def fits(wanted, printed):
 
 
 def expected():
-    """What each script under scripts/ has to print: (script, versions) and the line, and what the twin shows."""
+    """What each script under scripts/ has to print: (script, version) and the line, what the twin shows, and what `wire`
+    says, if that is told."""
     result = {}
     with open(os.path.join(FOLDER, "scripts", "expected.txt")) as file:
         for line in file:
             if line.strip() and not line.startswith("#"):
-                name, versions, printed, shown = [part.strip() for part in line.split("|")]
+                name, versions, printed, shown, *wired = [part.strip() for part in line.split("|")]
                 for version in versions.split():
-                    result[(name, version)] = (printed, shown)
+                    result[(name, version)] = (printed, shown, wired[0] if wired else None)
     return result

@@ -85,6 +85,12 @@ def frames(folder):
     return result
 
 
+def orders(folder):
+    """Of each vat whose driver notes it, the order in which its messages passed: `sent C` and `received C`."""
+    names = {vat: "order.vat%d" % vat for vat in (1, 2, 3)}
+    return {vat: read(folder, name).splitlines() for vat, name in names.items() if os.path.exists(os.path.join(folder, name))}
+
+
 class Outcome:
     """What came of one script on one driver."""
 
@@ -97,6 +103,7 @@ class Outcome:
         self.twin_trace = read(folder + ".twin", "trace").splitlines()
         self.frames = frames(folder)
         self.twin_frames = frames(folder + ".twin")
+        self.orders, self.twin_orders = orders(folder), orders(folder + ".twin")
         self.is_copied = any(os.path.exists(os.path.join(folder, "copied.vat%d" % vat)) for vat in (1, 2, 3))
         self.stopped = re.findall(r"vataudit: vat \d+ is recorded no further than record \d+: (.*?); the log is",
                                   self.said)

@@ -85,13 +85,29 @@ def body_of(tree):
 
 
 def descriptors(kind, body):
-    """The capability descriptors of a Call or a Return, each with its kind and its number."""
+    """The capability descriptors of a Call, a Return or a Resolve, each with its kind and its number."""
+    if kind == 5 and number(body, 4, 2) == 0 and body[2] and body[2][0]:
+        return [(number(body[2][0], 0, 2), number(body[2][0], 4, 4))]
     at = {2: 1, 3: 0}.get(kind)
     if at is None or (kind == 3 and number(body, 6, 2) != 0):
         return []
     payload = body[2][at] if len(body[2]) > at else None
     table = payload[2][1] if payload and len(payload[2]) > 1 else None
     return [(number(one, 0, 2), number(one, 4, 4)) for one in table[1]] if table else []
+
+
+METHODS = ("mute", "ping", "self", "get", "make", "echo", "hold", "slow", "slowecho", "fail", "tail", "callback", "stream",
+           "slowget")
+
+
+def numbered_calls(data):
+    """The Calls that have a number in the script, in their order: for what each is meant, its method, and its number."""
+    for kind, body in map(body_of, trees(data)):
+        if kind != 2 or not body or len(body[2]) < 2 or not body[2][1]:
+            continue
+        content = body[2][1][2][0] if body[2][1][2] else None
+        if isinstance(content, tuple) and content[0] == "struct" and number(content, 0, 4):
+            yield repr(body[2][0]), METHODS[number(body, 4, 2) % len(METHODS)], str(number(content, 0, 4))
 
 
 def is_named_as_hosted(data):

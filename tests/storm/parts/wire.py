@@ -20,12 +20,17 @@ def verdicts(vataudit, folder):
     return lines
 
 
+def worst(lines):
+    """The first line that isn't a yes."""
+    return next((line for line in lines if not line.startswith("yes")), "yes")
+
+
 def compared(kinds, name, lines):
     """A row of the comparison: what the logs are, and what the worst connection is by its bytes. What is known goes by
     its name, and an end of the program by that."""
     logs = name or (kinds[0].split(":")[0] if kinds else "yes")
-    worst = next((line for line in lines if not line.startswith("yes")), "yes")
-    return logs, worst if worst == "yes" else shape(worst).replace(" end A", "").replace(" end B", "")
+    line = worst(lines)
+    return logs, line if line == "yes" else shape(line).replace(" end A", "").replace(" end B", "")
 
 
 def is_found(outcome, lines):

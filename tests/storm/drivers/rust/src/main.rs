@@ -5,9 +5,10 @@
 //!
 //!     storm --version                        which runtime it is
 //!
-//! FOLDER gets the vats' logs, the bytes that each vat wrote on each connection (linkC.vatV), and with the first form a
-//! case file and the trace. Under a name that ends with `-plain` it runs without a recorder.
+//! FOLDER gets the vats' logs, the bytes that each vat wrote on each connection (linkC.vatV), the order in which its messages
+//! passed (order.vatV), and with the first form a case file and the trace. Under a name that ends with `-plain` it runs without a recorder.
 
+mod passing;
 mod recording;
 mod streams;
 mod thing;

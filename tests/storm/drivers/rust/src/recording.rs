@@ -1,5 +1,6 @@
 //! The runtime, recorded or not. The unrecorded one doesn't touch the recorder's code.
 
+use crate::passing::{self, Order};
 use capnp::capability::{Client, FromClientHook, Server};
 use capnp::Error;
 use capnp_rpc::rpc_twoparty_capnp::Side;
@@ -10,8 +11,11 @@ use std::pin::Pin;
 use support::fields::Capability;
 use vataudit_recorder::Recorder;
 
-/// A vat's recorder, if it has one.
-pub struct Recording(Option<Recorder>);
+/// A vat's recorder, if it has one, and the order of its messages.
+pub struct Recording {
+    recorder: Option<Recorder>,
+    order: Order,
+}
 
 /// A connection's system.
 pub enum System {
@@ -37,8 +41,11 @@ impl System {
 }
 
 impl Recording {
-    pub fn new(is_recorded: bool, log: &Path, vat: u32) -> Recording {
-        Recording(is_recorded.then(|| Recorder::new(log, vat).expect("the log can be made")))
+    pub fn new(is_recorded: bool, log: &Path, order: &Path, vat: u32) -> Recording {
+        Recording {
+            recorder: is_recorded.then(|| Recorder::new(log, vat).expect("the log can be made")),
+            order: Order::new(order),
+        }
     }
 
     pub fn system<R, W>(
@@ -53,23 +60,30 @@ impl Recording {
         W: AsyncWrite + Unpin + 'static,
     {
         let options = Default::default();
-        match &self.0 {
+        let noted = |inner| {
+            Box::new(passing::Network {
+                inner,
+                order: self.order.clone(),
+                connection,
+            })
+        };
+        let bootstrap = Some(bootstrap.0);
+        match &self.recorder {
             Some(recorder) => {
                 let network = recorder.network(reader, writer, side, options, connection);
-                System::Recorded(recorder.rpc_system(network, Some(bootstrap.0)))
+                let (end, network) = (network.end(), noted(Box::new(network)));
+                System::Recorded(recorder.rpc_system_around(network, &end, bootstrap))
             }
             None => {
                 let network = twoparty::VatNetwork::new(reader, writer, side, options);
-                System::Plain(capnp_rpc::RpcSystem::new(
-                    Box::new(network),
-                    Some(bootstrap.0),
-                ))
+                let network = noted(Box::new(network));
+                System::Plain(capnp_rpc::RpcSystem::new(network, bootstrap))
             }
         }
     }
 
     pub fn client(&self, server: impl Server + 'static) -> Capability {
-        match &self.0 {
+        match &self.recorder {
             Some(recorder) => recorder.new_client(server),
             None => new_client(server),
         }
@@ -79,7 +93,7 @@ impl Recording {
     where
         F: Future<Output = Result<Client, Error>> + Unpin + 'static,
     {
-        let client: Capability = match &self.0 {
+        let client: Capability = match &self.recorder {
             Some(recorder) => recorder.new_promise_client(promise),
             None => new_promise_client(promise),
         };

@@ -52,10 +52,11 @@ impl Vat {
     /// Writes FOLDER/vatN.log. What happens is told line by line.
     pub fn new(number: u32, folder: &Path, is_recorded: bool, turns: &Loop, tell: Tell) -> Vat {
         let log = folder.join(format!("vat{}.log", number));
+        let order = folder.join(format!("order.vat{}", number));
         let vat = Vat(Rc::new(Inside {
             number,
             folder: folder.to_path_buf(),
-            recording: Recording::new(is_recorded, &log, number),
+            recording: Recording::new(is_recorded, &log, &order, number),
             turns: turns.clone(),
             tell,
             names: RefCell::default(),

@@ -23,6 +23,7 @@ public:
         message(firstSegmentWordSize == 0 ? capnp::SUGGESTED_FIRST_SEGMENT_WORDS : firstSegmentWordSize),
         call(this->end->vat->building) {
     if (call == nullptr) {
+      unsent.message = &message;
       unsent.before = this->end->vat->unsent;
       this->end->vat->unsent = &unsent;
     }

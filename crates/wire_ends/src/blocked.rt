@@ -23,7 +23,9 @@ impl Vat<'_> {
             Kind::Return { .. } => return self.lack_of_return(message),
             Kind::Finish(question, release) => self.lack_of_finish(question, release),
             Kind::Resolve(number, _) => self.lack_of_resolve(number, message),
-            Kind::Release(number, count) => self.lack_of_release(number, u64::from(count)),
+            Kind::Release(number, count) => {
+                self.lack_of_release(place, number, u64::from(count))
+            }
             Kind::Loopback(number, aim) => self.lack_of_loopback(number, aim),
             Kind::Echo(number, aim) => return self.lack_of_echo(number, aim),
             Kind::Abort | Kind::Unread => None,
@@ -160,11 +162,28 @@ impl Vat<'_> {
     }
 
     /// Release: the import is held so often.
-    fn lack_of_release(&self, number: u32, count: u64) -> Option<Lack> {
+    fn lack_of_release(&self, place: usize, number: u32, count: u64) -> Option<Lack> {
         if self.import_count(number) < count {
             return Some(Lack::ImportHeldOften(number, count));
         }
         self.lack_of_import(number)
+            .or_else(|| self.lack_of_turn(place, number, count))
+    }
+
+    /// The last Release of a promise, softly: the Resolve that comes for it was received, since an echo may follow it.
+    fn lack_of_turn(&self, place: usize, number: u32, count: u64) -> Option<Lack> {
+        if self.hurried == Some(place) {
+            return None;
+        }
+        let held = self.import(number)?;
+        if held.is_resolved || held.count > count {
+            return None;
+        }
+        let resolve = self.peer().groups.resolve(held.group?)?;
+        if resolve < self.received {
+            return None;
+        }
+        Some(Lack::PromiseResolved(number))
     }
 
     /// A senderLoopback: the number is free, and the target leads to what isn't over this connection.
@@ -312,10 +331,15 @@ impl Vat<'_> {
 
     /// Whether what was told of a call's results leads to what an entry stands for, which is then told.
     fn agrees(&mut self, call: usize, path: u32, entry: Entry) -> Result<bool, AllocError> {
-        let Some(target) = self.view_of_entry(entry) else {
+        let Turn::To(view) = self.turn_of(View::Field(call, path)) else {
             return Ok(false);
         };
-        let Turn::To(view) = self.turn_of(View::Field(call, path)) else {
+        if let Entry::Hosted(number) = entry {
+            if let Some(View::Object(object)) = self.end_of(view)? {
+                self.is_object(number, object)?;
+            }
+        }
+        let Some(target) = self.view_of_entry(entry) else {
             return Ok(false);
         };
         if !self.leads_ahead(view, target) {

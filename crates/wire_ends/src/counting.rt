@@ -46,20 +46,21 @@ fn hold(table: &mut RisingTable<Held>, number: u32) -> bool {
     true
 }
 
-/// A number's life begins.
+/// A number's life begins, as a promise of this group if it has one.
 fn begin(
     table: &mut RisingTable<Held>,
     number: u32,
-    is_promise: bool,
+    group: Option<usize>,
     view: View,
 ) -> Result<(), AllocError> {
     table.put(
         u64::from(number),
         Held {
             count: 1,
-            is_promise,
+            is_promise: group.is_some(),
             is_resolved: false,
             view,
+            group,
         },
     )?;
     Ok(())
@@ -73,12 +74,12 @@ impl Vat<'_> {
                 Entry::Hosted(number) | Entry::Promised(number, _)
                     if hold(&mut self.exports, *number) => {}
                 Entry::Hosted(number) => {
-                    let view = View::Object(u64::from(*number));
-                    begin(&mut self.exports, *number, false, view)?;
+                    let view = View::Object(self.object_of(*number));
+                    begin(&mut self.exports, *number, None, view)?;
                 }
                 Entry::Promised(number, group) => {
                     let (_, view) = self.promised(*group)?;
-                    begin(&mut self.exports, *number, true, view)?;
+                    begin(&mut self.exports, *number, Some(*group), view)?;
                 }
                 _ => {}
             }
@@ -87,7 +88,12 @@ impl Vat<'_> {
     }
 
     /// An import comes in under this reference.
-    fn take_in(&mut self, number: u32, is_promise: bool, reference: u64) -> Result<(), AllocError> {
+    fn take_in(
+        &mut self,
+        number: u32,
+        group: Option<usize>,
+        reference: u64,
+    ) -> Result<(), AllocError> {
         if hold(&mut self.imports, number) {
             return Ok(());
         }
@@ -96,7 +102,7 @@ impl Vat<'_> {
             reference,
             turn: Turn::Stays,
         })?;
-        begin(&mut self.imports, number, is_promise, view)
+        begin(&mut self.imports, number, group, view)
     }
 
     /// A table comes in: a new reference for each entry but none, in its order; imports are introduced.
@@ -109,8 +115,10 @@ impl Vat<'_> {
             let reference = self.new_reference();
             references.push(reference)?;
             match entry {
-                Entry::Hosted(number) => self.take_in(*number, false, reference)?,
-                Entry::Promised(number, _) => self.take_in(*number, true, reference)?,
+                Entry::Hosted(number) => self.take_in(*number, None, reference)?,
+                Entry::Promised(number, group) => {
+                    self.take_in(*number, Some(*group), reference)?;
+                }
                 _ => {}
             }
         }

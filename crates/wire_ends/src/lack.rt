@@ -43,6 +43,8 @@ pub enum Lack {
     CallsGone(u32),
     /// The call that this one hands on, or passes on, was received.
     HandedOnCall(u32),
+    /// The Resolve of this promise, which is given back, was received.
+    PromiseResolved(u32),
     /// No abort was sent before. Nothing helps.
     NotAborted,
 }

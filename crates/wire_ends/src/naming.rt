@@ -16,9 +16,25 @@ impl Vat<'_> {
         self.references
     }
 
+    /// The object that is hosted as an export.
+    pub(crate) fn object_of(&self, number: u32) -> u64 {
+        match self.objects.get(u64::from(number)) {
+            Some(object) => *object,
+            None => u64::from(number),
+        }
+    }
+
+    /// An export that is out of life is from now on an object that has gone out under another number.
+    pub(crate) fn is_object(&mut self, number: u32, object: u64) -> Result<(), AllocError> {
+        if self.held_export(number).is_none() && self.hosted.get(object).is_some() {
+            self.objects.put(u64::from(number), object)?;
+        }
+        Ok(())
+    }
+
     /// The reference of the object that is hosted as an export.
     pub(crate) fn hosted(&mut self, number: u32) -> Result<u64, AllocError> {
-        let key = u64::from(number);
+        let key = self.object_of(number);
         if let Some(reference) = self.hosted.get(key) {
             return Ok(*reference);
         }
@@ -121,7 +137,9 @@ impl Vat<'_> {
     pub(crate) fn named(&mut self, entry: Entry) -> Result<(u64, View), AllocError> {
         match entry {
             Entry::NoCap => self.new_object(),
-            Entry::Hosted(number) => { Ok((self.hosted(number)?, View::Object(u64::from(number)))) }
+            Entry::Hosted(number) => {
+                Ok((self.hosted(number)?, View::Object(self.object_of(number))))
+            }
             Entry::Promised(_, group) => self.promised(group),
             Entry::ReceiverHosted(number) => self.imported(number),
             Entry::ReceiverAnswer(question, path) => self.asked(question, path),
@@ -157,7 +175,7 @@ impl Vat<'_> {
             Entry::NoCap => None,
             Entry::Hosted(number) => match self.held_export(number) {
                 Some(held) => Some(held.view),
-                None => Some(View::Object(u64::from(number))),
+                None => Some(View::Object(self.object_of(number))),
             },
             Entry::Promised(number, group) => match self.held_export(number) {
                 Some(held) => Some(held.view),

@@ -3,7 +3,17 @@
 use crate::tables::Place;
 use crate::vat::Vat;
 use crate::views::View;
-use wire_plan::{Kind, Results};
+use wire_plan::{Entry, Kind, Results};
+
+/// Whether the entries of two ends, at one path of the results of one call, are certainly not the same: each end says that
+/// it hosts it itself, or that the other does.
+fn contradict(own: Option<Entry>, other: Option<Entry>) -> bool {
+    match (own, other) {
+        (Some(Entry::Hosted(_)), Some(Entry::Hosted(_))) => true,
+        (Some(Entry::ReceiverHosted(_)), Some(Entry::ReceiverHosted(_))) => true,
+        _ => false,
+    }
+}
 
 impl Vat<'_> {
     /// The digest of the peer's Call that brought a call.
@@ -43,11 +53,27 @@ impl Vat<'_> {
         }
     }
 
-    /// The first call that waits with this digest and leads to this target.
-    fn first_alike(&self, digest: u64, target: View) -> Option<usize> {
+    /// Whether the own Return for a received call may bring what the peer's Return for the own Call at this place brings.
+    fn may_agree(&self, call: usize, place: usize) -> bool {
+        let Some(own) = self.return_of(call) else {
+            return true;
+        };
+        let Some(answer) = self.own().ties.pair_of(place) else {
+            return true;
+        };
+        let Some(other) = self.peer_message(answer) else {
+            return true;
+        };
+        !own.fields.iter().any(|field| contradict(own.entry(field.index), other.entry_at(field.path)))
+    }
+
+    /// The first call that waits with this digest, leads to this target, and may have the results of the own Call at this
+    /// place.
+    fn first_alike(&self, place: usize, digest: u64, target: View) -> Option<usize> {
         let calls = self.digests.get(&digest)?;
         calls.iter().copied().find(|call| self.is_returned_itself(*call)
-            && self.may_pass(*call, digest, target))
+            && self.may_pass(*call, digest, target)
+            && self.may_agree(*call, place))
     }
 
     /// The received call that the own Call at this place passes on.
@@ -57,7 +83,7 @@ impl Vat<'_> {
         };
         let target = self.view_of_own(aim)?;
         if self.own().ties.take_of(place).is_none() {
-            return self.first_alike(digest, target);
+            return self.first_alike(place, digest, target);
         }
         let call = self.handed_on(place)?;
         if self.may_pass(call, digest, target) {

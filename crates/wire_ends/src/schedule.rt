@@ -46,10 +46,11 @@ impl Vat<'_> {
         Ok(())
     }
 
-    /// Lets the next message go out without the call that it hands on, if it waits for that alone.
+    /// Lets the next message go out without the call that it hands on, or without the Resolve of what it gives back, if it
+    /// waits for that alone.
     pub(crate) fn hurries(&mut self, lack: Option<Lack>) -> bool {
         match lack {
-            Some(Lack::HandedOnCall(_)) => {
+            Some(Lack::HandedOnCall(_) | Lack::PromiseResolved(_)) => {
                 self.hurried = Some(self.sent);
                 true
             }

@@ -59,6 +59,8 @@ pub(crate) struct Held {
     pub is_resolved: bool,
     /// What it stands for since its life began.
     pub view: View,
+    /// Of a promise the group of its introductions.
+    pub group: Option<usize>,
 }
 
 /// A life of an import.

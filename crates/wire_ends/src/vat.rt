@@ -31,8 +31,10 @@ pub(crate) struct Vat<'a> {
     pub answers: RisingTable<Question>,
     pub exports: RisingTable<Held>,
     pub imports: RisingTable<Held>,
-    /// The references of hosted exports by number.
+    /// The references of hosted objects, by the number under which each went out first.
     pub hosted: RisingTable<u64>,
+    /// Numbers under which an object goes out that went out under another one: that one.
+    pub objects: RisingTable<u64>,
     pub lives: Vec<Life>,
     pub promises: Vec<Promise>,
     /// The promises of the file's groups.
@@ -79,6 +81,7 @@ impl<'a> Vat<'a> {
             exports: RisingTable::new(alloc),
             imports: RisingTable::new(alloc),
             hosted: RisingTable::new(alloc),
+            objects: RisingTable::new(alloc),
             lives: Vec::new(alloc),
             promises: Vec::new(alloc),
             group_promises: RisingTable::new(alloc),

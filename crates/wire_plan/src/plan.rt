@@ -113,6 +113,13 @@ impl Looking {
         }
     }
 
+    /// The message at this place is meant for a result of an own question, or brings it.
+    fn aim(&mut self, place: usize, question: u32) {
+        if let Some(opening) = self.current.get(u64::from(question)) {
+            self.ties.aim(place, *opening);
+        }
+    }
+
     /// The answers that a table names.
     fn name_entries(&mut self, table: &[Entry]) -> Result<(), AllocError> {
         for entry in table {
@@ -134,9 +141,12 @@ impl Looking {
     fn look(&mut self, place: usize, message: &Planned) -> Result<(), AllocError> {
         if let Some(Aim::Answer(question, path)) = message.aim() {
             self.name(question, path)?;
-            if let Some(opening) = self.current.get(u64::from(question)) {
-                self.ties.aim(place, *opening);
-            }
+            self.aim(place, question);
+        }
+        if let (Kind::Resolve(_, _), Some(Entry::ReceiverAnswer(question, _))) =
+            (message.kind, message.entry(0))
+        {
+            self.aim(place, question);
         }
         self.name_entries(&message.table)?;
         if let Some(question) = message.opens() {
@@ -241,6 +251,35 @@ fn pass_one(
     Ok(())
 }
 
+/// The other end's number that stands at a path of the results of the own question that this message is meant for.
+fn brought(own: &Ties, peer: &[Planned], place: usize, path: u32) -> Option<u32> {
+    let answer = own.pair_of(own.aimed_of(place)?)?;
+    match peer.get(answer)?.entry_at(path)? {
+        Entry::Hosted(number) | Entry::Promised(number, _) => Some(number),
+        _ => None,
+    }
+}
+
+/// A promise that becomes a result of an own question becomes the import, too, that this result is.
+fn lead_results(
+    alloc: Global,
+    messages: &[Planned],
+    ties: &Ties,
+    peer: &[Planned],
+    leading: &mut Leading,
+) -> Result<(), AllocError> {
+    for (place, message) in messages.iter().enumerate() {
+        if let (Kind::Resolve(promise, _), Some(Entry::ReceiverAnswer(_, path))) =
+            (message.kind, message.entry(0))
+        {
+            if let Some(import) = brought(ties, peer, place, path) {
+                leading.lead(alloc, promise, Aim::Import(import))?;
+            }
+        }
+    }
+    Ok(())
+}
+
 /// The other end's Calls that the own file leads back.
 fn calls_led_back(alloc: Global, own: &FilePlan, peer: &FilePlan) -> Result<Passing, AllocError> {
     let mut passing = Passing::new(alloc);
@@ -259,6 +298,8 @@ pub fn plan_wire(alloc: Global, a: &[Bytes], b: &[Bytes]) -> Result<WirePlan, Al
     let mut of_b = plan_file(alloc, messages, groups)?;
     pair(alloc, &mut of_a, &mut of_b)?;
     pair(alloc, &mut of_b, &mut of_a)?;
+    lead_results(alloc, &of_a.messages, &of_a.ties, &of_b.messages, &mut of_a.leading)?;
+    lead_results(alloc, &of_b.messages, &of_b.ties, &of_a.messages, &mut of_b.leading)?;
     let passing_of_a = calls_led_back(alloc, &of_a, &of_b)?;
     let passing_of_b = calls_led_back(alloc, &of_b, &of_a)?;
     Ok(WirePlan {

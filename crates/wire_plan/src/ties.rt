@@ -10,7 +10,7 @@ pub struct Tie {
     /// Of a Call with sendResultsTo yourself the Return that takes its results, of such a Return that Call: a frame of
     /// the same end.
     pub take: Option<usize>,
-    /// Of a message for a result of a question the opening of that: a frame of the same end.
+    /// Of a message for a result of a question, or a Resolve to one, the opening of that: a frame of the same end.
     pub aimed: Option<usize>,
 }
 

@@ -75,6 +75,7 @@ impl Display for ShownLack {
                 "the end of the calls that came before loopback {id} for its target"
             ),
             Lack::HandedOnCall(_) => f.write_str("the call that it hands on"),
+            Lack::PromiseResolved(id) => write!(f, "the Resolve of import {id}"),
             Lack::NotAborted => f.write_str("a connection without an abort"),
             lack => put_number(f, lack),
         }

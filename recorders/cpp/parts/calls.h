@@ -166,6 +166,7 @@ public:
     auto results = promise.then([vat = vat, call = call](capnp::Response<AnyPointer>&& response) {
       AnyPointer::Reader reader = response;
       auto byIndex = resultsOf(*call, reader);
+      if (byIndex.empty()) return kj::mv(response);
       auto hook = kj::heap<Results>(vat, kj::mv(byIndex), capnp::ResponseHook::from(kj::mv(response)));
       reader = hook->table.imbue(reader);
       return capnp::Response<AnyPointer>(reader, kj::mv(hook));

@@ -71,6 +71,9 @@ public:
       case rpc::Message::RELEASE:
         giveBack(imports, message.getRelease().getId(), message.getRelease().getReferenceCount());
         break;
+      case rpc::Message::DISEMBARGO:
+        vat->sayAllTurns();
+        break;
       default:
         break;
     }
@@ -103,6 +106,9 @@ public:
       case rpc::Message::RELEASE:
         giveBack(exports, message.getRelease().getId(), message.getRelease().getReferenceCount());
         break;
+      case rpc::Message::DISEMBARGO:
+        vat->sayAllTurns();
+        break;
       default:
         break;
     }
@@ -121,7 +127,8 @@ public:
       }
       auto& known = found->second.reference;
       bool isBroken = known.view->isBroken && given.view->isBroken;
-      if (isBroken || leadsTo(known, given) || vowOf(given).number == known.number) return known;
+      Reference vow = vowOf(given);
+      if (isBroken || leadsTo(known, given) || (vow.number != 0 && leadsTo(known, vow))) return known;
       at++;
     }
     return Reference();
@@ -170,6 +177,7 @@ private:
     auto isSentBefore = [&](const Call& on) { return goesTo(startOfGoal(on), message.getTarget()); };
     Question opened = question(vat->throughProxies(call, isSentBefore), false);
     opened.call->isGone = true;
+    vat->sayTurns(startOfGoal(*opened.call));
     opened.call->dropGoal();
     opened.call->wentBy = way();
 #if CAPNP_VERSION >= 1000000
@@ -211,6 +219,7 @@ private:
       noteBack(*answered.call, payload);
     }
     answered.isReturned = true;
+    if (message.isResultsSentElsewhere()) answered.call->isUnheard = true;
     if (message.getReleaseParamCaps()) giveBack(imports, answered.broughtByCall);
     if (answered.isFinished) answering.erase(found);
     return true;
@@ -239,8 +248,21 @@ private:
       }
       if (bootstrap.number != 0) vat->answer(call);
     }
-    bool isWrittenHere = answered.isBootstrap || call.isLocallyAnswered;
-    return isWrittenHere ? call.resultsByIndex : copied(payload, call.resultsAsMet);
+    if (answered.isBootstrap) return call.resultsByIndex;
+    auto byIndex = call.isLocallyAnswered ? call.resultsByIndex : copied(payload, call.resultsAsMet);
+    return asAnswered(call, payload, kj::mv(byIndex));
+  }
+
+  // What ANSWER named, of this call or of the one by which it was answered: a result that was promised before is that
+  // promise.
+  static std::vector<Reference> asAnswered(Call& call, rpc::Payload::Reader payload, std::vector<Reference> byIndex) {
+    Call& by = inside::answering(call);
+    if (!by.isLocallyAnswered || by.vows.empty() || byIndex.empty()) return byIndex;
+    for (auto& met: Content(payload.getContent()).met) {
+      auto field = met.hasPath && met.index < byIndex.size() ? by.fieldAt(met.path) : nullptr;
+      if (field != nullptr) byIndex[met.index] = *field;
+    }
+    return byIndex;
   }
 
   // A Resolve notes what the promise turned out to be, where that is a new number. Of what goes back, or was sent
@@ -285,24 +307,57 @@ private:
   // The reference that is noted for what goes out.
   Reference introduce(rpc::CapDescriptor::Reader descriptor, const Reference& given, bool isCall,
                       std::vector<uint32_t>& brought) {
-    if (!descriptor.isSenderHosted() && !descriptor.isSenderPromise()) return isCall ? withoutProxy(given) : given;
+    if (!descriptor.isSenderHosted() && !descriptor.isSenderPromise()) {
+      Reference back = isCall ? withoutProxy(given) : given;
+      vat->sayTurns(back);
+      return back;
+    }
     uint32_t id = descriptor.isSenderHosted() ? descriptor.getSenderHosted() : descriptor.getSenderPromise();
     Number& number = exports[id];
     brought.push_back(id);
-    if (number.count++ > 0) return introducedAgain(number.reference, given, isCall);
+    if (number.count++ > 0) {
+      Reference again = introducedAgain(number.reference, given, isCall);
+      vat->sayTurns(isCall ? again : given, number.reference);
+      return again;
+    }
     number.isPromise = descriptor.isSenderPromise();
-    number.reference = !number.isPromise ? hosted(given, isCall) : isCall ? promised(given) : given;
-    if (number.isPromise) promises.push_back(id);
+    number.reference = !number.isPromise ? hosted(given, isCall) : isCall ? promised(given) : firstPromise(given);
+    if (number.isPromise) {
+      promises.push_back(id);
+      if (!isCall) vat->sayTurns(given, number.reference);
+    } else {
+      vat->sayTurns(given), vat->sayTurns(number.reference);
+    }
     return number.reference;
+  }
+
+  // What goes out as a new senderPromise in a Return: the first promise on the way of the result without a number, and
+  // not a call's result that leads there. The results of that call may go out under the same number.
+  Reference firstPromise(const Reference& given) const {
+    Reference first;
+    follow(given, [&](const Reference& at) {
+      if (isPromised(at)) return false;
+      if (first.number == 0 || isPromise(at)) first = at;
+      return isPromise(at);
+    });
+    return first.number == 0 ? given : first;
+  }
+
+  // Whether it is a promise, of this vat or of another, and none of a call's results.
+  static bool isPromise(const Reference& reference) {
+    auto view = reference.view.get();
+    return view != nullptr && view->call == nullptr && view->same.number == 0 && !view->isSettled;
   }
 
   // What goes out as a new senderPromise: where it has a number already, the runtime is further on its way.
   Reference promised(const Reference& given) {
-    const Reference* open = &given;
+    const Reference* open = nullptr;
     follow(given, [&](const Reference& at) {
       if (isPromised(at) || isPromised(vowOf(at))) return false;
-      return open = &at, true;
+      if (open == nullptr || isPromise(at)) open = &at;
+      return isPromise(at);
     });
+    if (open == nullptr) open = &given;
     Reference promise = vat->promiseOf(*open);
     return isPromised(promise) ? vat->promiseBehind(promise, *open) : promise;
   }
@@ -324,9 +379,12 @@ private:
 
   // The runtime gives the number of a promise to the promise that it became, without a word: then what goes out is the
   // first one, too.
-  static Reference introducedAgain(const Reference& known, const Reference& given, bool isCall) {
+  Reference introducedAgain(const Reference& known, const Reference& given, bool isCall) {
     if (leadsTo(given, known)) return given;
-    if (takesOver(known, given)) return known;
+    if (takesOver(known, given)) {
+      if (!isCall) vat->leadTo(given, known);
+      return known;
+    }
     return isCall && known.view->wrapped.number != 0 && leadsTo(given, known.view->wrapped) ? known : given;
   }
 
@@ -348,6 +406,10 @@ private:
     vat->bind(*call);
     call->isReceived = true;
     call->cameBy = way();
+    call->isReflected = message.getSendResultsTo().isYourself();
+#if CAPNP_VERSION >= 1000000
+    call->isUnheard = message.getOnlyPromisePipeline();
+#endif
     addressTo(*call, message.getTarget());
     Question opened = question(call, false);
     auto payload = message.getParams();
@@ -530,17 +592,14 @@ inline Reference Vat::asNumbered(const Reference& given, Way way) {
 
 inline void Vat::keepVows(Call& call) {
   for (auto& vow: call.vows) {
-    Reference promise = vow.promise(), result;
+    Reference promise = vow.promise();
     if (promise.number == 0 || vow.isKept) continue;
     vow.isKept = true;
-    result.number = vow.result;
-    result.view = std::make_shared<View>();
-    result.view->call = vow.call.lock();
-    if (result.view->call == nullptr) result.view->call = call.shared_from_this();
-    result.view->path = vow.path;
+    auto of = vow.call.lock();
+    Reference result = resultAt(vow.result, of == nullptr ? call.shared_from_this() : of, vow.path);
     bool isElsewhere = false;
     for (auto end: ends) isElsewhere = isElsewhere || (end->way() != call.wentBy && end->gave(promise));
-    fulfil(promise, call.isForPipeline && isElsewhere ? proxyOf(result) : result);
+    turn(promise, call.isForPipeline && isElsewhere ? proxyOf(result) : result);
   }
 }
 

@@ -28,6 +28,9 @@ struct View {
   Path path;
   bool isSettled = false;    // an object, a broken promise, or what came as senderHosted: it turns no more
   bool isBroken = false;     // a broken promise
+  bool isUnsaid = false;     // it turned, and no record says so yet
+  uint64_t result = 0;       // of the promise of an open result: its reference, at `path` of this call
+  std::weak_ptr<Call> resultOf;
   Way import = 0;            // the way by which it came as a number of the peer
   Way cameBack = 0;          // the way by which it came back
   bool isProxy = false;      // the runtime put a proxy of its own before it
@@ -104,6 +107,8 @@ struct Call: std::enable_shared_from_this<Call> {
   const void* params = nullptr;      // where its parameters lie, while it may be delivered
   bool isGone = false;               // sent, or delivered
   bool isLocallyAnswered = false;    // by ANSWER
+  bool isReflected = false;          // it came back, and its results are this vat's own
+  bool isUnheard = false;            // no Return says how it ends: it is for its pipeline, or its results go elsewhere
   bool isOver = false;               // its results are known, or it has none
 
   void setResults(std::vector<Reference>&& byIndex, const std::vector<Met>& met) {
@@ -165,7 +170,8 @@ inline Reference vowOf(const Reference& from) {
   const View* view = lastOf(from).view.get();
   if (view == nullptr || view->call == nullptr) return Reference();
   for (auto& vow: answering(*view->call).vows) {
-    if (vow.path == view->path) return vow.promise();
+    Reference promise = vow.path == view->path ? vow.promise() : Reference();
+    if (promise.number != 0) return promise;
   }
   return Reference();
 }
@@ -248,9 +254,9 @@ inline Way wayOf(const Reference& from) {
   return way;
 }
 
-// The connection over which a call's results go out, if they do.
+// The connection over which a call's results go out, if they do and it is known.
 inline Way returnsBy(const Call& call) {
-  Way way = call.cameBy;
+  Way way = call.isReflected ? 0 : call.cameBy;
   for (size_t at = 0; way == 0 && at < call.handedOn.size(); at++) {
     auto handed = call.handedOn[at].lock();
     if (handed != nullptr) way = returnsBy(*handed);

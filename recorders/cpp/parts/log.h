@@ -37,15 +37,18 @@ public:
 
   template <typename Number>
   void number(Number value) {
-    char bytes[sizeof(Number)];
+    char* bytes = more(sizeof(Number));
+#if __BYTE_ORDER__ == __ORDER_LITTLE_ENDIAN__
+    memcpy(bytes, &value, sizeof(Number));
+#else
     for (size_t place = 0; place < sizeof(Number); place++) {
       bytes[place] = static_cast<char>(static_cast<uint64_t>(value) >> (8 * place));
     }
-    buffer.append(bytes, sizeof(Number));
+#endif
   }
 
   void add(const void* bytes, size_t length) {
-    buffer.append(static_cast<const char*>(bytes), length);
+    if (length > 0) memcpy(more(length), bytes, length);
   }
 
   // How many a list has. A log has room for so many.
@@ -57,9 +60,9 @@ public:
 
   // Takes back the bytes of a record that begins at this place of what is not yet written, where one of its lists is
   // too long; and whether it was.
-  size_t unwritten() const { return buffer.size(); }
+  size_t unwritten() const { return filled; }
   bool dropTooLong(size_t begin) {
-    if (isTooLong) buffer.resize(begin);
+    if (isTooLong) filled = begin;
     return isTooLong;
   }
 
@@ -67,13 +70,13 @@ public:
   void endRecord() { records++; }
 
   // Writes what there is no room to keep. Whether that went well.
-  bool settle() { return buffer.size() < room || flush(); }
+  bool settle() { return filled < room || flush(); }
 
   // Writes what is kept. What the system takes in part is taken back, and `errno` says why.
   bool flush() {
     size_t done = 0;
-    while (done < buffer.size()) {
-      ssize_t count = write(file, buffer.data() + done, buffer.size() - done);
+    while (done < filled) {
+      ssize_t count = write(file, buffer.data() + done, filled - done);
       if (count > 0) {
         done += count;
       } else if (count == 0 || errno != EINTR) {
@@ -81,7 +84,7 @@ public:
         return false;
       }
     }
-    buffer.clear();
+    filled = 0;
     length += done;
     written = records;
     return true;
@@ -112,9 +115,20 @@ public:
 private:
   std::string path;      // from the root, if the system knows it: the program may change its folder
   int file;
-  std::string buffer;
+  std::vector<char> buffer;
+  size_t filled = 0;     // of the buffer: what is not yet written
   bool isTooLong = false;
   uint64_t length = 0, written = 0;
+
+  // Where so many bytes more go.
+  KJ_ALWAYS_INLINE(char* more(size_t length)) {
+    if (buffer.size() - filled < length) grow(length);
+    char* place = buffer.data() + filled;
+    filled += length;
+    return place;
+  }
+
+  KJ_NOINLINE void grow(size_t length) { buffer.resize(std::max(2 * buffer.size(), filled + length + 256)); }
 
   // Makes the file, behind those that are there. -1 where that can't be, and `errno` says why.
   int begun(const char* given) {
@@ -149,7 +163,7 @@ private:
     if (ftruncate(file, length) != 0) {
       // it isn't a file that has a length
     }
-    buffer.clear();
+    filled = 0;
     records = written;
     errno = reason;
   }

@@ -23,6 +23,7 @@ public:
         message(firstSegmentWordSize == 0 ? capnp::SUGGESTED_FIRST_SEGMENT_WORDS : firstSegmentWordSize),
         call(this->end->vat->building) {
     if (call == nullptr) {
+      unsent.message = &message;
       unsent.before = this->end->vat->unsent;
       this->end->vat->unsent = &unsent;
     }
@@ -70,12 +71,9 @@ public:
   // The descriptors that came with it are the first of `room`.
   Incoming(std::shared_ptr<End> end, kj::Own<capnp::MessageReader> message, kj::Array<kj::AutoCloseFd> room,
            kj::ArrayPtr<kj::AutoCloseFd> fds)
-      : end(kj::mv(end)), message(kj::mv(message)), room(kj::mv(room)), fds(fds) {
-    for (uint at = 0;; at++) {
-      auto segment = this->message->getSegment(at);
-      if (segment.begin() == nullptr) break;
-      segments.push_back(segment);
-    }
+      : end(kj::mv(end)), message(kj::mv(message)), room(kj::mv(room)), fds(fds), first(this->message->getSegment(0)),
+        segments(&first, 1) {
+    if (this->message->getSegment(1).begin() != nullptr) listSegments();
   }
   ~Incoming() noexcept(false) {
     if (call != nullptr) end->vat->letGo(call);
@@ -94,22 +92,32 @@ private:
   kj::Own<capnp::MessageReader> message;
   kj::Array<kj::AutoCloseFd> room;
   kj::ArrayPtr<kj::AutoCloseFd> fds;
-  Segments segments;
+  kj::ArrayPtr<const capnp::word> first;
+  Segments several;  // of a message that has more than the first; most don't
+  kj::ArrayPtr<const kj::ArrayPtr<const capnp::word>> segments;
   std::shared_ptr<Call> call;
   bool isSeen = false;
+
+  void listSegments() {
+    for (uint at = 0;; at++) {
+      auto segment = message->getSegment(at);
+      if (segment.begin() == nullptr) break;
+      several.push_back(segment);
+    }
+    segments = kj::arrayPtr(several.data(), several.size());
+  }
 
   // Reads with limits of its own, so that the program's aren't used up. A frame that can't be read is recorded
   // as it is: the audit says so.
   void record() {
-    kj::ArrayPtr<const kj::ArrayPtr<const capnp::word>> list(segments.data(), segments.size());
     capnp::ReaderOptions options;
     options.traversalLimitInWords = ~uint64_t(0) >> 4;
-    capnp::SegmentArrayMessageReader reader(list, options);
+    capnp::SegmentArrayMessageReader reader(segments, options);
     KJ_IF_MAYBE(exception, kj::runCatchingExceptions([&]() {
-      call = end->received(reader.getRoot<rpc::Message>(), list);
+      call = end->received(reader.getRoot<rpc::Message>(), segments);
     })) {
       (void)exception;
-      end->vat->frame(false, end->number(), 0, {}, list);
+      end->vat->frame(false, end->number(), 0, {}, segments);
     }
   }
 };

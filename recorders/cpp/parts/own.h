@@ -35,7 +35,7 @@ Client Recorder::promise(kj::Promise<Client>&& promised) {
   auto hook = promised.then(
       [vat = vat, vow](Client&& client) {
         auto became = capnp::ClientHook::from(kj::mv(client));
-        if (vat->isRecording()) vat->fulfil(vow, vat->asNumbered(inside::referenceOf(*vat, *became)));
+        if (vat->isRecording()) vat->turn(vow, vat->asNumbered(inside::referenceOf(*vat, *became)));
         return inside::unwrapped(kj::mv(became));
       },
       [vat = vat, vow](kj::Exception&& exception) -> kj::Own<capnp::ClientHook> {

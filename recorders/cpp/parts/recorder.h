@@ -33,7 +33,7 @@
 // - Where a method names its results beforehand by `setPipeline`, no record says so before they are there. A call that
 //   goes on to such a result before is told `no .. rule GOAL`. A method that ends by `tailCall` is recorded, by
 //   ANSWERBY.
-// - Three lines of the audit come from sound programs: docs/RECORDING.md, "Where C++ gets `no`".
+// - Two things that sound programs do get a `no`: docs/RECORDING.md, "Where C++ gets `no`".
 //
 // This file is made: recorders/cpp/parts has what it is made of. With VATAUDIT_OFF defined nothing of it is left but
 // capnp's own classes under these names.

@@ -12,6 +12,9 @@ namespace inside {
 struct Unsent {
   std::shared_ptr<Call> passedOn;
   Unsent* before = nullptr;
+  capnp::MessageBuilder* message = nullptr;
+
+  bool isCall() { return message->getRoot<AnyPointer>().asReader().getAs<capnp::rpc::Message>().isCall(); }
 };
 
 // What the vat has recorded, and what later records need of it. The numbers of references and calls rise from 1,
@@ -39,6 +42,7 @@ public:
 
   void end() {
     if (!reason.empty()) say("was recorded");
+    sayAllTurns();
     flush();
     recording = false;
     log.close();
@@ -74,7 +78,57 @@ public:
   void fulfil(const Reference& promise, const Reference& became) {
     if (became.number == 0) return stop("a promise became a capability that isn't known here");
     promise.view->turn = became;
-    begin(0x03, [&] { log.number(promise.number), log.number(became.number); });
+    sayTurn(promise);
+  }
+
+  // A promise became one that is open. Of promises that lead to one result the runtime sends on under the number of
+  // one, and only then can be said which turned to which: so FULFIL waits for the first record that needs it.
+  void turn(const Reference& promise, const Reference& became) {
+    if (became.number == 0 || isSettled(became)) return fulfil(promise, became);
+    promise.view->turn = became;
+    promise.view->isUnsaid = true;
+    unsaid.push_back({ promise.number, promise.view });
+    if (unsaid.size() < mostUnsaid) return;
+    unsaid.erase(std::remove_if(unsaid.begin(), unsaid.end(), [](auto& one) {
+      auto view = one.second.lock();
+      return view == nullptr || !view->isUnsaid;
+    }), unsaid.end());
+    mostUnsaid = 2 * unsaid.size() + 16;
+  }
+
+  // What is on the way of a reference has turned, as far as to what it is to lead to: a record needs it now.
+  void sayTurns(const Reference& from, const Reference& to = Reference()) {
+    if (unsaid.empty()) return;
+    follow(from, [&](const Reference& at) {
+      if (to.number != 0 && areSame(at, to)) return true;
+      if (at.view != nullptr && at.view->isUnsaid) sayTurn(at);
+      return false;
+    });
+  }
+
+  void sayAllTurns() {
+    auto all = kj::mv(unsaid);
+    unsaid.clear();
+    for (auto& one: all) {
+      auto view = one.second.lock();
+      if (view != nullptr && view->isUnsaid) sayTurn({ one.first, view });
+    }
+  }
+
+  // What is given is to go out as what is known by a number, and both lead to one end. Then a promise on the way of
+  // what is given turned to what is known: one of which nothing was said yet, or the promise of the result there.
+  void leadTo(const Reference& given, const Reference& known) {
+    Reference turning;
+    follow(given, [&](const Reference& at) {
+      if (at.view != nullptr && at.view->isUnsaid && !leadsTo(known, at)) turning = at;
+      return false;
+    });
+    if (turning.number == 0) {
+      follow(given, [&](const Reference& at) { return isFreed(at, known) && (turning = at, true); });
+    }
+    if (turning.number == 0) return;
+    turning.view->turn = known;
+    sayTurn(turning);
   }
 
   // A promise that is settled without a capability: it isn't hosted, so it must not go out as if it were.
@@ -108,8 +162,8 @@ public:
     if (view == nullptr || view->call == nullptr || next(*view) != nullptr) return result;
     Reference promise = vowOf(result);
     if (promise.number != 0) return promise;
-    promise = vow();
     Call& call = answering(*view->call);
+    promise = openPromise(result.number, view->call, view->path);
     Vow given;
     given.path = view->path;
     given.number = promise.number;
@@ -126,14 +180,39 @@ public:
     auto view = lastOf(result).view;
     if (view == nullptr || view->call == nullptr) return promise;
     for (auto& given: answering(*view->call).vows) {
-      if (given.number != promise.number || given.isKept) continue;
-      Reference behind = vow();
-      fulfil(promise, behind);
+      if (given.number != promise.number) continue;
+      if (given.isKept && !promise.view->isUnsaid) return result;
+      Reference behind = openPromise(given.result, given.call.lock(), given.path);
+      if (given.isKept) {
+        turn(behind, promise.view->turn);
+        promise.view->turn = behind;
+      } else {
+        fulfil(promise, behind);
+      }
       given.number = behind.number;
       given.view = behind.view;
       return behind;
     }
     return promise;
+  }
+
+  // A promise of a result that isn't known yet.
+  Reference openPromise(uint64_t result, const std::shared_ptr<Call>& call, const Path& path) {
+    Reference promise = vow();
+    promise.view->result = result;
+    promise.view->resultOf = call;
+    promise.view->path = path;
+    return promise;
+  }
+
+  // The result of a call, with the number that was noted for it.
+  static Reference resultAt(uint64_t number, const std::shared_ptr<Call>& call, const Path& path) {
+    Reference result;
+    result.number = number;
+    result.view = std::make_shared<View>();
+    result.view->call = call;
+    result.view->path = path;
+    return result;
   }
 
   // The call is sent, so its results will come by a Return: what was promised for them turns to them. Where they never
@@ -154,7 +233,7 @@ public:
       vow.isKept = true;
       if (call.fieldAt(vow.path) == nullptr) call.fields.push_back({ vow.path, broken() });
       Reference& field = *call.fieldAt(vow.path);
-      fulfil(promise, field);
+      turn(promise, field);
       field = promise;
     }
   }
@@ -253,6 +332,7 @@ public:
 
   // Each call that is delivered is delivered once, to the object that was really entered.
   void deliver(Call& call, uint64_t object) {
+    sayTurns(startOfGoal(call));
     call.isGone = true;
     call.dropGoal();
     begin(0x07, [&] { log.number(call.number), log.number(object); });
@@ -369,8 +449,13 @@ public:
   Unsent* unsent = nullptr;         // the messages that are being made, the latest first
 
   // The runtime lets go of a call's parameters. Where it has just copied them into a message, that passes the call on.
+  // Else the call was dropped, and where no Return says that, FAULT does.
   void letGo(const std::shared_ptr<Call>& call) {
-    if (unsent != nullptr && !call->isGone) unsent->passedOn = call;
+    if (!call->isGone && unsent != nullptr && unsent->isCall()) {
+      unsent->passedOn = call;
+    } else if (!call->isGone && call->isUnheard) {
+      fault(*call);
+    }
     forget(*call);
   }
 
@@ -406,6 +491,8 @@ private:
   uint64_t lastReference = 0, lastCall = 0, lastObject = 0;
   std::unordered_map<const void*, std::shared_ptr<Call>> callAt;
   std::vector<std::weak_ptr<Call>> turned;
+  std::vector<std::pair<uint64_t, std::weak_ptr<View>>> unsaid;  // the promises that turned and may still be unsaid
+  size_t mostUnsaid = 16;
   bool hasProxies = false;  // some were given away
 
   template <typename Fields>
@@ -445,6 +532,39 @@ private:
   static void handOn(const std::shared_ptr<Call>& call, const std::shared_ptr<Call>& by) {
     call->answeredBy = by;
     by->handedOn.push_back(call);
+  }
+
+  void sayTurn(const Reference& promise) {
+    promise.view->isUnsaid = false;
+    begin(0x03, [&] { log.number(promise.number), log.number(promise.view->turn.number); });
+  }
+
+  // Where what is known by a number leads to a promise by a turn of which nothing was said yet, that turn went to what
+  // the promise leads to, and the promise is free. Whether it is so.
+  static bool isFreed(const Reference& promise, const Reference& known) {
+    if (promise.view == nullptr) return false;
+    std::shared_ptr<View> before;
+    follow(known, [&](const Reference& at) {
+      bool isBefore = at.view != nullptr && at.view->isUnsaid && at.view->turn.view == promise.view;
+      if (isBefore) before = at.view;
+      return isBefore;
+    });
+    if (before == nullptr) return false;
+    Reference behind = promise.view->isUnsaid ? promise.view->turn : keptResult(promise);
+    if (behind.number != 0) before->turn = behind;
+    return behind.number != 0;
+  }
+
+  // The result of which this is the promise, if that is open; it is no more its promise then.
+  static Reference keptResult(const Reference& promise) {
+    auto call = promise.view->resultOf.lock();
+    if (call == nullptr) return Reference();
+    for (auto& vow: answering(*call).vows) {
+      if (vow.number != promise.number || vow.isKept) continue;
+      vow.isKept = true;
+      return resultAt(promise.view->result, call, promise.view->path);
+    }
+    return Reference();
   }
 
   // Gives the results that were named and aren't there, of this call and of those that were handed on to it.

@@ -33,7 +33,7 @@
 // - Where a method names its results beforehand by `setPipeline`, no record says so before they are there. A call that
 //   goes on to such a result before is told `no .. rule GOAL`. A method that ends by `tailCall` is recorded, by
 //   ANSWERBY.
-// - Three lines of the audit come from sound programs: docs/RECORDING.md, "Where C++ gets `no`".
+// - Two things that sound programs do get a `no`: docs/RECORDING.md, "Where C++ gets `no`".
 //
 // This file is made: recorders/cpp/parts has what it is made of. With VATAUDIT_OFF defined nothing of it is left but
 // capnp's own classes under these names.
@@ -215,15 +215,18 @@ public:
 
   template <typename Number>
   void number(Number value) {
-    char bytes[sizeof(Number)];
+    char* bytes = more(sizeof(Number));
+#if __BYTE_ORDER__ == __ORDER_LITTLE_ENDIAN__
+    memcpy(bytes, &value, sizeof(Number));
+#else
     for (size_t place = 0; place < sizeof(Number); place++) {
       bytes[place] = static_cast<char>(static_cast<uint64_t>(value) >> (8 * place));
     }
-    buffer.append(bytes, sizeof(Number));
+#endif
   }
 
   void add(const void* bytes, size_t length) {
-    buffer.append(static_cast<const char*>(bytes), length);
+    if (length > 0) memcpy(more(length), bytes, length);
   }
 
   // How many a list has. A log has room for so many.
@@ -235,9 +238,9 @@ public:
 
   // Takes back the bytes of a record that begins at this place of what is not yet written, where one of its lists is
   // too long; and whether it was.
-  size_t unwritten() const { return buffer.size(); }
+  size_t unwritten() const { return filled; }
   bool dropTooLong(size_t begin) {
-    if (isTooLong) buffer.resize(begin);
+    if (isTooLong) filled = begin;
     return isTooLong;
   }
 
@@ -245,13 +248,13 @@ public:
   void endRecord() { records++; }
 
   // Writes what there is no room to keep. Whether that went well.
-  bool settle() { return buffer.size() < room || flush(); }
+  bool settle() { return filled < room || flush(); }
 
   // Writes what is kept. What the system takes in part is taken back, and `errno` says why.
   bool flush() {
     size_t done = 0;
-    while (done < buffer.size()) {
-      ssize_t count = write(file, buffer.data() + done, buffer.size() - done);
+    while (done < filled) {
+      ssize_t count = write(file, buffer.data() + done, filled - done);
       if (count > 0) {
         done += count;
       } else if (count == 0 || errno != EINTR) {
@@ -259,7 +262,7 @@ public:
         return false;
       }
     }
-    buffer.clear();
+    filled = 0;
     length += done;
     written = records;
     return true;
@@ -290,9 +293,20 @@ public:
 private:
   std::string path;      // from the root, if the system knows it: the program may change its folder
   int file;
-  std::string buffer;
+  std::vector<char> buffer;
+  size_t filled = 0;     // of the buffer: what is not yet written
   bool isTooLong = false;
   uint64_t length = 0, written = 0;
+
+  // Where so many bytes more go.
+  KJ_ALWAYS_INLINE(char* more(size_t length)) {
+    if (buffer.size() - filled < length) grow(length);
+    char* place = buffer.data() + filled;
+    filled += length;
+    return place;
+  }
+
+  KJ_NOINLINE void grow(size_t length) { buffer.resize(std::max(2 * buffer.size(), filled + length + 256)); }
 
   // Makes the file, behind those that are there. -1 where that can't be, and `errno` says why.
   int begun(const char* given) {
@@ -327,7 +341,7 @@ private:
     if (ftruncate(file, length) != 0) {
       // it isn't a file that has a length
     }
-    buffer.clear();
+    filled = 0;
     records = written;
     errno = reason;
   }
@@ -363,6 +377,9 @@ struct View {
   Path path;
   bool isSettled = false;    // an object, a broken promise, or what came as senderHosted: it turns no more
   bool isBroken = false;     // a broken promise
+  bool isUnsaid = false;     // it turned, and no record says so yet
+  uint64_t result = 0;       // of the promise of an open result: its reference, at `path` of this call
+  std::weak_ptr<Call> resultOf;
   Way import = 0;            // the way by which it came as a number of the peer
   Way cameBack = 0;          // the way by which it came back
   bool isProxy = false;      // the runtime put a proxy of its own before it
@@ -439,6 +456,8 @@ struct Call: std::enable_shared_from_this<Call> {
   const void* params = nullptr;      // where its parameters lie, while it may be delivered
   bool isGone = false;               // sent, or delivered
   bool isLocallyAnswered = false;    // by ANSWER
+  bool isReflected = false;          // it came back, and its results are this vat's own
+  bool isUnheard = false;            // no Return says how it ends: it is for its pipeline, or its results go elsewhere
   bool isOver = false;               // its results are known, or it has none
 
   void setResults(std::vector<Reference>&& byIndex, const std::vector<Met>& met) {
@@ -500,7 +519,8 @@ inline Reference vowOf(const Reference& from) {
   const View* view = lastOf(from).view.get();
   if (view == nullptr || view->call == nullptr) return Reference();
   for (auto& vow: answering(*view->call).vows) {
-    if (vow.path == view->path) return vow.promise();
+    Reference promise = vow.path == view->path ? vow.promise() : Reference();
+    if (promise.number != 0) return promise;
   }
   return Reference();
 }
@@ -583,9 +603,9 @@ inline Way wayOf(const Reference& from) {
   return way;
 }
 
-// The connection over which a call's results go out, if they do.
+// The connection over which a call's results go out, if they do and it is known.
 inline Way returnsBy(const Call& call) {
-  Way way = call.cameBy;
+  Way way = call.isReflected ? 0 : call.cameBy;
   for (size_t at = 0; way == 0 && at < call.handedOn.size(); at++) {
     auto handed = call.handedOn[at].lock();
     if (handed != nullptr) way = returnsBy(*handed);
@@ -693,6 +713,9 @@ namespace inside {
 struct Unsent {
   std::shared_ptr<Call> passedOn;
   Unsent* before = nullptr;
+  capnp::MessageBuilder* message = nullptr;
+
+  bool isCall() { return message->getRoot<AnyPointer>().asReader().getAs<capnp::rpc::Message>().isCall(); }
 };
 
 // What the vat has recorded, and what later records need of it. The numbers of references and calls rise from 1,
@@ -720,6 +743,7 @@ public:
 
   void end() {
     if (!reason.empty()) say("was recorded");
+    sayAllTurns();
     flush();
     recording = false;
     log.close();
@@ -755,7 +779,57 @@ public:
   void fulfil(const Reference& promise, const Reference& became) {
     if (became.number == 0) return stop("a promise became a capability that isn't known here");
     promise.view->turn = became;
-    begin(0x03, [&] { log.number(promise.number), log.number(became.number); });
+    sayTurn(promise);
+  }
+
+  // A promise became one that is open. Of promises that lead to one result the runtime sends on under the number of
+  // one, and only then can be said which turned to which: so FULFIL waits for the first record that needs it.
+  void turn(const Reference& promise, const Reference& became) {
+    if (became.number == 0 || isSettled(became)) return fulfil(promise, became);
+    promise.view->turn = became;
+    promise.view->isUnsaid = true;
+    unsaid.push_back({ promise.number, promise.view });
+    if (unsaid.size() < mostUnsaid) return;
+    unsaid.erase(std::remove_if(unsaid.begin(), unsaid.end(), [](auto& one) {
+      auto view = one.second.lock();
+      return view == nullptr || !view->isUnsaid;
+    }), unsaid.end());
+    mostUnsaid = 2 * unsaid.size() + 16;
+  }
+
+  // What is on the way of a reference has turned, as far as to what it is to lead to: a record needs it now.
+  void sayTurns(const Reference& from, const Reference& to = Reference()) {
+    if (unsaid.empty()) return;
+    follow(from, [&](const Reference& at) {
+      if (to.number != 0 && areSame(at, to)) return true;
+      if (at.view != nullptr && at.view->isUnsaid) sayTurn(at);
+      return false;
+    });
+  }
+
+  void sayAllTurns() {
+    auto all = kj::mv(unsaid);
+    unsaid.clear();
+    for (auto& one: all) {
+      auto view = one.second.lock();
+      if (view != nullptr && view->isUnsaid) sayTurn({ one.first, view });
+    }
+  }
+
+  // What is given is to go out as what is known by a number, and both lead to one end. Then a promise on the way of
+  // what is given turned to what is known: one of which nothing was said yet, or the promise of the result there.
+  void leadTo(const Reference& given, const Reference& known) {
+    Reference turning;
+    follow(given, [&](const Reference& at) {
+      if (at.view != nullptr && at.view->isUnsaid && !leadsTo(known, at)) turning = at;
+      return false;
+    });
+    if (turning.number == 0) {
+      follow(given, [&](const Reference& at) { return isFreed(at, known) && (turning = at, true); });
+    }
+    if (turning.number == 0) return;
+    turning.view->turn = known;
+    sayTurn(turning);
   }
 
   // A promise that is settled without a capability: it isn't hosted, so it must not go out as if it were.
@@ -789,8 +863,8 @@ public:
     if (view == nullptr || view->call == nullptr || next(*view) != nullptr) return result;
     Reference promise = vowOf(result);
     if (promise.number != 0) return promise;
-    promise = vow();
     Call& call = answering(*view->call);
+    promise = openPromise(result.number, view->call, view->path);
     Vow given;
     given.path = view->path;
     given.number = promise.number;
@@ -807,14 +881,39 @@ public:
     auto view = lastOf(result).view;
     if (view == nullptr || view->call == nullptr) return promise;
     for (auto& given: answering(*view->call).vows) {
-      if (given.number != promise.number || given.isKept) continue;
-      Reference behind = vow();
-      fulfil(promise, behind);
+      if (given.number != promise.number) continue;
+      if (given.isKept && !promise.view->isUnsaid) return result;
+      Reference behind = openPromise(given.result, given.call.lock(), given.path);
+      if (given.isKept) {
+        turn(behind, promise.view->turn);
+        promise.view->turn = behind;
+      } else {
+        fulfil(promise, behind);
+      }
       given.number = behind.number;
       given.view = behind.view;
       return behind;
     }
     return promise;
+  }
+
+  // A promise of a result that isn't known yet.
+  Reference openPromise(uint64_t result, const std::shared_ptr<Call>& call, const Path& path) {
+    Reference promise = vow();
+    promise.view->result = result;
+    promise.view->resultOf = call;
+    promise.view->path = path;
+    return promise;
+  }
+
+  // The result of a call, with the number that was noted for it.
+  static Reference resultAt(uint64_t number, const std::shared_ptr<Call>& call, const Path& path) {
+    Reference result;
+    result.number = number;
+    result.view = std::make_shared<View>();
+    result.view->call = call;
+    result.view->path = path;
+    return result;
   }
 
   // The call is sent, so its results will come by a Return: what was promised for them turns to them. Where they never
@@ -835,7 +934,7 @@ public:
       vow.isKept = true;
       if (call.fieldAt(vow.path) == nullptr) call.fields.push_back({ vow.path, broken() });
       Reference& field = *call.fieldAt(vow.path);
-      fulfil(promise, field);
+      turn(promise, field);
       field = promise;
     }
   }
@@ -934,6 +1033,7 @@ public:
 
   // Each call that is delivered is delivered once, to the object that was really entered.
   void deliver(Call& call, uint64_t object) {
+    sayTurns(startOfGoal(call));
     call.isGone = true;
     call.dropGoal();
     begin(0x07, [&] { log.number(call.number), log.number(object); });
@@ -1050,8 +1150,13 @@ public:
   Unsent* unsent = nullptr;         // the messages that are being made, the latest first
 
   // The runtime lets go of a call's parameters. Where it has just copied them into a message, that passes the call on.
+  // Else the call was dropped, and where no Return says that, FAULT does.
   void letGo(const std::shared_ptr<Call>& call) {
-    if (unsent != nullptr && !call->isGone) unsent->passedOn = call;
+    if (!call->isGone && unsent != nullptr && unsent->isCall()) {
+      unsent->passedOn = call;
+    } else if (!call->isGone && call->isUnheard) {
+      fault(*call);
+    }
     forget(*call);
   }
 
@@ -1087,6 +1192,8 @@ private:
   uint64_t lastReference = 0, lastCall = 0, lastObject = 0;
   std::unordered_map<const void*, std::shared_ptr<Call>> callAt;
   std::vector<std::weak_ptr<Call>> turned;
+  std::vector<std::pair<uint64_t, std::weak_ptr<View>>> unsaid;  // the promises that turned and may still be unsaid
+  size_t mostUnsaid = 16;
   bool hasProxies = false;  // some were given away
 
   template <typename Fields>
@@ -1126,6 +1233,39 @@ private:
   static void handOn(const std::shared_ptr<Call>& call, const std::shared_ptr<Call>& by) {
     call->answeredBy = by;
     by->handedOn.push_back(call);
+  }
+
+  void sayTurn(const Reference& promise) {
+    promise.view->isUnsaid = false;
+    begin(0x03, [&] { log.number(promise.number), log.number(promise.view->turn.number); });
+  }
+
+  // Where what is known by a number leads to a promise by a turn of which nothing was said yet, that turn went to what
+  // the promise leads to, and the promise is free. Whether it is so.
+  static bool isFreed(const Reference& promise, const Reference& known) {
+    if (promise.view == nullptr) return false;
+    std::shared_ptr<View> before;
+    follow(known, [&](const Reference& at) {
+      bool isBefore = at.view != nullptr && at.view->isUnsaid && at.view->turn.view == promise.view;
+      if (isBefore) before = at.view;
+      return isBefore;
+    });
+    if (before == nullptr) return false;
+    Reference behind = promise.view->isUnsaid ? promise.view->turn : keptResult(promise);
+    if (behind.number != 0) before->turn = behind;
+    return behind.number != 0;
+  }
+
+  // The result of which this is the promise, if that is open; it is no more its promise then.
+  static Reference keptResult(const Reference& promise) {
+    auto call = promise.view->resultOf.lock();
+    if (call == nullptr) return Reference();
+    for (auto& vow: answering(*call).vows) {
+      if (vow.number != promise.number || vow.isKept) continue;
+      vow.isKept = true;
+      return resultAt(promise.view->result, call, promise.view->path);
+    }
+    return Reference();
   }
 
   // Gives the results that were named and aren't there, of this call and of those that were handed on to it.
@@ -1215,6 +1355,9 @@ public:
       case rpc::Message::RELEASE:
         giveBack(imports, message.getRelease().getId(), message.getRelease().getReferenceCount());
         break;
+      case rpc::Message::DISEMBARGO:
+        vat->sayAllTurns();
+        break;
       default:
         break;
     }
@@ -1247,6 +1390,9 @@ public:
       case rpc::Message::RELEASE:
         giveBack(exports, message.getRelease().getId(), message.getRelease().getReferenceCount());
         break;
+      case rpc::Message::DISEMBARGO:
+        vat->sayAllTurns();
+        break;
       default:
         break;
     }
@@ -1265,7 +1411,8 @@ public:
       }
       auto& known = found->second.reference;
       bool isBroken = known.view->isBroken && given.view->isBroken;
-      if (isBroken || leadsTo(known, given) || vowOf(given).number == known.number) return known;
+      Reference vow = vowOf(given);
+      if (isBroken || leadsTo(known, given) || (vow.number != 0 && leadsTo(known, vow))) return known;
       at++;
     }
     return Reference();
@@ -1314,6 +1461,7 @@ private:
     auto isSentBefore = [&](const Call& on) { return goesTo(startOfGoal(on), message.getTarget()); };
     Question opened = question(vat->throughProxies(call, isSentBefore), false);
     opened.call->isGone = true;
+    vat->sayTurns(startOfGoal(*opened.call));
     opened.call->dropGoal();
     opened.call->wentBy = way();
 #if CAPNP_VERSION >= 1000000
@@ -1355,6 +1503,7 @@ private:
       noteBack(*answered.call, payload);
     }
     answered.isReturned = true;
+    if (message.isResultsSentElsewhere()) answered.call->isUnheard = true;
     if (message.getReleaseParamCaps()) giveBack(imports, answered.broughtByCall);
     if (answered.isFinished) answering.erase(found);
     return true;
@@ -1383,8 +1532,21 @@ private:
       }
       if (bootstrap.number != 0) vat->answer(call);
     }
-    bool isWrittenHere = answered.isBootstrap || call.isLocallyAnswered;
-    return isWrittenHere ? call.resultsByIndex : copied(payload, call.resultsAsMet);
+    if (answered.isBootstrap) return call.resultsByIndex;
+    auto byIndex = call.isLocallyAnswered ? call.resultsByIndex : copied(payload, call.resultsAsMet);
+    return asAnswered(call, payload, kj::mv(byIndex));
+  }
+
+  // What ANSWER named, of this call or of the one by which it was answered: a result that was promised before is that
+  // promise.
+  static std::vector<Reference> asAnswered(Call& call, rpc::Payload::Reader payload, std::vector<Reference> byIndex) {
+    Call& by = inside::answering(call);
+    if (!by.isLocallyAnswered || by.vows.empty() || byIndex.empty()) return byIndex;
+    for (auto& met: Content(payload.getContent()).met) {
+      auto field = met.hasPath && met.index < byIndex.size() ? by.fieldAt(met.path) : nullptr;
+      if (field != nullptr) byIndex[met.index] = *field;
+    }
+    return byIndex;
   }
 
   // A Resolve notes what the promise turned out to be, where that is a new number. Of what goes back, or was sent
@@ -1429,24 +1591,57 @@ private:
   // The reference that is noted for what goes out.
   Reference introduce(rpc::CapDescriptor::Reader descriptor, const Reference& given, bool isCall,
                       std::vector<uint32_t>& brought) {
-    if (!descriptor.isSenderHosted() && !descriptor.isSenderPromise()) return isCall ? withoutProxy(given) : given;
+    if (!descriptor.isSenderHosted() && !descriptor.isSenderPromise()) {
+      Reference back = isCall ? withoutProxy(given) : given;
+      vat->sayTurns(back);
+      return back;
+    }
     uint32_t id = descriptor.isSenderHosted() ? descriptor.getSenderHosted() : descriptor.getSenderPromise();
     Number& number = exports[id];
     brought.push_back(id);
-    if (number.count++ > 0) return introducedAgain(number.reference, given, isCall);
+    if (number.count++ > 0) {
+      Reference again = introducedAgain(number.reference, given, isCall);
+      vat->sayTurns(isCall ? again : given, number.reference);
+      return again;
+    }
     number.isPromise = descriptor.isSenderPromise();
-    number.reference = !number.isPromise ? hosted(given, isCall) : isCall ? promised(given) : given;
-    if (number.isPromise) promises.push_back(id);
+    number.reference = !number.isPromise ? hosted(given, isCall) : isCall ? promised(given) : firstPromise(given);
+    if (number.isPromise) {
+      promises.push_back(id);
+      if (!isCall) vat->sayTurns(given, number.reference);
+    } else {
+      vat->sayTurns(given), vat->sayTurns(number.reference);
+    }
     return number.reference;
+  }
+
+  // What goes out as a new senderPromise in a Return: the first promise on the way of the result without a number, and
+  // not a call's result that leads there. The results of that call may go out under the same number.
+  Reference firstPromise(const Reference& given) const {
+    Reference first;
+    follow(given, [&](const Reference& at) {
+      if (isPromised(at)) return false;
+      if (first.number == 0 || isPromise(at)) first = at;
+      return isPromise(at);
+    });
+    return first.number == 0 ? given : first;
+  }
+
+  // Whether it is a promise, of this vat or of another, and none of a call's results.
+  static bool isPromise(const Reference& reference) {
+    auto view = reference.view.get();
+    return view != nullptr && view->call == nullptr && view->same.number == 0 && !view->isSettled;
   }
 
   // What goes out as a new senderPromise: where it has a number already, the runtime is further on its way.
   Reference promised(const Reference& given) {
-    const Reference* open = &given;
+    const Reference* open = nullptr;
     follow(given, [&](const Reference& at) {
       if (isPromised(at) || isPromised(vowOf(at))) return false;
-      return open = &at, true;
+      if (open == nullptr || isPromise(at)) open = &at;
+      return isPromise(at);
     });
+    if (open == nullptr) open = &given;
     Reference promise = vat->promiseOf(*open);
     return isPromised(promise) ? vat->promiseBehind(promise, *open) : promise;
   }
@@ -1468,9 +1663,12 @@ private:
 
   // The runtime gives the number of a promise to the promise that it became, without a word: then what goes out is the
   // first one, too.
-  static Reference introducedAgain(const Reference& known, const Reference& given, bool isCall) {
+  Reference introducedAgain(const Reference& known, const Reference& given, bool isCall) {
     if (leadsTo(given, known)) return given;
-    if (takesOver(known, given)) return known;
+    if (takesOver(known, given)) {
+      if (!isCall) vat->leadTo(given, known);
+      return known;
+    }
     return isCall && known.view->wrapped.number != 0 && leadsTo(given, known.view->wrapped) ? known : given;
   }
 
@@ -1492,6 +1690,10 @@ private:
     vat->bind(*call);
     call->isReceived = true;
     call->cameBy = way();
+    call->isReflected = message.getSendResultsTo().isYourself();
+#if CAPNP_VERSION >= 1000000
+    call->isUnheard = message.getOnlyPromisePipeline();
+#endif
     addressTo(*call, message.getTarget());
     Question opened = question(call, false);
     auto payload = message.getParams();
@@ -1674,17 +1876,14 @@ inline Reference Vat::asNumbered(const Reference& given, Way way) {
 
 inline void Vat::keepVows(Call& call) {
   for (auto& vow: call.vows) {
-    Reference promise = vow.promise(), result;
+    Reference promise = vow.promise();
     if (promise.number == 0 || vow.isKept) continue;
     vow.isKept = true;
-    result.number = vow.result;
-    result.view = std::make_shared<View>();
-    result.view->call = vow.call.lock();
-    if (result.view->call == nullptr) result.view->call = call.shared_from_this();
-    result.view->path = vow.path;
+    auto of = vow.call.lock();
+    Reference result = resultAt(vow.result, of == nullptr ? call.shared_from_this() : of, vow.path);
     bool isElsewhere = false;
     for (auto end: ends) isElsewhere = isElsewhere || (end->way() != call.wentBy && end->gave(promise));
-    fulfil(promise, call.isForPipeline && isElsewhere ? proxyOf(result) : result);
+    turn(promise, call.isForPipeline && isElsewhere ? proxyOf(result) : result);
   }
 }
 
@@ -2017,6 +2216,7 @@ public:
     auto results = promise.then([vat = vat, call = call](capnp::Response<AnyPointer>&& response) {
       AnyPointer::Reader reader = response;
       auto byIndex = resultsOf(*call, reader);
+      if (byIndex.empty()) return kj::mv(response);
       auto hook = kj::heap<Results>(vat, kj::mv(byIndex), capnp::ResponseHook::from(kj::mv(response)));
       reader = hook->table.imbue(reader);
       return capnp::Response<AnyPointer>(reader, kj::mv(hook));
@@ -2369,6 +2569,7 @@ public:
         message(firstSegmentWordSize == 0 ? capnp::SUGGESTED_FIRST_SEGMENT_WORDS : firstSegmentWordSize),
         call(this->end->vat->building) {
     if (call == nullptr) {
+      unsent.message = &message;
       unsent.before = this->end->vat->unsent;
       this->end->vat->unsent = &unsent;
     }
@@ -2416,12 +2617,9 @@ public:
   // The descriptors that came with it are the first of `room`.
   Incoming(std::shared_ptr<End> end, kj::Own<capnp::MessageReader> message, kj::Array<kj::AutoCloseFd> room,
            kj::ArrayPtr<kj::AutoCloseFd> fds)
-      : end(kj::mv(end)), message(kj::mv(message)), room(kj::mv(room)), fds(fds) {
-    for (uint at = 0;; at++) {
-      auto segment = this->message->getSegment(at);
-      if (segment.begin() == nullptr) break;
-      segments.push_back(segment);
-    }
+      : end(kj::mv(end)), message(kj::mv(message)), room(kj::mv(room)), fds(fds), first(this->message->getSegment(0)),
+        segments(&first, 1) {
+    if (this->message->getSegment(1).begin() != nullptr) listSegments();
   }
   ~Incoming() noexcept(false) {
     if (call != nullptr) end->vat->letGo(call);
@@ -2440,22 +2638,32 @@ private:
   kj::Own<capnp::MessageReader> message;
   kj::Array<kj::AutoCloseFd> room;
   kj::ArrayPtr<kj::AutoCloseFd> fds;
-  Segments segments;
+  kj::ArrayPtr<const capnp::word> first;
+  Segments several;  // of a message that has more than the first; most don't
+  kj::ArrayPtr<const kj::ArrayPtr<const capnp::word>> segments;
   std::shared_ptr<Call> call;
   bool isSeen = false;
+
+  void listSegments() {
+    for (uint at = 0;; at++) {
+      auto segment = message->getSegment(at);
+      if (segment.begin() == nullptr) break;
+      several.push_back(segment);
+    }
+    segments = kj::arrayPtr(several.data(), several.size());
+  }
 
   // Reads with limits of its own, so that the program's aren't used up. A frame that can't be read is recorded
   // as it is: the audit says so.
   void record() {
-    kj::ArrayPtr<const kj::ArrayPtr<const capnp::word>> list(segments.data(), segments.size());
     capnp::ReaderOptions options;
     options.traversalLimitInWords = ~uint64_t(0) >> 4;
-    capnp::SegmentArrayMessageReader reader(list, options);
+    capnp::SegmentArrayMessageReader reader(segments, options);
     KJ_IF_MAYBE(exception, kj::runCatchingExceptions([&]() {
-      call = end->received(reader.getRoot<rpc::Message>(), list);
+      call = end->received(reader.getRoot<rpc::Message>(), segments);
     })) {
       (void)exception;
-      end->vat->frame(false, end->number(), 0, {}, list);
+      end->vat->frame(false, end->number(), 0, {}, segments);
     }
   }
 };
@@ -2770,7 +2978,7 @@ Client Recorder::promise(kj::Promise<Client>&& promised) {
   auto hook = promised.then(
       [vat = vat, vow](Client&& client) {
         auto became = capnp::ClientHook::from(kj::mv(client));
-        if (vat->isRecording()) vat->fulfil(vow, vat->asNumbered(inside::referenceOf(*vat, *became)));
+        if (vat->isRecording()) vat->turn(vow, vat->asNumbered(inside::referenceOf(*vat, *became)));
         return inside::unwrapped(kj::mv(became));
       },
       [vat = vat, vow](kj::Exception&& exception) -> kj::Own<capnp::ClientHook> {

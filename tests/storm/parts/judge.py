@@ -2,10 +2,11 @@
 
 import collections
 import itertools
+import os
 import re
 
 from .lives import passed_before_a_loss
-from .trees import numbered_calls, trees
+from .trees import body_of, came_to, is_received, numbered_calls, trees
 
 
 # An address of this run, which an assertion of the runtime prints, into its exception's text too.
@@ -97,9 +98,14 @@ def is_lost(trace):
 
 def is_lost_alike(trace, twin):
     """Whether two traces are alike up to the line that tells of a lost connection, and behind it but for their order.
-    What waits for a lost connection ends in the order of a hash table, which is another one in each run of capnp-rpc."""
-    at = next((at for at, line in enumerate(twin) if line.startswith("lost ")), len(twin))
-    return trace[:at + 1] == twin[:at + 1] and collections.Counter(trace) == collections.Counter(twin)
+    What waits for a lost connection ends in the order of a hash table, which is another one in each run of capnp-rpc; some
+    of the vat's calls fail by that just before the line."""
+    lost = next((at for at, line in enumerate(twin) if line.startswith("lost ")), len(twin))
+    vat = twin[lost].split()[1] if lost < len(twin) else ""
+    at = lost
+    while at > 0 and re.match(r"ended %s \S+ failed " % vat, twin[at - 1]):
+        at -= 1
+    return trace[:at] == twin[:at] and collections.Counter(trace) == collections.Counter(twin)
 
 
 def are_said_alike(frames, twin, before):
@@ -155,6 +161,31 @@ def ways(outcome):
     return "a call that went over %s is overtaken by one that went over %s" % tuple(lengths) if len(lengths) == 2 else ""
 
 
+def log_of(outcome, vat):
+    with open(os.path.join(outcome.folder, "vat%s.log" % vat), "rb") as file:
+        return file.read()
+
+
+def passed_on(outcome):
+    """Of a no by RESULT: whether what goes out ends at a call's result that a message brought, so that the vat only
+    passes it on. That call has no results yet, since the way ends there."""
+    found = re.search(r" is result \[[\d, ]*\] of call \d+, by record (\d+)\n[^\n]* of its table, .* stands for ", outcome.notes)
+    vat = re.match(r"no vat (\d+) ", outcome.line)
+    return found is not None and is_received(log_of(outcome, vat.group(1)), int(found.group(1)))
+
+
+def came_overtaken(outcome):
+    """Whether frames show what a no by ORDER says: both calls came to one number of a vat, over one connection, the later
+    one first. Of an object that the runtime made itself no trace tells the order in which it got them."""
+    ways = [note for note in outcome.notes.splitlines() if "the way of call" in note]
+    ends = [re.findall(r"received by record (\d+) of vat (\d+)", way)[-1:] for way in ways]
+    if len(ends) != 2 or [] in ends or ends[0][0][1] != ends[1][0][1] or int(ends[0][0][0]) < int(ends[1][0][0]):
+        return False
+    log = log_of(outcome, ends[0][0][1])
+    first, second = (came_to(log, int(end[0][0])) for end in ends)
+    return first is not None and first == second
+
+
 def kinds_of(outcome):
     """All that is wrong, worst first; none where all is well."""
     kinds = ["stopped: " + shape(reason) for reason in sorted(set(outcome.stopped))]
@@ -168,6 +199,8 @@ def kinds_of(outcome):
         if not (outcome.stopped and outcome.line.startswith("cannot read")):
             line = re.sub(r"vat \d+ record \d+ ", "", outcome.line)
             note = ways(outcome) if "rule ORDER" in line else shape(last_note(outcome))
+            if "rule RESULT" in line and passed_on(outcome):
+                note = "what is passed on is a result that isn't known"
             kinds.append(shape(line) + ("" if "rule ORDER" in line else message(outcome)) + ": " + note)
     elif overtaken(outcome.twin_trace):
         kinds.append("yes, and a call was overtaken")

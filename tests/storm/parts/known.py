@@ -3,7 +3,7 @@
 import os
 import re
 
-from .judge import are_exchanged, differences, overtaken
+from .judge import are_exchanged, came_overtaken, differences, overtaken
 from .lives import is_resolved_when_released
 from .trees import is_named_as_hosted
 
@@ -23,7 +23,7 @@ class Known:
     def is_shown(self, outcome):
         """A fault counts as the runtime's only where the unrecorded run shows it too."""
         if self.twin == "overtaken":
-            return bool(overtaken(outcome.twin_trace))
+            return bool(overtaken(outcome.twin_trace)) or came_overtaken(outcome) and not differences(outcome)
         if self.twin.startswith("says "):
             text = self.twin[5:]
             frames = b"".join(outcome.twin_frames.values())

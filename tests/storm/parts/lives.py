@@ -90,17 +90,34 @@ def is_resolved_when_released(frames, orders):
     return False
 
 
+def touched_at(messages, first):
+    """From which of a vat's messages on a lost connection may have changed what it does: where an abort passes, or where it
+    receives what a touched vat sent. Who sends an abort has let go of what it held for the connection just before, in the
+    order of a hash table: so what it sent since it last received something counts, too."""
+    since = 0
+    for place, (_, _, is_sent, name, at, kind, _) in enumerate(messages):
+        if kind == ABORT:
+            return since if is_sent else place
+        if not is_sent and at >= first.get(name, at + 1):
+            return place
+        if not is_sent:
+            since = place + 1
+    return len(messages)
+
+
 def passed_before_a_loss(frames, orders):
-    """How many frames of each file passed before anything that a lost connection may have changed: a vat is touched by
-    that where an abort passes, and where it receives what a touched vat sent."""
+    """How many frames of each file passed before anything that a lost connection may have changed."""
+    vats = {}
+    for message in passed(frames, orders):
+        vats.setdefault(message[0], []).append(message)
     first, before = {}, {}
     for _ in range(len(orders) + 1):
-        touched, before = set(), {}
-        for vat, _, is_sent, name, at, kind, _ in passed(frames, orders):
-            if kind == ABORT or (not is_sent and at >= first.get(name, at + 1)):
-                touched.add(vat)
-            if vat not in touched:
-                before[name] = max(before.get(name, 0), at + 1)
-            elif is_sent:
-                first[name] = min(first.get(name, at), at)
+        before = {}
+        for messages in vats.values():
+            touched = touched_at(messages, first)
+            for place, (_, _, is_sent, name, at, _, _) in enumerate(messages):
+                if place < touched:
+                    before[name] = max(before.get(name, 0), at + 1)
+                elif is_sent:
+                    first[name] = min(first.get(name, at), at)
     return {name: min(count, first.get(name, count)) for name, count in before.items()}

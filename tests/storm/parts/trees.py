@@ -123,3 +123,49 @@ def is_named_as_hosted(data):
             if how == 2:
                 promises.add(named)
     return False
+
+
+# How many bytes the fields of a record have before its lists, by its kind; docs/FORMATS.md has them.
+FIELDS = {1: 16, 2: 8, 3: 16, 4: 8, 5: 26, 6: 16, 7: 16, 8: 8, 9: 8, 10: 12, 11: 12, 12: 16}
+
+
+def path_end(log, at):
+    return at + 4 + 2 * struct.unpack_from("<I", log, at)[0]
+
+
+def record_end(log, at):
+    """Where a record of a log ends that begins there, and where its frame begins, if it has one."""
+    kind, at = log[at], at + 1 + FIELDS[log[at]]
+    if kind == 6:
+        return path_end(log, at), None
+    if kind not in (8, 10, 11):
+        return at, None
+    count, at = struct.unpack_from("<I", log, at)[0], at + 4
+    if kind == 8:
+        for _ in range(count):
+            at = path_end(log, at + 8)
+        return at, None
+    at += 8 * count
+    return at + 4 + struct.unpack_from("<I", log, at)[0], at + 4
+
+
+def record_at(log, wanted):
+    """Where a record of a log begins."""
+    at = 12
+    for _ in range(wanted):
+        at = record_end(log, at)[0]
+    return at
+
+
+def is_received(log, wanted):
+    return log[record_at(log, wanted)] == 11
+
+
+def came_to(log, wanted):
+    """The connection and the number of the vat's own to which a Call goes that is received at a record of a log, if it
+    is one."""
+    at = record_at(log, wanted)
+    kind, body = body_of(Frame(log, record_end(log, at)[1]).tree()) if log[at] == 11 else (None, None)
+    target = body[2][0] if kind == 2 else None
+    is_own = target is not None and number(target, 4, 2) == 0
+    return (struct.unpack_from("<I", log, at + 1)[0], number(target, 0, 4)) if is_own else None

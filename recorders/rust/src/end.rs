@@ -12,7 +12,7 @@ use capnp_rpc::rpc_capnp::{
 };
 use std::cell::RefCell;
 use std::collections::HashMap;
-use std::rc::{Rc, Weak};
+use std::rc::Rc;
 
 type Capabilities<'a> = struct_list::Reader<'a, cap_descriptor::Owned>;
 
@@ -43,9 +43,12 @@ impl Question {
 }
 
 /// A number of the sender's table: how often it was introduced more than given back, and what it stands for.
+#[derive(Clone)]
 struct Number {
     count: u64,
     reference: Reference,
+    /// It came as a promise, and its Resolve didn't pass yet.
+    is_promise: bool,
 }
 
 #[derive(Default)]
@@ -97,7 +100,7 @@ impl Aim {
                 .as_ref()
                 .map_or(false, |import| goal.leads_to(import)),
             Aim::Field(None, _) => false,
-            Aim::Field(Some(asked), path) => goal.way().iter().any(|one| {
+            Aim::Field(Some(asked), path) => goal.whole_way().iter().any(|one| {
                 let field = one.view.field.borrow();
                 field
                     .as_ref()
@@ -213,7 +216,9 @@ impl End {
             .or_else(|| {
                 let content = payload.get_content();
                 self.vat
-                    .find(interface_id, method_id, content, &|goal| aim.is_on_way(goal))
+                    .find(interface_id, method_id, content, false, &|goal| {
+                        aim.is_on_way(goal)
+                    })
             })
             .ok_or(Unsaid::Stop(
                 "a Call is sent, and no MAKE or received Call stands before it: was it made through a client that is \
@@ -271,6 +276,10 @@ impl End {
         };
         let mut brought = Vec::new();
         let mut references = Vec::new();
+        let is_answered = matches!(message.which()?, return_::Results(_));
+        if !is_answered && call.is_copied.get() && call.is_waiting() {
+            self.vat.fault(&call);
+        }
         if let (return_::Results(payload), false) = (message.which()?, is_late) {
             if is_bootstrap {
                 self.answer_bootstrap(&call);
@@ -308,29 +317,21 @@ impl End {
             index: 0,
             steps: Vec::new(),
         };
-        let given = Given {
-            reference,
-            held: Weak::new(),
-        };
-        self.vat.answer(call, vec![met], vec![Some(given)]);
+        self.vat
+            .answer(call, vec![met], vec![Some(Given::of(reference))]);
     }
 
     // A Resolve notes what the promise turned out to be, not the promise.
     fn sent_resolve(&self, message: resolve::Reader<'_>) -> Outcome {
+        let promise = self.resolved(message.get_promise_id());
         let descriptor = match message.which()? {
             resolve::Cap(descriptor) => descriptor?,
             resolve::Exception(_) => return Ok(Noted::default()),
         };
-        let promise = self
-            .tables
-            .borrow()
-            .exports
-            .get(&message.get_promise_id())
-            .map(|number| number.reference.clone());
         // What came to nothing the runtime resolves to a broken capability.
         if let Some(promise) = &promise {
             match descriptor.which()? {
-                cap_descriptor::SenderHosted(_) => self.vat.break_vow(promise),
+                cap_descriptor::SenderHosted(id) => self.settle(promise, id),
                 _ => self.vat.keep_vow(promise),
             }
         }
@@ -343,15 +344,29 @@ impl End {
             (None, _) => self.vat.broken(),
         };
         let mut references = Vec::new();
-        let given = Given {
-            reference: became,
-            held: Weak::new(),
-        };
+        let given = Given::of(became);
         self.introduce(descriptor, &given, false, &mut Vec::new(), &mut references)?;
         Ok(Noted {
             references,
             ..Noted::default()
         })
+    }
+
+    // A promise is resolved to what goes out by this number as hosted.
+    fn settle(&self, promise: &Reference, id: u32) {
+        let known = self.tables.borrow().exports.get(&id).cloned();
+        let known = known.map(|known| known.reference);
+        if let Some(last) = promise.way().pop() {
+            self.vat.settle_vow(&last, known.as_ref());
+        }
+    }
+
+    // The promise of a number, whose Resolve goes out.
+    fn resolved(&self, id: u32) -> Option<Reference> {
+        let mut tables = self.tables.borrow_mut();
+        let number = tables.exports.get_mut(&id)?;
+        number.is_promise = false;
+        Some(number.reference.clone())
     }
 
     // Notes the reference of each entry of a capability table that isn't none, in the table's order. What was given is
@@ -396,27 +411,17 @@ impl End {
             cap_descriptor::SenderHosted(id) => (id, false),
             cap_descriptor::SenderPromise(id) => (id, true),
             _ => {
-                self.vat.keep_vow(&given.reference);
+                self.vat.keep_vow(given.named());
                 references.push(given.reference.clone());
                 return Ok(());
             }
         };
-        let known = self
-            .tables
-            .borrow()
-            .exports
-            .get(&id)
-            .map(|number| number.reference.clone());
-        let reference = match known {
-            Some(known) if given.reference.is_promised_by(&known) => known,
-            Some(known) if is_call && known.is_broken() && given.reference.is_broken() => known,
-            Some(_) => given.reference.clone(),
-            None => self.first_exported(given, is_promise, is_call),
-        };
+        let reference = self.named_by(id, given, is_promise, is_call);
         let mut tables = self.tables.borrow_mut();
         let number = tables.exports.entry(id).or_insert_with(|| Number {
             count: 0,
             reference: reference.clone(),
+            is_promise,
         });
         number.count += 1;
         brought.push(id);
@@ -424,30 +429,59 @@ impl End {
         Ok(())
     }
 
+    // What a number stands for by which a capability goes out, for the first time or again.
+    fn named_by(&self, id: u32, given: &Given, is_promise: bool, is_call: bool) -> Reference {
+        let known = self.tables.borrow().exports.get(&id).cloned();
+        let known = match known {
+            Some(known) => known,
+            None => return self.first_exported(given, is_promise, is_call),
+        };
+        // The runtime names a promise as hosted; it is the same promise.
+        if known.is_promise {
+            return known.reference;
+        }
+        let are_broken = known.reference.is_broken() && given.reference.is_broken();
+        if are_broken && (is_call || self.vat.became(&given.promise, &known.reference)) {
+            return known.reference;
+        }
+        self.vat.keep_vow(given.named());
+        given.reference.clone()
+    }
+
     fn first_exported(&self, given: &Given, is_promise: bool, is_call: bool) -> Reference {
-        let exported = self.exported(given, is_promise);
-        match (is_promise, is_call) {
-            (true, true) => self.vat.promise_of(&exported),
-            (true, false) => exported.given_away(),
-            (false, _) => {
-                self.vat.end_lost(&exported);
-                // To the runtime a result that never came is a broken capability of this vat.
-                match is_call && exported.is_over(self.connection) && exported.is_broken() {
-                    true => self.vat.broken(),
-                    false => exported,
-                }
-            }
+        if !is_promise {
+            return self.hosted(given, is_call);
+        }
+        let exported = self.exported(given);
+        match &given.promise {
+            _ if is_call => self.vat.promise_of(&exported),
+            Some(promise) if promise.next().is_none() => promise.clone(),
+            _ => exported.given_away(),
         }
     }
 
-    // What a new export number stands for: the capability to which the runtime's hook has resolved. What is sent as
-    // hosted has gone all its way; a promise may be known to the log to have gone further than it has.
-    fn exported(&self, given: &Given, is_promise: bool) -> Reference {
+    // What goes out as hosted has gone all its way. To the runtime a result that never came is a broken capability of this
+    // vat.
+    fn hosted(&self, given: &Given, is_call: bool) -> Reference {
+        if let Some(last) = given.reference.whole_way().pop() {
+            self.vat.end_lost(&last);
+        }
+        if let Some(last) = given.named().way().pop() {
+            self.vat.settle_vow(&last, None);
+        }
+        let last = given.named().way().pop();
+        let last = last.unwrap_or_else(|| given.reference.clone());
+        match is_call && last.is_over(self.connection) && last.is_broken() {
+            true => self.vat.broken(),
+            false => last,
+        }
+    }
+
+    // What a new number of a promise stands for: the capability to which the runtime's hook has resolved. The log may know
+    // that it has gone further than that.
+    fn exported(&self, given: &Given) -> Reference {
         let way = given.reference.way();
         let last = way.last().unwrap_or(&given.reference).clone();
-        if !is_promise {
-            return last;
-        }
         let resolved = given
             .held
             .upgrade()
@@ -489,6 +523,7 @@ impl End {
             message::Bootstrap(message) => {
                 let call = Call::new(0, 0, None);
                 self.vat.bind(&call);
+                call.came_by.set(Some(self.connection));
                 let id = message?.get_question_id();
                 let mut tables = self.tables.borrow_mut();
                 tables.answering.insert(id, Question::new(&call, true));
@@ -516,6 +551,7 @@ impl End {
     fn received_call(&self, message: call::Reader<'_>) -> Outcome {
         let call = Call::new(message.get_interface_id(), message.get_method_id(), None);
         self.vat.bind(&call);
+        call.came_by.set(Some(self.connection));
         *call.goal.borrow_mut() = self.goal_of(message.get_target()?);
         let payload = message.get_params()?;
         let mut question = Question::new(&call, false);
@@ -552,6 +588,17 @@ impl End {
                 Some(Reference::of_field(&question.call, path_of(answer).ok()?))
             }
         }
+    }
+
+    /// Whether a call that came is addressed to what was reached over this connection and has turned out to be of this
+    /// vat: the runtime calls that without a shim.
+    pub(crate) fn is_on_way_back(&self, call: &Call) -> bool {
+        let way = match &*call.goal.borrow() {
+            Some(goal) => goal.whole_way(),
+            None => return false,
+        };
+        let at = way.iter().position(|one| one.is_over(self.connection));
+        at.map_or(false, |at| at + 1 < way.len()) && !way.last().map_or(false, Reference::is_broken)
     }
 
     // A late Return, one after a Finish with releaseResultCaps, notes no reference.
@@ -695,10 +742,7 @@ fn as_met(content: &Content, by_index: &[Option<Reference>]) -> Vec<Option<Given
         .iter()
         .map(|one| {
             let reference = by_index.get(one.index)?.clone()?;
-            Some(Given {
-                reference,
-                held: Weak::new(),
-            })
+            Some(Given::of(reference))
         })
         .collect()
 }
@@ -717,6 +761,7 @@ fn import(imports: &mut HashMap<u32, Number>, id: u32, reference: &mut Reference
     let number = imports.entry(id).or_insert_with(|| Number {
         count: 0,
         reference: reference.clone(),
+        is_promise: !reference.view.is_settled.get(),
     });
     number.count += 1;
     reference.view = number.reference.view.clone();

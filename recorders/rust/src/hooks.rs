@@ -56,13 +56,23 @@ impl Held {
     }
 }
 
-/// The reference of the hook to which this one has resolved by now: of those that its handles have, the furthest on
-/// the way of the given one. None if no handle of it is left.
-pub(crate) fn resolved_reference(held: &Held) -> Option<Reference> {
+fn resolved_hook(held: &Held) -> Box<dyn ClientHook> {
     let mut hook = held.hook.add_ref();
     while let Some(next) = hook.get_resolved() {
         hook = next;
     }
+    hook
+}
+
+/// Whether the hook has resolved to one of no connection: an object, a queue, or a broken capability.
+pub(crate) fn is_local(held: &Held) -> bool {
+    resolved_hook(held).get_brand() == 0
+}
+
+/// The reference of the hook to which this one has resolved by now: of those that its handles have, the furthest on
+/// the way of the given one. None if no handle of it is left.
+pub(crate) fn resolved_reference(held: &Held) -> Option<Reference> {
+    let hook = resolved_hook(held);
     let known = held.vat.references_of((hook.get_brand(), hook.get_ptr()));
     let way = held.reference.way();
     let on_way = way
@@ -145,6 +155,7 @@ pub(crate) fn give(vat: &Rc<Vat>, hook: &dyn ClientHook) -> (Box<dyn ClientHook>
     let given = Given {
         reference: held.reference.clone(),
         held: Rc::downgrade(&held),
+        promise: None,
     };
     (Box::new(Shim(held)), Some(given))
 }
@@ -297,7 +308,7 @@ impl Shim {
         }
         let content = params.get().ok()?;
         let call = vat.sending(interface_id, method_id).or_else(|| {
-            vat.find(interface_id, method_id, content, &|goal| {
+            vat.find_by_params(interface_id, method_id, params, &|goal| {
                 goal.leads_to(&self.0.reference)
             })
         })?;

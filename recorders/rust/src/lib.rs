@@ -168,7 +168,7 @@ fn settle(
         Ok(client) => {
             let (hook, given) = hooks::give(vat, &*client.hook);
             if let Some(given) = given {
-                vat.fulfil(promise, &given.reference);
+                vat.fulfil(promise, &vat.unless_lost(&given.reference));
             }
             Ok(Client::new(hook))
         }

@@ -215,6 +215,9 @@ fn place_of_params(message: &dyn capnp_rpc::IncomingMessage) -> Option<usize> {
 
 impl capnp_rpc::IncomingMessage for Incoming {
     fn get_body(&self) -> capnp::Result<any_pointer::Reader<'_>> {
+        if let Some(call) = &self.call {
+            self.end.vat.note_read(call);
+        }
         self.inner.get_body()
     }
 }
@@ -226,9 +229,10 @@ impl Drop for Incoming {
             None => return,
         };
         self.end.vat.forget(&call);
-        // What is just passed on goes on as a copy.
-        let is_at_work = self.end.vat.is_sending(&call);
-        if !call.is_gone.get() && !call.is_over.get() && !is_at_work {
+        call.is_copied.set(true);
+        // What is just passed on goes on as a copy, and so does what waits for the end of an embargo.
+        let is_passed_on = self.end.vat.is_sending(&call) || self.end.is_on_way_back(&call);
+        if call.is_waiting() && !is_passed_on {
             self.end.vat.fault(&call);
         }
     }

@@ -174,11 +174,11 @@ pub(crate) struct Hosted<S> {
 impl<S> Hosted<S> {
     // A call through a client that isn't recorded has no MAKE yet.
     fn delivered(&self, interface_id: u64, method_id: u16, params: &dyn ParamsHook) -> Rc<Call> {
-        let found = params.get().ok().and_then(|content| {
-            self.vat.find(interface_id, method_id, content, &|goal| {
+        let found = self
+            .vat
+            .find_by_params(interface_id, method_id, params, &|goal| {
                 goal.leads_to(&self.reference)
-            })
-        });
+            });
         let call = found.unwrap_or_else(|| {
             let call = Call::new(interface_id, method_id, Some(self.reference.clone()));
             self.vat.make(&call, &self.reference);

@@ -3,6 +3,7 @@
 use crate::content::{self, Content, Met};
 use crate::log::{Log, Record};
 use capnp::any_pointer;
+use capnp::private::capability::ParamsHook;
 use std::cell::{Cell, RefCell};
 use std::collections::{HashMap, VecDeque};
 use std::io;
@@ -32,9 +33,9 @@ pub(crate) struct View {
     pub(crate) is_broken: Cell<bool>,
     /// The connection of which it is an import.
     pub(crate) import_of: Cell<Option<u32>>,
-    /// The promise that was given away for it while it was the field of a call that is still open.
+    /// The promise that was given away for it while another vat had still to say what it is.
     vow: RefCell<Option<Reference>>,
-    /// The field for which this promise was given away.
+    /// That for which this promise was given away.
     promised: RefCell<Option<Reference>>,
 }
 
@@ -71,7 +72,7 @@ impl Reference {
 
     /// Whether it is known to lead to nothing: to a broken promise, or to a result that never came.
     pub(crate) fn is_broken(&self) -> bool {
-        let last = match self.way().pop() {
+        let last = match self.whole_way().pop() {
             Some(last) => last,
             None => return false,
         };
@@ -80,6 +81,12 @@ impl Reference {
             .as_ref()
             .map_or(false, |(call, _)| call.answered().is_ended.get());
         last.view.is_broken.get() || is_missing
+    }
+
+    /// Whether it has come to nothing, and no record says so by a BREAK.
+    fn is_lost(&self) -> bool {
+        let last = self.whole_way().pop();
+        self.is_broken() && !last.map_or(false, |last| last.view.is_settled.get())
     }
 
     /// The call whose field it is, if that is still open.
@@ -107,27 +114,79 @@ impl Reference {
         self.view.import_of.get() == Some(connection) || is_asked
     }
 
-    /// Whether the other one is the promise that was given away for it.
-    pub(crate) fn is_promised_by(&self, other: &Reference) -> bool {
-        self.way().iter().any(|one| {
-            let vow = one.view.vow.borrow();
-            vow.as_ref().map_or(false, |vow| vow.number == other.number)
-        })
-    }
-
     /// Whether it leads to what the other one stands for.
     pub(crate) fn leads_to(&self, other: &Reference) -> bool {
-        self.way()
+        self.whole_way()
             .iter()
             .any(|one| Rc::ptr_eq(&one.view, &other.view))
     }
+
+    /// The same way, on through promises that were given away for something and of which no record has said yet that they
+    /// became it.
+    pub(crate) fn whole_way(&self) -> Vec<Reference> {
+        let mut way = self.way();
+        while way.len() < 1000 {
+            let promised = way
+                .last()
+                .and_then(|last| last.view.promised.borrow().clone());
+            match promised {
+                Some(field) => way.extend(field.way()),
+                None => break,
+            }
+        }
+        way
+    }
+
+    /// Whether another vat is still to say what it is: the result of a call, or a promise that came.
+    fn is_open_elsewhere(&self) -> bool {
+        let field = self.view.field.borrow();
+        match &*field {
+            Some((call, _)) => {
+                let call = call.answered();
+                let is_here = call.is_gone.get() && call.sent_on.get().is_none();
+                !call.is_ended.get() && !is_here
+            }
+            None => self.view.import_of.get().is_some() && self.is_open_promise(),
+        }
+    }
+
+    // Of what is no field: whether it is a promise that was neither kept nor broken.
+    fn is_open_promise(&self) -> bool {
+        let view = &self.view;
+        !view.is_settled.get() && !view.is_broken.get() && view.turn.borrow().is_none()
+    }
 }
 
-/// A capability that was given away: its reference, and the runtime's hook as long as the runtime keeps it.
+/// A capability that was given away.
 #[derive(Clone)]
 pub(crate) struct Given {
     pub(crate) reference: Reference,
+    /// The runtime's hook, as long as the runtime keeps it.
     pub(crate) held: Weak<crate::hooks::Held>,
+    /// The promise by which ANSWER names it, where that isn't the reference.
+    pub(crate) promise: Option<Reference>,
+}
+
+impl Given {
+    /// One whose hook isn't known.
+    pub(crate) fn of(reference: Reference) -> Given {
+        Given {
+            reference,
+            held: Weak::new(),
+            promise: None,
+        }
+    }
+
+    /// Whether it waits in a queue of the runtime, whatever it leads to.
+    fn is_queued(&self) -> bool {
+        let held = self.held.upgrade();
+        held.map_or(false, |held| crate::hooks::is_local(&held))
+    }
+
+    /// The reference by which ANSWER names it.
+    pub(crate) fn named(&self) -> &Reference {
+        self.promise.as_ref().unwrap_or(&self.reference)
+    }
 }
 
 /// A call that was made or received here. Its lists go by the order in which the content has the capabilities, which
@@ -156,6 +215,8 @@ pub(crate) struct Call {
     pub(crate) hash: Cell<u64>,
     /// Sent on, or delivered.
     pub(crate) is_gone: Cell<bool>,
+    /// The connection by which it came.
+    pub(crate) came_by: Cell<Option<u32>>,
     /// The connection on which it was sent.
     pub(crate) sent_on: Cell<Option<u32>>,
     /// Its results are known, or there are none.
@@ -167,6 +228,8 @@ pub(crate) struct Call {
     pub(crate) is_named: Cell<bool>,
     /// The program has dropped its promise and its pipeline.
     pub(crate) is_dropped: Cell<bool>,
+    /// The message by which it came is gone: what still has its parameters is a copy.
+    pub(crate) is_copied: Cell<bool>,
 }
 
 impl Call {
@@ -188,12 +251,14 @@ impl Call {
             place: Cell::new(None),
             hash: Cell::new(0),
             is_gone: Cell::new(false),
+            came_by: Cell::new(None),
             sent_on: Cell::new(None),
             is_ended: Cell::new(false),
             is_delivered: Cell::new(false),
             is_over: Cell::new(false),
             is_named: Cell::new(false),
             is_dropped: Cell::new(false),
+            is_copied: Cell::new(false),
         })
     }
 
@@ -226,7 +291,7 @@ impl Call {
         *self.fields.borrow_mut() = met
             .iter()
             .zip(&given)
-            .filter_map(|(one, given)| Some((one.path()?, given.as_ref()?.reference.clone())))
+            .filter_map(|(one, given)| Some((one.path()?, given.as_ref()?.named().clone())))
             .collect();
         *self.results_met.borrow_mut() = met;
         *self.results.borrow_mut() = given;
@@ -244,6 +309,15 @@ impl Call {
     /// What it is meant for.
     pub(crate) fn meant_for(&self) -> Option<Reference> {
         self.target.clone().or_else(|| self.goal.borrow().clone())
+    }
+
+    /// Whether it was neither sent on nor delivered, and didn't end.
+    pub(crate) fn is_waiting(&self) -> bool {
+        !self.is_gone.get() && !self.is_over.get()
+    }
+
+    fn is_in_message(&self) -> bool {
+        self.target.is_none() && !self.is_copied.get()
     }
 
     fn is_like(&self, interface_id: u64, method_id: u16) -> bool {
@@ -264,6 +338,8 @@ pub(crate) struct Vat {
     waiting: RefCell<VecDeque<Rc<Call>>>,
     most_waiting: Cell<usize>,
     sending: RefCell<Option<Rc<Call>>>,
+    /// The received call whose message was read last.
+    read: RefCell<Option<Rc<Call>>>,
     /// The references of the runtime's hooks, by brand and pointer, as long as handles of them live.
     hooks: RefCell<HashMap<(usize, usize), Vec<Reference>>>,
 }
@@ -291,6 +367,7 @@ impl Vat {
             waiting: RefCell::default(),
             most_waiting: Cell::new(64),
             sending: RefCell::default(),
+            read: RefCell::default(),
             hooks: RefCell::default(),
         }))
     }
@@ -426,6 +503,9 @@ impl Vat {
     pub(crate) fn deliver(&self, call: &Rc<Call>, object: u64) {
         call.is_gone.set(true);
         call.is_delivered.set(true);
+        if let Some(goal) = call.meant_for() {
+            self.keep_vow(&goal);
+        }
         call.goal.take();
         self.forget(call);
         let mut record = Record::new(0x07);
@@ -436,6 +516,10 @@ impl Vat {
 
     /// ANSWER stands before the Return, and before each call that goes on to one of the results.
     pub(crate) fn answer(&self, call: &Call, met: Vec<Met>, given: Vec<Option<Given>>) {
+        let given = given
+            .into_iter()
+            .map(|one| one.map(|one| self.promised(call, one)))
+            .collect();
         call.set_results(met, given);
         // A null result that was given away is a broken capability to the runtime.
         for path in call.given_away.take() {
@@ -457,33 +541,92 @@ impl Vat {
         self.keep_vows(call);
     }
 
-    /// The promise that goes out for a capability: for the field of a call that is still open it is one of the vat's
-    /// own, which becomes that field. A field that turns out to be nothing is broken, as it is to the runtime.
-    pub(crate) fn promise_of(&self, reference: &Reference) -> Reference {
-        let (call, path) = match &*reference.view.field.borrow() {
-            Some((call, path)) if reference.next().is_none() => (call.answered(), path.clone()),
-            _ => return reference.clone(),
+    // What another vat is still to answer goes out as a promise of this vat's own, since it may come to nothing. What has
+    // come to nothing becomes what the runtime has in its place, which shows when it goes out.
+    fn promised(&self, call: &Call, given: Given) -> Given {
+        let last = match given.reference.way().pop() {
+            Some(last) if call.target.is_none() => last,
+            _ => return given,
         };
-        let mut known = reference.view.vow.borrow_mut();
-        let vow = known.get_or_insert_with(|| {
-            let vow = self.vow();
-            *vow.view.promised.borrow_mut() = Some(reference.clone());
-            vow
-        });
-        if vow.next().is_none() {
-            call.vows.borrow_mut().push((path, vow.clone()));
+        let is_over = |connection| last.is_over(connection);
+        let goes_back = call.came_by.get().map_or(false, is_over) && !given.is_queued();
+        if !last.is_lost() && (goes_back || !last.is_open_elsewhere()) {
+            return given;
         }
-        vow.clone()
+        let promise = self.vow_for(&given.reference);
+        self.note_vow(&last, &promise);
+        Given {
+            promise: Some(promise),
+            ..given
+        }
+    }
+
+    /// The promise that goes out for a capability: for the field of a call that is still open, and for a promise that
+    /// came, it is one of the vat's own, which becomes that. If that turns out to be nothing it is broken, as it is to the
+    /// runtime.
+    pub(crate) fn promise_of(&self, reference: &Reference) -> Reference {
+        let is_field = reference.view.field.borrow().is_some();
+        let is_open = match reference.view.import_of.get() {
+            Some(_) if !is_field => reference.is_open_promise(),
+            _ => is_field && reference.next().is_none(),
+        };
+        if !is_open {
+            return reference.clone();
+        }
+        let mut known = reference.view.vow.borrow_mut();
+        let vow = known.get_or_insert_with(|| self.vow_for(reference)).clone();
+        if vow.next().is_none() {
+            self.note_vow(reference, &vow);
+        }
+        vow
+    }
+
+    /// What a promise of the program's becomes: itself, or where it has come to nothing, one that becomes what the runtime
+    /// has in its place.
+    pub(crate) fn unless_lost(&self, reference: &Reference) -> Reference {
+        match reference.is_lost() {
+            true => self.vow_for(reference),
+            false => reference.clone(),
+        }
+    }
+
+    // A promise of the vat's own that becomes this, unless that comes to nothing.
+    fn vow_for(&self, reference: &Reference) -> Reference {
+        let vow = self.vow();
+        *vow.view.promised.borrow_mut() = Some(reference.clone());
+        vow
+    }
+
+    // When the call ends whose field this is, what was promised for it is known.
+    fn note_vow(&self, reference: &Reference, vow: &Reference) {
+        if let Some((call, path)) = &*reference.view.field.borrow() {
+            let answered = call.answered();
+            answered.vows.borrow_mut().push((path.clone(), vow.clone()));
+        }
     }
 
     /// The results of a call are known, or there will be none: what was promised for them became that.
     pub(crate) fn keep_vows(&self, call: &Call) {
         for (path, vow) in call.vows.take() {
             match call.field(&path) {
-                Some(_) => self.keep_vow(&vow),
+                Some(_) => {
+                    self.keep_open(&vow);
+                }
                 None if vow.next().is_none() => self.fulfil(&vow, &self.broken()),
                 None => {}
             }
+        }
+    }
+
+    // Whether no record had said yet that this promise became that for which it was given away; now one does.
+    fn keep_open(&self, promise: &Reference) -> bool {
+        let promised = promise.view.promised.borrow().clone();
+        match promised {
+            Some(field) if promise.next().is_none() => {
+                self.fulfil(promise, &field);
+                true
+            }
+            _ => false,
         }
     }
 
@@ -505,23 +648,39 @@ impl Vat {
         }
     }
 
-    /// What was promised came to nothing, which no record has said yet.
-    pub(crate) fn break_vow(&self, promise: &Reference) {
-        if promise.view.promised.borrow().is_some() && promise.next().is_none() {
-            self.fulfil(promise, &self.broken());
+    /// What was promised goes out as hosted: it is known, or came to nothing, which no record has said yet. Then it is what
+    /// its number stands for already, if that is a broken one.
+    pub(crate) fn settle_vow(&self, promise: &Reference, known: Option<&Reference>) {
+        let promised = promise.view.promised.borrow().clone();
+        let last = promised.and_then(|promised| promised.whole_way().pop());
+        match last {
+            Some(last) if last.view.is_settled.get() => self.keep_vow(promise),
+            Some(_) if promise.next().is_none() => match known.filter(|known| known.is_broken()) {
+                Some(known) => self.fulfil(promise, known),
+                None => self.fulfil(promise, &self.broken()),
+            },
+            _ => {}
         }
     }
 
-    /// What was promised is asked for where the field of the call stands: it became that.
-    pub(crate) fn keep_vow(&self, reference: &Reference) {
-        let last = match reference.way().pop() {
-            Some(last) => last,
-            None => return,
-        };
-        let promised = last.view.promised.borrow().clone();
-        if let Some(field) = promised {
-            self.fulfil(&last, &field);
+    /// What a promise that ANSWER named became, if no record has said so yet. Whether this one says it.
+    pub(crate) fn became(&self, promise: &Option<Reference>, what: &Reference) -> bool {
+        match promise {
+            Some(promise) if promise.next().is_none() => {
+                self.fulfil(promise, what);
+                true
+            }
+            _ => false,
         }
+    }
+
+    /// What was promised is asked for where that stands for which the promise was given away: it became that.
+    pub(crate) fn keep_vow(&self, reference: &Reference) {
+        while reference
+            .way()
+            .last()
+            .map_or(false, |last| self.keep_open(last))
+        {}
     }
 
     /// FAULT: a call ends here without results. A result that was given away before is a broken capability to the
@@ -654,20 +813,43 @@ impl Vat {
     pub(crate) fn wait(&self, call: &Rc<Call>) {
         let mut waiting = self.waiting.borrow_mut();
         if waiting.len() >= self.most_waiting.get() {
-            waiting.retain(|one| !one.is_gone.get() && !one.is_over.get());
+            waiting.retain(|one| one.is_waiting());
             self.most_waiting.set(2 * waiting.len() + 64);
         }
         waiting.push_back(call.clone());
     }
 
+    /// The message of this received call is read.
+    pub(crate) fn note_read(&self, call: &Rc<Call>) {
+        *self.read.borrow_mut() = Some(call.clone());
+    }
+
+    /// The call that has these parameters. Those of a received call read its message, so null ones are told apart, too.
+    pub(crate) fn find_by_params(
+        &self,
+        interface_id: u64,
+        method_id: u16,
+        params: &dyn ParamsHook,
+        leads_there: &dyn Fn(&Reference) -> bool,
+    ) -> Option<Rc<Call>> {
+        self.read.take();
+        let content = params.get().ok()?;
+        let read = self.read.take();
+        let is_local = read.is_none();
+        read.filter(|call| call.is_like(interface_id, method_id) && !call.is_gone.get())
+            .or_else(|| self.find(interface_id, method_id, content, is_local, leads_there))
+    }
+
     /// The call that has these parameters: by where they lie, or, where the runtime copied them, by what they are.
     /// Of several that are alike it is the oldest, and one that is meant for this capability goes first. One that the
-    /// program has dropped goes last: the runtime has let go of it.
+    /// program has dropped goes last: the runtime has let go of it. Behind it goes one whose parameters are in a message
+    /// that came, where these are in a request of this vat.
     pub(crate) fn find(
         &self,
         interface_id: u64,
         method_id: u16,
         params: any_pointer::Reader<'_>,
+        is_local: bool,
         leads_there: &dyn Fn(&Reference) -> bool,
     ) -> Option<Rc<Call>> {
         let lying = content::place_of(params)
@@ -680,7 +862,7 @@ impl Vat {
                 return lying;
             }
         }
-        self.find_waiting(interface_id, method_id, params, leads_there)
+        self.find_waiting(interface_id, method_id, params, is_local, leads_there)
     }
 
     fn find_waiting(
@@ -688,12 +870,13 @@ impl Vat {
         interface_id: u64,
         method_id: u16,
         params: any_pointer::Reader<'_>,
+        is_local: bool,
         leads_there: &dyn Fn(&Reference) -> bool,
     ) -> Option<Rc<Call>> {
         let waiting = self.waiting.borrow();
         let mut alike = waiting
             .iter()
-            .filter(|call| !call.is_gone.get() && !call.is_over.get())
+            .filter(|call| call.is_waiting())
             .filter(|call| call.is_like(interface_id, method_id))
             .peekable();
         alike.peek()?;
@@ -701,7 +884,10 @@ impl Vat {
         let meant = |call: &Rc<Call>| call.meant_for().map_or(false, |goal| leads_there(&goal));
         alike
             .filter(|call| call.hash.get() == hash)
-            .min_by_key(|call| (call.is_dropped.get(), !meant(call)))
+            .min_by_key(|call| {
+                let is_elsewhere = is_local && call.is_in_message();
+                (is_elsewhere, call.is_dropped.get(), !meant(call))
+            })
             .cloned()
     }
 }

@@ -76,6 +76,5 @@ fn main() {
     if name == "exits" {
         std::process::exit(3);
     }
-    let own = std::process::id().to_string();
-    let _ = Command::new("kill").args(["-KILL", &own]).status();
+    let _ = Command::new("sh").args(["-c", "kill -KILL $PPID"]).status();
 }

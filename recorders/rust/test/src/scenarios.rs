@@ -37,6 +37,7 @@ fn main() {
         ("canceled_waiting", canceled_waiting),
         ("canceled_in_queue", canceled_in_queue),
         ("failed_result", failed_result),
+        ("null_result_of_another", null_result_of_another),
         ("refused", refused),
     ]);
 }
@@ -400,6 +401,28 @@ fn failed_result(world: World) {
     two.hold(&two.counter, &piped(&failing.pipeline, 0));
     assert!(two.wait(failing.promise).is_err());
     two.settle();
+}
+
+/// Vat 2 returns a promise for the result of its call to vat 3, and that is null: the runtime resolves it to a broken
+/// capability.
+fn null_result_of_another(world: World) {
+    let [first, second, third] = [1, 2, 3].map(|vat| world.recorder(vat));
+    let ((near, near_end), (far, far_end)) = (streams(), streams());
+    world.serve(&third, far_end, 1, host(&third, 0));
+    let (other, _) = world.ask(&second, far, 1);
+    let own = host(&second, 10);
+    world.serve(&second, near_end, 0, own.clone());
+    let (counter, _) = world.ask(&first, near, 0);
+    let promise = later(&world, &other);
+    let waiting = promise.nothing_request().send();
+    world.hold(&own, &piped(&waiting.pipeline, 0));
+    let given = counter.held_request().send();
+    let broken = piped(&given.pipeline, 0);
+    world.settle();
+    world.settle_promise(&other, 0);
+    world.wait(waiting.promise).expect("nothing succeeds");
+    world.settle();
+    assert!(world.wait(next_by(&broken, 1)).is_err());
 }
 
 /// An object goes out of which the recorder doesn't know: it stops.

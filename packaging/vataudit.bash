@@ -6,7 +6,7 @@ _vataudit_options() {
         check) echo "--workers=" ;;
         order) echo "--out=" ;;
         graph) echo "--dot" ;;
-        draw) echo "--out= --from= --count=" ;;
+        draw) echo "--out= --from= --count= --html" ;;
         records) echo "--from= --count=" ;;
         frame) echo "--later" ;;
         migrate) echo "--out= --later" ;;

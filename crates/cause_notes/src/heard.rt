@@ -1,13 +1,14 @@
 //! What is heard of an answer, for what people are told beside it. No answer depends on it.
 
 use crate::joins::JoinNote;
-use crate::left::good_case::GoodCase;
+use crate::row_limit::RowLimit;
 use crate::wires::wire_found::WireFound;
 use audit_core::{Breach, Report};
 use case_book::Findings;
 use report_lines::{Answer, Fault, report_sentence, why_sentence};
-use std::alloc::Global;
 use std::mem;
+use std::sync::Arc;
+use vat_log::VatLog;
 use vat_rules::{Outcome, SlimFinding, SlimOutcome, VatFinding};
 use wire_logs::WireAnswer;
 
@@ -55,21 +56,23 @@ pub(crate) enum Told {
     Wire,
     /// What was found of logs whose connections are joined.
     Join,
-    /// The log of this vat is good.
-    GoodLog(u32),
+    /// The log of a vat is good.
+    GoodLog,
     /// The report of a case is yes.
     Yes,
 }
 
-/// What was heard of the answer that was said last, and what was found of the case that it judges, or its logs alone where
-/// the report is yes, or what was found of the connection.
+/// What was heard of the answer that was said last, and what was found of the case that it judges, or of the connection, or the
+/// log that was audited, where notes are to be made.
 #[derive(Debug, Drop)]
 pub struct Heard {
+    is_noted: bool,
     pub(crate) told: Told,
     pub(crate) findings: Option<Findings>,
-    pub(crate) good: Option<GoodCase>,
+    pub(crate) log: Option<Arc<VatLog>>,
     pub(crate) wire: Option<WireFound>,
     pub(crate) join: Option<JoinNote>,
+    pub(crate) limit: Option<RowLimit>,
 }
 
 /// What is heard of the report of a case.
@@ -126,7 +129,7 @@ pub(crate) fn report_of(finding: &VatFinding) -> Option<Report> {
 fn of_finding(finding: &SlimFinding) -> Told {
     let vat = finding.log().vat();
     match finding.outcome() {
-        SlimOutcome::Good(_) => Told::GoodLog(vat),
+        SlimOutcome::Good(_) => Told::GoodLog,
         SlimOutcome::Broken { at, rule } => of_report(&Report::Vat {
             vat,
             at: *at,
@@ -141,15 +144,27 @@ fn of_finding(finding: &SlimFinding) -> Told {
 }
 
 impl Heard {
-    /// Before any answer.
-    pub fn new() -> Heard {
+    /// Before any answer, of which notes are to be made or not.
+    fn before(is_noted: bool) -> Heard {
         Heard {
+            is_noted,
             told: Told::Nothing,
             findings: None,
-            good: None,
+            log: None,
             wire: None,
             join: None,
+            limit: None,
         }
+    }
+
+    /// Before any answer, of which notes are to be made.
+    pub fn new() -> Heard {
+        Heard::before(true)
+    }
+
+    /// Before any answer, of which no notes are to be made.
+    pub fn without_notes() -> Heard {
+        Heard::before(false)
     }
 
     /// Hears an answer, in the place of what was heard before.
@@ -163,6 +178,9 @@ impl Heard {
             Answer::Fault(fault) => Told::Fault(*fault),
             Answer::Message(_) | Answer::Order(_) | Answer::Migrated(_) => Told::Nothing,
         };
+        if let (true, Answer::Finding(finding)) = (self.is_noted, answer) {
+            self.log = Arc::try_clone(finding.log()).ok();
+        }
     }
 
     /// Keeps what was found of a connection, with its logs where all is explained.
@@ -170,21 +188,28 @@ impl Heard {
         self.wire = Some(WireFound::of(answer));
     }
 
+    /// Keeps that fewer rows are drawn than were asked for.
+    pub fn keep_limit(&mut self, limit: RowLimit) {
+        self.limit = Some(limit);
+    }
+
     /// Keeps what people are told of logs whose connections are joined.
     pub fn keep_join(&mut self, note: JoinNote) {
         self.join = Some(note);
     }
 
-    /// Keeps what was found of a case beside its report. Where that is yes, only the logs and links are kept: the rest is
-    /// left to the system, which takes all memory at once where the program ends. Where memory is refused less is kept.
-    pub fn keep(&mut self, alloc: Global, report: &Report, findings: Findings) {
-        self.findings = match report {
-            Report::Yes { .. } => {
-                self.good = GoodCase::of(alloc, findings.case()).ok();
-                mem::forget(findings);
-                None
-            }
-            _ => Some(findings),
-        };
+    /// Keeps what was found of a case beside its report, where notes are to be made of it.
+    pub fn keep(&mut self, findings: Findings) {
+        if self.is_noted {
+            self.findings = Some(findings);
+        } else {
+            mem::forget(findings);
+        }
+    }
+
+    /// Leaves what was heard to the system, which takes all memory at once where the program ends: to give it back here, record
+    /// by record, takes longer.
+    pub fn leave(self) {
+        mem::forget(self);
     }
 }

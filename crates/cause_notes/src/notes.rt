@@ -5,18 +5,24 @@ use crate::cases::link_notes::{put_counterpart, put_received};
 use crate::cases::other_findings::{put_links, put_others};
 use crate::heard::{Heard, Told};
 use crate::inputs::bad_input::{message_sentence, put_fault};
+use crate::inputs::unread::SearchingSource;
 use crate::joins::put_join;
-use crate::left::good_case::GoodCase;
+use crate::left::at_end::events_of;
 use crate::left::good_notes::put_good;
+use crate::left::open_case::OpenCase;
+use crate::left::open_object::open_object;
 use crate::logs::{Logs, put_place};
 use crate::reading::message_at;
+use crate::row_limit::put_limit;
 use crate::rules::rule_notes::put_rule_cause;
 use crate::wires::wire_notes::put_wire;
 use audit_core::Breach;
-use case_files::RememberingSource;
+use bytes::Bytes;
 use report_lines::Fault;
+use serde_json::Value;
 use std::alloc::{AllocError, Global};
 use std::fmt::Write;
+use vat_log::VatLog;
 
 /// Appends the notes of what led to a record that breaks a rule.
 fn put_cause(
@@ -54,20 +60,7 @@ fn put_unread_frame(
     }
 }
 
-/// Appends the notes of what is open at the end of a log that is good.
-fn put_good_log(
-    alloc: Global,
-    text: &mut String,
-    logs: &Logs<'_>,
-    vat: u32,
-) -> Result<(), AllocError> {
-    match logs.of_vat(alloc, vat)? {
-        Some(log) => put_good(alloc, text, logs.files, &GoodCase::of_log(alloc, log)?),
-        None => Ok(()),
-    }
-}
-
-/// Appends the notes of a good log, of a no or of an outside.
+/// Appends the notes of a no or of an outside.
 fn put_told(
     alloc: Global,
     text: &mut String,
@@ -109,17 +102,14 @@ fn put_told(
             put_links(alloc, text, logs, Some(connection))
         }
         Told::NoOrder(rule) => write!(text, "note: rule: {rule}\n"),
-        Told::GoodLog(vat) => put_good_log(alloc, text, logs, vat),
-        Told::Nothing | Told::Fault(_) | Told::Wire | Told::Join | Told::Yes => Ok(()),
+        Told::Nothing | Told::Fault(_) | Told::Wire | Told::Join | Told::Yes | Told::GoodLog => Ok(
+            (),
+        ),
     }
 }
 
-/// The notes beside an answer, a line each. `hex` is the frame of the command line, where it has one.
-///
-/// # Errors
-///
-/// Out of memory.
-pub fn notes_of<S: RememberingSource>(
+/// The notes beside an answer that isn't good, a line each.
+fn bad_notes<S: SearchingSource>(
     alloc: Global,
     heard: &Heard,
     source: &S,
@@ -130,6 +120,7 @@ pub fn notes_of<S: RememberingSource>(
         put_fault(alloc, &mut text, source, hex, fault)?;
         return Ok(text);
     }
+    put_limit(&mut text, heard.limit)?;
     if let (Told::Wire, Some(found)) = (heard.told, &heard.wire) {
         put_wire(alloc, &mut text, source.kept(), found)?;
         return Ok(text);
@@ -138,14 +129,97 @@ pub fn notes_of<S: RememberingSource>(
         put_join(&mut text, source.kept(), note)?;
         return Ok(text);
     }
-    if let (Told::Yes, Some(good)) = (heard.told, &heard.good) {
-        put_good(alloc, &mut text, source.kept(), good)?;
-        return Ok(text);
-    }
     let logs = Logs {
         files: source.kept(),
         findings: heard.findings.as_ref(),
     };
     put_told(alloc, &mut text, &logs, heard.told)?;
     Ok(text)
+}
+
+/// What people are told beside an answer.
+#[derive(Drop)]
+pub struct Notes {
+    /// The notes, a line each.
+    pub text: String,
+    /// All that is open at the end of good logs, as an object, where it is asked for.
+    pub left_open: Option<Value>,
+}
+
+impl Notes {
+    /// These notes alone.
+    pub fn of_text(text: String) -> Notes {
+        Notes {
+            text,
+            left_open: None,
+        }
+    }
+
+    /// What is open at the end of a case whose report is yes, or of a log that is good.
+    fn of_case(alloc: Global, case: &OpenCase<'_>, form: Form) -> Result<Notes, AllocError> {
+        let mut text = String::new(alloc);
+        put_good(alloc, &mut text, case)?;
+        let left_open = match form {
+            Form::Text => None,
+            Form::Json => Some(open_object(alloc, case)?),
+        };
+        Ok(Notes { text, left_open })
+    }
+
+    /// Of a case that may not be put together any more: then there is nothing to tell.
+    fn of_found(
+        alloc: Global,
+        found: Option<OpenCase<'_>>,
+        form: Form,
+    ) -> Result<Notes, AllocError> {
+        match found {
+            Some(case) => Notes::of_case(alloc, &case, form),
+            None => Ok(Notes::of_text(String::new(alloc))),
+        }
+    }
+}
+
+/// What notes are made for.
+#[derive(Clone, Copy, Debug, PartialEq, Eq)]
+pub enum Form {
+    /// Lines of text.
+    Text,
+    /// An object, in which all that is open stands, too.
+    Json,
+}
+
+/// What people are told of a log that is good. Its frames are read once more: its audit kept no record.
+fn notes_of_log(
+    alloc: Global,
+    files: &[(String, Bytes)],
+    log: &VatLog,
+    form: Form,
+) -> Result<Notes, AllocError> {
+    let Some(events) = events_of(alloc, log)? else {
+        return Ok(Notes::of_text(String::new(alloc)));
+    };
+    let found = OpenCase::of_log(alloc, log, events.as_slice(), files)?;
+    Notes::of_found(alloc, found, form)
+}
+
+/// What people are told beside an answer. `hex` is the frame of the command line, where it has one.
+///
+/// # Errors
+///
+/// Out of memory.
+pub fn notes_of<S: SearchingSource>(
+    alloc: Global,
+    heard: &Heard,
+    source: &S,
+    hex: Option<&str>,
+    form: Form,
+) -> Result<Notes, AllocError> {
+    if let (Told::Yes, Some(findings)) = (heard.told, &heard.findings) {
+        let found = OpenCase::of_findings(alloc, findings, source.kept())?;
+        return Notes::of_found(alloc, found, form);
+    }
+    if let (Told::GoodLog, Some(log)) = (heard.told, &heard.log) {
+        return notes_of_log(alloc, source.kept(), log, form);
+    }
+    Ok(Notes::of_text(bad_notes(alloc, heard, source, hex)?))
 }

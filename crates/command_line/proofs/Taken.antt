@@ -224,6 +224,20 @@ pub takes_draw : (first file out : Text) → is_flag file ≡ false → is_flag 
 unfolding clap_on_literals
 takes_draw first file out e h = ap (λ (k : Kinds). or_else k []) (draw_words file out e h)
 
+draw_page_words : (file out : Text) → is_flag file ≡ false → is_flag out ≡ false
+    → level_fault (shape_by drawing) [] nothing_held (file ∷ codes "--html" ∷ codes "--out" ∷ out ∷ []) false [] ≡ []
+unfolding clap_on_literals
+draw_page_words file out e h =
+    let is = plain_word_is file e in
+    let are = plain_word_is out h in
+    rw (is.0, is.1, is.2, are.0, are.1, are.2) refl
+
+-- nor has it with `--html`
+pub takes_draw_page : (first file out : Text) → is_flag file ≡ false → is_flag out ≡ false
+    → fault_of program (first ∷ name_of drawing ∷ file ∷ codes "--html" ∷ codes "--out" ∷ out ∷ []) ≡ []
+unfolding clap_on_literals
+takes_draw_page first file out e h = ap (λ (k : Kinds). or_else k []) (draw_page_words file out e h)
+
 -- ---- wire
 
 wire_words : (one another : Text) → is_flag one ≡ false → is_flag another ≡ false → level_fault (shape_by wiring) [] nothing_held (one ∷ another ∷ []) false [] ≡ []

@@ -57,13 +57,19 @@ most = 18446744073709551615
 abbrev pub records : App
 records = with_rule (with_rule (with_rule (new_app (codes "records")) input_rule) (number_rule start 0 most)) (number_rule count 0 most)
 
--- `draw CASE --out FILE`, with `--from I` and `--count N` if wanted
-abbrev pub draw : App
-draw = with_rule (with_rule (with_rule (with_rule (new_app (codes "draw")) input_rule) path_rule) (number_rule start 0 most)) (number_rule count 0 most)
-
 -- an option that has no value: it is given, or it isn't
 abbrev pub flag_rule : List ℕ → Rule
 flag_rule name = record (new_rule name) { long = Some name; action = Some SetTrue }
+
+-- by what clap knows that a page is asked for and not a picture alone, which is said by `--html`
+abbrev pub html : List ℕ
+html = codes "html"
+
+-- `draw CASE --out FILE`, with `--from I`, `--count N` and `--html` if wanted
+abbrev pub draw : App
+draw =
+    with_rule (with_rule (with_rule (with_rule (with_rule (new_app (codes "draw")) input_rule) path_rule) (number_rule start 0 most)) (number_rule count 0 most))
+    (flag_rule html)
 
 -- a command that reads one thing and has one such option
 abbrev pub flagged : List ℕ → List ℕ → App

@@ -8,7 +8,7 @@ use Rattle.clap.specs.Simple.{subcommand_rows_of}
 use Rattle.clap.specs.Values.{IsUnsignedIn}
 use Rattle.clap.specs.Words.{Row, all_of, fault_of, first_of, subcommand_of}
 use Rattle.clap.specs.declared.ArgMatches.{ArgMatches}
-use Rattle.command_line.specs.Parser.{count, dot, input, later, other, path, program, start, workers}
+use Rattle.command_line.specs.Parser.{count, dot, html, input, later, other, path, program, start, workers}
 
 -- a word that begins with a hyphen, but `-`
 abbrev pub is_flag : List ℕ → Bool
@@ -81,11 +81,11 @@ SpellsRecords words name first many = (rows : List Row) ×
     × IsNumber (first_of start rows) first × IsNumber (first_of count rows) many)
 
 -- the words are read as `draw CASE --out FILE`, and clap finds CASE and FILE in them and, where they were given, the number of
--- the first step and how many are wanted
-abbrev pub SpellsDraw : List (List ℕ) → List ℕ → List ℕ → Option ℕ → Option ℕ → Type 0
-SpellsDraw words name out first many = (rows : List Row) ×
+-- the first step and how many are wanted, and whether `--html` is there
+abbrev pub SpellsDraw : List (List ℕ) → List ℕ → List ℕ → Option ℕ → Option ℕ → Bool → Type 0
+SpellsDraw words name out first many is_page = (rows : List Row) ×
     (IsRead words (codes "draw") rows × (first_of input rows ≡ Some name) × (first_of path rows ≡ Some out)
-    × IsNumber (first_of start rows) first × IsNumber (first_of count rows) many)
+    × IsNumber (first_of start rows) first × IsNumber (first_of count rows) many × (is_set (first_of html rows) ≡ is_page))
 
 -- the words are read as `wire A B`, and clap finds both files in them and, where it was given, the folder
 abbrev pub SpellsWire : List (List ℕ) → List ℕ → List ℕ → Option (List ℕ) → Type 0
@@ -102,7 +102,7 @@ Spells words (Check name many) = SpellsCheck words name.now many
 Spells words (Order name out) = SpellsWriter (codes "order") words name.now out.now
 Spells words (Graph name is_dot) = SpellsFlagged (codes "graph") dot words name.now is_dot
 Spells words (Run name) = SpellsOne (codes "run") words name.now
-Spells words (Draw name out first many) = SpellsDraw words name.now out.now first many
+Spells words (Draw name out first many is_page) = SpellsDraw words name.now out.now first many is_page
 Spells words (Vat file) = SpellsOne (codes "vat") words file.now
 Spells words (Records file first many) = SpellsRecords words file.now first many
 Spells words (Frame hex is_later) = SpellsFlagged (codes "frame") later words hex.now is_later
@@ -122,7 +122,7 @@ HasWorkers (Check name many) = (1 ≤ many) × (many ≤ 64)
 HasWorkers (Order name out) = ⊤
 HasWorkers (Graph name is_dot) = ⊤
 HasWorkers (Run name) = ⊤
-HasWorkers (Draw name out first many) = ⊤
+HasWorkers (Draw name out first many is_page) = ⊤
 HasWorkers (Vat name) = ⊤
 HasWorkers (Records name first many) = ⊤
 HasWorkers (Frame hex is_later) = ⊤
@@ -137,7 +137,7 @@ out_of (Check name many) = None
 out_of (Order name out) = Some out.now
 out_of (Graph name is_dot) = None
 out_of (Run name) = None
-out_of (Draw name out first many) = Some out.now
+out_of (Draw name out first many is_page) = Some out.now
 out_of (Vat name) = None
 out_of (Records name first many) = None
 out_of (Frame hex is_later) = None

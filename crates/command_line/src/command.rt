@@ -8,7 +8,7 @@ ghost use Rattle.clap.specs.Words.{fault_of, first_value, found_of, kind_of, mat
 ghost use Rattle.command_line.specs.Parser.{most, program, workers};
 ghost use Rattle.command_line.specs.Spelled.{AreMatchesOf, HasWorkers, IsChecked, IsNumber, IsReader, Spells, is_flag, is_set, out_of};
 
-use crate::parser::{self, COUNT, DOT, FROM, INPUT, LATER, OTHER, OUT, WORKERS};
+use crate::parser::{self, COUNT, DOT, FROM, HTML, INPUT, LATER, OTHER, OUT, WORKERS};
 use clap::error::ErrorKind;
 use clap::{ArgMatches, Error};
 use std::alloc::{AllocError, Global};
@@ -37,13 +37,15 @@ pub enum Command<'a> {
     Run {
         case: &'a str,
     },
-    /// Draw the case that the source has under this name, and write the picture to a file: from this step on, counted from
-    /// 0, or around what the verdict names; and as many steps, or as many as are drawn at most.
+    /// Draw the case that the source has under this name, and write the picture to a file, or a page with the picture and
+    /// its records: from this step on, counted from 0, or around what the verdict names; and as many steps, or as many as
+    /// are drawn at most.
     Draw {
         case: &'a str,
         out: &'a str,
         from: Option<u64>,
         count: Option<u64>,
+        html: bool,
     },
     /// Audit one vat's log, which the source has under this name.
     Vat {
@@ -202,6 +204,7 @@ fn command_in<'a>(alloc: Global, matches: &ArgMatches<'a>) -> Result<Command<'a>
             out: value_of(given, OUT),
             from: number_of(given, FROM),
             count: number_of(given, COUNT),
+            html: is_set(given, HTML),
         }),
         "vat" => Ok(Command::Vat { file: input }),
         "records" => Ok(Command::Records {
@@ -260,7 +263,7 @@ fn read_command<'a, S: AsStr>(alloc: Global, words: &'a [S]) -> Result<Command<'
 /// The command that the words spell, of which the first is the program's name: `run CASE`, `vat FILE` or `frames FILE`, where
 /// before or after the last of these may stand `--`, and it may begin with a hyphen only after that or where it is `-`; or, as
 /// `clap` reads them, `check CASE` with `--workers N` if wanted, a number from 1 to 64, or `order CASE --out FILE`, or `wire A B`
-/// with `--out FOLDER` if wanted, or `join LOG .. --out FOLDER`, or `graph CASE` with `--dot` if wanted, or `draw CASE --out FILE` with `--from I` and `--count N` if wanted, or `frame HEX` with
+/// with `--out FOLDER` if wanted, or `join LOG .. --out FOLDER`, or `graph CASE` with `--dot` if wanted, or `draw CASE --out FILE` with `--from I`, `--count N` and `--html` if wanted, or `frame HEX` with
 /// `--later` if wanted, or `migrate FILE --out FILE` with `--later` if wanted, or `records FILE` with `--from I` and `--count N`
 /// if wanted, numbers of 64 bits.
 ///
@@ -302,6 +305,11 @@ pub fn command_of<'a, S: AsStr>(alloc: Global, words: &'a [S]) -> Result<Command
         ≡ first ∷ codes "draw" ∷ case ∷ codes "--out" ∷ out ∷ codes "--from" ∷ from ∷ codes "--count" ∷ count ∷ []
         → is_flag case ≡ false → is_flag out ≡ false
         → IsUnsignedIn 0 most from → IsUnsignedIn 0 most count
+        → IfErr result (λ e. kind_of e ≡ ErrorKind.OutOfMemory) }
+    ensures taken_draw_page { (first case out : List ℕ)
+        → map S.text words.entry.now
+        ≡ first ∷ codes "draw" ∷ case ∷ codes "--html" ∷ codes "--out" ∷ out ∷ []
+        → is_flag case ≡ false → is_flag out ≡ false
         → IfErr result (λ e. kind_of e ≡ ErrorKind.OutOfMemory) }
     ensures taken_migrate { (first file out : List ℕ)
         → map S.text words.entry.now ≡ first ∷ codes "migrate" ∷ file ∷ codes "--out" ∷ out ∷ []

@@ -161,12 +161,17 @@ Audits a case as check does, writes a picture of it to FILE, an SVG, and prints
 check's line (vataudit check --help), with its status.
 
 The picture has a column for each vat and a row for each record, in the order that
-run has, or as far as one goes. Each message is an arrow from the record that sends
-it to the one that receives it: a late Return is dashed, a canceled one dotted, a
-Call or a Return of a tail call dashed and dotted. The record that the line names is
-marked, with its rule; beside ORDER, calls that were made through one reference have
-one colour. At most 200 rows are drawn: those around the marked record, or else the
-first ones, or with --from those from step STEP on.
+the case names, or else in one in which each message is received as soon as may be.
+Each message is an arrow from the record that sends it to the one that receives it:
+a late Return is dashed, a canceled one dotted, a Call or a Return of a tail call
+dashed and dotted. The record that the line names is marked, with its rule; beside
+ORDER, calls that were made through one reference have one colour. At most 200 rows
+are drawn: those around the marked record, or else the first ones, or with --from
+those from row STEP on.
+
+With --html FILE is a page for a browser, without a script: the picture, of at most
+5000 rows, and beside it a table of its records, as records prints them. Each row of
+the one leads to that of the other.
 
 Of a case that isn't audited nothing is drawn, and FILE isn't made: bad case .., bad
 log .., bad order .., cannot read, out of memory. What FILE held before is lost.
@@ -186,10 +191,13 @@ Exit status:
   3  memory ran out";
 
 /// STEP of `draw`.
-pub const FROM_STEP: &str = "The first step that is drawn, counted from 0 as run does";
+pub const FROM_STEP: &str = "The first row that is drawn, counted from 0";
 
 /// N of `draw`.
-pub const COUNT_STEPS: &str = "How many steps are drawn at most, up to 200";
+pub const COUNT_STEPS: &str = "How many rows are drawn at most, up to 200, or 5000 with --html";
+
+/// `--html` of `draw`.
+pub const HTML: &str = "Writes a page with the picture and its records";
 
 /// `vat`, in the list of commands.
 pub const VAT: &str = "Audits the log of one vat";

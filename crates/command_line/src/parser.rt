@@ -30,6 +30,9 @@ pub(crate) const COUNT: &str = "count";
 /// By what `clap` knows that the later edition is asked for.
 pub(crate) const LATER: &str = "later";
 
+/// By what `clap` knows that a page is asked for.
+pub(crate) const HTML: &str = "html";
+
 /// By what `clap` knows that the DOT language is asked for.
 pub(crate) const DOT: &str = "dot";
 
@@ -251,7 +254,7 @@ fn with_records<'a>(alloc: Global, program: Command<'a>) -> Result<Command<'a>, 
     program.subcommand(records)
 }
 
-/// The program with its command `draw CASE --out FILE`, which has the options `--from STEP` and `--count N`.
+/// The program with its command `draw CASE --out FILE`, which has the options `--from STEP`, `--count N` and `--html`.
 ///
 /// # Errors
 ///
@@ -280,7 +283,8 @@ fn with_drawing<'a>(alloc: Global, program: Command<'a>) -> Result<Command<'a>, 
         .arg(input(alloc, "CASE", help::CASE))?
         .arg(out(alloc))?
         .arg(from)?
-        .arg(count)?;
+        .arg(count)?
+        .arg(flag(alloc, HTML, help::HTML))?;
     program.subcommand(draw)
 }
 

@@ -10,7 +10,8 @@ use Rattle.audit_core.specs.declared.report.Report.TheVariants.{Vat, OutsideVat,
 use Rattle.case_files.specs.CaseReading.{ComesOfCase, Reads}
 use Rattle.case_files.specs.declared.case_fault.CaseFault.{CaseFault}
 use Rattle.case_files.specs.declared.case_fault.CaseFault.TheVariants as fault
-use Rattle.picture.specs.Picture.{IsPictureOf, picture_text}
+use Rattle.picture.specs.Page.{drawn_text}
+use Rattle.picture.specs.Picture.{IsPictureOf}
 use Rattle.picture.specs.declared.drawing.Picture.{Picture}
 use Rattle.picture.specs.declared.window.Asked.{Asked}
 use Rattle.report_lines.specs.declared.answer.Answer.{Answer}
@@ -39,9 +40,9 @@ no_run_for held (OrderStep step) steps not none = none
 no_run_for held NoOrder steps not none = none
 no_run_for held (Yes vats records delivered under_way run) steps not none = none
 
--- the bytes of a picture, whose case and steps were lent
+-- the bytes of a picture or page, whose case and steps were lent
 pub drawing_of : (held lent : Contents) (order : List ℕ) (report : ReportOf) (asked : Asked) (run steps : List Step) (picture : Picture) (bytes text : List ℕ)
-    → IsRunFor held.logs report run → steps ≡ run → lent ≡ held → IsPictureOf lent order report steps asked picture → bytes ≡ text → text ≡ picture_text picture
+    → IsRunFor held.logs report run → steps ≡ run → lent ≡ held → IsPictureOf lent order report steps asked picture → bytes ≡ text → text ≡ drawn_text asked.page picture
     → IsDrawing held order report asked bytes
 drawing_of held lent order report asked run steps picture bytes text is_run lent_run lent_case is_picture same text_is = (
   steps,

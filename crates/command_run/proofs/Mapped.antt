@@ -35,7 +35,7 @@ module _ {W F E X : Type 0} (in_out : W → Option (List ℕ)) (out_done : W →
   carried gives (Frames name) old new c = (c.0, c.1, mapped _ c.2)
   carried gives (Records name first many) old new c = (c.0, c.1, mapped _ c.2)
   carried gives (Order name path) old new c = mapped _ c
-  carried gives (Draw name path first many) old new c = mapped _ c
+  carried gives (Draw name path first many is_page) old new c = mapped _ c
   carried gives (Migrate name later path) old new c = (c.0, c.1, mapped _ c.2)
   carried gives (Wire one another out) old new c = mapped _ c
   carried gives (Join names path) old new c = mapped _ c

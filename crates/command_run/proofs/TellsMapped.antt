@@ -30,7 +30,7 @@ module _ {W F E X : Type 0} (to_out : Writing W) (in_file : F â†’ Option (List â
   tells gives (Check name workers) old new c = told _ c
   tells gives (Graph name dot) old new c = told _ c
   tells gives (Run name) old new c = told _ c
-  tells gives (Draw name path first many) old new c = told _ c
+  tells gives (Draw name path first many is_page) old new c = told _ c
   tells gives (Vat name) old new c = (c.0, c.1, told _ c.2)
   tells gives (Frame hex later) old new c = (c.0, told _ c.1)
   tells gives (Frames name) old new c = (c.0, c.1, told _ c.2)

@@ -12,7 +12,8 @@ use Rattle.case_files.specs.CaseReading.{ComesOfCase, Reads}
 use Rattle.case_files.specs.declared.case_fault.CaseFault.{CaseFault}
 use Rattle.case_files.specs.declared.case_fault.CaseFault.TheVariants as fault
 use Rattle.case_files.specs.declared.case_reading.ReadCase.{ReadCase}
-use Rattle.picture.specs.Picture.{IsArranged, IsPictureOf, picture_text}
+use Rattle.picture.specs.Page.{drawn_text}
+use Rattle.picture.specs.Picture.{IsPictureOf, arranged}
 use Rattle.picture.specs.declared.drawing.Picture.{Picture}
 use Rattle.picture.specs.declared.window.Asked.{Asked}
 use Rattle.report_lines.specs.declared.answer.Answer.TheVariants.{Fault, Report}
@@ -26,15 +27,15 @@ abbrev pub IsRunFor : List Log → ReportOf → List Step → Type 0
 IsRunFor logs (Vat vat at Order) steps = AreExplained logs steps
 IsRunFor logs report steps = steps ≡ []
 
--- bytes are the text of the picture of a case, for its report, in this order
+-- bytes are the text of the picture of a case, or of a page with it, for its report, in this order
 abbrev pub IsDrawing : Contents → List ℕ → ReportOf → Asked → List ℕ → Type 0
 IsDrawing held order report asked bytes = (steps : List Step) ×
-    ((picture : Picture) × IsRunFor held.logs report steps × IsPictureOf held order report steps asked picture × (bytes ≡ picture_text picture))
+    ((picture : Picture) × IsRunFor held.logs report steps × IsPictureOf held order report steps asked picture × (bytes ≡ drawn_text asked.page picture))
 
--- the same, in the order by which the case is judged and what that leaves; there always is a picture
+-- the same, in the order in which the records of the case are drawn; there always is a picture
 abbrev pub IsDrawn : ReadCase → ReportOf → Asked → Option (List ℕ) → Type 0
 IsDrawn came report asked None = ⊥
-IsDrawn came report asked (Some bytes) = (order : List ℕ) × IsArranged came.case.logs came.order order × IsDrawing came.case order report asked bytes
+IsDrawn came report asked (Some bytes) = IsDrawing came.case (arranged came.case came.order) report asked bytes
 
 -- A line, a status and the bytes for the file answer what came of a case: its report and its picture, or why there is none,
 -- and then there are no bytes. Running out of memory is no answer of a case.

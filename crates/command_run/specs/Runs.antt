@@ -32,8 +32,8 @@ CarriesOut gives (Records file first many) old new writes = (read : Read) × giv
 CarriesOut gives (Check name workers) old new writes = writes (NoFile (AnswersReportOf AnswersReport gives old name.now new))
 CarriesOut gives (Graph name is_dot) old new writes = writes (NoFile (AnswersReportOf (AnswersGraph is_dot) gives old name.now new))
 CarriesOut gives (Run name) old new writes = writes (NoFile (AnswersReportOf AnswersRun gives old name.now new))
-CarriesOut gives (Draw name out first many) old new writes =
-    writes (λ text status bytes. AnswersDraw (record { from = first; count = many }) gives old name.now text status bytes new)
+CarriesOut gives (Draw name out first many is_page) old new writes =
+    writes (λ text status bytes. AnswersDraw (record { from = first; count = many; page = is_page }) gives old name.now text status bytes new)
 CarriesOut gives (Migrate file later out) old new writes = (read : Read) × gives old file.now read new × writes (AnswersMigration later read)
 CarriesOut gives (Wire one another out) old new writes =
     writes (λ text status bytes. AnswersWire gives old one.now another.now (option_map (λ name. name.now) out) text status bytes new)

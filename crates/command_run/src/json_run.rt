@@ -10,8 +10,8 @@ use crate::json_output::JsonOutput;
 use crate::output::Failed;
 use crate::run::{FAILED, answer_command, answer_heard, heard_notes};
 use crate::watch::Unwatched;
-use case_files::{RememberingSource, Source};
-use cause_notes::{Heard, write_note};
+use case_files::Source;
+use cause_notes::{Form, Heard, Notes, SearchingSource, write_note};
 use command_line::Command;
 use json_lines::JsonFault;
 use report_lines::Fault;
@@ -35,33 +35,45 @@ fn status_of(ended: io::Result<()>, status: u8) -> u8
 }
 
 /// Ends the lines with these notes, or with that of out of memory where an object wasn't made, and gives the exit status.
-fn end_lines<W: Write>(told: Told, out: &mut JsonOutput<'_, W>, notes: &str) -> u8
+fn end_lines<W: Write>(told: Told, out: &mut JsonOutput<'_, W>, notes: Notes) -> u8
     ensures { EndsAs told result }
 {
+    let Notes { text, left_open } = notes;
     match told {
-        Ok(status) => status_of(out.lines.end(notes), status),
+        Ok(status) => status_of(out.lines.end(text.as_str(), left_open), status),
         Err(Failed::Out(JsonFault::OutOfMemory)) => {
             status_of(out.lines.end_without_memory(), Fault::OutOfMemory.status())
         }
         Err(Failed::Out(JsonFault::Write(_))) => FAILED,
         Err(Failed::File(_)) => {
-            let _ = out.lines.end(notes);
+            let _ = out.lines.end(text.as_str(), left_open);
             FAILED
         }
     }
 }
 
 /// The notes beside what was told of a source: that of a file that can't be written, or those of what was heard.
-fn notes_beside<S: RememberingSource>(
+fn notes_beside<S: SearchingSource>(
     alloc: Global,
     command: &Command<'_>,
     heard: &Heard,
     source: &S,
     told: &Told,
-) -> Result<String, AllocError> {
+) -> Result<Notes, AllocError> {
     match told {
-        Err(Failed::File(error)) => write_note(alloc, command.out(), error),
-        _ => heard_notes(alloc, command, heard, source),
+        Err(Failed::File(error)) => {
+            let text = write_note(alloc, command.out(), error)?;
+            Ok(Notes::of_text(text))
+        }
+        _ => heard_notes(alloc, command, heard, source, Form::Json),
+    }
+}
+
+/// Those notes, or none where memory is refused for them.
+fn notes_or_none(alloc: Global, notes: Result<Notes, AllocError>) -> Notes {
+    match notes {
+        Ok(notes) => notes,
+        Err(AllocError) => Notes::of_text(String::new(alloc)),
     }
 }
 
@@ -81,11 +93,11 @@ pub fn run_as_json<R: Threads + Wait + Sync, S: Source, W: Write, F: Write>(
         (λ answers. Tells answers (Adds F.contents) file.old file.new result) }
 {
     let told = answer_command(rt, alloc, command, source, out, file);
-    end_lines(told, out, "")
+    end_lines(told, out, Notes::of_text(String::new(alloc)))
 }
 
-/// Runs a command as [`run_as_json`] does; its notes are told in the last object.
-pub fn run_as_json_with_notes<R: Threads + Wait + Sync, S: RememberingSource, W: Write, F: Write>(
+/// Runs a command as [`run_as_json`] does; its notes, and what is open at the end of good logs, are told in the last object.
+pub fn run_as_json_with_notes<R: Threads + Wait + Sync, S: SearchingSource, W: Write, F: Write>(
     rt: &R,
     alloc: Global,
     command: &Command<'_>,
@@ -104,8 +116,7 @@ pub fn run_as_json_with_notes<R: Threads + Wait + Sync, S: RememberingSource, W:
         watch: &Unwatched,
     };
     let told = answer_heard(&host, command, source, &mut heard, out, file);
-    match notes_beside(alloc, command, &heard, source, &told) {
-        Ok(notes) => end_lines(told, out, notes.as_str()),
-        Err(AllocError) => end_lines(told, out, ""),
-    }
+    let notes = notes_beside(alloc, command, &heard, source, &told);
+    heard.leave();
+    end_lines(told, out, notes_or_none(alloc, notes))
 }

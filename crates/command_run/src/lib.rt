@@ -22,6 +22,7 @@ mod output;
 mod run;
 mod watch;
 
+pub use cause_notes::SearchingSource;
 pub use json_output::JsonOutput;
 pub use json_run::{run_as_json, run_as_json_with_notes};
 pub use output::{Failed, Output};

@@ -20,8 +20,8 @@ use crate::commands::wire_files::{AskedWire, say_wire};
 use crate::host::Host;
 use crate::output::{Failed, Output};
 use crate::watch::{Unwatched, Watch};
-use case_files::{RememberingSource, Source};
-use cause_notes::{Heard, notes_of, write_note};
+use case_files::Source;
+use cause_notes::{Form, Heard, Notes, SearchingSource, notes_of, write_note};
 use command_line::Command;
 use picture::Asked;
 use std::alloc::{AllocError, Global};
@@ -78,11 +78,13 @@ pub(crate) fn answer_heard<
             case,
             from,
             count,
+            html,
             ..
         } => {
             let asked = Asked {
                 from: *from,
                 count: *count,
+                page: *html,
             };
             say_drawn(host, case, asked, source, heard, out, file)
         }
@@ -154,7 +156,14 @@ pub fn answer_command<R: Threads + Wait + Sync, S: Source, O: Output, F: Output>
         alloc,
         watch: &Unwatched,
     };
-    answer_heard(&host, command, source, &mut Heard::new(), out, file)
+    answer_heard(
+        &host,
+        command,
+        source,
+        &mut Heard::without_notes(),
+        out,
+        file,
+    )
 }
 
 /// Runs a command over std's writers: as `answer_command`, and the exit status is 2 where a write fails.
@@ -185,30 +194,31 @@ pub struct NotedSource<'a, S, N, G> {
     pub watch: &'a G,
 }
 
-/// The notes beside what was heard of a source.
-pub(crate) fn heard_notes<S: RememberingSource>(
+/// What people are told beside what was heard of a source.
+pub(crate) fn heard_notes<S: SearchingSource>(
     alloc: Global,
     command: &Command<'_>,
     heard: &Heard,
     source: &S,
-) -> Result<String, AllocError> {
+    form: Form,
+) -> Result<Notes, AllocError> {
     let hex = match command {
         Command::Frame { hex, .. } => Some(*hex),
         _ => None,
     };
-    notes_of(alloc, heard, source, hex)
+    notes_of(alloc, heard, source, hex, form)
 }
 
 /// Writes the notes beside what was heard of a source. Where a write fails, or memory is refused for them, they are left out.
-fn write_notes<S: RememberingSource, N: Write>(
+fn write_notes<S: SearchingSource, N: Write>(
     alloc: Global,
     command: &Command<'_>,
     heard: &Heard,
     source: &S,
     notes: &mut N,
 ) {
-    if let Ok(text) = heard_notes(alloc, command, heard, source) {
-        let _ = notes.write_all(text.as_bytes());
+    if let Ok(told) = heard_notes(alloc, command, heard, source, Form::Text) {
+        let _ = notes.write_all(told.text.as_bytes());
     }
 }
 
@@ -236,7 +246,7 @@ fn write_failure<N: Write>(
 pub fn run_with_notes<
     R: Threads + Wait + Sync,
     G: Watch + Sync,
-    S: RememberingSource,
+    S: SearchingSource,
     W: Write,
     F: Write,
     N: Write,
@@ -261,6 +271,7 @@ pub fn run_with_notes<
     };
     let answered = answer_heard(&host, command, &mut noted.source, &mut heard, out, file);
     write_notes(alloc, command, &heard, &noted.source, &mut noted.notes);
+    heard.leave();
     write_failure(alloc, command, &answered, &mut noted.notes);
     answered.unwrap_or(FAILED)
 }

@@ -91,27 +91,36 @@ impl<'a, W: Write> JsonLines<'a, W> {
         self.out.write_all(bytes)
     }
 
-    /// Adds notes to the last object, or to one of their own where there is none.
-    fn add_notes(&mut self, notes: &str) -> Result<(), AllocError> {
-        let list = note_list(self.alloc, notes)?;
+    /// Adds a member to the last object, or to one of its own where there is none.
+    fn add_member(&mut self, name: &str, member: Value) -> Result<(), AllocError> {
         let mut object = match self.held.take() {
             Some(object) => object,
             None => Value::Object(Map::new(self.alloc)),
         };
-        let added = put_member(self.alloc, &mut object, "notes", list);
+        let added = put_member(self.alloc, &mut object, name, member);
         self.held = Some(object);
         added
     }
 
-    /// Ends the lines: the notes, which stand in a text, each a line behind the word `note`, go to the last object, or make
-    /// one of their own where there is none. Where memory is refused for them they are left out.
+    /// Adds notes.
+    fn add_notes(&mut self, notes: &str) -> Result<(), AllocError> {
+        let list = note_list(self.alloc, notes)?;
+        self.add_member("notes", list)
+    }
+
+    /// Ends the lines: the notes, which stand in a text, each a line behind the word `note`, and what is open at the end of good
+    /// logs go to the last object, or make one of their own where there is none. Where memory is refused for them they are left
+    /// out.
     ///
     /// # Errors
     ///
     /// That of a write.
-    pub fn end(&mut self, notes: &str) -> io::Result<()> {
+    pub fn end(&mut self, notes: &str, left_open: Option<Value>) -> io::Result<()> {
         if !notes.is_empty() {
             let _ = self.add_notes(notes);
+        }
+        if let Some(left_open) = left_open {
+            let _ = self.add_member("open", left_open);
         }
         self.write_held()?;
         self.out.flush()

@@ -3,3 +3,4 @@ pub mod Released
 pub mod Wrapping
 pub mod Listing
 pub mod Writing
+pub mod Flowing

@@ -1,5 +1,7 @@
 pub mod Places
+pub mod Flow
 pub mod Rows
 pub mod Labels
 pub mod Picture
+pub mod Page
 pub mod Glue

@@ -1,21 +1,21 @@
 -- The text of a picture: an SVG in which each column, row and arrow is drawn, and nothing else but the line of `check`, the
 -- sentence of what is broken, and how many steps are left out.
-use Rattle.std.specs.Prelude.{◌≡◌, ℕ, ◌+◌, ◌-◌, ◌*◌, ◌==◌, Bool, List, [], ◌∷◌, ◌++◌, fold, length, encode_utf8, Option, Some, None, is_some, if◌then◌else◌, codes, IfSome}
+use Rattle.std.specs.Prelude.{◌≡◌, ℕ, ◌+◌, ◌-◌, ◌*◌, ◌==◌, Bool, false, List, [], ◌∷◌, ◌++◌, fold, length, encode_utf8, Option, Some, None, is_some, if◌then◌else◌, codes, IfSome}
 use Rattle.std.specs.Fmt.{decimal}
 use Rattle.std.specs.List.{flat_map}
 use Rattle.std.specs.Option.{option_copied}
-use Rattle.vat_log.specs.Log.{Log}
 use Rattle.rpc_view.specs.declared.message.RpcMessage.{RpcMessage}
 use Rattle.run_model.specs.declared.step.Step.{Step}
-use Rattle.merge_order.specs.Fits.{BeginsLeast}
 use Rattle.case_book.specs.Case.{Contents}
 use Rattle.audit_core.specs.declared.report.Report.{Report}
 use Rattle.audit_core.specs.declared.report.Report.TheVariants as reports
 use Rattle.report_lines.specs.Lines.{breach_code, report_text}
 use Rattle.report_lines.specs.Sentences.{IsLine}
 use Rattle.picture.specs.Places.{completed, passage_of}
+use Rattle.picture.specs.Flow.{flow_of}
 use Rattle.picture.specs.Labels.{label_text}
 use Rattle.picture.specs.Rows.{Drawn, arrows_of, columns_of, ends_line, greater_of, least_of, lines_of, room_in, rows_of, scene_of}
+use Rattle.picture.specs.declared.place.Place.{Place}
 use Rattle.picture.specs.declared.window.Asked.{Asked}
 use Rattle.picture.specs.declared.window.Gap.{Gap}
 use Rattle.picture.specs.declared.row.Tone.{Tone}
@@ -126,6 +126,18 @@ abbrev pub row_text : Drawn → List ℕ
 row_text row = circle_text (tone_word row.tone) (mark_word row.message) (point_at row.column row.line)
     ++ words_text (words_at row) (label_text row.place.number row.body row.message)
 
+-- the name of a record, in the names of its rows
+abbrev pub place_text : Place → List ℕ
+place_text place = decimal place.vat ++ (codes "-" ++ decimal place.number)
+
+-- a row that leads to the row of its record in a table
+abbrev pub linked_text : Drawn → List ℕ
+linked_text row = codes "<a id='row-" ++ (place_text row.place ++ (codes "' href='#record-" ++ (place_text row.place ++ (codes "'>" ++ (row_text row ++ codes "</a>\n")))))
+
+-- a row, on a page or in a picture alone
+abbrev pub shape_text : Bool → Drawn → List ℕ
+shape_text linked row = if linked then linked_text row else row_text row
+
 -- ---- beside them
 
 -- the code of the rule that is broken
@@ -202,13 +214,17 @@ head_text told = codes "<text class='head' x='60' y='30'>" ++ (report_text told 
 abbrev pub sentence_of : Picture → Option (List ℕ)
 sentence_of picture = option_copied picture.sentence
 
--- all of it
-abbrev pub picture_text : Picture → List ℕ
-picture_text picture = opening picture.width (height_of picture.lines) ++ (style ++ (flat_map (band_text (room_in picture.gap)) picture.rows.items
+-- all of it, with rows that lead to those of a table, or without
+abbrev pub svg_text : Bool → Picture → List ℕ
+svg_text linked picture = opening picture.width (height_of picture.lines) ++ (style ++ (flat_map (band_text (room_in picture.gap)) picture.rows.items
     ++ (head_text picture.report.now ++ (flat_map column_text picture.columns.items
-    ++ (left_out_text picture.above (codes "above") 76 ++ (flat_map arrow_text picture.arrows.items ++ (flat_map row_text picture.rows.items
+    ++ (left_out_text picture.above (codes "above") 76 ++ (flat_map arrow_text picture.arrows.items ++ (flat_map (shape_text linked) picture.rows.items
     ++ (sentence_text picture.report.now picture.gap (sentence_of picture)
     ++ (left_out_text picture.below (codes "below") (y_of picture.lines + 34) ++ codes "</svg>\n")))))))))
+
+-- a picture alone
+abbrev pub picture_text : Picture → List ℕ
+picture_text picture = svg_text false picture
 
 -- ---- the picture of a case
 
@@ -228,11 +244,11 @@ farthest least rows = fold (λ far row. greater_of far (row_end row)) least rows
 abbrev pub width_of : ℕ → Option (List ℕ) → List Drawn → ℕ
 width_of vats sentence rows = farthest (greater_of (x_of vats) (sentence_end sentence)) rows
 
--- an order in which the records of a case are drawn: the one that is given, or else the one that takes the smallest vat
--- number that may come at each step, as far as it goes; and behind it what it leaves
-abbrev pub IsArranged : List Log → Option (List ℕ) → List ℕ → Type 0
-IsArranged logs (Some given) order = order ≡ completed logs given
-IsArranged logs None order = (begun : List ℕ) × BeginsLeast logs begun × (order ≡ completed logs begun)
+-- the order in which the records of a case are drawn: the one that is given, or else the one in which each frame is received
+-- as soon as may be, as far as it goes; and behind it what it leaves
+abbrev pub arranged : Contents → Option (List ℕ) → List ℕ
+arranged held (Some given) = completed held.logs given
+arranged held None = completed held.logs (flow_of held.links held.logs)
 
 -- what a picture shows: the columns of all vats, the rows of the window, and the arrows of their messages
 pub record IsPictureOf (held : Contents) (order : List ℕ) (told : Report) (steps : List Step) (asked : Asked) (picture : Picture) : Type 0 where

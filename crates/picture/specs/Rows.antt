@@ -72,19 +72,26 @@ least_of a b = if nat_lt a b then a else b
 abbrev pub greater_of : ℕ → ℕ → ℕ
 greater_of a b = if nat_lt a b then b else a
 
--- how many steps are wanted: two hundred, or fewer where fewer are asked for
-abbrev pub wanted_of : Option ℕ → ℕ
-wanted_of None = 200
-wanted_of (Some count) = least_of count 200
+-- how many rows are drawn at most: two hundred in a picture, five thousand on a page
+abbrev pub limit_of : Bool → ℕ
+limit_of page = if page then 5000 else 200
+
+-- how many steps are wanted: as many as are drawn at most, or fewer where fewer are asked for
+abbrev pub wanted_in : ℕ → Option ℕ → ℕ
+wanted_in limit None = limit
+wanted_in limit (Some count) = least_of count limit
+
+abbrev pub wanted_of : Asked → ℕ
+wanted_of asked = wanted_in (limit_of asked.page) asked.count
 
 -- the first step that is drawn, of so many: the one that is asked for, or the one that has half of those that are wanted
 -- between it and the step that the verdict names
 abbrev pub first_of : ℕ → ℕ → Asked → ℕ
-first_of steps middle asked = least_of (unwrap_or asked.from (middle - wanted_of asked.count / 2)) steps
+first_of steps middle asked = least_of (unwrap_or asked.from (middle - wanted_of asked / 2)) steps
 
 -- the steps that are drawn from the first one on
 abbrev pub window_from : ℕ → ℕ → Asked → Window
-window_from steps first asked = record { from = first; count = least_of (wanted_of asked.count) (steps - first) }
+window_from steps first asked = record { from = first; count = least_of (wanted_of asked) (steps - first) }
 
 -- the window of so many steps
 abbrev pub window_of : ℕ → ℕ → Asked → Window

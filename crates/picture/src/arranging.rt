@@ -4,11 +4,12 @@ ghost use Rattle.std.specs.Prelude.{◌≡◌, ◌++◌, map, replicate, IfOk};
 ghost use Rattle.std.specs.Arc.{arc_value};
 ghost use Rattle.std.specs.Option.{option_copied};
 ghost use Rattle.picture.specs.Places.{completed, steps_left};
-ghost use Rattle.picture.specs.Picture.{IsArranged};
+ghost use Rattle.picture.specs.Picture.{arranged};
 
 use crate::orders::steps_of;
+use crate::turns::flow_of;
 use case_book::Case;
-use merge_order::{Order, begin_order};
+use merge_order::Order;
 use std::alloc::{AllocError, Global};
 use std::sync::Arc;
 use vat_log::VatLog;
@@ -43,21 +44,21 @@ fn completed(alloc: Global, order: &[u32], logs: &[Arc<VatLog>]) -> Result<Vec<u
     Ok(all)
 }
 
-/// The order in which the records of a case are drawn: the order that is given, or else the one by which the case is judged,
-/// as far as it goes; and behind it what it leaves, by rising vat number.
+/// The order in which the records of a case are drawn: the order that is given, or else the one in which each frame is
+/// received as soon as may be, as far as it goes; and behind it what it leaves, by rising vat number.
 ///
 /// # Errors
 ///
 /// Out of memory.
 pub fn arrange(alloc: Global, case: &Case, given: Option<&Order>) -> Result<Vec<u32>, AllocError>
     ensures { IfOk result
-        (λ all. IsArranged case.now.logs (option_copied given.entry) all.items) }
+        (λ all. all.items ≡ arranged case.now (option_copied given.entry)) }
 {
     match given {
         Some(order) => completed(alloc, order.as_slice(), case.logs()),
         None => {
-            let begun = begin_order(alloc, case.logs())?;
-            completed(alloc, begun.as_slice(), case.logs())
+            let begun = flow_of(alloc, case.links(), case.logs())?;
+            completed(alloc, &begun, case.logs())
         }
     }
 }

@@ -26,14 +26,14 @@ pub enum Reach {
         /// Its column, counted from 0.
         column: u32,
         /// Its line, counted from 0.
-        line: u16,
+        line: u32,
     },
     /// In a record below those that are drawn.
     Below {
         /// Its column, counted from 0.
         column: u32,
         /// The line below the last one.
-        line: u16,
+        line: u32,
     },
     /// In a record above those that are drawn.
     Above {
@@ -63,7 +63,7 @@ pub struct Arrow {
     /// The column of the row, counted from 0.
     pub column: u32,
     /// The line of the row, counted from 0.
-    pub line: u16,
+    pub line: u32,
     /// Whether the row sends the message.
     pub sent: bool,
     /// Where its other end is.
@@ -123,7 +123,7 @@ fn reach_away(scene: &Scene<'_>, sent: bool, column: u32) -> Reach
 }
 
 /// Where an arrow ends in this column.
-fn reach_in(scene: &Scene<'_>, sent: bool, column: u32, row: Option<u8>) -> Reach
+fn reach_in(scene: &Scene<'_>, sent: bool, column: u32, row: Option<u16>) -> Reach
     ensures { result ≡ reach_in scene.now sent column row }
 {
     match row {

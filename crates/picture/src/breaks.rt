@@ -41,7 +41,7 @@ fn room_of(sentence: Option<&str>) -> u8
 }
 
 /// The row at fault, and the lines below it that the sentence takes.
-pub fn gap_of(sentence: Option<&str>, row: Option<u8>) -> Option<Gap>
+pub fn gap_of(sentence: Option<&str>, row: Option<u16>) -> Option<Gap>
     ensures { result ≡ gap_of (option_copied sentence.entry) row }
 {
     match row {

@@ -18,11 +18,11 @@ pub struct Column {
     /// Which column it is, counted from 0.
     pub column: u32,
     /// The line below the last row, to which it goes.
-    pub line: u16,
+    pub line: u32,
 }
 
 /// The column of a log's vat, among these.
-fn column_at(logs: &[Arc<VatLog>], line: u16, log: &VatLog) -> Column
+fn column_at(logs: &[Arc<VatLog>], line: u32, log: &VatLog) -> Column
     requires { length logs.now ≤ vat_limit }
     ensures { result ≡ column_at (map arc_value logs.now) line log.now }
 {
@@ -35,7 +35,7 @@ fn column_at(logs: &[Arc<VatLog>], line: u16, log: &VatLog) -> Column
 }
 
 /// The columns of these logs' vats.
-pub fn columns_of(alloc: Global, logs: &[Arc<VatLog>], line: u16) -> Result<Vec<Column>, AllocError>
+pub fn columns_of(alloc: Global, logs: &[Arc<VatLog>], line: u32) -> Result<Vec<Column>, AllocError>
     requires { length logs.now ≤ vat_limit }
     ensures { IfOk result (λ columns. columns.items ≡ columns_of (map arc_value logs.now) line) }
 {

@@ -30,7 +30,7 @@ pub struct Picture<'a> {
     /// The row that the verdict names, and the lines below it for the sentence.
     pub gap: Option<Gap>,
     /// How many lines there are.
-    pub lines: u16,
+    pub lines: u32,
     /// How many steps there are above the first row.
     pub above: usize,
     /// How many steps there are below the last row.

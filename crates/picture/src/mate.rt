@@ -24,7 +24,7 @@ fn other_end_of(link: &Link, vat: u32) -> Option<u32>
 }
 
 /// The vat at the other end of a connection.
-fn other_end(links: &[Link], connection: u32, vat: u32) -> Option<u32>
+pub fn other_end(links: &[Link], connection: u32, vat: u32) -> Option<u32>
     ensures { result ≡ other_end links.now connection vat }
 {
     for link in links {

@@ -42,7 +42,7 @@ pub struct Row<'a> {
     /// The column of its vat, counted from 0.
     pub(crate) column: u32,
     /// The line on which it stands, counted from 0.
-    pub(crate) line: u16,
+    pub(crate) line: u32,
     /// What the record says.
     pub(crate) body: &'a Body,
     /// Its message.
@@ -110,7 +110,7 @@ fn tone_of(scene: &Scene<'_>, place: Place) -> Tone
 fn drawn<'a>(
     alloc: Global,
     scene: &Scene<'a>,
-    row: u8,
+    row: u16,
     place: Place,
     log: &VatLog,
     body: &'a Body,
@@ -134,7 +134,7 @@ fn drawn<'a>(
 fn drawn_in<'a>(
     alloc: Global,
     scene: &Scene<'a>,
-    row: u8,
+    row: u16,
     place: Place,
     log: &'a VatLog,
 ) -> Result<Option<Row<'a>>, AllocError>
@@ -150,7 +150,7 @@ fn drawn_in<'a>(
 fn drawn_at<'a>(
     alloc: Global,
     scene: &Scene<'a>,
-    row: u8,
+    row: u16,
     place: Place,
 ) -> Result<Option<Row<'a>>, AllocError>
     ensures { IfOk result (λ made. made ≡ drawn_at scene.now row place) }
@@ -163,7 +163,7 @@ fn drawn_at<'a>(
 }
 
 /// The row of this number, where its step has a record.
-fn row_at<'a>(alloc: Global, scene: &Scene<'a>, row: u8) -> Result<Option<Row<'a>>, AllocError>
+fn row_at<'a>(alloc: Global, scene: &Scene<'a>, row: u16) -> Result<Option<Row<'a>>, AllocError>
     requires within { scene.now.window.from + scene.now.window.count ≤ length scene.now.order }
     requires row { row < scene.now.window.count }
     ensures { IfOk result (λ made. made ≡ row_at scene.now row) }

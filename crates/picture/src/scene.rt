@@ -65,7 +65,7 @@ fn maker_named(steps: &[Step], place: Option<Place>) -> Option<Maker>
 }
 
 /// The row of this record, if there is one.
-fn row_named(order: &[u32], window: Window, place: Option<Place>) -> Option<u8>
+fn row_named(order: &[u32], window: Window, place: Option<Place>) -> Option<u16>
     ensures { result ≡ option_and_then (row_of order.now window) place }
 {
     match place {

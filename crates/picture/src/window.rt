@@ -1,7 +1,7 @@
 //! Which steps of an order are drawn.
 
 ghost use Rattle.std.specs.Prelude.{◌≡◌, ◌≤◌, ◌+◌};
-ghost use Rattle.picture.specs.Rows.{first_of, least_of, line_of, lines_of, middle_of, room_in, row_in, row_of, wanted_of, window_of};
+ghost use Rattle.picture.specs.Rows.{first_of, least_of, limit_of, line_of, lines_of, middle_of, room_in, row_in, row_of, wanted_of, window_of};
 
 use crate::orders::step_of;
 use crate::place::Place;
@@ -11,8 +11,11 @@ use crate::place::Place;
 pub struct Asked {
     /// The first step, counted from 0. Where there is none, the step that the verdict names is in the middle.
     pub from: Option<u64>,
-    /// How many steps; what goes past the last one is left out, and so is what goes past 200. Where there is none, 200.
+    /// How many steps; what goes past the last one is left out, and so is what goes past the limit. Where there is none, as
+    /// many as the limit.
     pub count: Option<u64>,
+    /// Whether they are drawn on a page, which has at most 5,000 rows, and not in a picture alone, which has at most 200.
+    pub page: bool,
 }
 
 /// Steps of an order that follow one another: those that are drawn.
@@ -21,14 +24,14 @@ pub struct Window {
     /// The first step, counted from 0.
     pub from: usize,
     /// How many steps there are.
-    pub count: u8,
+    pub count: u16,
 }
 
 /// A row at fault, and the lines below it on which no row stands: they are for the sentence of what is broken.
 #[derive(Clone, Copy, Debug)]
 pub struct Gap {
     /// The row, counted from 0.
-    pub row: u8,
+    pub row: u16,
     /// How many lines are free.
     pub room: u8,
 }
@@ -40,14 +43,23 @@ pub fn least_of(one: usize, other: usize) -> usize
     if one < other { one } else { other }
 }
 
-/// How many steps are wanted: 200, or fewer where fewer are asked for.
-fn wanted_of(count: Option<u64>) -> usize
-    ensures wanted { result ≡ wanted_of count }
-    ensures few { result ≤ 200 }
+/// How many rows are drawn at most: in a picture, or on a page.
+pub fn limit_of(page: bool) -> usize
+    ensures limit { result ≡ limit_of page }
+    ensures few { result ≤ 5000 }
 {
-    match count {
-        Some(count) => least_of(count as usize, 200),
-        None => 200,
+    if page { 5000 } else { 200 }
+}
+
+/// How many steps are wanted: as many as are drawn at most, or fewer where fewer are asked for.
+fn wanted_of(asked: Asked) -> usize
+    ensures wanted { result ≡ wanted_of asked }
+    ensures few { result ≤ 5000 }
+{
+    let limit = limit_of(asked.page);
+    match asked.count {
+        Some(count) => least_of(count as usize, limit),
+        None => limit,
     }
 }
 
@@ -59,7 +71,7 @@ fn first_of(steps: usize, middle: usize, asked: Asked) -> usize
 {
     let first = match asked.from {
         Some(from) => from as usize,
-        None => middle.saturating_sub(wanted_of(asked.count) / 2),
+        None => middle.saturating_sub(wanted_of(asked) / 2),
     };
     least_of(first, steps)
 }
@@ -70,7 +82,7 @@ pub fn window_of(steps: usize, middle: usize, asked: Asked) -> Window
     ensures within { result.from + result.count ≤ steps }
 {
     let from = first_of(steps, middle, asked);
-    let count = least_of(wanted_of(asked.count), steps - from) as u8;
+    let count = least_of(wanted_of(asked), steps - from) as u16;
     Window { from, count }
 }
 
@@ -88,18 +100,18 @@ pub fn middle_of(order: &[u32], place: Option<Place>) -> usize
 }
 
 /// The row of a step, counted from 0, where it is in the window.
-fn row_in(window: Window, step: usize) -> Option<u8>
+fn row_in(window: Window, step: usize) -> Option<u16>
     ensures { result ≡ row_in window step }
 {
     if window.from <= step && step - window.from < window.count as usize {
-        Some((step - window.from) as u8)
+        Some((step - window.from) as u16)
     } else {
         None
     }
 }
 
 /// The row of a record, where it is in the window.
-pub fn row_of(order: &[u32], window: Window, place: Place) -> Option<u8>
+pub fn row_of(order: &[u32], window: Window, place: Place) -> Option<u16>
     ensures { result ≡ row_of order.now window place }
 {
     match step_of(order, place) {
@@ -109,12 +121,12 @@ pub fn row_of(order: &[u32], window: Window, place: Place) -> Option<u8>
 }
 
 /// The line of a row: further down, below the row at fault.
-pub fn line_of(gap: Option<Gap>, row: u8) -> u16
+pub fn line_of(gap: Option<Gap>, row: u16) -> u32
     ensures { result ≡ line_of gap row }
 {
     match gap {
-        Some(gap) if gap.row < row => row as u16 + gap.room as u16,
-        _ => row as u16,
+        Some(gap) if gap.row < row => row as u32 + gap.room as u32,
+        _ => row as u32,
     }
 }
 
@@ -129,8 +141,8 @@ pub fn room_in(gap: Option<Gap>) -> u8
 }
 
 /// How many lines so many rows have.
-pub fn lines_of(gap: Option<Gap>, rows: u8) -> u16
+pub fn lines_of(gap: Option<Gap>, rows: u16) -> u32
     ensures { result ≡ lines_of gap rows }
 {
-    rows as u16 + room_in(gap) as u16
+    rows as u32 + room_in(gap) as u32
 }

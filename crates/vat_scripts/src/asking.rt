@@ -54,7 +54,7 @@ pub fn ask<R: Threads + Wait + Sync>(
     }
 }
 
-/// Appends what a picture draws: its lines behind those that all pictures begin with.
+/// Appends what a picture or a page draws: its lines behind those that all pictures begin with.
 fn put_picture(text: &mut String, made: &[u8]) -> Result<(), Fault> {
     let svg = std::str::from_utf8(made).map_err(|_| Fault::Unread)?;
     let Some((_, drawn)) = svg.split_once("<rect class='paper' width='100%' height='100%'/>\n")
@@ -93,7 +93,7 @@ fn put_order_or_log(text: &mut String, made: &[u8]) -> Result<(), AllocError> {
 
 /// Appends what was made.
 fn put_made(text: &mut String, made: &[u8]) -> Result<(), Fault> {
-    if made.starts_with(b"<svg") {
+    if made.starts_with(b"<svg") || made.starts_with(b"<!DOCTYPE html>") {
         put_picture(text, made)
     } else {
         put_order_or_log(text, made)?;
@@ -114,7 +114,7 @@ fn text_of(alloc: Global, told: &Told) -> Result<String, Fault> {
 }
 
 /// What the run that a conversation asks for prints, with `made V V ..` behind it where it wrote an order, or `made a log of N bytes`, of version 2 or, where it says so, 3, or
-/// the lines of a picture, and its status as a last line.
+/// the lines of a picture or of a page, and its status as a last line.
 pub fn answer<R: Threads + Wait + Sync>(
     rt: &R,
     alloc: Global,

@@ -5,6 +5,7 @@ mod audits;
 mod books;
 mod cases;
 mod edges;
+mod ends;
 mod faults;
 mod frames;
 mod given;

@@ -4,6 +4,7 @@ ghost use Rattle.std.specs.Prelude.{◌≡◌, ◌<◌, ◌≤◌, length, IfErr
 
 use bytes::Bytes;
 use case_files::{RememberingSource, Source, SourceError};
+use command_run::SearchingSource;
 use std::alloc::{AllocError, Global};
 use std::fs::{self, OpenFile};
 use std::io::{self, ErrorKind, Read};
@@ -177,5 +178,11 @@ impl<R: Files + Input + AllocGlobal> RememberingSource for RememberingFolder<'_,
 
     fn kept(&self) -> &[(String, Bytes)] {
         &self.kept
+    }
+}
+
+impl<R: Files + Input + AllocGlobal> SearchingSource for RememberingFolder<'_, R> {
+    fn has(&self, name: &str) -> bool {
+        fs::exists(self.rt, name).unwrap_or(false)
     }
 }

@@ -3,6 +3,7 @@
 use crate::progress::Progress;
 use bytes::Bytes;
 use case_files::{RememberingSource, Source, SourceError};
+use command_run::SearchingSource;
 use std::io;
 use std::io::{Eprint, Write};
 use std::sync::Wait;
@@ -35,6 +36,12 @@ impl<S: RememberingSource> RememberingSource for CountedSource<'_, S> {
 
     fn kept(&self) -> &[(String, Bytes)] {
         self.source.kept()
+    }
+}
+
+impl<S: SearchingSource> SearchingSource for CountedSource<'_, S> {
+    fn has(&self, name: &str) -> bool {
+        self.source.has(name)
     }
 }
 

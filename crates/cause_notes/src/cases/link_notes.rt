@@ -312,7 +312,7 @@ fn put_if_crossed(
     )
 }
 
-/// Appends the notes of what was sent on other connections, where it is what was received on this one.
+/// Appends the notes of what others sent on other connections, where it is what was received on this one.
 fn put_crossed(
     alloc: Global,
     text: &mut String,
@@ -331,7 +331,9 @@ fn put_crossed(
                     connection,
                     sent: true,
                 };
-                put_if_crossed(alloc, text, sent, received)?;
+                if log.vat() != received.log.vat() {
+                    put_if_crossed(alloc, text, sent, received)?;
+                }
             }
         }
     }

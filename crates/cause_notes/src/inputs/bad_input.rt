@@ -2,6 +2,7 @@
 
 use crate::inputs::bad_case::{put_form, put_refused, put_untied};
 use crate::inputs::file_kind::{FileKind, kind_of};
+use crate::inputs::unread::{SearchingSource, put_unread};
 use crate::logs::Logs;
 use bytes::Bytes;
 use cap_frame::FrameError;
@@ -145,18 +146,6 @@ fn put_bad<S: RememberingSource>(
     }
 }
 
-/// Appends the note of the file that was asked for last and can't be read, with the system's reason, where it is kept.
-fn put_unread<S: RememberingSource>(text: &mut String, source: &S) -> Result<(), AllocError> {
-    let Some(name) = source.last() else {
-        return Ok(());
-    };
-    let name = name.escape_debug();
-    match source.refusal() {
-        Some(why) => write!(text, "note: cannot read {name}: {why}\n"),
-        None => write!(text, "note: cannot read {name}\n"),
-    }
-}
-
 /// Appends the note of a word that isn't hexadecimal.
 fn put_hex(alloc: Global, text: &mut String, hex: Option<&str>) -> Result<(), AllocError> {
     let Some(hex) = hex else {
@@ -237,7 +226,7 @@ fn put_frame<S: RememberingSource>(
 }
 
 /// Appends the notes of a fault of the input.
-pub(crate) fn put_fault<S: RememberingSource>(
+pub(crate) fn put_fault<S: SearchingSource>(
     alloc: Global,
     text: &mut String,
     source: &S,
@@ -249,7 +238,7 @@ pub(crate) fn put_fault<S: RememberingSource>(
         findings: None,
     };
     match fault {
-        Fault::CannotRead => put_unread(text, source),
+        Fault::CannotRead => put_unread(alloc, text, source),
         Fault::OutOfMemory => Ok(()),
         Fault::BadHex => put_hex(alloc, text, hex),
         Fault::Log(_) | Fault::Order(_) | Fault::Form => put_bad(alloc, text, source, fault),

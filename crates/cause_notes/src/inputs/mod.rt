@@ -3,3 +3,4 @@
 pub(crate) mod bad_case;
 pub(crate) mod bad_input;
 pub(crate) mod file_kind;
+pub(crate) mod unread;

@@ -1,9 +1,9 @@
-//! What became of a call at a vat.
+//! What became of calls at a vat.
 
-use crate::reading::message_at;
 use rpc_view::RpcMessage;
 use std::alloc::{AllocError, Global};
-use vat_log::{Body, VatLog};
+use std::collections::BTreeMap;
+use vat_view::DecodedRecord;
 
 /// What became last of a call at a vat.
 #[derive(Clone, Copy, Debug)]
@@ -25,59 +25,47 @@ pub(super) enum Fate {
     },
 }
 
-/// How a record of a log sends a call on, if it is a Call.
-fn sent_on(
-    alloc: Global,
-    log: &VatLog,
-    at: usize,
-    connection: u32,
-) -> Result<Option<Fate>, AllocError> {
-    match message_at(alloc, log, at)? {
-        Some(Ok(RpcMessage::Call { question, .. })) => Ok(Some(Fate::SentOn {
-            at,
-            connection,
-            question,
-        })),
-        _ => Ok(None),
-    }
-}
-
-/// What a record does to a call, if it does something.
-fn step_at(
-    alloc: Global,
-    log: &VatLog,
-    at: usize,
-    sought: u64,
-) -> Result<Option<Fate>, AllocError> {
-    let Some(stored) = log.get(at) else {
-        return Ok(None);
-    };
-    match stored.body() {
-        Body::Deliver { call, .. } if *call == sought => Ok(Some(Fate::Delivered(at))),
-        Body::Answer { call, .. } if *call == sought => Ok(Some(Fate::Ended(at))),
-        Body::AnswerBy { call, .. } if *call == sought => Ok(Some(Fate::Ended(at))),
-        Body::Fault { call } if *call == sought => Ok(Some(Fate::Ended(at))),
-        Body::Send {
+/// The call that the record of this number brings further, if it does, and how.
+fn step_of(at: usize, event: &DecodedRecord) -> Option<(u64, Fate)> {
+    match event {
+        DecodedRecord::Deliver { call, .. } => Some((*call, Fate::Delivered(at))),
+        DecodedRecord::Answer { call, .. }
+        | DecodedRecord::AnswerBy { call, .. }
+        | DecodedRecord::Fault { call } => Some((*call, Fate::Ended(at))),
+        DecodedRecord::Wire {
+            sent: true,
             connection,
             call,
+            message: RpcMessage::Call { question, .. },
             ..
-        } if *call == sought => sent_on(alloc, log, at, *connection),
-        _ => Ok(None),
+        } => {
+            let fate = Fate::SentOn {
+                at,
+                connection: *connection,
+                question: *question,
+            };
+            Some((*call, fate))
+        }
+        _ => None,
     }
 }
 
-/// What became last of a call that came to a vat by this record of its log.
-pub(super) fn fate_of(
+/// What became last of these calls at a vat, which stand by rising number. Those that wait aren't among them.
+pub(super) fn fates_in(
     alloc: Global,
-    log: &VatLog,
-    call: u64,
-    from: usize,
-) -> Result<Fate, AllocError> {
-    let mut fate = Fate::Waits;
-    for at in from..log.len() {
-        if let Some(next) = step_at(alloc, log, at, call)? {
-            fate = next;
+    events: &[DecodedRecord],
+    calls: &[u64],
+) -> Result<BTreeMap<u64, Fate>, AllocError> {
+    let mut fates = BTreeMap::new(alloc);
+    if calls.is_empty() {
+        return Ok(fates);
+    }
+    for (at, event) in events.iter().enumerate() {
+        if let Some((call, fate)) = step_of(at, event) {
+            if calls.binary_search(&call).is_ok() {
+                fates.insert(call, fate)?;
+            }
         }
     }
-    Ok(fate)
+    Ok(fates)
 }

@@ -1,11 +1,9 @@
 //! The notes of what is open at the end of good logs.
 
-use crate::left::call_ways::{Sent, put_fate, put_way};
-use crate::left::good_case::GoodCase;
+use crate::left::call_ways::{put_way, way_of};
 use crate::left::open_case::{OpenCase, OpenLog};
 use crate::left::open_counts::OpenCounts;
 use crate::left::under_way::put_under_way;
-use bytes::Bytes;
 use left_open::Open;
 use std::alloc::{AllocError, Global};
 use std::fmt::Write;
@@ -14,22 +12,12 @@ use vat_view::TableKey;
 /// How many of a kind are told at most.
 pub(super) const MOST: usize = 5;
 
-/// Whether something is told at this vat: what it opened itself, unless it sent on what it was asked; and what a peer opened
-/// whose log isn't there.
-fn is_told(case: &OpenCase<'_>, log: &OpenLog, number: TableKey, call: u64) -> bool {
-    if number.ours {
-        !log.was_asked(call)
-    } else {
-        case.peer_of(log.log.vat(), number.connection).is_none()
-    }
-}
-
 /// Appends the note of a question without a Return.
 fn put_question(
     alloc: Global,
     text: &mut String,
     case: &OpenCase<'_>,
-    log: &OpenLog,
+    log: &OpenLog<'_>,
     question: TableKey,
     call: u64,
     at: usize,
@@ -40,26 +28,12 @@ fn put_question(
         number,
         ours,
     } = question;
-    write!(text, "note: call {call} of vat {vat} has no Return: ")?;
-    if ours {
-        write!(
-            text,
-            "it was sent by record {at} as question {number} of connection {connection}"
-        )?;
-        let sent = Sent {
-            vat,
-            connection,
-            question: number,
-            at,
-        };
-        put_way(alloc, text, case, sent)?;
-    } else {
-        write!(
-            text,
-            "it was received by record {at} as question {number} of connection {connection}"
-        )?;
-        let _ = put_fate(alloc, text, &log.log, call, at)?;
-    }
+    let passed = if ours { "sent" } else { "received" };
+    write!(
+        text,
+        "note: call {call} of vat {vat} has no Return: it was {passed} by record {at} as question {number} of connection {connection}"
+    )?;
+    put_way(text, &way_of(alloc, case, log, question, call, at)?)?;
     text.push('\n')
 }
 
@@ -68,12 +42,12 @@ fn put_questions(
     alloc: Global,
     text: &mut String,
     case: &OpenCase<'_>,
-    log: &OpenLog,
+    log: &OpenLog<'_>,
 ) -> Result<(), AllocError> {
     let mut count = 0_usize;
     for left in log.list.iter() {
         if let Open::Question { question, call, at } = left {
-            if is_told(case, log, *question, *call) {
+            if case.is_question_told(log, *question, *call) {
                 if count < MOST {
                     put_question(alloc, text, case, log, *question, *call, *at)?;
                 }
@@ -87,7 +61,7 @@ fn put_questions(
 /// Appends the note of a loopback without an echo.
 fn put_loopback(
     text: &mut String,
-    log: &OpenLog,
+    log: &OpenLog<'_>,
     loopback: TableKey,
     at: usize,
 ) -> Result<(), AllocError> {
@@ -105,11 +79,15 @@ fn put_loopback(
 }
 
 /// Appends the notes of the loopbacks of a log without an echo.
-fn put_loopbacks(text: &mut String, case: &OpenCase<'_>, log: &OpenLog) -> Result<(), AllocError> {
+fn put_loopbacks(
+    text: &mut String,
+    case: &OpenCase<'_>,
+    log: &OpenLog<'_>,
+) -> Result<(), AllocError> {
     let mut count = 0_usize;
     for left in log.list.iter() {
         if let Open::Loopback { number, at } = left {
-            if is_told(case, log, *number, 0) {
+            if case.is_told(log.log.vat(), *number) {
                 if count < MOST {
                     put_loopback(text, log, *number, *at)?;
                 }
@@ -121,7 +99,7 @@ fn put_loopbacks(text: &mut String, case: &OpenCase<'_>, log: &OpenLog) -> Resul
 }
 
 /// Appends the notes of the promises that a vat vowed and neither kept nor broke.
-fn put_promises(text: &mut String, log: &OpenLog) -> Result<(), AllocError> {
+fn put_promises(text: &mut String, log: &OpenLog<'_>) -> Result<(), AllocError> {
     let vat = log.log.vat();
     let mut count = 0_usize;
     for left in log.list.iter() {
@@ -144,7 +122,12 @@ fn put_promises(text: &mut String, log: &OpenLog) -> Result<(), AllocError> {
 }
 
 /// Appends the note of how many more of a kind a log has, if it has more than are told.
-fn put_more(text: &mut String, log: &OpenLog, count: usize, kind: &str) -> Result<(), AllocError> {
+fn put_more(
+    text: &mut String,
+    log: &OpenLog<'_>,
+    count: usize,
+    kind: &str,
+) -> Result<(), AllocError> {
     if count <= MOST {
         return Ok(());
     }
@@ -154,7 +137,7 @@ fn put_more(text: &mut String, log: &OpenLog, count: usize, kind: &str) -> Resul
 }
 
 /// Appends the note of what is counted at the end of a log, if anything is.
-fn put_counts(text: &mut String, log: &OpenLog) -> Result<(), AllocError> {
+fn put_counts(text: &mut String, log: &OpenLog<'_>) -> Result<(), AllocError> {
     let counts = OpenCounts::of(log.list.as_slice()).held();
     if !counts.is_any() {
         return Ok(());
@@ -168,7 +151,7 @@ fn put_log(
     alloc: Global,
     text: &mut String,
     case: &OpenCase<'_>,
-    log: &OpenLog,
+    log: &OpenLog<'_>,
 ) -> Result<(), AllocError> {
     put_questions(alloc, text, case, log)?;
     put_loopbacks(text, case, log)?;
@@ -180,15 +163,11 @@ fn put_log(
 pub(crate) fn put_good(
     alloc: Global,
     text: &mut String,
-    files: &[(String, Bytes)],
-    good: &GoodCase,
+    case: &OpenCase<'_>,
 ) -> Result<(), AllocError> {
-    let Some(case) = OpenCase::of(alloc, good, files)? else {
-        return Ok(());
-    };
-    put_under_way(alloc, text, &case)?;
+    put_under_way(alloc, text, case)?;
     for log in case.logs.iter() {
-        put_log(alloc, text, &case, log)?;
+        put_log(alloc, text, case, log)?;
     }
     Ok(())
 }

@@ -3,9 +3,9 @@
 pub(crate) mod at_end;
 mod call_ways;
 mod fates;
-pub(crate) mod good_case;
 pub(crate) mod good_notes;
-mod open_case;
+pub(crate) mod open_case;
 pub(crate) mod open_counts;
+pub(crate) mod open_object;
 mod passed;
 mod under_way;

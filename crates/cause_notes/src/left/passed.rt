@@ -1,51 +1,69 @@
-//! How much passed on the connections of a log.
+//! What passed on the connections of a log.
 
 use std::alloc::{AllocError, Global};
 use std::collections::BTreeMap;
-use vat_log::{Body, VatLog};
+use vat_view::DecodedRecord;
 
-/// How many frames a log sends and receives on a connection.
-#[derive(Clone, Copy, Debug)]
+/// What passed on a connection of a log: the records that send a frame there, and how many receive one.
+#[derive(Drop)]
 pub(super) struct Passed {
-    pub(super) sent: usize,
+    pub(super) sends: Vec<usize>,
     pub(super) received: usize,
 }
 
 impl Passed {
-    /// No frame.
-    pub(super) const NOTHING: Passed = Passed {
-        sent: 0,
-        received: 0,
-    };
-
-    /// With what a record sends or receives, if it does; and the connection.
-    fn with(body: &Body, before: &BTreeMap<u32, Passed>) -> Option<(u32, Passed)> {
-        let (connection, sends) = match body {
-            Body::Send { connection, .. } => (*connection, true),
-            Body::Receive { connection, .. } => (*connection, false),
-            _ => return None,
-        };
-        let mut passed = match before.get(&connection) {
-            Some(passed) => *passed,
-            None => Passed::NOTHING,
-        };
-        if sends {
-            passed.sent = passed.sent.saturating_add(1);
+    /// With the frame of this record more, which is sent or received.
+    fn add(&mut self, sent: bool, at: usize) -> Result<(), AllocError> {
+        if sent {
+            self.sends.push(at)?;
         } else {
-            passed.received = passed.received.saturating_add(1);
+            self.received = self.received.saturating_add(1);
         }
-        Some((connection, passed))
+        Ok(())
+    }
+
+    /// How many frames the records before this one send.
+    pub(super) fn sent_before(&self, at: usize) -> usize {
+        match self.sends.binary_search(&at) {
+            Ok(place) | Err(place) => place,
+        }
     }
 }
 
-/// How much passed on each connection of a log.
-pub(super) fn passed_in(alloc: Global, log: &VatLog) -> Result<BTreeMap<u32, Passed>, AllocError> {
+/// A frame passes on a connection by this record.
+fn put_passed(
+    alloc: Global,
+    all: &mut BTreeMap<u32, Passed>,
+    connection: u32,
+    sent: bool,
+    at: usize,
+) -> Result<(), AllocError> {
+    if let Some(passed) = all.get_mut(&connection) {
+        return passed.add(sent, at);
+    }
+    let mut passed = Passed {
+        sends: Vec::new(alloc),
+        received: 0,
+    };
+    passed.add(sent, at)?;
+    all.insert(connection, passed)?;
+    Ok(())
+}
+
+/// What passed on each connection of a log that has these records.
+pub(super) fn passed_in(
+    alloc: Global,
+    events: &[DecodedRecord],
+) -> Result<BTreeMap<u32, Passed>, AllocError> {
     let mut all = BTreeMap::new(alloc);
-    for at in 0..log.len() {
-        if let Some(stored) = log.get(at) {
-            if let Some((connection, passed)) = Passed::with(stored.body(), &all) {
-                all.insert(connection, passed)?;
-            }
+    for (at, event) in events.iter().enumerate() {
+        if let DecodedRecord::Wire {
+            sent,
+            connection,
+            ..
+        } = event
+        {
+            put_passed(alloc, &mut all, *connection, *sent, at)?;
         }
     }
     Ok(all)

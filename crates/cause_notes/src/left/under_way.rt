@@ -6,106 +6,98 @@ use crate::reading::put_record;
 use case_book::Link;
 use std::alloc::{AllocError, Global};
 use std::fmt::Write;
-use vat_log::{Body, VatLog};
 
-/// Whether a record sends a frame on a connection.
-fn is_sent(body: &Body, on: u32) -> bool {
-    matches!(body, Body::Send { connection, .. } if *connection == on)
+/// How many frames one end of a connection sent and the other never received, and the record that sent the first of them.
+#[derive(Clone, Copy, Debug)]
+pub(super) struct UnderWay {
+    pub(super) connection: u32,
+    pub(super) sender: u32,
+    pub(super) receiver: u32,
+    pub(super) count: usize,
+    pub(super) first: usize,
 }
 
-/// How many frames the records of a log before this one send on a connection.
-pub(super) fn sent_before(log: &VatLog, connection: u32, before: usize) -> usize {
-    let mut count = 0_usize;
-    for at in 0..before {
-        if let Some(stored) = log.get(at) {
-            if is_sent(stored.body(), connection) {
-                count = count.saturating_add(1);
-            }
-        }
-    }
-    count
-}
-
-/// The record of a log that sends the frame of this number on a connection, counted from 0.
-fn sending(log: &VatLog, connection: u32, number: usize) -> Option<usize> {
-    let mut count = 0_usize;
-    for at in 0..log.len() {
-        if is_sent(log.get(at)?.body(), connection) {
-            if count == number {
-                return Some(at);
-            }
-            count = count.saturating_add(1);
-        }
-    }
-    None
-}
-
-/// Appends the notes of what one end of a connection sent and the other never received, if there is any, and says whether
-/// there is.
-fn put_direction(
-    alloc: Global,
-    text: &mut String,
+/// What one end of a connection sent and the other never received, if there is any.
+fn under_way_from(
     case: &OpenCase<'_>,
     connection: u32,
     sender: u32,
     receiver: u32,
-) -> Result<bool, AllocError> {
-    let (Some(from), Some(to)) = (case.log_of(sender), case.log_of(receiver)) else {
-        return Ok(false);
-    };
-    let received = to.passed_on(connection).received;
-    let missing = from.passed_on(connection).sent.saturating_sub(received);
-    if missing == 0 {
-        return Ok(false);
-    }
-    let Some(first) = sending(&from.log, connection, received) else {
-        return Ok(false);
-    };
-    let words = if missing == 1 {
-        "1 message was sent and never received"
-    } else {
-        "messages were sent and never received, the first of them this"
-    };
-    if missing == 1 {
-        write!(
-            text,
-            "note: connection {connection}, vat {sender} to vat {receiver}: {words}\n"
-        )?;
-    } else {
-        write!(
-            text,
-            "note: connection {connection}, vat {sender} to vat {receiver}: {missing} {words}\n"
-        )?;
-    }
-    if let Some(name) = case.name_of(sender) {
-        put_record(alloc, text, name, &from.log, first)?;
-    }
-    Ok(true)
+) -> Option<UnderWay> {
+    let received = case.log_of(receiver)?.received_on(connection);
+    let sends = case.log_of(sender)?.sends_on(connection);
+    Some(UnderWay {
+        connection,
+        sender,
+        receiver,
+        count: sends.len().saturating_sub(received),
+        first: *sends.get(received)?,
+    })
 }
 
-/// Appends the notes of what passed on a link and was never received, and says in how many directions.
-fn put_link(
+/// What was sent on a link and never received, from either end.
+pub(super) fn under_way_on(case: &OpenCase<'_>, link: Link) -> [Option<UnderWay>; 2] {
+    [
+        under_way_from(case, link.conn, link.a, link.b),
+        under_way_from(case, link.conn, link.b, link.a),
+    ]
+}
+
+/// Appends the notes of frames that were sent and never received.
+fn put_direction(
     alloc: Global,
     text: &mut String,
     case: &OpenCase<'_>,
-    link: Link,
-) -> Result<usize, AllocError> {
-    let there = put_direction(alloc, text, case, link.conn, link.a, link.b)?;
-    let back = put_direction(alloc, text, case, link.conn, link.b, link.a)?;
-    Ok(usize::from(there).saturating_add(usize::from(back)))
+    under_way: UnderWay,
+) -> Result<(), AllocError> {
+    let UnderWay {
+        connection,
+        sender,
+        receiver,
+        count,
+        first,
+    } = under_way;
+    if count == 1 {
+        write!(
+            text,
+            "note: connection {connection}, vat {sender} to vat {receiver}: 1 message was sent and never received\n"
+        )?;
+    } else {
+        write!(
+            text,
+            "note: connection {connection}, vat {sender} to vat {receiver}: {count} messages were sent and never received, the first of them this\n"
+        )?;
+    }
+    match (case.name_of(sender), case.log_of(sender)) {
+        (Some(name), Some(from)) => put_record(alloc, text, name, from.log, first),
+        _ => Ok(()),
+    }
 }
 
-/// Appends the notes of what was sent and never received, by link.
+/// Appends the notes of what was sent and never received, by link: of at most so many directions, and then how many more there
+/// are.
 pub(super) fn put_under_way(
     alloc: Global,
     text: &mut String,
     case: &OpenCase<'_>,
 ) -> Result<(), AllocError> {
-    let mut told = 0_usize;
+    let mut count = 0_usize;
     for link in case.links {
-        if told < MOST {
-            told = told.saturating_add(put_link(alloc, text, case, *link)?);
+        for under_way in under_way_on(case, *link) {
+            if let Some(under_way) = under_way {
+                if count < MOST {
+                    put_direction(alloc, text, case, under_way)?;
+                }
+                count = count.saturating_add(1);
+            }
         }
     }
-    Ok(())
+    if count <= MOST {
+        return Ok(());
+    }
+    let more = count.saturating_sub(MOST);
+    write!(
+        text,
+        "note: messages were sent and never received in {more} more directions\n"
+    )
 }

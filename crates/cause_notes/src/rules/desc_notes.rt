@@ -9,8 +9,47 @@ use crate::rules::question_notes::put_opening;
 use report_lines::Shown;
 use rpc_view::{Descriptor, RpcMessage};
 use std::alloc::AllocError;
-use std::fmt::Write;
+use std::fmt;
+use std::fmt::{Display, Formatter, Write};
 use vat_view::{BorrowedView, DecodedRecord, TableKey, View};
+
+/// An entry of the record's table, as people are told of it. A Resolve has one capability and no table.
+#[derive(Clone, Copy)]
+struct EntryText {
+    place: usize,
+    is_of_resolve: bool,
+}
+
+impl EntryText {
+    /// The entry at a place.
+    fn at(past: &Past<'_>, place: usize) -> EntryText {
+        EntryText {
+            place,
+            is_of_resolve: is_resolve(&past.event),
+        }
+    }
+}
+
+impl Display for EntryText {
+    fn fmt<W: fmt::Write>(&self, f: &mut Formatter<W>) -> fmt::Result {
+        if self.is_of_resolve {
+            return write!(f, "the Resolve's capability");
+        }
+        let place = self.place;
+        write!(f, "entry {place} of its table")
+    }
+}
+
+/// Whether a record sends or receives a Resolve.
+fn is_resolve(event: &DecodedRecord) -> bool {
+    matches!(
+        event,
+        DecodedRecord::Wire {
+            message: RpcMessage::Resolve { .. },
+            ..
+        }
+    )
+}
 
 /// How many entries of a table are capabilities.
 fn caps_in(descriptors: &[Descriptor]) -> usize {
@@ -33,9 +72,14 @@ pub(crate) fn put_unpaired(past: &Past<'_>, text: &mut String) -> Result<bool, A
     }
     let caps = caps_in(past.event.descriptors());
     let noted = references.as_slice().len();
+    let holder = if is_resolve(&past.event) {
+        "the Resolve"
+    } else {
+        "its table"
+    };
     write!(
         text,
-        "note: capabilities in its table: {caps}, references noted: {noted}\n"
+        "note: capabilities in {holder}: {caps}, references noted: {noted}\n"
     )?;
     if past.state.is_late(&past.event) {
         write!(
@@ -96,10 +140,8 @@ pub(crate) fn put_entry(
     let shown = Shown(descriptor);
     if let Some(stands) = stands {
         let view = ViewText(BorrowedView::of(stands));
-        write!(
-            text,
-            "note: entry {place} of its table, {shown}, stands for {view}\n"
-        )?;
+        let entry = EntryText::at(past, place);
+        write!(text, "note: {entry}, {shown}, stands for {view}\n")?;
     }
     match life_of(past, descriptor) {
         Some(life) if life.held > 0 => put_life(past, text, life)?,
@@ -119,10 +161,8 @@ fn put_mismatch(
     place: usize,
     stands: Option<&View>,
 ) -> Result<(), AllocError> {
-    write!(
-        text,
-        "note: entry {place} of its table has reference {reference} beside it\n"
-    )?;
+    let entry = EntryText::at(past, place);
+    write!(text, "note: {entry} has reference {reference} beside it\n")?;
     put_reference(past, text, reference)?;
     put_entry(past, text, place, stands)
 }
@@ -161,10 +201,13 @@ fn put_open(
     };
     let end = ViewText(end);
     put_reference(past, text, reference)?;
-    write!(
-        text,
-        "note: {end} is still open, so entry {place} was expected to be a senderPromise\n"
-    )?;
+    write!(text, "note: {end} is still open, so ")?;
+    if is_resolve(&past.event) {
+        text.push_str("the Resolve's capability")?;
+    } else {
+        write!(text, "entry {place}")?;
+    }
+    text.push_str(" was expected to be a senderPromise\n")?;
     Ok(true)
 }
 

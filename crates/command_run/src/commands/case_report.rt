@@ -24,7 +24,8 @@ pub(super) fn fault_of(error: AuditError) -> Fault
 }
 
 /// The report of the case that a source has under a name, by the order that its file names, if it names one: so many workers
-/// audit it, the calling thread among them. What was found of its logs and links is heard, unless the report is yes.
+/// audit it, the calling thread among them. What was found of its logs and links is heard, where notes are
+/// to be made.
 ///
 /// # Errors
 ///
@@ -44,7 +45,7 @@ pub fn case_report<R: Threads + Wait + Sync, G: Watch + Sync, S: Source>(
     host.watch.begins(case.logs().len(), case.links().len());
     match audit_with_findings(host.rt, host.alloc, case, order, workers, host.watch) {
         Ok((report, findings)) => {
-            heard.keep(host.alloc, &report, findings);
+            heard.keep(findings);
             Ok(report)
         }
         Err(error) => Err(fault_of(error)),

@@ -1,4 +1,4 @@
-//! The picture of a case: its bytes go to a file, and then the report is said.
+//! The picture of a case, or a page with it: its bytes go to a file, and then the report is said.
 
 ghost use Rattle.std.specs.Prelude.{◌≡◌, None, IfOk, List, ℕ, Option, option_map};
 ghost use Rattle.audit_core.specs.Report.{IsReport};
@@ -16,8 +16,8 @@ use audit_core::{Breach, Report, audit_with_findings, run_of_findings};
 use bytes::Bytes;
 use case_book::Findings;
 use case_files::{ReadCase, Source, read_case};
-use cause_notes::Heard;
-use picture::{Asked, arrange, draw};
+use cause_notes::{Heard, RowLimit};
+use picture::{Asked, arrange, draw, limit_of, text_of};
 use report_lines::{Answer, Fault};
 use run_model::Run;
 use std::alloc::{AllocError, Global};
@@ -62,11 +62,11 @@ fn picture_bytes(
 {
     let run = run_for(alloc, findings, report)?;
     let picture = draw(alloc, findings.case(), order, report, run.steps(), asked)?;
-    Ok(Bytes::from_string(picture.to_string(alloc)?)?)
+    Ok(Bytes::from_string(text_of(alloc, &picture, asked.page)?)?)
 }
 
 /// The report of the case that a source has under a name, and its picture. What was found of its logs and links is heard,
-/// unless the report is yes.
+/// where notes are to be made.
 fn drawing<R: Threads + Wait + Sync, G: Watch + Sync, S: Source>(
     host: &Host<'_, R, G>,
     name: &str,
@@ -82,7 +82,7 @@ fn drawing<R: Threads + Wait + Sync, G: Watch + Sync, S: Source>(
     match audit_with_findings(host.rt, host.alloc, case, order, 1, host.watch) {
         Ok((report, findings)) => {
             let picture = picture_bytes(host.alloc, &findings, &arranged, &report, asked)?;
-            heard.keep(host.alloc, &report, findings);
+            heard.keep(findings);
             Ok(DrawAnswer {
                 answer: Answer::Report(report),
                 picture: Some(picture),
@@ -112,8 +112,18 @@ fn draw_answer<R: Threads + Wait + Sync, G: Watch + Sync, S: Source>(
     }
 }
 
-/// Audits the case that a source has under a name, draws it, and writes the picture to `file`; then says the report. Or it
-/// says the case's first fault, and writes nothing to `file`.
+/// Hears that more rows are asked for than are drawn at most, if they are.
+fn hear_limit(asked: Asked, heard: &mut Heard) {
+    let most = limit_of(asked.page) as u64;
+    if let Some(asked) = asked.count {
+        if most < asked {
+            heard.keep_limit(RowLimit { asked, most });
+        }
+    }
+}
+
+/// Audits the case that a source has under a name, draws it, and writes the picture or page to `file`; then says the report.
+/// Or it says the case's first fault, and writes nothing to `file`.
 ///
 /// # Errors
 ///
@@ -134,6 +144,7 @@ pub fn say_drawn<R: Threads + Wait + Sync, G: Watch + Sync, S: Source, O: Output
         (Wrote F.contents F.is_finished) out.old out.new file.old file.new result }
 {
     let DrawAnswer { answer, picture } = draw_answer(host, name, asked, source, heard);
+    hear_limit(asked, heard);
     if let Err(fault) = save(&picture, file) {
         return Err(Failed::File(fault));
     }

@@ -2,7 +2,7 @@
 
 ghost use Rattle.std.specs.Prelude.{Some};
 ghost use Rattle.std.specs.List.{flat_map};
-ghost use Rattle.picture.specs.Picture.{arrow_text, band_text, column_text, row_text};
+ghost use Rattle.picture.specs.Picture.{arrow_text, band_text, column_text, shape_text};
 ghost use Rattle.picture.specs.Rows.{room_in};
 
 use crate::drawing::Picture;
@@ -57,16 +57,20 @@ impl Display for Bands<'_> {
     }
 }
 
-/// Rows, from above.
+/// Rows, from above: on a page, where each leads to that of a table, or in a picture alone.
 #[derive(Clone, Copy)]
-pub struct Shapes<'a>(pub &'a Picture<'a>);
+pub struct Shapes<'a> {
+    pub picture: &'a Picture<'a>,
+    pub linked: bool,
+}
 
 impl Display for Shapes<'_> {
-    ghost output = { λ picture. Some (flat_map row_text picture.0.now.rows.items) };
+    ghost output = { λ shapes. Some (flat_map (shape_text shapes.linked) shapes.picture.now.rows.items) };
 
     fn fmt<W: fmt::Write>(&self, f: &mut Formatter<W>) -> fmt::Result {
-        for row in &self.0.rows {
-            write!(f, "{}", Shape(row))?;
+        let linked = self.linked;
+        for row in &self.picture.rows {
+            write!(f, "{}", Shape { row, linked })?;
         }
         Ok(())
     }

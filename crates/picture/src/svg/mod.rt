@@ -3,6 +3,6 @@
 mod lists;
 mod notes;
 pub(crate) mod points;
-mod shapes;
+pub(crate) mod shapes;
 mod style;
-mod whole;
+pub(crate) mod whole;

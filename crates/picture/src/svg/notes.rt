@@ -116,7 +116,7 @@ impl Display for Sentence<'_> {
         };
         let report = self.0.report;
         match (report, self.0.gap) {
-            (_, Some(gap)) => put_why(f, y_of(gap.row as u16) + 32, report, sentence),
+            (_, Some(gap)) => put_why(f, y_of(gap.row as u32) + 32, report, sentence),
             (Report::NoOrder, None) => put_why(f, 52, report, sentence),
             (_, None) => Ok(()),
         }

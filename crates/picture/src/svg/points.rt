@@ -33,15 +33,15 @@ pub fn x_of(column: u32) -> u64
 }
 
 /// Where a line is.
-pub fn y_of(line: u16) -> u64
+pub fn y_of(line: u32) -> u64
     ensures place { result ≡ y_of line }
-    ensures near { result ≤ 2097248 }
+    ensures near { result ≤ 137438953568 }
 {
     128 + 32 * line as u64
 }
 
 /// Where a column crosses a line.
-pub fn point_at(column: u32, line: u16) -> Point
+pub fn point_at(column: u32, line: u32) -> Point
     ensures { result ≡ point_at column line }
 {
     Point {
@@ -51,7 +51,7 @@ pub fn point_at(column: u32, line: u16) -> Point
 }
 
 /// Where the other end of an arrow is drawn, whose row is in this column and on this line.
-pub fn reach_point(column: u32, line: u16, reach: Reach) -> Point
+pub fn reach_point(column: u32, line: u32, reach: Reach) -> Point
     ensures { result ≡ reach_point column line reach }
 {
     match reach {

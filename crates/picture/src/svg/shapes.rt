@@ -2,7 +2,7 @@
 
 ghost use Rattle.std.specs.Prelude.{◌≡◌, Some};
 ghost use Rattle.std.specs.Fmt.{WritesOnOk};
-ghost use Rattle.picture.specs.Picture.{arrow_line, arrow_text, band_lines, band_text, column_text, circle_text, line_text, mark_word, row_text, stroke_word, tone_word, words_at, words_text, words_y, y_of};
+ghost use Rattle.picture.specs.Picture.{arrow_line, arrow_text, band_lines, band_text, column_text, circle_text, line_text, linked_text, mark_word, place_text, row_text, shape_text, stroke_word, tone_word, words_at, words_text, words_y, y_of};
 ghost use Rattle.picture.specs.Labels.{label_text};
 ghost use Rattle.picture.specs.Places.{passage_of};
 
@@ -10,6 +10,7 @@ use crate::arrow::{Arrow, Stroke};
 use crate::columns::Column;
 use crate::frames::passage_of;
 use crate::label::Label;
+use crate::place::Place;
 use crate::row::{Row, Tone, label_of};
 use crate::svg::points::{Point, point_at, reach_point, x_of, y_of};
 use rpc_view::RpcMessage;
@@ -30,7 +31,7 @@ impl Display for Column {
 }
 
 /// How what is marked so is painted.
-fn tone_word(tone: Tone) -> &'static str
+pub fn tone_word(tone: Tone) -> &'static str
     ensures { result.now ≡ tone_word tone }
 {
     match tone {
@@ -142,7 +143,7 @@ fn mark_word(message: &Option<RpcMessage>) -> &'static str
 
 /// How far down the words of a row are: of what it sends above the arrow, which goes down from there; of what it receives
 /// below the arrow, which comes from above; else beside the mark.
-fn words_y(body: &Body, line: u16) -> u64
+fn words_y(body: &Body, line: u32) -> u64
     ensures { result ≡ words_y (passage_of body.now) (y_of line) }
 {
     let y = y_of(line);
@@ -203,9 +204,9 @@ fn words_at(row: &Row<'_>) -> Point
 
 /// A row: its mark and its words.
 #[derive(Clone, Copy)]
-pub struct Shape<'a>(pub &'a Row<'a>);
+struct Plain<'a>(&'a Row<'a>);
 
-impl Display for Shape<'_> {
+impl Display for Plain<'_> {
     ghost output = { λ shape. Some (row_text shape.0.now) };
 
     fn fmt<W: fmt::Write>(&self, f: &mut Formatter<W>) -> fmt::Result {
@@ -220,5 +221,51 @@ impl Display for Shape<'_> {
             label: label_of(row),
         };
         write!(f, "{circle}{words}")
+    }
+}
+
+/// A record, in the names of its rows.
+#[derive(Clone, Copy)]
+pub struct RowName(pub Place);
+
+impl Display for RowName {
+    ghost output = { λ name. Some (place_text name.0) };
+
+    fn fmt<W: fmt::Write>(&self, f: &mut Formatter<W>) -> fmt::Result {
+        let Place { vat, number } = self.0;
+        write!(f, "{vat}-{number}")
+    }
+}
+
+/// A row that leads to the row of its record in a table.
+#[derive(Clone, Copy)]
+struct Linked<'a>(&'a Row<'a>);
+
+impl Display for Linked<'_> {
+    ghost output = { λ linked. Some (linked_text linked.0.now) };
+
+    fn fmt<W: fmt::Write>(&self, f: &mut Formatter<W>) -> fmt::Result {
+        let row = self.0;
+        let (name, shape) = (RowName(row.place), Plain(row));
+        write!(f, "<a id='row-{name}' href='#record-{name}'>{shape}</a>\n")
+    }
+}
+
+/// A row, on a page or in a picture alone.
+#[derive(Clone, Copy)]
+pub struct Shape<'a> {
+    pub row: &'a Row<'a>,
+    pub linked: bool,
+}
+
+impl Display for Shape<'_> {
+    ghost output = { λ shape. Some (shape_text shape.linked shape.row.now) };
+
+    fn fmt<W: fmt::Write>(&self, f: &mut Formatter<W>) -> fmt::Result {
+        if self.linked {
+            write!(f, "{}", Linked(self.row))
+        } else {
+            write!(f, "{}", Plain(self.row))
+        }
     }
 }

@@ -4,7 +4,7 @@ use bytes::Bytes;
 use case_files::{FileList, RememberingSource, Source, SourceError};
 use clap::error::ErrorKind;
 use command_line::{Command, command_of};
-use command_run::{NotedSource, Unwatched, run_on, run_with_notes};
+use command_run::{NotedSource, SearchingSource, Unwatched, run_on, run_with_notes};
 use std::alloc::Global;
 use std::io;
 use std::io::Write;
@@ -316,6 +316,12 @@ impl RememberingSource for One {
 
     fn kept(&self) -> &[(String, Bytes)] {
         &self.kept
+    }
+}
+
+impl SearchingSource for One {
+    fn has(&self, _name: &str) -> bool {
+        false
     }
 }
 

@@ -2,7 +2,7 @@ use Rattle.std.proofs.Common.{◌∙◌, sym}
 use Rattle.clap.specs.Words.{first_value, found_of}
 use Rattle.command_line.proofs.Matched.{besides_of, checked_as, has_subcommand, input_there, is_some_by, matched, number_as, read_as, set_as, spells_one, thing_is}
 use Rattle.command_line.proofs.Named.{checking, drawing, framing, graphing, joining, last_command, listing, migrating, of_frames, of_run, of_vat, ordering, wiring}
-use Rattle.command_line.specs.Parser.{count, dot, input, later, most, other, path, start, workers}
+use Rattle.command_line.specs.Parser.{count, dot, html, input, later, most, other, path, start, workers}
 use Rattle.command_line.proofs.command.command_in.Goals as goal
 
 pub unreachable-requires : goal.unreachable-requires
@@ -96,6 +96,7 @@ returns-in-draw-clause-spelled c words are =
         sym (m.each path) ∙ c.value_of-in-draw.ensures,
         number_as m start _ c.number_of.ensures,
         number_as m count _ c.number_of-in-draw.ensures,
+        set_as m html _ c.is_set-in-draw.ensures,
       ),
     )
 

@@ -3,7 +3,7 @@ use Rattle.clap.specs.Words.{kind_of}
 use Rattle.clap.specs.declared.error.ErrorKind.TheVariants.{OutOfMemory, ValueValidation}
 use Rattle.clap.proofs.TakesLemmas.{passed_up}
 use Rattle.command_line.proofs.Matched.{fails_by_memory, fails_by_value, handed_on, refused_never}
-use Rattle.command_line.proofs.Taken.{refuses_part, refuses_workers, takes_after_dashes, takes_check, takes_draw, takes_draw_part, takes_frame_later, takes_graph_dot, takes_join, takes_migrate, takes_migrate_later, takes_one, takes_order, takes_part, takes_records, takes_wire, takes_wire_out, takes_workers}
+use Rattle.command_line.proofs.Taken.{refuses_part, refuses_workers, takes_after_dashes, takes_check, takes_draw, takes_draw_page, takes_draw_part, takes_frame_later, takes_graph_dot, takes_join, takes_migrate, takes_migrate_later, takes_one, takes_order, takes_part, takes_records, takes_wire, takes_wire_out, takes_workers}
 use Rattle.command_line.proofs.command.command_of.Goals as goal
 
 pub returns-in_err-command-clause-taken : goal.returns-in_err-command-clause-taken
@@ -49,6 +49,11 @@ pub returns-in_err-command-clause-taken_draw_part : goal.returns-in_err-command-
 returns-in_err-command-clause-taken_draw_part g c first case out from count spelled plain unflagged good well =
     passed_up c.from_residual.result c.in_err-command.field-0.0 (λ e. kind_of e ≡ OutOfMemory) c.from_residual.ensures.1
     (fails_by_memory (map g.S.AsStr.text c.args.words.now) (first ∷ codes "draw" ∷ case ∷ codes "--out" ∷ out ∷ codes "--from" ∷ from ∷ codes "--count" ∷ count ∷ []) c.in_err-command.field-0.0 c.in_err-command.ensures.kinds spelled (takes_draw_part first case out from count plain unflagged good well))
+
+pub returns-in_err-command-clause-taken_draw_page : goal.returns-in_err-command-clause-taken_draw_page
+returns-in_err-command-clause-taken_draw_page g c first case out spelled plain unflagged =
+    passed_up c.from_residual.result c.in_err-command.field-0.0 (λ e. kind_of e ≡ OutOfMemory) c.from_residual.ensures.1
+    (fails_by_memory (map g.S.AsStr.text c.args.words.now) (first ∷ codes "draw" ∷ case ∷ codes "--html" ∷ codes "--out" ∷ out ∷ []) c.in_err-command.field-0.0 c.in_err-command.ensures.kinds spelled (takes_draw_page first case out plain unflagged))
 
 pub returns-in_err-command-clause-taken_migrate : goal.returns-in_err-command-clause-taken_migrate
 returns-in_err-command-clause-taken_migrate g c first file out spelled plain unflagged =

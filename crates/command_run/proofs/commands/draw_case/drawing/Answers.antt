@@ -1,7 +1,7 @@
-use Rattle.std.proofs.Common.{ℕ, List, Option, sym, subst, refl, arith}
+use Rattle.std.proofs.Common.{◌≡◌, ◌∙◌, ℕ, List, sym, ap, subst, refl, arith}
 use Rattle.case_book.specs.Case.{Contents}
 use Rattle.audit_core.specs.Report.{IsReport}
-use Rattle.picture.specs.Picture.{IsArranged}
+use Rattle.picture.specs.Picture.{arranged}
 use Rattle.command_run.specs.DrawAnswers.{IsDrawing}
 use Rattle.command_run.proofs.Judged.{accepted, only_memory, tied}
 use Rattle.command_run.proofs.commands.draw_case.drawing.Goals as goal
@@ -19,10 +19,10 @@ pub returns-in-Ok : goal.returns-in-Ok
 returns-in-Ok g c =
     let came = c.in_ok-case.field-0 in
     let report = c.in-Ok.report in
-    let order = c.in_ok-arranged.arranged.items in
-    let arranged : IsArranged came.case.logs came.order order = subst (λ (given : Option (List ℕ)). IsArranged came.case.logs given order) c.as_ref.ensures.value c.in_ok-arranged.ensures in
+    let order = arranged came.case came.order in
+    let is : c.deref.result.now ≡ order = c.deref.ensures.value ∙ c.in_ok-arranged.ensures ∙ ap (arranged came.case) c.as_ref.ensures.value in
     let lent : IsDrawing came.case c.deref.result.now report c.args.asked c.in_ok-picture-in-Ok.picture =
     subst (λ (h : Contents). IsDrawing h c.deref.result.now report c.args.asked c.in_ok-picture-in-Ok.picture) c.in-Ok.ensures.findings c.in_ok-picture-in-Ok.ensures in
     let picture : IsDrawing came.case order report c.args.asked c.in_ok-picture-in-Ok.picture =
-    subst (λ (o : List ℕ). IsDrawing came.case o report c.args.asked c.in_ok-picture-in-Ok.picture) c.deref.ensures.value lent in
-    (came, (report, (c.in_ok-case.ensures, c.in-Ok.ensures.report, refl, (order, arranged, picture))))
+    subst (λ (o : List ℕ). IsDrawing came.case o report c.args.asked c.in_ok-picture-in-Ok.picture) is lent in
+    (came, (report, (c.in_ok-case.ensures, c.in-Ok.ensures.report, refl, picture)))

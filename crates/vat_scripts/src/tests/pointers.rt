@@ -3,8 +3,8 @@
 use super::given::frame;
 use cap_frame::Frame;
 use cap_reader::{
-    Limits, ListAt, ReadError, StructAt, bit_at, fields, list_field, root, struct_field, u16_at,
-    u32_at, u64_at,
+    Limits, ListAt, ReadError, StructAt, TextAt, bit_at, fields, list_field, root, struct_field,
+    text_field, u16_at, u32_at, u64_at,
 };
 use std::alloc::Global;
 use std::fmt::Write;
@@ -28,9 +28,11 @@ enum Step {
     Element(u32),
     /// The capabilities at and below the pointer of this number.
     Fields(u16),
+    /// The text at the pointer of this number.
+    Text(u16),
 }
 
-use Step::{Bit, Element, Fields, List, Struct, U16, U32, U64};
+use Step::{Bit, Element, Fields, List, Struct, Text, U16, U32, U64};
 use worked_cases::{Refused, ask_again};
 
 /// A Release of the export 3, two times.
@@ -72,8 +74,14 @@ const CAPABILITIES_IN_TWO: &str =
 /// A capability at the root's pointer.
 const CAPABILITY: &str = "200000000 1000000000000 400000003";
 
+/// A list of nine bytes and a zero.
+const TEXT: &str = "400000000 1000000000000 5200000001 6867666564636261 69";
+
+/// The same bytes in a second segment, its pad behind them.
+const TEXT_IN_TWO: &str = "200000001 3 1000000000000 100000012 6867666564636261 69 52fffffff5";
+
 /// Frames by their words, the words and the depth of the limits, the steps from the root, and what is told of them.
-const ROWS: [(&str, u64, u8, &[Step], &str); 34] = [
+const ROWS: [(&str, u64, u8, &[Step], &str); 41] = [
     (
         RELEASE,
         3,
@@ -271,6 +279,57 @@ const ROWS: [(&str, u64, u8, &[Step], &str); 34] = [
         &[Fields(0)],
         "root, 59 left; TooMuch, 0 left",
     ),
+    // A text costs the words of its bytes and its zero; one without a zero isn't paid for.
+    (
+        TEXT,
+        4,
+        1,
+        &[Text(0), Text(0)],
+        "root, 3 left; text of 9, 1 left; 61; 62; 63; 64; 65; 66; 67; 68; 69; TooMuch, 1 left",
+    ),
+    (
+        TEXT_IN_TWO,
+        3,
+        1,
+        &[Text(0), Text(1)],
+        "root, 2 left; text of 9, 0 left; 61; 62; 63; 64; 65; 66; 67; 68; 69; null, 0 left",
+    ),
+    (
+        "300000000 1000000000000 a00000001 ff00",
+        2,
+        1,
+        &[Text(0)],
+        "root, 1 left; text of 0, 0 left",
+    ),
+    (
+        "300000000 1000000000000 2200000001 64636261",
+        1,
+        1,
+        &[Text(0)],
+        "root, 0 left; NoZero, 0 left",
+    ),
+    (
+        "200000000 1000000000000 200000001",
+        2,
+        1,
+        &[Text(0)],
+        "root, 1 left; NoZero, 1 left",
+    ),
+    // A list of numbers of two bytes, and one of nine bytes in one word.
+    (
+        "300000000 1000000000000 b00000001 0",
+        2,
+        1,
+        &[Text(0)],
+        "root, 1 left; WrongKind, 1 left",
+    ),
+    (
+        "300000000 1000000000000 4a00000001 0",
+        2,
+        1,
+        &[Text(0)],
+        "root, 1 left; OutOfSegment, 1 left",
+    ),
     // A null pad is null, which costs nothing; a tag of all zeros is an empty struct.
     ("300000000 a 0 0", 5, 1, &[U64(0)], "root, 5 left; 0"),
     ("300000000 e 2 0", 5, 1, &[U64(0)], "root, 4 left; 0"),
@@ -368,6 +427,29 @@ impl Walk {
         }
     }
 
+    /// Tells the bytes of a text.
+    fn tell_bytes(&mut self, text: TextAt) -> Result<(), Refused> {
+        for i in 0..text.len() {
+            let byte = text.byte(&self.frame, i);
+            self.tell_number(u64::from(byte))?;
+        }
+        Ok(())
+    }
+
+    fn to_text(&mut self, n: u16) -> Result<(), Refused> {
+        match text_field(&self.frame, &self.place, n, &mut self.limits) {
+            Ok(Some(text)) => {
+                let len = text.len();
+                write!(self.text, "; text of {len}")?;
+                let left = self.limits.words;
+                write!(self.text, ", {left} left")?;
+                self.tell_bytes(text)
+            }
+            Ok(None) => self.tell("null"),
+            Err(fault) => self.tell_fault(fault),
+        }
+    }
+
     fn take(&mut self, alloc: Global, step: Step) -> Result<(), Refused> {
         match step {
             U16(n) => {
@@ -387,6 +469,7 @@ impl Walk {
             List(n) => self.to_list(n),
             Element(i) => self.to_element(i),
             Fields(n) => self.tell_fields(alloc, n),
+            Text(n) => self.to_text(n),
         }
     }
 

@@ -1,9 +1,9 @@
 -- Which rules a record without a message can't break, and which one with a message can't.
-use Rattle.std.proofs.Common.{◌≡◌, ◌≤◌, ℕ, ◌∷◌, ◌++◌, map, refl, sym, arith}
+use Rattle.std.proofs.Common.{◌≡◌, ◌≤◌, ℕ, ◌∷◌, ◌++◌, map, refl, arith}
 use Rattle.std.proofs.lemmas.Bool.{false≢true}
-use Rattle.std.specs.Prelude.{[], true, false, None}
+use Rattle.std.specs.Prelude.{[], true, None}
 use Rattle.vat_view.specs.Past.{Past}
-use Rattle.vat_view.specs.Views.{view_of_target, view_of_reference}
+use Rattle.vat_view.specs.Views.{view_of_reference}
 use Rattle.vat_view.specs.Bindings.{new_references, named_references}
 use Rattle.vat_rules.specs.Types.{Edition, First, Later, DecodedRecord, Host, Vow, Make, Field, Wire}
 use Rattle.vat_rules.specs.declared.rule.Rule.TheVariants as rule
@@ -14,11 +14,6 @@ use Rattle.vat_rules.specs.Glue.Facts.{sight_with}
 use Rattle.vat_rules.specs.Glue.Compact.{standing_with}
 use Rattle.vat_rules.specs.Glue.Taking.{is_own, binds_alone}
 use Rattle.vat_rules.proofs.Judging.{all_met}
-
--- it has no target
-pub own_target : (before : Past) (e : DecodedRecord) → is_own e ≡ true → None ≡ view_of_target before e
-own_target before (Wire sent k c rs m) h = absurd (false≢true h)
-own_target before _ h = refl
 
 -- what is seen of it are its references
 pub own_seen : (before : Past) (e : DecodedRecord) → is_own e ≡ true →
@@ -103,14 +98,6 @@ alone_answer edition before (Field r call path) h = tt
 alone_answer edition before _ h = absurd (false≢true h)
 
 -- ---- the rules that a record with a message can't break
-
-pub message_vow : (edition : Edition) (before : Past) (e : DecodedRecord) → is_own e ≡ false → Meets edition rule.Vow before e
-message_vow edition before (Wire sent k c rs m) h = tt
-message_vow edition before _ h = absurd (false≢true (sym h))
-
-pub message_answer : (edition : Edition) (before : Past) (e : DecodedRecord) → is_own e ≡ false → Meets edition rule.Answer before e
-message_answer edition before (Wire sent k c rs m) h = tt
-message_answer edition before _ h = absurd (false≢true (sym h))
 
 -- ---- good records without a message
 

@@ -3,7 +3,7 @@
 use crate::cases::call_order::put_order_cause;
 use crate::cases::link_notes::{put_counterpart, put_received};
 use crate::cases::other_findings::{put_links, put_others};
-use crate::heard::{Heard, Told};
+use crate::heard::{Heard, HeardAnswer};
 use crate::inputs::bad_input::{message_sentence, put_fault};
 use crate::joins::put_join;
 use crate::left::good_case::GoodCase;
@@ -72,10 +72,10 @@ fn put_told(
     alloc: Global,
     text: &mut String,
     logs: &Logs<'_>,
-    told: Told,
+    told: HeardAnswer,
 ) -> Result<(), AllocError> {
     match told {
-        Told::Broken {
+        HeardAnswer::Broken {
             vat,
             at,
             breach,
@@ -90,14 +90,14 @@ fn put_told(
                 Breach::Order => Ok(()),
             }
         }
-        Told::Outside { vat, at, why } => {
+        HeardAnswer::Outside { vat, at, why } => {
             put_links(alloc, text, logs, None)?;
             put_place(alloc, text, logs, vat, at as usize)?;
             write!(text, "note: not judged: {why}\n")?;
             put_unread_frame(alloc, text, logs, vat, at as usize)?;
             put_others(alloc, text, logs, vat)
         }
-        Told::Link {
+        HeardAnswer::Link {
             connection,
             end,
             message,
@@ -108,9 +108,9 @@ fn put_told(
             put_counterpart(alloc, text, logs, connection, end, message)?;
             put_links(alloc, text, logs, Some(connection))
         }
-        Told::NoOrder(rule) => write!(text, "note: rule: {rule}\n"),
-        Told::GoodLog(vat) => put_good_log(alloc, text, logs, vat),
-        Told::Nothing | Told::Fault(_) | Told::Wire | Told::Join | Told::Yes => Ok(()),
+        HeardAnswer::NoOrder(rule) => write!(text, "note: rule: {rule}\n"),
+        HeardAnswer::GoodLog(vat) => put_good_log(alloc, text, logs, vat),
+        HeardAnswer::Nothing | HeardAnswer::Fault(_) | HeardAnswer::Wire | HeardAnswer::Join | HeardAnswer::Yes => Ok(()),
     }
 }
 
@@ -126,19 +126,19 @@ pub fn notes_of<S: RememberingSource>(
     hex: Option<&str>,
 ) -> Result<String, AllocError> {
     let mut text = String::new(alloc);
-    if let Told::Fault(fault) = heard.told {
+    if let HeardAnswer::Fault(fault) = heard.told {
         put_fault(alloc, &mut text, source, hex, fault)?;
         return Ok(text);
     }
-    if let (Told::Wire, Some(found)) = (heard.told, &heard.wire) {
+    if let (HeardAnswer::Wire, Some(found)) = (heard.told, &heard.wire) {
         put_wire(alloc, &mut text, source.kept(), found)?;
         return Ok(text);
     }
-    if let (Told::Join, Some(note)) = (heard.told, heard.join) {
+    if let (HeardAnswer::Join, Some(note)) = (heard.told, heard.join) {
         put_join(&mut text, source.kept(), note)?;
         return Ok(text);
     }
-    if let (Told::Yes, Some(good)) = (heard.told, &heard.good) {
+    if let (HeardAnswer::Yes, Some(good)) = (heard.told, &heard.good) {
         put_good(alloc, &mut text, source.kept(), good)?;
         return Ok(text);
     }

@@ -18,7 +18,7 @@ use Rattle.report_lines.specs.declared.answer.Answer.TheVariants.{Fault, Report}
 use Rattle.report_lines.specs.declared.fault.Fault.{Fault as FaultOf}
 use Rattle.report_lines.specs.Faults.{of_case}
 use Rattle.report_lines.specs.Lines.{answer_status, answer_text, line}
-use Rattle.command_run.specs.declared.commands.draw_case.DrawAnswer.{DrawAnswer}
+use Rattle.command_run.specs.declared.answering.FileAnswer.{FileAnswer}
 use Rattle.command_run.specs.DrawAnswers.{AnswersDraw, IsDrawing, IsRunFor}
 use Rattle.command_run.specs.Glue.{ComesDrawn}
 
@@ -50,7 +50,7 @@ module _ {S : Type 0} (asked : Asked) (gives : Reads S) (old new : S) (name : Li
   Answers answer bytes = AnswersDraw asked gives old name (line (answer_text answer)) (answer_status answer) bytes new
 
   -- its report and its picture
-  pub drawn : (made : DrawAnswer) → ComesDrawn asked gives old name (Ok made) new → Answers made.answer (option_map (λ bytes. bytes) made.picture)
+  pub drawn : (made : FileAnswer) → ComesDrawn asked gives old name (Ok made) new → Answers made.answer (option_map (λ bytes. bytes) made.bytes)
   drawn made comes =
       let parts = comes.1.1 in
       let same = parts.2 in

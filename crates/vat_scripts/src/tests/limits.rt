@@ -1,6 +1,6 @@
 //! Cases of more logs and links than may be, and of many.
 
-use crate::asking::{Told, ask};
+use crate::asking::{RunOutput, ask};
 use bytes::Bytes;
 use std::alloc::Global;
 use std::fmt::Write;
@@ -57,7 +57,7 @@ fn check_prints<R: Threads + Wait + Sync>(
     line: &str,
 ) -> Result<bool, Refused> {
     let files = files(alloc, vats, links)?;
-    let Told { out, status, .. } = ask(rt, alloc, &["vataudit", "check", "case"], files)?;
+    let RunOutput { out, status, .. } = ask(rt, alloc, &["vataudit", "check", "case"], files)?;
     if status == 3 {
         return Err(Refused::OutOfMemory);
     }

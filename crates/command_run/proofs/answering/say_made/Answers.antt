@@ -1,6 +1,6 @@
 use Rattle.std.proofs.Common.{refl, option_map}
 use Rattle.report_lines.specs.Lines.{answer_text, line}
-use Rattle.command_run.proofs.commands.migrate_log.say_made.Goals as goal
+use Rattle.command_run.proofs.answering.say_made.Goals as goal
 
 pub returns-in-Ok : goal.returns-in-Ok
 returns-in-Ok g c = (

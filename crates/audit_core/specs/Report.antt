@@ -52,11 +52,11 @@ pub record IsGoodLink (logs : List Log) (link : Link) : Type 0 where
 pub record IsFirstBroken (held : Contents) (connection end message : ℕ) : Type 0 where
   pub link : Link
   pub there : Contains held.links link
-  pub number : link.conn ≡ connection
+  pub number : link.connection ≡ connection
   pub ends : Ends
   pub own : IsComparisonOf held.logs link ends
   pub found : IsOutcome ends (BrokenAt end message)
-  pub smaller : (other : Link) → Contains held.links other → other.conn < connection → IsGoodLink held.logs other
+  pub smaller : (other : Link) → Contains held.links other → other.connection < connection → IsGoodLink held.logs other
 
 -- all logs are good
 abbrev pub AreGoodLogs : Contents → Type 0

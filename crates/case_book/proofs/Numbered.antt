@@ -111,8 +111,8 @@ for_one held case (finding.Link compared) i j here there =
     let at_one = taken (slice_get held.links one.0) (λ link. IsComparisonOf held.logs link compared) one.2 in
     let at_other = taken (slice_get held.links other.0) (λ link. IsComparisonOf held.logs link compared) other.2 in
     let same : one.0 ≡ other.0 = stands_once (connections_of held.links) case.rising_links one.0 other.0 compared.connection
-    (under (λ (link : Link). link.conn) held.links one.0 at_one.0 compared.connection at_one.1 (sym at_one.2.connection))
-    (under (λ (link : Link). link.conn) held.links other.0 at_other.0 compared.connection at_other.1 (sym at_other.2.connection)) in
+    (under (λ (link : Link). link.connection) held.links one.0 at_one.0 compared.connection at_one.1 (sym at_one.2.connection))
+    (under (λ (link : Link). link.connection) held.links other.0 at_other.0 compared.connection at_other.1 (sym at_other.2.connection)) in
     let e = one.1 in
     let f = other.1 in
     omega arith

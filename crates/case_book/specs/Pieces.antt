@@ -25,7 +25,7 @@ pub record IsAuditOf (log : Log) (found : Found) : Type 0 where
 
 -- a finding is of this link: it has the link's connection, and of the logs those of the vats at its two ends
 pub record IsComparisonOf (logs : List Log) (link : Link) (ends : Ends) : Type 0 where
-  pub connection : ends.connection ≡ link.conn
+  pub connection : ends.connection ≡ link.connection
   pub smaller : ends.first.vat ≡ min link.a link.b
   pub greater : ends.second.vat ≡ max link.a link.b
   pub first_held : Contains logs ends.first

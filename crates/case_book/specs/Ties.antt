@@ -24,7 +24,7 @@ used_in log = filter_map used_by log.records
 
 -- a connection has a link with this vat as an end
 abbrev pub is_linked : List Link → ℕ → ℕ → Bool
-is_linked links vat connection = list_any (λ link. (link.conn == connection) && ((link.a == vat) || (link.b == vat))) links
+is_linked links vat connection = list_any (λ link. (link.connection == connection) && ((link.a == vat) || (link.b == vat))) links
 
 -- it has none
 abbrev pub is_unlinked : List Link → ℕ → ℕ → Bool

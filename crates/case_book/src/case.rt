@@ -65,7 +65,7 @@ fn rising_links(mut links: Vec<Link>) -> Result<Vec<Link>, CaseError>
     if links.len() > MAX_LINKS {
         return Err(CaseError::TooManyLinks);
     }
-    links.sort_unstable_by_key(|link| link.conn);
+    links.sort_unstable_by_key(|link| link.connection);
     match repeated_connection(&links) {
         Some(connection) => Err(CaseError::SameLink(connection)),
         None => Ok(links),

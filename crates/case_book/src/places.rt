@@ -53,7 +53,7 @@ fn is_comparison(logs: &[Arc<VatLog>], link: &Link, found: &LinkFinding) -> bool
 {
     let first = found.first();
     let second = found.second();
-    found.connection() == link.conn
+    found.connection() == link.connection
         && first.vat() == link.a.min(link.b)
         && second.vat() == link.a.max(link.b)
         && place_of(logs, first).is_some()

@@ -47,7 +47,7 @@ fn has_link(links: &[Link], vat: u32, connection: u32) -> bool
     requires { IsStrictlyIncreasing (connections_of links.now) }
     ensures { result ≡ is_linked links.now vat connection }
 {
-    match links.binary_search_by_key(&connection, |link| link.conn) {
+    match links.binary_search_by_key(&connection, |link| link.connection) {
         Ok(at) => links[at].a == vat || links[at].b == vat,
         Err(_) => false,
     }
@@ -100,7 +100,7 @@ fn least_unlogged(found: Option<u32>, logs: &[Arc<VatLog>], links: &[Link]) -> O
     let mut found = found;
     for link in links {
         if !(is_logged(logs, link.a) && is_logged(logs, link.b)) {
-            found = lower_of(found, link.conn);
+            found = lower_of(found, link.connection);
         }
     }
     found
@@ -122,7 +122,7 @@ pub fn least_same_ended(links: &[Link]) -> Option<u32>
     let mut found = None;
     for link in links {
         if link.a == link.b {
-            found = lower_of(found, link.conn);
+            found = lower_of(found, link.connection);
         }
     }
     found

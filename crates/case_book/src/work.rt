@@ -48,5 +48,5 @@ pub fn compare_ends(logs: &[Arc<VatLog>], link: &Link) -> Result<LinkFinding, Al
     let Some(other) = log_of(logs, link.b) else {
         unreachable!()
     };
-    check_link(link.conn, one, other)
+    check_link(link.connection, one, other)
 }

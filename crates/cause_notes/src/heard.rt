@@ -93,8 +93,12 @@ fn of_report(report: &Report) -> HeardAnswer {
             at: *at,
             why: why_sentence(*why),
         },
-        Report::Link { conn, end, message } => HeardAnswer::Link {
-            connection: *conn,
+        Report::Link {
+            connection,
+            end,
+            message,
+        } => HeardAnswer::Link {
+            connection: *connection,
             end: *end,
             message: *message,
             rule,

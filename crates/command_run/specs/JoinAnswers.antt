@@ -27,7 +27,7 @@ use Rattle.command_run.specs.CommandAnswers.{IsOutOfMemory}
 
 -- the link that the new logs have for the pair of a number: that number, and the new vats of the logs of both ends
 abbrev pub IsLinkOf : List Log → EndPair → ℕ → Link → Type 0
-IsLinkOf logs pair number link = (link.conn ≡ number) × IsVatAt logs pair.first.log link.a × IsVatAt logs pair.second.log link.b
+IsLinkOf logs pair number link = (link.connection ≡ number) × IsVatAt logs pair.first.log link.a × IsVatAt logs pair.second.log link.b
 
 -- a link for each pair
 pub record AreLinks (logs : List Log) (pairs : List EndPair) (links : List Link) : Type 0 where

@@ -71,7 +71,7 @@ other_end_of vat link = if link.a == vat then Some link.b else (if link.b == vat
 
 -- the vat at the other end of a connection
 abbrev pub other_end : List Link → ℕ → ℕ → Option ℕ
-other_end links connection vat = option_and_then (other_end_of vat) (find (λ link. link.conn == connection) links)
+other_end links connection vat = option_and_then (other_end_of vat) (find (λ link. link.connection == connection) links)
 
 -- the record of a vat
 abbrev pub place_in : ℕ → ℕ → Place

@@ -28,7 +28,7 @@ fn other_end(links: &[Link], connection: u32, vat: u32) -> Option<u32>
     ensures { result ≡ other_end links.now connection vat }
 {
     for link in links {
-        if link.conn == connection {
+        if link.connection == connection {
             return other_end_of(link, vat);
         }
     }

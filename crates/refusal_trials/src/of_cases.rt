@@ -33,7 +33,7 @@ fn is_linked(case: &Case, link: &Link) -> Result<bool, Refused> {
     if first.vat() == second.vat() {
         return Err(Refused::Otherwise);
     }
-    let found = check_link(link.conn, first, second)?;
+    let found = check_link(link.connection, first, second)?;
     Ok(matches!(found.outcome(), LinkOutcome::Good { in_flight: 0, .. }))
 }
 

@@ -24,7 +24,7 @@ not_no_order told m n d told_yes waits = subst IsNoOrder told_yes waits
 has_run : (a b : List ℕ) (told : WireLine) (one two : Log) (m n d : ℕ) (of : IsFoundOf a b told one two) → told ≡ line.Yes m n d → (report : Report) → YesMeansHeadline of.found.held.logs report → IsLine of.frames_of_a of.frames_of_b one two report told → HasRun a b m n
 has_run a b told one two m n d of told_yes (report.Vat vat at rule) headline line_is = absurd cc
 has_run a b told one two m n d of told_yes (report.OutsideVat vat at why) headline line_is = absurd cc
-has_run a b told one two m n d of told_yes (report.Link conn end message) headline line_is = absurd (not_unexplained told m n d told_yes line_is)
+has_run a b told one two m n d of told_yes (report.Link connection end message) headline line_is = absurd (not_unexplained told m n d told_yes line_is)
 has_run a b told one two m n d of told_yes (report.OrderStep step) headline line_is = absurd (not_unexplained told m n d told_yes line_is)
 has_run a b told one two m n d of told_yes report.NoOrder headline line_is = absurd (not_no_order told m n d told_yes line_is)
 has_run a b told one two m n d of told_yes (report.Yes vats records delivered under_way run) headline (inr stops) = absurd (not_unexplained told m n d told_yes stops)

@@ -24,7 +24,7 @@ use wire_ends::{MadeLogs, Making, make_logs};
 
 /// The link between the two ends.
 const LINK: Link = Link {
-    conn: 0,
+    connection: 0,
     a: 1,
     b: 2,
 };

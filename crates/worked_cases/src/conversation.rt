@@ -15,14 +15,14 @@ pub struct Conversation<'a> {
 
 /// Vats 1 and 2 are the ends of connection 0.
 pub const LINK: Link = Link {
-    conn: 0,
+    connection: 0,
     a: 1,
     b: 2,
 };
 
 /// Vats 2 and 3 are those of connection 1.
 const NEXT_LINK: Link = Link {
-    conn: 1,
+    connection: 1,
     a: 2,
     b: 3,
 };

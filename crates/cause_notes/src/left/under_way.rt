@@ -90,8 +90,8 @@ fn put_link(
     case: &OpenCase<'_>,
     link: Link,
 ) -> Result<usize, AllocError> {
-    let there = put_direction(alloc, text, case, link.conn, link.a, link.b)?;
-    let back = put_direction(alloc, text, case, link.conn, link.b, link.a)?;
+    let there = put_direction(alloc, text, case, link.connection, link.a, link.b)?;
+    let back = put_direction(alloc, text, case, link.connection, link.b, link.a)?;
     Ok(usize::from(there).saturating_add(usize::from(back)))
 }
 

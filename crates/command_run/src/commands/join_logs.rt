@@ -73,7 +73,7 @@ fn link_of(logs: &[VatLog], pair: EndPair, number: u32) -> Link
     ensures { IsLinkOf logs.now pair number result }
 {
     Link {
-        conn: number,
+        connection: number,
         a: vat_of(logs, pair.first.log),
         b: vat_of(logs, pair.second.log),
     }

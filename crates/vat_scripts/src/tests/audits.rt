@@ -61,7 +61,7 @@ const MISSING_LOG: Conversation<'static> = Conversation {
 const SAME_ENDS: Conversation<'static> = Conversation {
     vats: &ONE_VAT,
     links: &[Link {
-        conn: 0,
+        connection: 0,
         a: 1,
         b: 1,
     }],
@@ -84,7 +84,11 @@ pub(super) fn line_of(report: &Report) -> Option<Line> {
     match report {
         Report::Vat { vat, at, rule } => Some(Line::Vat(*vat, *at, *rule)),
         Report::OutsideVat { vat, at, why } => Some(Line::OutsideVat(*vat, *at, *why)),
-        Report::Link { conn, end, message } => Some(Line::Link(*conn, *end, *message)),
+        Report::Link {
+            connection,
+            end,
+            message,
+        } => Some(Line::Link(*connection, *end, *message)),
         Report::OrderStep(step) => Some(Line::OrderStep(*step)),
         Report::NoOrder => Some(Line::NoOrder),
         Report::Yes {

@@ -28,7 +28,7 @@ const STRANGE: &str =
 
 /// Vat 1's bootstrap call and vat 2's object are on connection 0.
 const LINK: Link = Link {
-    conn: 0,
+    connection: 0,
     a: 1,
     b: 2,
 };

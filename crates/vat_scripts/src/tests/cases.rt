@@ -8,13 +8,13 @@ use worked_cases::{Refused, ask_again, is_so, log};
 
 /// A link of vats 7 and 1, and one of vats 3 and 7.
 const FAR: Link = Link {
-    conn: 5,
+    connection: 5,
     a: 7,
     b: 1,
 };
 
 const NEAR: Link = Link {
-    conn: 2,
+    connection: 2,
     a: 3,
     b: 7,
 };
@@ -53,8 +53,12 @@ fn logs_and_links_are_lent_by_rising_number(rt: HostRuntime) {
 }
 
 /// A link with vats 1 and 2.
-fn link(conn: u32) -> Link {
-    Link { conn, a: 1, b: 2 }
+fn link(connection: u32) -> Link {
+    Link {
+        connection,
+        a: 1,
+        b: 2,
+    }
 }
 
 /// The logs of so many vats, with numbers from 0 on.
@@ -70,8 +74,8 @@ fn logs(alloc: Global, vats: u32) -> Result<Vec<Arc<VatLog>>, Refused> {
 /// The case of so many logs and links, with vat numbers and connections from 0 on. Running out of memory is a failure.
 fn case_of(alloc: Global, vats: u32, links: u32) -> Result<Option<CaseError>, Refused> {
     let mut ends = Vec::new(alloc);
-    for conn in 0..links {
-        ends.push(link(conn))?;
+    for connection in 0..links {
+        ends.push(link(connection))?;
     }
     match Case::new(logs(alloc, vats)?, ends).err() {
         Some(CaseError::OutOfMemory) => Err(Refused::OutOfMemory),

@@ -1,6 +1,6 @@
 //! Which piece of a case a finding is for.
 
-ghost use Rattle.std.specs.Prelude.{◌≡◌, ◌≢◌, ℕ, ◌+◌, None, Some, Contains, Decides, MatchOption, map, slice_get, IsSomeAnd};
+ghost use Rattle.std.specs.Prelude.{◌≡◌, ℕ, ◌+◌, None, Some, Contains, Decides, MatchOption, map, slice_get, IsSomeAnd};
 ghost use Rattle.std.specs.Arc.{arc_value};
 ghost use Rattle.case_book.specs.Pieces.{IsAuditOf, IsComparisonOf, IsForPiece};
 

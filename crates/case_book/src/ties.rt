@@ -6,7 +6,7 @@ ghost use Rattle.std.specs.List.{flat_map};
 ghost use Rattle.std.specs.List.Sorted.{IsStrictlyIncreasing};
 ghost use Rattle.case_book.specs.Least.{lower, least};
 ghost use Rattle.case_book.specs.Case.{connections_of};
-ghost use Rattle.case_book.specs.Ties.{used_by, is_linked, unlinked_in, has_log, lacks_log, missing_logs, links_without_log, links_of_one_vat};
+ghost use Rattle.case_book.specs.Ties.{used_by, is_linked, unlinked_in, has_log, missing_logs, links_without_log, links_of_one_vat};
 
 use crate::link::Link;
 use std::sync::Arc;

@@ -14,7 +14,7 @@ use Rattle.picture.specs.Picture.{IsPictureOf, picture_text}
 use Rattle.picture.specs.declared.drawing.Picture.{Picture}
 use Rattle.picture.specs.declared.window.Asked.{Asked}
 use Rattle.report_lines.specs.declared.answer.Answer.{Answer}
-use Rattle.report_lines.specs.declared.answer.Answer.TheVariants.{Fault, Report}
+use Rattle.report_lines.specs.declared.answer.Answer.TheVariants.{Fault}
 use Rattle.report_lines.specs.declared.fault.Fault.{Fault as FaultOf}
 use Rattle.report_lines.specs.Faults.{of_case}
 use Rattle.report_lines.specs.Lines.{answer_status, answer_text, line}

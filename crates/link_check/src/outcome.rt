@@ -1,7 +1,5 @@
 //! What is found of a link.
 
-ghost use Rattle.std.specs.Prelude.{◌≡◌};
-
 /// What is found of a link. Frames are counted on the link's connection alone, at both ends together.
 #[derive(Clone, Copy, Debug, PartialEq, Eq)]
 pub enum LinkOutcome {

@@ -1,6 +1,6 @@
 //! Ends that are alike.
 
-ghost use Rattle.std.specs.Prelude.{◌≡◌, ℕ, ◌+◌, ◌<◌, MatchOption, IfOk, vec_len};
+ghost use Rattle.std.specs.Prelude.{◌+◌, ◌<◌, MatchOption, IfOk, vec_len};
 ghost use Rattle.log_ends.specs.Ends.{AreAlike};
 ghost use Rattle.log_ends.specs.Joining.{AreFoundAlike};
 ghost use Rattle.log_ends.specs.Glue.{IsOfLogs, end_at, HasNoAlike};

@@ -2,7 +2,6 @@
 
 ghost use Rattle.std.specs.Prelude.{◌≡◌, ℕ, ◌+◌, ◌<◌, ◌≤◌, ◌^◌, ◌++◌, ◌∷◌, [], Some, length, slice_get, MatchBool, OnOk, IfOk};
 ghost use Rattle.std.specs.BTreeMap.{get};
-ghost use Rattle.std.specs.Ordering.{nat_cmp};
 ghost use Rattle.vat_log.specs.Fits.{Fits};
 ghost use Rattle.vat_log.specs.Log.{Log};
 ghost use Rattle.vat_log.specs.Migrated.{migrated_version};

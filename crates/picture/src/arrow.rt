@@ -3,7 +3,7 @@
 ghost use Rattle.std.specs.Prelude.{◌≡◌, ◌++◌, IfOk, map};
 ghost use Rattle.std.specs.Arc.{arc_value};
 ghost use Rattle.std.specs.Option.{option_to_list};
-ghost use Rattle.picture.specs.Rows.{arrow_by, arrow_of, arrow_to, arrows_of, is_drawn_there, late_by, outcome_stroke, reach_away, reach_in, reach_of, stroke_of};
+ghost use Rattle.picture.specs.Rows.{arrow_of, arrow_to, arrows_of, is_drawn_there, late_by, outcome_stroke, reach_away, reach_in, reach_of, stroke_of};
 
 use crate::frames::passage_of;
 use crate::late::late_at;

@@ -1,6 +1,6 @@
 //! The frames that pass on a connection.
 
-ghost use Rattle.std.specs.Prelude.{◌≡◌, ◌≤◌, slice_get};
+ghost use Rattle.std.specs.Prelude.{◌≡◌, slice_get};
 ghost use Rattle.picture.specs.Places.{frame_at, frames_before, passage_of, passes, passes_in, place_of_nth};
 
 use crate::logs::body_in;

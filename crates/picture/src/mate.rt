@@ -1,7 +1,7 @@
 //! The other end of a message: the record that received what one sent, or that sent what one received.
 
 ghost use Rattle.std.specs.Prelude.{◌≡◌};
-ghost use Rattle.picture.specs.Places.{mate_from, mate_of, mate_on, other_end, other_end_of};
+ghost use Rattle.picture.specs.Places.{mate_from, mate_of, other_end, other_end_of};
 ghost use Rattle.picture.specs.Rows.{mate_at, receipt};
 
 use crate::frames::{frame_at, frames_before, passage_of};

@@ -1,6 +1,6 @@
 //! Rows: records of vats at their places in an order.
 
-ghost use Rattle.std.specs.Prelude.{◌≡◌, ◌≤◌, ◌+◌, ◌<◌, ◌++◌, length, IfOk, take};
+ghost use Rattle.std.specs.Prelude.{◌≡◌, ◌≤◌, ◌+◌, ◌<◌, ◌++◌, length, IfOk};
 ghost use Rattle.std.specs.Option.{option_to_list};
 ghost use Rattle.picture.specs.Labels.{label_text};
 ghost use Rattle.picture.specs.Rows.{drawn, drawn_at, drawn_in, is_place, row_at, rows_of, tone_of};

@@ -1,6 +1,6 @@
 //! The rules on calls: where they are, where they go, and when they are answered.
 
-ghost use Rattle.std.specs.Prelude.{◌≡◌, ◌&&◌, ◌||◌, not, Decides, IfOk, IsTrue, IsSomeAnd, Some};
+ghost use Rattle.std.specs.Prelude.{◌≡◌, ◌&&◌, ◌||◌, not, Decides, IfOk, IsSomeAnd, Some};
 ghost use Rattle.std.specs.Option.{option_copied};
 ghost use Rattle.vat_rules.specs.Types.{Object};
 ghost use Rattle.vat_view.specs.Views.{view_of_target};

@@ -1,12 +1,12 @@
 //! The rules on capability tables: what is given away is what is noted, and what comes in is noted.
 
-ghost use Rattle.std.specs.Prelude.{◌≡◌, ◌∷◌, [], ◌&&◌, ⊤, true, Decides, IfOk, IsTrue, MatchOption, slice_get, option_and_then};
+ghost use Rattle.std.specs.Prelude.{◌≡◌, ◌∷◌, [], ◌&&◌, ⊤, true, Decides, IfOk, IsTrue, MatchOption};
 ghost use Rattle.std.specs.List.{AllByRecursion, zip};
 ghost use Rattle.std.specs.Option.{option_copied};
 ghost use Rattle.vat_view.specs.Questions.{is_late};
 ghost use Rattle.vat_view.specs.Lives.{descriptors};
 ghost use Rattle.vat_view.specs.Borrowed.{as_view};
-ghost use Rattle.vat_view.specs.Views.{places, references, placed_references, view_of_reference, view_of_descriptor, views_of_descriptors};
+ghost use Rattle.vat_view.specs.Views.{places, references, placed_references, view_of_reference, views_of_descriptors};
 ghost use Rattle.vat_rules.specs.Ways.{EndsIn};
 ghost use Rattle.vat_rules.specs.OfCaps.{is_sent, is_received, is_light_return, is_cap_at, is_hosted, is_hosted_end, NotesView, Describes, BindsEach};
 ghost use Rattle.vat_rules.specs.Glue.Facts.{view_at, standing_of};

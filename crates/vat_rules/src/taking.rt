@@ -1,6 +1,6 @@
 //! One record more of a log: read, judged, and applied where it is good.
 
-ghost use Rattle.std.specs.Prelude.{◌≡◌, ◌∷◌, true, false, Ok, IfOk, OnOk, MatchOption, MatchResult};
+ghost use Rattle.std.specs.Prelude.{◌≡◌, ◌∷◌, true, false, Ok, IfOk, OnOk, MatchResult};
 ghost use Rattle.vat_view.specs.Past.{Past};
 ghost use Rattle.vat_view.specs.Sound.{IsSound};
 ghost use Rattle.vat_rules.specs.Events.{Reader, event_of};

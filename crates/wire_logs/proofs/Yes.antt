@@ -1,6 +1,6 @@
 -- What a yes means.
-use Rattle.std.proofs.Common.{◌≡◌, ◌∷◌, [], ℕ, List, Option, Some, None, refl, sym, ap, subst, ◌∙◌, inl, inr}
-use Rattle.std.specs.Prelude.{◌⊎◌, MatchOption, length}
+use Rattle.std.proofs.Common.{◌≡◌, ℕ, List, Option, Some, None, subst, inl, inr}
+use Rattle.std.specs.Prelude.{MatchOption}
 use Rattle.std.specs.Arc.{arc_value}
 use Rattle.vat_log.specs.Log.{Log}
 use Rattle.audit_core.specs.declared.report.Report.{Report}
@@ -10,8 +10,8 @@ use Rattle.wire_logs.specs.declared.answer.WireAnswer.{WireAnswer}
 use Rattle.wire_logs.specs.declared.answer.WireLogs.{WireLogs}
 use Rattle.wire_logs.specs.declared.line.WireLine.{WireLine}
 use Rattle.wire_logs.specs.declared.line.WireLine.TheVariants as line
-use Rattle.wire_logs.specs.Lines.{IsLine, IsUnexplained, IsNoOrder, IsYes}
-use Rattle.wire_logs.specs.Found.{IsAnswer, IsFound, IsFoundOf, IsWithoutLogs, HasRun}
+use Rattle.wire_logs.specs.Lines.{IsLine, IsUnexplained, IsNoOrder}
+use Rattle.wire_logs.specs.Found.{IsAnswer, IsFoundOf, IsWithoutLogs, HasRun}
 
 -- a yes isn't a line that says where the explanation stops
 not_unexplained : (told : WireLine) (m n d : ℕ) → told ≡ line.Yes m n d → IsUnexplained told → ⊥

@@ -1,13 +1,9 @@
 //! The explanation of two files.
 
-ghost use Rattle.std.specs.Prelude.{◌≡◌, ◌∷◌, [], None, IfOk, MatchOption, MatchResult};
+ghost use Rattle.std.specs.Prelude.{◌≡◌, ◌∷◌, [], None, IfOk};
 ghost use Rattle.std.specs.Arc.{arc_value};
 ghost use Rattle.case_book.specs.Case.{HoldsJust};
-ghost use Rattle.audit_core.specs.Headline.{YesMeansHeadline};
-ghost use Rattle.audit_core.specs.Report.{IsReport};
-ghost use Rattle.wire_cut.specs.Frames.{AreFrames};
-ghost use Rattle.wire_ends.specs.Made.{AreLogs};
-ghost use Rattle.wire_logs.specs.Found.{IsAnswer, IsFound, IsWithoutLogs, link};
+ghost use Rattle.wire_logs.specs.Found.{IsAnswer, link};
 ghost use Rattle.wire_logs.specs.Glue.{IsAudited, IsCutOr, IsFoundIn};
 
 use crate::answer::{WireAnswer, WireLogs};

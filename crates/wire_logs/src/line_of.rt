@@ -1,6 +1,6 @@
 //! From the audit's report to the line.
 
-ghost use Rattle.std.specs.Prelude.{◌≡◌, ◌<◌, List, ℕ, option_and_then, slice_get, length, take};
+ghost use Rattle.std.specs.Prelude.{◌≡◌, ◌<◌, option_and_then, slice_get, length, take};
 ghost use Rattle.std.specs.Arc.{arc_value};
 ghost use Rattle.std.specs.Option.{option_copied};
 ghost use Rattle.link_check.specs.Prefix.{frame_sent, frame_received};

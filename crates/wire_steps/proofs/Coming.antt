@@ -1,5 +1,5 @@
 -- A log comes further, by one record.
-use Rattle.std.proofs.Common.{◌≡◌, ◌∷◌, ◌++◌, [], ℕ, suc, List, Option, Some, None, length, take, get_or, refl, sym, ap, ◌∙◌, arith, ◌≤◌, ◌<◌, ◌+◌, drop}
+use Rattle.std.proofs.Common.{◌≡◌, ◌∷◌, ◌++◌, [], ℕ, List, Option, Some, None, length, take, get_or, refl, sym, ap, ◌∙◌, arith, ◌<◌, ◌+◌, drop}
 use Rattle.std.specs.Prelude.{slice_get}
 use Rattle.std.specs.List.{filter_map, cons_option}
 use Rattle.std.proofs.lemmas.List.{append-nil, take-append-drop, take_all}

@@ -1,6 +1,6 @@
 //! The log of one end, made of its steps and of the frames of both files.
 
-ghost use Rattle.std.specs.Prelude.{◌≡◌, ◌≢◌, ◌↔◌, ◌∷◌, ◌++◌, ◌⊎◌, [], Some, None, true, false, IsTrue, OnOk, IfOk, slice_get};
+ghost use Rattle.std.specs.Prelude.{◌≡◌, ◌∷◌, ◌++◌, [], Some, None, true, false, IsTrue, OnOk, IfOk};
 ghost use Rattle.std.specs.Arc.{arc_value};
 ghost use Rattle.link_check.specs.Prefix.{frame_sent, frame_received};
 ghost use Rattle.wire_steps.specs.Glue.{HasCome};

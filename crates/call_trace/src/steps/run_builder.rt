@@ -1,10 +1,8 @@
 //! The steps that the records of all vats took so far, and what they sent.
 
 ghost use Rattle.std.specs.Prelude.{◌≡◌, [], List, ℕ, true, IfOk, OnOk, option_and_then, slice_get};
-ghost use Rattle.std.specs.Option.{option_copied};
 ghost use Rattle.agree.specs.Rows.{Row};
 ghost use Rattle.call_trace.specs.Naming.{message_of_step};
-ghost use Rattle.call_trace.specs.Running.{coming_next};
 ghost use Rattle.call_trace.specs.Glue.RunBuilder.{IsTrail, IsNextIn, ComesNext, Comes};
 ghost use Rattle.call_trace.specs.Types.{Step as Steps};
 ghost use Rattle.vat_rules.specs.OfCaps.{is_received};

@@ -1,6 +1,6 @@
 //! The step that one record takes.
 
-ghost use Rattle.std.specs.Prelude.{◌≡◌, ℕ, List, None, true, false, IfOk, OnOk};
+ghost use Rattle.std.specs.Prelude.{◌≡◌, ℕ, List, None, true, false, OnOk};
 ghost use Rattle.std.specs.Option.{option_copied};
 ghost use Rattle.call_trace.specs.Glue.Ledgers.{call_bound_by, received_step, with_bound, IsBound, IsNoted, IsKept, HasStep, IsTaken};
 ghost use Rattle.call_trace.specs.Running.{step_of};

@@ -2,7 +2,7 @@
 
 ghost use Rattle.std.specs.Prelude.{◌≡◌, IfOk};
 ghost use Rattle.vat_view.specs.Glue.Tables.{bound_at, question_at, late_by};
-ghost use Rattle.vat_view.specs.Glue.Asking.{opening_call_in, targeted_by, taken_from_by};
+ghost use Rattle.vat_view.specs.Glue.Asking.{opening_call_in, taken_from_by};
 ghost use Rattle.vat_view.specs.Glue.CallTables.{arriving_call, bootstrap_call, begins_call, begun_by, moved, sent_step, received_step, step_by};
 
 use crate::apply::tables::is_late;

@@ -5,7 +5,7 @@ ghost use Rattle.vat_view.specs.Questions.{question_opened, question_returned, q
 ghost use Rattle.vat_view.specs.Lives.{descriptors};
 ghost use Rattle.vat_view.specs.Views.{references};
 ghost use Rattle.vat_view.specs.Uses.{question_targeted, question_described, number_targeted, number_described, number_released};
-ghost use Rattle.vat_view.specs.Bindings.{new_references, new_calls, named_calls};
+ghost use Rattle.vat_view.specs.Bindings.{new_references, new_calls};
 
 use crate::record::decoded::DecodedRecord;
 use crate::record::table_key::TableKey;

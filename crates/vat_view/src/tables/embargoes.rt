@@ -1,6 +1,6 @@
 //! The tables of what waits.
 
-ghost use Rattle.std.specs.Prelude.{◌≡◌, [], Some, OnOk, IsTrue};
+ghost use Rattle.std.specs.Prelude.{[], Some, OnOk, IsTrue};
 ghost use Rattle.vat_view.specs.Glue.Tables.{bound_at, question_at};
 ghost use Rattle.vat_view.specs.Glue.Asking.{targeted_by};
 ghost use Rattle.vat_view.specs.Glue.Queues.{queued_at, has_joined};

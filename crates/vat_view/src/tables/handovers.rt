@@ -1,7 +1,6 @@
 //! The table of calls that were answered by other calls.
 
-ghost use Rattle.std.specs.Prelude.{◌≡◌, ◌==◌, ◌⊎◌, ℕ, Option, None, Some, OnOk, IsTrue, is_some, unwrap_or, if◌then◌else◌};
-ghost use Rattle.rising_table.specs.Entries.{entry_at};
+ghost use Rattle.std.specs.Prelude.{◌≡◌, ◌==◌, ◌⊎◌, ℕ, Option, None, Some, OnOk, IsTrue, unwrap_or, if◌then◌else◌};
 ghost use Rattle.vat_view.specs.declared.tables.references.Shortcut.{Shortcut};
 ghost use Rattle.vat_view.specs.Glue.TurnTables.{handover_in, call_ahead_in, has_room_for_handover, handovers_len, own_leap, IsOwnOrOldCall};
 

@@ -2,7 +2,7 @@
 
 ghost use Rattle.std.specs.Prelude.{◌≡◌, ℕ, Some, IfSome};
 ghost use Rattle.vat_view.specs.Glue.Tables.{bound_at};
-ghost use Rattle.vat_view.specs.Glue.TurnTables.{turns_of, onward_by, call_onward_by, joined, IsJoined, SaysSameTurns, HaveAhead, IsAhead, IsCallAhead};
+ghost use Rattle.vat_view.specs.Glue.TurnTables.{turns_of, onward_by, call_onward_by, joined, IsJoined, SaysSameTurns, HaveAhead, IsCallAhead};
 
 use crate::borrowed_view::BorrowedView;
 use crate::record::table_key::TableKey;

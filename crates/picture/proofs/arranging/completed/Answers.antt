@@ -1,4 +1,3 @@
-use Rattle.std.proofs.Common.{refl}
 use Rattle.std.specs.Arc.{arc_value}
 use Rattle.picture.specs.Places.{steps_left}
 use Rattle.picture.proofs.Listing.{several_more}

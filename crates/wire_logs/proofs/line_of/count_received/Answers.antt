@@ -1,5 +1,3 @@
-use Rattle.std.proofs.Common.{◌≡◌, ◌∙◌, ap, length, take, arith}
-use Rattle.std.specs.List.{filter_map}
 use Rattle.link_check.specs.Prefix.{frame_received}
 use Rattle.link_check.proofs.Rest.{counted, not_counted}
 use Rattle.wire_logs.proofs.line_of.count_received.Goals as goal

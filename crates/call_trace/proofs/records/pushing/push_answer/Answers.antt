@@ -1,6 +1,6 @@
 use Rattle.std.proofs.Common.{◌≡◌, ◌∙◌, sym, ap, ap₂, Some, option_map, option_and_then}
 use Rattle.run_model.specs.declared.step.Step.TheVariants as step
-use Rattle.call_trace.specs.Glue.Ledgers.{names_in, call_name_in, results_said, pushed}
+use Rattle.call_trace.specs.Glue.Ledgers.{names_in, results_said, pushed}
 use Rattle.call_trace.proofs.records.pushing.push_answer.Goals as goal
 
 pub returns-in_ok-push : goal.returns-in_ok-push

@@ -1,4 +1,4 @@
-use Rattle.std.proofs.Common.{ℕ, List, Option, option_map}
+use Rattle.std.proofs.Common.{option_map}
 use Rattle.report_lines.specs.Lines.{answer_status, answer_text, line}
 use Rattle.command_run.specs.CommandAnswers.{AnswersOrder}
 use Rattle.command_run.specs.Glue.{IsMade}

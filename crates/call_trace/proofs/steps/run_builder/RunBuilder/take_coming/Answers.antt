@@ -1,4 +1,4 @@
-use Rattle.std.proofs.Common.{◌∙◌, sym, ap, subst, ◌∷◌, ℕ, Option, option_and_then, slice_get}
+use Rattle.std.proofs.Common.{◌∙◌, sym, ap, subst, ◌∷◌, ℕ, option_and_then, slice_get}
 use Rattle.agree.specs.Rows.{log_of_vat}
 use Rattle.run_model.specs.declared.step.Step.TheVariants as step
 use Rattle.call_trace.specs.Glue.Ledgers.{received_step}

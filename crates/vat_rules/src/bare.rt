@@ -1,10 +1,7 @@
-//! Records whose message carries no capability: which rule they break first, and what is kept of them. More than half of
-//! all messages are such.
+//! Records whose message carries no capability: which rule they break first. More than half of all messages are
+//! such.
 
-ghost use Rattle.std.specs.Prelude.{◌≡◌, ◌∷◌, [], Ok, IfOk, IsTrue, MatchOption, MatchResult};
-ghost use Rattle.vat_log.specs.declared.body.Body.{Body};
-ghost use Rattle.vat_rules.specs.Events.{Reader, event_of};
-ghost use Rattle.vat_rules.specs.Glue.Taking.{IsTaken, IsRefused};
+ghost use Rattle.std.specs.Prelude.{◌≡◌, ◌∷◌, [], IfOk, IsTrue, MatchOption};
 ghost use Rattle.std.specs.Option.{option_copied};
 ghost use Rattle.vat_view.specs.Questions.{is_late};
 ghost use Rattle.vat_view.specs.Views.{view_of_target, views_of_descriptors};
@@ -17,15 +14,13 @@ ghost use Rattle.vat_rules.specs.Glue.Bare.{IsBare, MeetsEach};
 ghost use Rattle.vat_rules.specs.declared.rule.Rule.TheVariants as rule;
 
 use crate::facts::compact::RecordFacts;
-use crate::facts::lookup::facts_of_bare;
 use crate::of_calls::{goes_to_goal, is_here};
 use crate::of_connections::{is_open, keeps_embargo};
 use crate::of_promises::resolves_promise;
 use crate::of_results::returns_known;
 use crate::rule::Rule;
-use crate::taking::{Known, Refusal, Taken, apply_good};
 use rpc_view::{Edition, RpcMessage};
-use std::alloc::{AllocError, Global};
+use std::alloc::AllocError;
 use vat_view::{DecodedRecord, VatState, View};
 
 /// Whether a record has a message that carries no capability: it notes no reference and has no descriptor.
@@ -209,32 +204,5 @@ pub(crate) fn bare_rule_broken(
             Ok(disembargo_broken(edition, state, event, seen.target()))
         }
         RpcMessage::Abort => Ok(None),
-    }
-}
-
-/// Judges a record by an edition whose message carries no capability, and applies it if it is good; else the first rule
-/// that it breaks.
-pub(crate) fn take_bare(
-    alloc: Global,
-    edition: Edition,
-    state: &mut VatState,
-    event: DecodedRecord,
-) -> Result<Result<Taken, Refusal>, AllocError>
-    requires { IsBare event }
-    ensures { (read : Reader) (body : Body) → event_of read body ≡ Ok event → IfOk result (λ r. MatchResult r
-        (IsTaken edition read state.old body state.new)
-        (IsRefused edition read state.old body)) }
-{
-    let facts = facts_of_bare(alloc, state, &event)?;
-    match bare_rule_broken(edition, state, &event, &facts) {
-        Ok(None) => {
-            apply_good(state, &event)?;
-            Ok(Ok(Taken {
-                event,
-                known: Known::Bare(facts),
-            }))
-        }
-        Ok(Some(rule)) => Ok(Err(Refusal::Broken(rule))),
-        Err(error) => Err(error),
     }
 }

@@ -2,13 +2,13 @@
 
 ghost use Rattle.std.specs.Prelude.{◌≡◌, true, false, Ok, IfOk};
 ghost use Rattle.vat_rules.specs.Events.{Reader, event_of};
-ghost use Rattle.vat_rules.specs.Audit.{why_outside, why_of};
+ghost use Rattle.vat_rules.specs.Audit.{reads_by, why_outside, why_of};
 ghost use Rattle.vat_rules.specs.Glue.Taking.{has_frame, frame_in, noted_beside, is_flat, is_own};
 
 use crate::outcome::Why;
 use bytes::Bytes;
-use rpc_view::{Outside, RpcMessage, ViewError};
-use std::alloc::AllocError;
+use rpc_view::{Edition, Limits, Outside, RpcMessage, ViewError, read_bytes};
+use std::alloc::{AllocError, Global};
 use vat_log::{Body, References};
 use vat_view::DecodedRecord;
 
@@ -124,5 +124,58 @@ pub(crate) fn flat_event(body: &Body) -> DecodedRecord
         Body::AnswerBy { call, by } => DecodedRecord::AnswerBy { call, by },
         Body::Field { .. } | Body::Answer { .. } => unreachable!(),
         Body::Send { .. } | Body::Receive { .. } => unreachable!(),
+    }
+}
+
+/// A stored record that has a frame, as it is judged; or why it is outside of what is audited.
+fn decoded_frame(
+    alloc: Global,
+    edition: Edition,
+    limits: Limits,
+    body: &Body,
+) -> Result<Result<DecodedRecord, Why>, AllocError>
+    requires { has_frame body.now ≡ true }
+    ensures { IfOk result (λ decoded. event_of (reads_by edition limits) body.now ≡ decoded) }
+{
+    let references = noted_beside(body)?;
+    match read_bytes(alloc, frame_in(body).clone()?, limits, edition) {
+        Ok(message) => Ok(Ok(wire(body, references, message))),
+        Err(ViewError::OutOfMemory) => Err(AllocError),
+        Err(error) => Ok(Err(why_of(error))),
+    }
+}
+
+/// A stored record as it is judged, its frame read within the limits by an edition; or why it is outside of what is
+/// audited.
+pub(crate) fn decoded(
+    alloc: Global,
+    edition: Edition,
+    limits: Limits,
+    body: &Body,
+) -> Result<Result<DecodedRecord, Why>, AllocError>
+    ensures { IfOk result (λ decoded. event_of (reads_by edition limits) body.now ≡ decoded) }
+{
+    match body {
+        Body::Send { .. } | Body::Receive { .. } => decoded_frame(alloc, edition, limits, body),
+        Body::Field {
+            reference,
+            call,
+            path,
+        } => {
+            let path = path.copy()?;
+            Ok(Ok(DecodedRecord::Field {
+                reference: *reference,
+                call: *call,
+                path,
+            }))
+        }
+        Body::Answer { call, results } => {
+            let results = results.copy()?;
+            Ok(Ok(DecodedRecord::Answer {
+                call: *call,
+                results,
+            }))
+        }
+        _ => Ok(Ok(flat_event(body))),
     }
 }

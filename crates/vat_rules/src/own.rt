@@ -12,6 +12,13 @@ use crate::rule::Rule;
 use std::alloc::{AllocError, Global};
 use vat_view::{DecodedRecord, VatState};
 
+/// Whether a record has no message.
+pub(crate) fn is_own(event: &DecodedRecord) -> bool
+    ensures { result ≡ is_own event.now }
+{
+    !matches!(event, DecodedRecord::Wire { .. })
+}
+
 /// Whether a record without a message does no more than bind and name references and calls.
 fn binds_alone(event: &DecodedRecord) -> bool
     ensures { result ≡ binds_alone event.now }

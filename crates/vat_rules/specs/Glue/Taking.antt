@@ -1,5 +1,5 @@
 -- For the code's contracts, and no part of the meaning: one record more of a log.
-use Rattle.std.specs.Prelude.{◌≡◌, ℕ, List, [], ◌∷◌, Bool, true, false, ⊤, Ok, Err}
+use Rattle.std.specs.Prelude.{◌≡◌, ◌+◌, ℕ, List, [], ◌∷◌, ◌++◌, Bool, true, false, if◌then◌else◌, Ok, Err}
 use Rattle.vat_log.specs.declared.body.Body.{Body}
 use Rattle.vat_log.specs.declared.body.Body.TheVariants as body
 use Rattle.vat_view.specs.Past.{Past}
@@ -7,15 +7,12 @@ use Rattle.vat_rules.specs.Types.{Edition, DecodedRecord, Host, Vow, Make, Field
 use Rattle.vat_rules.specs.Rules.{rules}
 use Rattle.vat_rules.specs.Events.{Reader, event_of}
 use Rattle.vat_rules.specs.Judged.{IsGoodBy, BreaksFirst}
-use Rattle.vat_rules.specs.Telling.{seen_of}
+use Rattle.vat_rules.specs.LogFacts.{Sight, Entry}
+use Rattle.vat_rules.specs.Telling.{seen_of, entry_of, is_delivery}
 use Rattle.vat_rules.specs.declared.outcome.Outcome.{Outcome}
 use Rattle.vat_rules.specs.declared.outcome.Outcome.TheVariants as outcome
-use Rattle.vat_rules.specs.Glue.Facts.{standing_of}
-use Rattle.vat_rules.specs.declared.taking.Known.{Known}
-use Rattle.vat_rules.specs.declared.taking.Known.TheVariants.{Own, Bare, Full}
 use Rattle.vat_rules.specs.declared.taking.Refusal.{Refusal}
 use Rattle.vat_rules.specs.declared.taking.Refusal.TheVariants.{Outside, Broken}
-use Rattle.vat_rules.specs.declared.taking.Taken.{Taken}
 
 -- a stored record has a frame
 abbrev pub has_frame : Body → Bool
@@ -56,24 +53,27 @@ is_flat (body.Field r call path) = false
 is_flat (body.Answer call results) = false
 is_flat _ = true
 
--- what is known of a record after it was judged: that it has no message, all that is seen of it, or what its numbers
--- stand for apart from its references
-abbrev pub IsKnown : Past → DecodedRecord → Known → Type 0
-IsKnown before e Own = is_own e ≡ true
-IsKnown before e (Bare seen) = seen ≡ seen_of before e
-IsKnown before e (Full standing) = (is_own e ≡ false) × (standing ≡ standing_of before e)
-
--- only a record without a message is known to be one
-abbrev pub IsOwnIfKnown : DecodedRecord → Known → Type 0
-IsOwnIfKnown e Own = is_own e ≡ true
-IsOwnIfKnown e _ = ⊤
+-- a record is good, and was put behind those before it, and this is seen of it
+pub record IsTaken (edition : Edition) (before : Past) (e : DecodedRecord) (after : Past) (facts : Sight) : Type 0 where
+  pub good : IsGoodBy edition before e
+  pub state : after ≡ e ∷ before
+  pub seen : facts ≡ seen_of before e
 
 -- a stored record is read as this one, which is good and was put behind those before it
-pub record IsTaken (edition : Edition) (read : Reader) (before : Past) (b : Body) (after : Past) (taken : Taken) : Type 0 where
-  pub is : event_of read b ≡ Ok taken.event
-  pub good : IsGoodBy edition before taken.event
-  pub state : after ≡ taken.event ∷ before
-  pub known : IsKnown before taken.event taken.known
+pub record IsPut (edition : Edition) (read : Reader) (before : Past) (b : Body) (after : Past) (e : DecodedRecord) : Type 0 where
+  pub is : event_of read b ≡ Ok e
+  pub good : IsGoodBy edition before e
+  pub state : after ≡ e ∷ before
+
+-- and behind those that were gathered, with what is seen of it
+abbrev pub IsGathered : Edition → Reader → Past → Body → Past → List Entry → List Entry → Type 0
+IsGathered edition read before b after gathered longer =
+    (e : DecodedRecord) × IsPut edition read before b after e × (longer ≡ gathered ++ entry_of before e ∷ [])
+
+-- and was counted, where it delivers a call
+abbrev pub IsCounted : Edition → Reader → Past → Body → Past → ℕ → ℕ → Type 0
+IsCounted edition read before b after delivered more =
+    (e : DecodedRecord) × IsPut edition read before b after e × (more ≡ delivered + (if is_delivery e then 1 else 0))
 
 -- a stored record isn't good for this reason
 abbrev pub IsRefused : Edition → Reader → Past → Body → Refusal → Type 0

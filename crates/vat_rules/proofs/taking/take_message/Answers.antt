@@ -2,15 +2,14 @@ use Rattle.vat_rules.proofs.Judging.{good_sound}
 use Rattle.vat_rules.proofs.taking.take_message.Goals as goal
 
 pub apply_good-requires : goal.apply_good-requires
-apply_good-requires c = good_sound c.args.edition c.args.state.now c.args.event (rw c.in-Ok-None.field-0-is at c.in-Ok-None.ensures)
+apply_good-requires c = good_sound c.args.edition c.args.state.now c.args.event.now (rw c.in-None.is at c.in_ok-rule_broken.ensures)
 
-pub returns-in_ok-apply_good-in-Ok-None : goal.returns-in_ok-apply_good-in-Ok-None
-returns-in_ok-apply_good-in-Ok-None c = λ read body is. record {
-  is = is;
-  good = rw c.in-Ok-None.field-0-is at c.in-Ok-None.ensures;
-  state = c.in_ok-apply_good-in-Ok-None.ensures;
-  known = (c.requires, c.in_ok-standing.ensures);
+pub returns-in_ok-seen_after-in-None : goal.returns-in_ok-seen_after-in-None
+returns-in_ok-seen_after-in-None c = record {
+  good = rw c.in-None.is at c.in_ok-rule_broken.ensures;
+  state = c.in_ok-apply_good-in-None.ensures;
+  seen = c.in_ok-seen_after-in-None.ensures c.args.state.now c.in_ok-apply_good-in-None.ensures c.in_ok-standing.ensures;
 }
 
-pub returns-in-Ok-Some : goal.returns-in-Ok-Some
-returns-in-Ok-Some c = λ read body is. (c.args.event, is, rw c.in-Ok-Some.field-0-is at c.in-Ok-Some.ensures)
+pub returns-in-Some : goal.returns-in-Some
+returns-in-Some c = rw c.in-Some.is at c.in_ok-rule_broken.ensures

@@ -1,0 +1,17 @@
+use Rattle.std.proofs.Common.{sym, ◌∙◌}
+use Rattle.vat_rules.proofs.Judging.{good_sound}
+use Rattle.vat_rules.proofs.Asked.{bare_seen}
+use Rattle.vat_rules.proofs.taking.take_bare.Goals as goal
+
+pub apply_good-requires : goal.apply_good-requires
+apply_good-requires c = good_sound c.args.edition c.args.state.now c.args.event.now (rw c.in-None.is at c.in_ok-bare_rule_broken.ensures)
+
+pub returns-in_ok-apply_good-in-None : goal.returns-in_ok-apply_good-in-None
+returns-in_ok-apply_good-in-None c = record {
+  good = rw c.in-None.is at c.in_ok-bare_rule_broken.ensures;
+  state = c.in_ok-apply_good-in-None.ensures;
+  seen = c.in_ok-facts.ensures ∙ sym (bare_seen c.args.state.now c.args.event.now c.requires);
+}
+
+pub returns-in-Some : goal.returns-in-Some
+returns-in-Some c = rw c.in-Some.is at c.in_ok-bare_rule_broken.ensures

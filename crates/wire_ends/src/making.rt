@@ -5,7 +5,6 @@ ghost use Rattle.wire_ends.specs.Made.{HasMade};
 
 use crate::blame::{Blame, borrow_all, find_blame};
 use crate::lack::{Lack, Waiting};
-use crate::open_at_end::OpenAtEnd;
 use crate::schedule::{Stuck, run_both};
 use crate::vat::Vat;
 use bytes::Bytes;
@@ -35,8 +34,6 @@ pub struct MadeLogs {
     pub blame: Option<Blame>,
     /// Of each end the message that waits, and what it lacks.
     pub waiting: [Option<Waiting>; 2],
-    /// What is open at the end, if the explanation doesn't stop.
-    pub open: Option<[OpenAtEnd; 2]>,
 }
 
 /// What came of making logs.
@@ -76,7 +73,6 @@ struct MadeUp {
     steps_of_b: Vec<Step>,
     blame: Option<Blame>,
     waiting: [Option<Waiting>; 2],
-    open: Option<[OpenAtEnd; 2]>,
 }
 
 /// Both ends at their beginning.
@@ -89,7 +85,6 @@ fn made_up(
     ends: (Vat<'_>, Vat<'_>),
     blame: Option<Blame>,
     waiting: [Option<Waiting>; 2],
-    open: Option<[OpenAtEnd; 2]>,
 ) -> MadeUp {
     let (a, b) = ends;
     MadeUp {
@@ -97,7 +92,6 @@ fn made_up(
         steps_of_b: b.into_steps(),
         blame,
         waiting,
-        open,
     }
 }
 
@@ -125,7 +119,7 @@ fn make_up_blamed(alloc: Global, plan: &WirePlan, blamed: Blame) -> Result<MadeU
     let stuck = run(&mut a, &mut b)?;
     let waiting = [waiting(&a, stuck.of_a), waiting(&b, stuck.of_b)];
     send_blamed(&mut a, &mut b, blamed)?;
-    Ok(made_up((a, b), Some(blamed), waiting, None))
+    Ok(made_up((a, b), Some(blamed), waiting))
 }
 
 /// Makes up both ends.
@@ -134,11 +128,10 @@ fn make_up(alloc: Global, plan: &WirePlan) -> Result<MadeUp, AllocError> {
     let stuck = run(&mut a, &mut b)?;
     let waiting = [waiting(&a, stuck.of_a), waiting(&b, stuck.of_b)];
     if stuck.of_a.is_none() && stuck.of_b.is_none() {
-        let open = [a.open_at_end(), b.open_at_end()];
-        return Ok(made_up((a, b), None, waiting, Some(open)));
+        return Ok(made_up((a, b), None, waiting));
     }
     match blame_of(&mut a, &mut b, stuck)? {
-        None => Ok(made_up((a, b), None, waiting, None)),
+        None => Ok(made_up((a, b), None, waiting)),
         Some(blamed) => make_up_blamed(alloc, plan, blamed),
     }
 }
@@ -169,7 +162,6 @@ pub fn make_logs(alloc: Global, a: &[Bytes], b: &[Bytes]) -> Result<Making, Allo
         steps_of_b,
         blame,
         waiting,
-        open,
     } = make_up(alloc, &plan)?;
     let of_a = match log_of(alloc, VAT_OF_A, steps_of_a, a, b) {
         Ok(log) => log,
@@ -185,6 +177,5 @@ pub fn make_logs(alloc: Global, a: &[Bytes], b: &[Bytes]) -> Result<Making, Allo
         is_whole: of_a.is_whole && of_b.is_whole,
         blame,
         waiting,
-        open,
     }))
 }

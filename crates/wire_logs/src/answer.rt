@@ -3,7 +3,7 @@
 use crate::line::WireLine;
 use std::sync::Arc;
 use vat_log::VatLog;
-use wire_ends::{OpenAtEnd, Waiting};
+use wire_ends::Waiting;
 
 /// The logs that were made of two files: of vat 1, who sent the first file, and of vat 2; their connection is 0. Both are
 /// of version 3.
@@ -28,6 +28,4 @@ pub struct WireAnswer {
     pub left: [u64; 2],
     /// Where the explanation stops: the message of the first end that waits, and of the second, and what each lacks.
     pub waiting: [Option<Waiting>; 2],
-    /// What is open at the end; none where the explanation stops.
-    pub open: Option<[OpenAtEnd; 2]>,
 }

@@ -68,7 +68,6 @@ fn without_logs(line: WireLine, frames: [u64; 2], left: [u64; 2]) -> WireAnswer
         frames,
         left,
         waiting: [None, None],
-        open: None,
     }
 }
 
@@ -109,7 +108,6 @@ fn explain_frames<R: Threads + Wait + Sync, G: Gate + Sync>(
         is_whole: _,
         blame: _,
         waiting,
-        open,
     } = made;
     Ok(WireAnswer {
         line,
@@ -117,7 +115,6 @@ fn explain_frames<R: Threads + Wait + Sync, G: Gate + Sync>(
         frames,
         left,
         waiting,
-        open,
     })
 }
 

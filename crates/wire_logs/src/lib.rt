@@ -12,4 +12,4 @@ pub use explain::explain_wire;
 pub use laws::a_wire_that_is_explained_has_a_run;
 pub use line::WireLine;
 pub use wire_cut::End;
-pub use wire_ends::{Lack, OpenAtEnd, Waiting};
+pub use wire_ends::{Lack, Waiting};

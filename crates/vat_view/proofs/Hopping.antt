@@ -3,9 +3,9 @@ use Rattle.std.proofs.Common.{◌≡◌, ◌⊎◌, ◌<◌, ◌≤◌, refl, sy
 use Rattle.std.specs.Prelude.{unwrap_or}
 use Rattle.std.proofs.lemmas.Bool.{cases_lt}
 use Rattle.rising_table.specs.Entries.{entry_at}
-use Rattle.vat_view.specs.declared.tables.settlements.Settlements.{Settlements}
+use Rattle.vat_view.specs.declared.tables.turns.settlements.Settlements.{Settlements}
 use Rattle.vat_view.specs.declared.tables.references.BoundReferences.{BoundReferences}
-use Rattle.vat_view.specs.declared.tables.handovers.Handovers.{Handovers}
+use Rattle.vat_view.specs.declared.tables.turns.handovers.Handovers.{Handovers}
 use Rattle.vat_view.specs.declared.tables.references.Binding.{Binding}
 use Rattle.vat_view.specs.declared.tables.references.Shortcut.{Shortcut}
 use Rattle.vat_view.specs.declared.walks.landing.Landing.{Landing}

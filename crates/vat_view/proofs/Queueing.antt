@@ -11,14 +11,14 @@ use Rattle.std.specs.Cmp.{Equal-is, nat_cmp_total, tied_itself, alike_right, uns
 use Rattle.std.specs.BTreeMap.{get}
 use Rattle.std.specs.BTreeMap.Range.{range_contains}
 use Rattle.std.proofs.lemmas.Bool.{cases_Bool, or_left, or_right, false≢true, eqb-true, lt-ltb}
-use Rattle.vat_view.specs.declared.tables.goal_key.GoalKey.{GoalKey}
-use Rattle.vat_view.specs.declared.tables.queued_call.QueuedCall.{QueuedCall}
-use Rattle.vat_view.specs.contracts.tables.goal_key.GoalKeyOrd.TheImpl as heading_order
-use Rattle.vat_view.specs.contracts.tables.goal_key.GoalKeyOrd.TheImpl.Laws as heading_laws
-use Rattle.vat_view.specs.contracts.tables.queued_call.QueuedCallOrd.TheImpl.Laws as queued_laws
+use Rattle.vat_view.specs.declared.tables.turns.goal_key.GoalKey.{GoalKey}
+use Rattle.vat_view.specs.declared.tables.waits.queued_call.QueuedCall.{QueuedCall}
+use Rattle.vat_view.specs.contracts.tables.turns.goal_key.GoalKeyOrd.TheImpl as heading_order
+use Rattle.vat_view.specs.contracts.tables.turns.goal_key.GoalKeyOrd.TheImpl.Laws as heading_laws
+use Rattle.vat_view.specs.contracts.tables.waits.queued_call.QueuedCallOrd.TheImpl.Laws as queued_laws
 use Rattle.vat_view.specs.declared.tables.calls.Calls.{Calls}
-use Rattle.vat_view.specs.declared.tables.waiting_calls.Receipt.{Receipt}
-use Rattle.vat_view.specs.declared.tables.waiting_calls.WaitingCalls.{WaitingCalls}
+use Rattle.vat_view.specs.declared.tables.waits.waiting_calls.Receipt.{Receipt}
+use Rattle.vat_view.specs.declared.tables.waits.waiting_calls.WaitingCalls.{WaitingCalls}
 use Rattle.vat_view.specs.Past.{is as taken_is}
 use Rattle.vat_view.specs.Glue.CallTables.{call_state_at, goal_in}
 use Rattle.vat_view.specs.Glue.Queues.{queued_at, queued_cmp, is_queued, ahead_of}

@@ -4,7 +4,7 @@ use Rattle.std.specs.Prelude.{is_some, option_and_then, unwrap_or}
 use Rattle.std.specs.List.{list_all}
 use Rattle.std.specs.Option.{option_or}
 use Rattle.std.proofs.lemmas.Bool.{cases_Bool, and_parts, or_parts, false≢true, eqb-true, eq-eqb, not-true}
-use Rattle.vat_view.specs.declared.tables.waiting_calls.Receipt.{Receipt}
+use Rattle.vat_view.specs.declared.tables.waits.waiting_calls.Receipt.{Receipt}
 use Rattle.vat_view.specs.Types.{Call, Return, Exception, Canceled, DecodedRecord, Make, Deliver, Fault, Wire, Asked}
 use Rattle.vat_view.specs.Past.{Past, Point, point, id, is, record_index, last_answer, last_where, last_since, Each}
 use Rattle.vat_view.specs.Questions.{call_at, opening}

@@ -4,10 +4,10 @@ use Rattle.std.proofs.lemmas.Bool.{cases_Bool, ltb-true, ltb-false, eq-eqb}
 use Rattle.vat_view.specs.declared.tables.questions.Questions.{Questions}
 use Rattle.vat_view.specs.declared.tables.exports_imports.ExportsImports.{ExportsImports}
 use Rattle.vat_view.specs.declared.tables.references.BoundReferences.{BoundReferences}
-use Rattle.vat_view.specs.declared.tables.settlements.Settlements.{Settlements}
-use Rattle.vat_view.specs.declared.tables.settlements.Settling.{Settling}
-use Rattle.vat_view.specs.declared.tables.turned.Turned.{Turned}
-use Rattle.vat_view.specs.declared.tables.handovers.Handover.{Handover}
+use Rattle.vat_view.specs.declared.tables.turns.settlements.Settlements.{Settlements}
+use Rattle.vat_view.specs.declared.tables.turns.settlements.Settling.{Settling}
+use Rattle.vat_view.specs.declared.tables.turns.turned.Turned.{Turned}
+use Rattle.vat_view.specs.declared.tables.turns.handovers.Handover.{Handover}
 use Rattle.vat_view.specs.declared.record.unsettled.Unsettled.TheVariants.{Promise as PromiseToKeep, Results as ResultsOf, Import as ImportToResolve}
 use Rattle.vat_view.specs.Types.{Return, Resolve, DecodedRecord, Fulfil, Break, Answer, AnswerBy, Fault, Wire, View, Object, Promise, FieldOf, Import, TableKey}
 use Rattle.std.specs.Option.{option_or}

@@ -6,10 +6,10 @@ use Rattle.std.proofs.lemmas.Bool.{cases_lt, false≢true, eqb-true}
 use Rattle.std.proofs.lemmas.Option.{slice_get_past}
 use Rattle.std.specs.BTreeMap.{get}
 use Rattle.rising_table.specs.Entries.{entry_at}
-use Rattle.vat_view.specs.declared.tables.turned.Turned.{Turned}
-use Rattle.vat_view.specs.declared.tables.settlements.Settlements.{Settlements}
+use Rattle.vat_view.specs.declared.tables.turns.turned.Turned.{Turned}
+use Rattle.vat_view.specs.declared.tables.turns.settlements.Settlements.{Settlements}
 use Rattle.vat_view.specs.declared.record.unsettled.Unsettled.TheVariants.{Results as ResultsOf, Import as ImportToResolve}
-use Rattle.vat_view.specs.declared.tables.turned.Turned.TheVariants.{Nowhere, Reference as ToOne, Field as OneField, Fields as ManyFields}
+use Rattle.vat_view.specs.declared.tables.turns.turned.Turned.TheVariants.{Nowhere, Reference as ToOne, Field as OneField, Fields as ManyFields}
 use Rattle.vat_view.specs.Types.{Descriptor, DecodedRecord, View, Object, Promise, FieldOf, Import}
 use Rattle.vat_view.specs.Lives.{descriptors}
 use Rattle.vat_view.specs.Glue.FieldTargets.{target_among}

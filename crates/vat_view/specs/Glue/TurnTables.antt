@@ -14,15 +14,15 @@ use Rattle.vat_view.specs.declared.tables.references.Shortcut.{Shortcut}
 use Rattle.vat_view.specs.declared.record.origin.Origin.{Origin}
 use Rattle.vat_view.specs.declared.record.unsettled.Unsettled.{Unsettled}
 use Rattle.vat_view.specs.declared.record.unsettled.Unsettled.TheVariants.{Promise as PromiseToKeep, Results as ResultsOf, Import as ImportToResolve}
-use Rattle.vat_view.specs.declared.tables.settlements.Settlements.{Settlements}
-use Rattle.vat_view.specs.declared.tables.settlements.Settling.{Settling}
-use Rattle.vat_view.specs.declared.tables.turned.Turned.{Turned}
-use Rattle.vat_view.specs.declared.tables.turned.Turned.TheVariants.{Nowhere, Reference as ToOne, Field as OneField, Fields as ManyFields}
-use Rattle.vat_view.specs.declared.tables.turned.Ended.{Ended}
-use Rattle.vat_view.specs.declared.tables.turned.Ended.TheVariants.{Open as Unended, Nowhere as EndedNowhere, Reference as EndedAt}
-use Rattle.vat_view.specs.declared.tables.handovers.Handovers.{Handovers}
-use Rattle.vat_view.specs.declared.tables.handovers.Handover.{Handover}
-use Rattle.vat_view.specs.declared.tables.handovers.HandedCall.{HandedCall}
+use Rattle.vat_view.specs.declared.tables.turns.settlements.Settlements.{Settlements}
+use Rattle.vat_view.specs.declared.tables.turns.settlements.Settling.{Settling}
+use Rattle.vat_view.specs.declared.tables.turns.turned.Turned.{Turned}
+use Rattle.vat_view.specs.declared.tables.turns.turned.Turned.TheVariants.{Nowhere, Reference as ToOne, Field as OneField, Fields as ManyFields}
+use Rattle.vat_view.specs.declared.tables.turns.turned.Ended.{Ended}
+use Rattle.vat_view.specs.declared.tables.turns.turned.Ended.TheVariants.{Open as Unended, Nowhere as EndedNowhere, Reference as EndedAt}
+use Rattle.vat_view.specs.declared.tables.turns.handovers.Handovers.{Handovers}
+use Rattle.vat_view.specs.declared.tables.turns.handovers.Handover.{Handover}
+use Rattle.vat_view.specs.declared.tables.turns.handovers.HandedCall.{HandedCall}
 use Rattle.vat_view.specs.declared.walks.landing.Landing.{Landing}
 use Rattle.vat_view.specs.declared.walks.landing.Landing.TheVariants.{Reference as ToReference, Call as ToCall}
 use Rattle.vat_view.specs.contracts.record.unsettled.UnsettledOrd.TheImpl as pending_order

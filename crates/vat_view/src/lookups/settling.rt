@@ -14,7 +14,7 @@ use crate::record::unsettled::Unsettled;
 use crate::tables::exports_imports::ExportsImports;
 use crate::tables::questions::Questions;
 use crate::tables::references::BoundReferences;
-use crate::tables::settlements::Settling;
+use crate::tables::turns::settlements::Settling;
 use crate::view::View;
 use rpc_view::{Outcome, RpcMessage};
 use std::alloc::{AllocError, Global};

@@ -8,7 +8,7 @@ use crate::borrowed_view::BorrowedView;
 use crate::record::table_key::TableKey;
 use crate::tables::exports_imports::ExportsImports;
 use crate::tables::references::{BoundReferences, Shortcut};
-use crate::tables::settlements::Settlements;
+use crate::tables::turns::settlements::Settlements;
 use crate::walks::hops::{landed_by, reference_by, turned_to, view_of};
 use crate::walks::landing::Landing;
 

@@ -11,11 +11,11 @@ use crate::record::decoded::DecodedRecord;
 use crate::record::table_key::TableKey;
 use crate::tables::calls::Calls;
 use crate::tables::exports_imports::ExportsImports;
-use crate::tables::loopbacks::{Loopbacks, Unechoed, receiver_loopback};
 use crate::tables::questions::Questions;
-use crate::tables::queued_call::QueuedCall;
 use crate::tables::references::BoundReferences;
-use crate::tables::waiting_calls::{Receipt, WaitingCalls, call_received_by};
+use crate::tables::waits::loopbacks::{Loopbacks, Unechoed, receiver_loopback};
+use crate::tables::waits::queued_call::QueuedCall;
+use crate::tables::waits::waiting_calls::{Receipt, WaitingCalls, call_received_by};
 use std::alloc::{AllocError, Global};
 
 /// What waits: loopbacks for their echo, and received calls at the vat.

@@ -3,7 +3,7 @@
 ghost use Rattle.std.specs.Prelude.{◌≡◌, Some, option_and_then, is_some};
 ghost use Rattle.vat_view.specs.Glue.TurnTables.{target_in, is_nowhere, ended};
 
-use crate::tables::field_targets::FieldTargets;
+use crate::tables::turns::field_targets::FieldTargets;
 use cap_frame::Path;
 
 /// Where a record turns the views that it settles. One path, as most results have, takes no memory of its own.

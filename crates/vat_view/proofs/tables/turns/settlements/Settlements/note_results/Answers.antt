@@ -1,6 +1,6 @@
 use Rattle.std.proofs.Common.{refl}
 use Rattle.vat_view.proofs.Turned.{call_settled}
-use Rattle.vat_view.proofs.tables.settlements.Settlements.note_results.Goals as goal
+use Rattle.vat_view.proofs.tables.turns.settlements.Settlements.note_results.Goals as goal
 
 pub returns-clause-settlers : goal.returns-clause-settlers
 returns-clause-settlers c =

@@ -1,7 +1,7 @@
 use Rattle.std.proofs.Common.{◌∙◌, sym, ap, Some}
 use Rattle.vat_view.specs.Glue.Queues.{queued_at}
 use Rattle.vat_view.proofs.Queueing.{has_left}
-use Rattle.vat_view.proofs.tables.waiting_calls.WaitingCalls.end.Goals as goal
+use Rattle.vat_view.proofs.tables.waits.waiting_calls.WaitingCalls.end.Goals as goal
 
 pub returns-in-Some-Some-clause-left : goal.returns-in-Some-Some-clause-left
 returns-in-Some-Some-clause-left c =

@@ -1,6 +1,6 @@
 use Rattle.std.proofs.Common.{Some, ◌∙◌}
 use Rattle.std.specs.Prelude.{Result, Ok, Err, OnOk}
-use Rattle.vat_view.proofs.tables.embargoes.Embargoes.make_room.Goals as goal
+use Rattle.vat_view.proofs.tables.waits.embargoes.Embargoes.make_room.Goals as goal
 
 -- what is so whatever came
 any_ok : {T E P : Type 0} (r : Result T E) → P → OnOk r P

@@ -5,7 +5,7 @@ use Rattle.std.specs.Ordering.{nat_cmp, is_lt}
 use Rattle.std.specs.Cmp.Lexicographic.{slice_cmp}
 use Rattle.std.proofs.lemmas.List.Sorted.{IsPartitionPoint-from_clause}
 use Rattle.vat_view.proofs.Finding.{parted, hit, miss, past}
-use Rattle.vat_view.proofs.tables.field_targets.target_of.Goals as goal
+use Rattle.vat_view.proofs.tables.turns.field_targets.target_of.Goals as goal
 
 -- src/field_targets.rt:47:5
 pub returns-in-Some : goal.returns-in-Some

@@ -4,8 +4,8 @@ ghost use Rattle.std.specs.Prelude.{◌≡◌};
 ghost use Rattle.std.specs.Option.{option_copied};
 ghost use Rattle.vat_view.specs.Glue.Queues.{queued_at};
 
-use crate::tables::goal_key::{GoalKey, goal_key_of};
-use crate::tables::waiting_calls::Receipt;
+use crate::tables::turns::goal_key::{GoalKey, goal_key_of};
+use crate::tables::waits::waiting_calls::Receipt;
 use crate::view::View;
 
 /// A received call in the queue: calls of one connection to one goal stand together, in the order of their records.

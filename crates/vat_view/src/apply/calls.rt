@@ -141,11 +141,7 @@ fn sent_step(questions: &Questions, event: &DecodedRecord) -> Option<(u64, CallC
             outcome: Outcome::Exception | Outcome::Canceled,
             ..
         } => {
-            let question = TableKey {
-                connection: *connection,
-                ours: false,
-                number: *number,
-            };
+            let question = TableKey::of_receiver(true, *connection, *number);
             moved(CallChange::Left, opening_call(questions, question))
         }
         _ => None,
@@ -177,11 +173,7 @@ fn received_step(questions: &Questions, event: &DecodedRecord) -> Option<(u64, C
             if is_late(questions, event) {
                 return None;
             }
-            let question = TableKey {
-                connection: *connection,
-                ours: true,
-                number: *number,
-            };
+            let question = TableKey::of_receiver(false, *connection, *number);
             moved(CallChange::Known, opening_call(questions, question))
         }
         RpcMessage::Return {
@@ -192,11 +184,7 @@ fn received_step(questions: &Questions, event: &DecodedRecord) -> Option<(u64, C
             if taken_from_by(questions, event).is_none() {
                 return None;
             }
-            let question = TableKey {
-                connection: *connection,
-                ours: true,
-                number: *number,
-            };
+            let question = TableKey::of_receiver(false, *connection, *number);
             moved(CallChange::Known, opening_call(questions, question))
         }
         _ => None,

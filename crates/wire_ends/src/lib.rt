@@ -7,22 +7,12 @@
 #![tactic(auto)]
 
 mod blame;
-mod blocked;
-mod counting;
 mod lack;
 mod making;
-mod naming;
-mod passing;
 mod queue;
-mod receiving;
 mod schedule;
-mod sending;
-mod settling;
 mod tables;
-mod telling;
 mod vat;
-mod views;
-mod walking;
 
 pub use blame::Blame;
 pub use lack::{Lack, Waiting};

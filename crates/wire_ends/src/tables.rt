@@ -1,6 +1,6 @@
 //! What is kept of questions, numbers, promises and calls at one end.
 
-use crate::views::{Turn, View};
+use crate::vat::views::{Turn, View};
 use wire_plan::Entry;
 
 /// A question: one of this end's, or one that this end answers.

@@ -2,7 +2,7 @@
 
 use crate::tables::{Held, Life};
 use crate::vat::Vat;
-use crate::views::{Turn, View};
+use crate::vat::views::{Turn, View};
 use rising_table::RisingTable;
 use std::alloc::AllocError;
 use wire_plan::Entry;

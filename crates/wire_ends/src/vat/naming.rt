@@ -2,7 +2,7 @@
 
 use crate::tables::{Becomes, Promise};
 use crate::vat::Vat;
-use crate::views::{Turn, View};
+use crate::vat::views::{Turn, View};
 use std::alloc::AllocError;
 use wire_plan::{Entry, Kind};
 

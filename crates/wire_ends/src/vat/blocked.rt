@@ -3,7 +3,7 @@
 use crate::lack::Lack;
 use crate::tables::{Held, Known, Place, Question};
 use crate::vat::Vat;
-use crate::views::{Turn, View};
+use crate::vat::views::{Turn, View};
 use std::alloc::AllocError;
 use wire_plan::{Aim, Entry, Kind, Planned, Results};
 

@@ -1,10 +1,10 @@
 //! What is put into the log where a message is received: a function for each kind.
 
-use crate::counting::{give_back, give_back_all};
 use crate::queue::Queue;
 use crate::tables::{CallState, Embargo, Held, Known, Place, Question};
 use crate::vat::Vat;
-use crate::views::{Turn, View};
+use crate::vat::counting::{give_back, give_back_all};
+use crate::vat::views::{Turn, View};
 use std::alloc::AllocError;
 use wire_plan::{Aim, Kind, Planned, Results};
 

@@ -1,9 +1,9 @@
 //! What is put into the log where a message is sent: a function for each kind.
 
-use crate::counting::{give_back, give_back_all};
 use crate::tables::{CallState, Embargo, Held, Known, Place, Question};
 use crate::vat::Vat;
-use crate::views::View;
+use crate::vat::counting::{give_back, give_back_all};
+use crate::vat::views::View;
 use std::alloc::AllocError;
 use wire_plan::{Aim, Entry, Kind, Planned, Results};
 

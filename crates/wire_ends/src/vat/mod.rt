@@ -1,8 +1,19 @@
-//! One end, as it was made up so far.
+//! One end, as it was made up so far, and what it does: a file for each thing.
+
+mod blocked;
+pub(crate) mod counting;
+mod naming;
+mod passing;
+mod receiving;
+mod sending;
+mod settling;
+mod telling;
+pub(crate) mod views;
+pub(crate) mod walking;
 
 use crate::queue::Queue;
 use crate::tables::{CallState, Embargo, Held, Life, Place, Promise, Question};
-use crate::views::{View, ViewKey};
+use crate::vat::views::{View, ViewKey};
 use rising_table::RisingTable;
 use std::alloc::{AllocError, Global};
 use std::collections::BTreeMap;

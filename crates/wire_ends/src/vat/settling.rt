@@ -2,8 +2,8 @@
 
 use crate::tables::Place;
 use crate::vat::Vat;
-use crate::views::{Turn, View};
-use crate::walking::{Circle, MAX_TURNS};
+use crate::vat::views::{Turn, View};
+use crate::vat::walking::{Circle, MAX_TURNS};
 use std::alloc::AllocError;
 use std::mem;
 

@@ -2,7 +2,7 @@
 
 use crate::tables::Place;
 use crate::vat::Vat;
-use crate::views::View;
+use crate::vat::views::View;
 use wire_plan::{Kind, Results};
 
 impl Vat<'_> {

@@ -2,7 +2,7 @@
 
 use crate::tables::{Becomes, Known, Place};
 use crate::vat::Vat;
-use crate::views::{Turn, View};
+use crate::vat::views::{Turn, View};
 use wire_plan::{Entry, Kind, Planned, Results};
 
 /// A walk along turns, which finds out where it goes in a circle.

@@ -2,8 +2,8 @@
 
 use crate::tables::{Becomes, Known, Place};
 use crate::vat::Vat;
-use crate::views::{Turn, View};
-use crate::walking::{Circle, MAX_TURNS};
+use crate::vat::views::{Turn, View};
+use crate::vat::walking::{Circle, MAX_TURNS};
 use cap_frame::Path;
 use std::alloc::AllocError;
 use wire_plan::{Entry, Planned, Results};

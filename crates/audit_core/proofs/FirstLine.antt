@@ -10,8 +10,8 @@ use Rattle.vat_rules.specs.LogFacts.{Told}
 use Rattle.vat_rules.specs.declared.outcome.Outcome.{Outcome}
 use Rattle.vat_rules.specs.declared.outcome.Outcome.TheVariants.{Good, Broken, Outside}
 use Rattle.link_check.specs.Prefix.{Ends, IsOutcome}
-use Rattle.link_check.specs.declared.outcome.LinkOutcome.{LinkOutcome}
-use Rattle.link_check.specs.declared.outcome.LinkOutcome.TheVariants.{Good as GoodLink, Broken as BrokenAt}
+use Rattle.link_check.specs.declared.link_outcome.LinkOutcome.{LinkOutcome}
+use Rattle.link_check.specs.declared.link_outcome.LinkOutcome.TheVariants.{Good as GoodLink, Broken as BrokenAt}
 use Rattle.case_book.specs.Books.{AllFound, AreAll}
 use Rattle.case_book.specs.declared.link.Link.{Link}
 use Rattle.audit_core.specs.Report.{AreGoodEnds, IsGoodLog, IsFirstBad, IsFirstBroken, AreGoodLogs, AreGoodLinks, IsGoodCase, IsReport, HoldsOfEach, IsGoodFinding, AreGoodFindings}

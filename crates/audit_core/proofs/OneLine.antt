@@ -17,7 +17,7 @@ use Rattle.vat_rules.specs.declared.outcome.Outcome.{Outcome}
 use Rattle.vat_rules.specs.declared.outcome.Outcome.TheVariants.{Good, Broken, Outside}
 use Rattle.vat_rules.proofs.Unique.{one_outcome}
 use Rattle.link_check.specs.Prefix.{Ends, IsOutcome, frames_received, frames_sent}
-use Rattle.link_check.specs.declared.outcome.LinkOutcome.TheVariants.{Good as GoodLink, Broken as BrokenAt}
+use Rattle.link_check.specs.declared.link_outcome.LinkOutcome.TheVariants.{Good as GoodLink, Broken as BrokenAt}
 use Rattle.link_check.proofs.Faults.{one_outcome as one_link_outcome, length_prefix}
 use Rattle.merge_order.specs.Fits.{IsFitting}
 use Rattle.merge_order.specs.declared.checking.OrderFinding.TheVariants.{Fits, Fails}

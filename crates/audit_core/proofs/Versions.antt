@@ -20,7 +20,7 @@ use Rattle.vat_rules.specs.First.{AllGood, IsFirst}
 use Rattle.vat_rules.specs.Types.{Edition}
 use Rattle.vat_rules.specs.declared.outcome.Outcome.{Outcome}
 use Rattle.link_check.specs.Prefix.{Ends, IsOutcome}
-use Rattle.link_check.specs.declared.outcome.LinkOutcome.TheVariants.{Broken as BrokenAt}
+use Rattle.link_check.specs.declared.link_outcome.LinkOutcome.TheVariants.{Broken as BrokenAt}
 use Rattle.run_model.specs.Steps.{vat_of}
 use Rattle.run_model.specs.declared.step.Step.{Step}
 use Rattle.run_model.specs.Edges.{AreEdges, Edge}

@@ -10,7 +10,7 @@ use Rattle.vat_rules.specs.First.{AllGood}
 use Rattle.vat_rules.specs.declared.outcome.Outcome.{Outcome}
 use Rattle.vat_rules.specs.declared.outcome.Outcome.TheVariants.{Broken, Outside}
 use Rattle.link_check.specs.Prefix.{Ends, IsPrefix, IsOutcome, frames_sent, frames_received}
-use Rattle.link_check.specs.declared.outcome.LinkOutcome.TheVariants.{Broken as BrokenAt}
+use Rattle.link_check.specs.declared.link_outcome.LinkOutcome.TheVariants.{Broken as BrokenAt}
 use Rattle.merge_order.specs.Fits.{IsFitting, TakesLeast, finding_of_order}
 use Rattle.merge_order.specs.declared.checking.OrderFinding.TheVariants.{Fails}
 use Rattle.run_model.specs.declared.step.Step.{Step}

@@ -13,8 +13,8 @@ use Rattle.link_check.specs.Prefix.{Ends}
 use Rattle.case_book.specs.Case.{Contents, IsCase, vats_of, connections_of}
 use Rattle.case_book.specs.Pieces.{Audit, Compare, pieces_of, IsAuditOf, IsComparisonOf, IsFoundBy, IsForPiece}
 use Rattle.case_book.specs.declared.link.Link.{Link}
-use Rattle.case_book.specs.declared.finding.Finding.{Finding}
-use Rattle.case_book.specs.declared.finding.Finding.TheVariants as finding
+use Rattle.case_book.specs.declared.piece_finding.Finding.{Finding}
+use Rattle.case_book.specs.declared.piece_finding.Finding.TheVariants as finding
 
 pub pieces_len : (held : Contents) → length (pieces_of held) ≡ length held.logs + length held.links
 pieces_len held =

@@ -6,8 +6,8 @@ use Rattle.vat_rules.specs.Audit.{Found}
 use Rattle.link_check.specs.Prefix.{Ends}
 use Rattle.case_book.specs.Case.{Contents}
 use Rattle.case_book.specs.declared.link.Link.{Link}
-use Rattle.case_book.specs.declared.finding.Finding.{Finding}
-use Rattle.case_book.specs.declared.finding.Finding.TheVariants as finding
+use Rattle.case_book.specs.declared.piece_finding.Finding.{Finding}
+use Rattle.case_book.specs.declared.piece_finding.Finding.TheVariants as finding
 
 -- what is done for a piece: a log is audited, or the two ends of a link are compared
 pub data Work : Type 0 where

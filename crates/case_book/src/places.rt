@@ -5,8 +5,8 @@ ghost use Rattle.std.specs.Arc.{arc_value};
 ghost use Rattle.case_book.specs.Pieces.{IsAuditOf, IsComparisonOf, IsForPiece};
 
 use crate::case::Case;
-use crate::finding::Finding;
 use crate::link::Link;
+use crate::piece_finding::Finding;
 use link_check::LinkFinding;
 use rpc_view::Limits;
 use std::sync::Arc;

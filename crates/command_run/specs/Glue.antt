@@ -25,7 +25,7 @@ use Rattle.command_run.specs.RecordAnswers.{first_ones}
 use Rattle.command_run.specs.CommandAnswers.{AnswersMigration}
 use Rattle.command_run.specs.DrawAnswers.{IsDrawn}
 use Rattle.command_run.specs.JoinAnswers.{AreFilesOf}
-use Rattle.log_ends.specs.declared.end.EndPair.{EndPair}
+use Rattle.log_ends.specs.declared.log_end.EndPair.{EndPair}
 use Rattle.command_run.specs.declared.commands.join_logs.JoinedFolder.{JoinedFolder}
 use Rattle.command_run.specs.declared.answering.FileAnswer.{FileAnswer}
 use Rattle.command_run.specs.declared.commands.wire_files.WireFolder.{WireFolder}

@@ -12,8 +12,8 @@ use Rattle.case_files.specs.FileNames.{AreFileNames}
 use Rattle.case_files.specs.declared.case_fault.CaseFault.{CaseFault}
 use Rattle.log_ends.specs.Joining.{IsFound}
 use Rattle.log_ends.specs.Renumbering.{AreRenumbered, IsVatAt}
-use Rattle.log_ends.specs.declared.end.End.{End}
-use Rattle.log_ends.specs.declared.end.EndPair.{EndPair}
+use Rattle.log_ends.specs.declared.log_end.End.{End}
+use Rattle.log_ends.specs.declared.log_end.EndPair.{EndPair}
 use Rattle.log_ends.specs.declared.joining.Joining.{Joining}
 use Rattle.log_ends.specs.declared.joining.Joining.TheVariants as found
 use Rattle.report_lines.specs.declared.answer.Answer.TheVariants.{Fault, Join}

@@ -6,8 +6,8 @@ ghost use Rattle.left_open.specs.Glue.{begun_in, question_by, loopback_by, promi
 ghost use Rattle.left_open.specs.Left.{is_unresolved};
 
 use crate::begun::Begun;
-use crate::kinds::Open;
-use crate::parts::{
+use crate::open_things::Open;
+use crate::opened_by::{
     noted_call, number_introduced, question_opened, reference_vowed, sender_loopback,
 };
 use crate::watching::{Watched, held};

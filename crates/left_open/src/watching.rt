@@ -11,7 +11,7 @@ ghost use Rattle.vat_view.specs.Sound.{IsSound};
 ghost use Rattle.left_open.specs.Glue.{begun_in, begins_at, begins_from, names_new, IsWatched};
 
 use crate::begun::Begun;
-use crate::parts::{
+use crate::opened_by::{
     number_introduced, question_finished, question_opened, question_returned,
     question_returned_lightly, receiver_loopback, sender_loopback,
 };

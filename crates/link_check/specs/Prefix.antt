@@ -5,8 +5,8 @@ use Rattle.std.specs.List.{filter_map}
 use Rattle.vat_log.specs.Log.{Log}
 use Rattle.vat_log.specs.declared.body.Body.{Body}
 use Rattle.vat_log.specs.declared.body.Body.TheVariants.{Send, Receive}
-use Rattle.link_check.specs.declared.outcome.LinkOutcome.{LinkOutcome}
-use Rattle.link_check.specs.declared.outcome.LinkOutcome.TheVariants.{Good, Broken}
+use Rattle.link_check.specs.declared.link_outcome.LinkOutcome.{LinkOutcome}
+use Rattle.link_check.specs.declared.link_outcome.LinkOutcome.TheVariants.{Good, Broken}
 
 -- the frame that a record sends on the connection
 abbrev pub frame_sent : ℕ → Body → Option (List ℕ)

@@ -14,9 +14,9 @@ use Rattle.vat_log.specs.Log.{Log}
 use Rattle.link_check.specs.Prefix.{frames_sent, frames_received}
 use Rattle.log_ends.specs.Ends.{IsEnd, IsBefore, log_at, sent_at, received_at}
 use Rattle.log_ends.specs.Glue.{IsPassed, HasPassed, AreRows, row_of}
-use Rattle.log_ends.specs.declared.end.End.{End}
-use Rattle.log_ends.specs.declared.rows.Passed.{Passed}
-use Rattle.log_ends.specs.declared.rows.Row.{Row}
+use Rattle.log_ends.specs.declared.log_end.End.{End}
+use Rattle.log_ends.specs.declared.passages.Passed.{Passed}
+use Rattle.log_ends.specs.declared.passages.Row.{Row}
 use Rattle.log_ends.proofs.Keys.{same_number}
 use Rattle.log_ends.proofs.Lists.{append_cases, append_left, append_right}
 use Rattle.log_ends.proofs.Passing.{passed_later}

@@ -7,9 +7,9 @@ use Rattle.std.proofs.lemmas.Bool.{false≢true}
 use Rattle.vat_log.specs.Log.{Log}
 use Rattle.log_ends.specs.Ends.{IsEnd, Fits, sent_at, received_at}
 use Rattle.log_ends.specs.Glue.{IsPassed, IsOfLogs, end_at, AreTold}
-use Rattle.log_ends.specs.declared.end.End.{End}
-use Rattle.log_ends.specs.declared.rows.Row.{Row}
-use Rattle.log_ends.specs.declared.rows.Rows.{Rows}
+use Rattle.log_ends.specs.declared.log_end.End.{End}
+use Rattle.log_ends.specs.declared.passages.Row.{Row}
+use Rattle.log_ends.specs.declared.passages.Rows.{Rows}
 
 pub row_end : (rows : Rows) (k : ℕ) (row : Row) → slice_get rows.rows.items k ≡ Some row → end_at rows k ≡ row.end
 row_end rows k row at = ap (λ (o : Option Row). unwrap_or (option_map (λ r. r.end) o) (record { log = 0; connection = 0 })) at

@@ -11,8 +11,8 @@ use Rattle.link_check.specs.Prefix.{IsPrefix, frame_sent, frame_received, frames
 use Rattle.log_ends.specs.Ends.{IsEnd, Fits, log_at, sent_at, received_at}
 use Rattle.log_ends.specs.Joining.{Has, ArePairs, IsJoined}
 use Rattle.log_ends.specs.Renumbering.{renumbered_body, IsRenumbered, AreRenumbered, end_in}
-use Rattle.log_ends.specs.declared.end.End.{End}
-use Rattle.log_ends.specs.declared.end.EndPair.{EndPair}
+use Rattle.log_ends.specs.declared.log_end.End.{End}
+use Rattle.log_ends.specs.declared.log_end.EndPair.{EndPair}
 use Rattle.log_ends.proofs.Fitting.{same_symmetric, fits_end}
 use Rattle.log_ends.proofs.Places.{of_a_log}
 

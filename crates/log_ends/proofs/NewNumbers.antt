@@ -10,7 +10,7 @@ use Rattle.vat_log.specs.Log.{Log}
 use Rattle.log_ends.specs.Joining.{Has, IsPaired}
 use Rattle.log_ends.specs.Renumbering.{AreApart, IsRenumbered, end_in}
 use Rattle.log_ends.specs.Numbers.{number_in, PutsEnd, AreNumbers, HasNoVat, AreMade, AreApartUpTo}
-use Rattle.log_ends.specs.declared.end.EndPair.{EndPair}
+use Rattle.log_ends.specs.declared.log_end.EndPair.{EndPair}
 use Rattle.log_ends.proofs.Lists.{append_cases}
 
 -- ---- the table of a log

@@ -8,9 +8,9 @@ use Rattle.vat_log.specs.Log.{Log}
 use Rattle.log_ends.specs.Ends.{IsEnd, IsBefore, Fits}
 use Rattle.log_ends.specs.Joining.{Has, IsPaired, ArePairs, IsJoined, IsLeftOver, IsClear}
 use Rattle.log_ends.specs.Glue.{IsOfLogs, end_at, HasNoneFree, IsPartner, HasPaired}
-use Rattle.log_ends.specs.declared.end.End.{End}
-use Rattle.log_ends.specs.declared.end.EndPair.{EndPair}
-use Rattle.log_ends.specs.declared.rows.Rows.{Rows}
+use Rattle.log_ends.specs.declared.log_end.End.{End}
+use Rattle.log_ends.specs.declared.log_end.EndPair.{EndPair}
+use Rattle.log_ends.specs.declared.passages.Rows.{Rows}
 use Rattle.log_ends.proofs.Fitting.{same_symmetric, fits_end}
 use Rattle.log_ends.proofs.Lists.{append_cases, append_left, append_right}
 use Rattle.log_ends.proofs.Places.{sorted_at, all_at, same_place, earlier_at}

@@ -13,7 +13,7 @@ use Rattle.vat_log.specs.declared.body.Body.{Body}
 use Rattle.vat_log.specs.declared.body.Body.TheVariants.{Send, Receive}
 use Rattle.link_check.specs.Prefix.{frame_sent, frame_received}
 use Rattle.log_ends.specs.Glue.{Traces, IsPassed, HasPassed, one_more}
-use Rattle.log_ends.specs.declared.rows.Passed.{Passed}
+use Rattle.log_ends.specs.declared.passages.Passed.{Passed}
 use Rattle.log_ends.proofs.Numbering.{traced_later}
 
 pub passed_later : (numbers later : List (List ℕ) → Option ℕ) → ((frames : List (List ℕ)) (n : ℕ) → numbers frames ≡ Some n → later frames ≡ Some n) → (passed : Passed) (sent received : List (List ℕ)) → IsPassed numbers passed sent received → IsPassed later passed sent received

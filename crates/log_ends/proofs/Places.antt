@@ -9,9 +9,9 @@ use Rattle.link_check.specs.Prefix.{frames_sent, frames_received}
 use Rattle.log_ends.specs.Ends.{IsEnd, IsBefore, Fits, AreAlike, log_at, sent_at, received_at}
 use Rattle.log_ends.specs.Joining.{IsAlone, IsAmbiguous, IsClear, IsFirstUnclear, AreFirstAlike}
 use Rattle.log_ends.specs.Glue.{IsOfLogs, end_at, HasNoFit, IsUnlike, HasNoUnlike, HasNoAlike}
-use Rattle.log_ends.specs.declared.end.End.{End}
-use Rattle.log_ends.specs.declared.rows.Row.{Row}
-use Rattle.log_ends.specs.declared.rows.Rows.{Rows}
+use Rattle.log_ends.specs.declared.log_end.End.{End}
+use Rattle.log_ends.specs.declared.passages.Row.{Row}
+use Rattle.log_ends.specs.declared.passages.Rows.{Rows}
 use Rattle.log_ends.proofs.Fitting.{row_end, same_symmetric, fits_end}
 
 -- ---- the order of ends

@@ -2,7 +2,7 @@
 use Rattle.std.specs.Prelude.{◌≡◌, ◌≢◌, ◌⊎◌, ℕ, ◌+◌, ◌<◌, List, [], length, slice_index_or}
 use Rattle.vat_log.specs.Log.{Log, written_version}
 use Rattle.link_check.specs.Prefix.{IsPrefix, frames_sent, frames_received}
-use Rattle.log_ends.specs.declared.end.End.{End}
+use Rattle.log_ends.specs.declared.log_end.End.{End}
 
 -- the log at a place of the list, and one without records where the list has none
 abbrev pub log_at : List Log → ℕ → Log

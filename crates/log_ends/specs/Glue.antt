@@ -8,11 +8,11 @@ use Rattle.std.specs.Cmp.Lexicographic.{slice_cmp}
 use Rattle.vat_log.specs.Log.{Log}
 use Rattle.log_ends.specs.Ends.{IsEnd, IsBefore, Fits, AreAlike, sent_at, received_at}
 use Rattle.log_ends.specs.Joining.{IsAlone, IsAmbiguous, IsClear, IsPaired, ArePairs}
-use Rattle.log_ends.specs.declared.end.End.{End}
-use Rattle.log_ends.specs.declared.end.EndPair.{EndPair}
-use Rattle.log_ends.specs.declared.rows.Passed.{Passed}
-use Rattle.log_ends.specs.declared.rows.Row.{Row}
-use Rattle.log_ends.specs.declared.rows.Rows.{Rows}
+use Rattle.log_ends.specs.declared.log_end.End.{End}
+use Rattle.log_ends.specs.declared.log_end.EndPair.{EndPair}
+use Rattle.log_ends.specs.declared.passages.Passed.{Passed}
+use Rattle.log_ends.specs.declared.passages.Row.{Row}
+use Rattle.log_ends.specs.declared.passages.Rows.{Rows}
 use Rattle.log_ends.specs.declared.sequences.Sequences.{Sequences}
 use Rattle.log_ends.specs.declared.joining.Standing.{Standing}
 use Rattle.log_ends.specs.declared.joining.Standing.TheVariants.{Alone, Clear, Ambiguous}

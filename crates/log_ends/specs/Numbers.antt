@@ -5,8 +5,8 @@ use Rattle.std.specs.Ordering.{nat_cmp}
 use Rattle.vat_log.specs.Log.{Log}
 use Rattle.log_ends.specs.Joining.{Has}
 use Rattle.log_ends.specs.Renumbering.{IsRenumbered, end_in}
-use Rattle.log_ends.specs.declared.end.End.{End}
-use Rattle.log_ends.specs.declared.end.EndPair.{EndPair}
+use Rattle.log_ends.specs.declared.log_end.End.{End}
+use Rattle.log_ends.specs.declared.log_end.EndPair.{EndPair}
 
 -- the new number of a connection
 abbrev pub number_in : BTreeMap ℕ ℕ → ℕ → ℕ

@@ -6,8 +6,8 @@ use Rattle.vat_log.specs.declared.body.Body.{Body}
 use Rattle.vat_log.specs.declared.body.Body.TheVariants.{Send, Receive}
 use Rattle.log_ends.specs.Ends.{IsEnd}
 use Rattle.log_ends.specs.Joining.{Has}
-use Rattle.log_ends.specs.declared.end.End.{End}
-use Rattle.log_ends.specs.declared.end.EndPair.{EndPair}
+use Rattle.log_ends.specs.declared.log_end.End.{End}
+use Rattle.log_ends.specs.declared.log_end.EndPair.{EndPair}
 
 -- the same record, with another number of its connection
 abbrev pub renumbered_body : (ℕ → ℕ) → Body → Body

@@ -4,10 +4,10 @@ ghost use Rattle.std.specs.Prelude.{◌≡◌, ℕ, ◌+◌, ◌<◌, ◌↔◌,
 ghost use Rattle.log_ends.specs.Ends.{IsEnd, Fits};
 ghost use Rattle.log_ends.specs.Joining.{IsClear, IsLeftOver, IsFound};
 ghost use Rattle.log_ends.specs.Glue.{IsOfLogs, end_at, HasNoFit, IsUnlike, IsNotUnlike, HasNoUnlike, IsStanding, IsFree, HasNoneFree, IsPartner, HasPaired};
-ghost use Rattle.log_ends.specs.declared.end.End.{End};
+ghost use Rattle.log_ends.specs.declared.log_end.End.{End};
 
-use crate::end::{End, EndPair};
-use crate::rows::{Rows, rows_of};
+use crate::log_end::{End, EndPair};
+use crate::passages::{Rows, rows_of};
 use std::alloc::{AllocError, Global};
 use vat_log::VatLog;
 

@@ -6,8 +6,8 @@ ghost use Rattle.link_check.specs.Prefix.{IsPrefix, frames_sent, frames_received
 ghost use Rattle.log_ends.specs.Ends.{IsEnd, Fits};
 ghost use Rattle.log_ends.specs.Joining.{Has, ArePairs, IsJoined};
 ghost use Rattle.log_ends.specs.Renumbering.{IsRenumbered, AreRenumbered, end_in};
-ghost use Rattle.log_ends.specs.declared.end.End.{End};
-ghost use Rattle.log_ends.specs.declared.end.EndPair.{EndPair};
+ghost use Rattle.log_ends.specs.declared.log_end.End.{End};
+ghost use Rattle.log_ends.specs.declared.log_end.EndPair.{EndPair};
 
 /// Two ends have the number of one pair just if they are its ends, and so they fit.
 pub fn a_number_is_of_one_pair()

@@ -11,9 +11,9 @@ ghost use Rattle.log_ends.specs.Ends.{IsEnd};
 ghost use Rattle.log_ends.specs.Joining.{IsPaired};
 ghost use Rattle.log_ends.specs.Numbers.{number_in, PutsEnd, AreNumbers, HasVatAt, HasNoVat};
 ghost use Rattle.log_ends.specs.Renumbering.{renumbered_body, renumbered_log, AreApart, IsVatAt, IsRenumbered, AreRenumbered};
-ghost use Rattle.log_ends.specs.declared.end.End.{End};
+ghost use Rattle.log_ends.specs.declared.log_end.End.{End};
 
-use crate::end::{End, EndPair};
+use crate::log_end::{End, EndPair};
 use bytes::Bytes;
 use std::alloc::{AllocError, Global};
 use std::collections::BTreeMap;

@@ -6,7 +6,7 @@ use Rattle.std.proofs.lemmas.List.Sums.{count_by_more_yes, count_by_more_no}
 use Rattle.std.proofs.lemmas.Option.{slice_get-get_or, slice_get_past}
 use Rattle.vat_log.specs.declared.body.Body.{Body}
 use Rattle.vat_log.specs.declared.body.Body.TheVariants.{Send, Receive}
-use Rattle.merge_order.specs.declared.counts.Counts.{Counts}
+use Rattle.merge_order.specs.declared.connection_counts.Counts.{Counts}
 use Rattle.merge_order.specs.Fits.{Part, sends_frame, receives_frame}
 use Rattle.merge_order.specs.Glue.{count_on, IsCounted, IsRaisedByOne, RisesWith}
 use Rattle.merge_order.proofs.Greedy.{bool_cases}

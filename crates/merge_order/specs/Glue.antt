@@ -6,7 +6,7 @@ use Rattle.std.specs.List.Sorted.{IsStrictlyIncreasing}
 use Rattle.std.specs.Ordering.{nat_cmp}
 use Rattle.std.specs.BTreeMap.{get}
 use Rattle.merge_order.specs.Fits.{Part, sent_so_far, received_so_far}
-use Rattle.merge_order.specs.declared.counts.Counts.{Counts}
+use Rattle.merge_order.specs.declared.connection_counts.Counts.{Counts}
 
 -- how often a connection came up
 abbrev pub count_on : Counts → ℕ → ℕ

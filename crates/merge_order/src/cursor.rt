@@ -4,7 +4,7 @@ ghost use Rattle.std.specs.Prelude.{◌≡◌, ◌+◌, ◌<◌, ◌^◌, ℕ, l
 ghost use Rattle.std.specs.Arc.{arc_value};
 ghost use Rattle.std.specs.Option.{option_copied};
 
-use crate::counts::Counts;
+use crate::connection_counts::Counts;
 use std::alloc::{AllocError, Global};
 use std::marker::Model;
 use std::sync::Arc;

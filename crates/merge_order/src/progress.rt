@@ -4,7 +4,7 @@ ghost use Rattle.std.specs.Prelude.{◌≡◌, ◌+◌, ◌<◌, ◌^◌, ℕ, t
 ghost use Rattle.std.specs.Arc.{arc_value};
 ghost use Rattle.std.specs.Option.{option_copied};
 
-use crate::counts::Counts;
+use crate::connection_counts::Counts;
 use crate::cursor::Cursor;
 use crate::ready_vats::ReadyVats;
 use std::alloc::{AllocError, Global};

@@ -7,13 +7,13 @@
 #![tactic(auto)]
 
 mod blame;
+mod both_ends;
+mod end_tables;
 mod lack;
-mod making;
+mod made_logs;
 mod queue;
-mod schedule;
-mod tables;
 mod vat;
 
 pub use blame::Blame;
 pub use lack::{Lack, Waiting};
-pub use making::{MadeLogs, Making, make_logs};
+pub use made_logs::{MadeLogs, Making, make_logs};

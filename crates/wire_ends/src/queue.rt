@@ -1,6 +1,6 @@
 //! Calls that wait, in the order in which they came.
 
-use crate::tables::{CallState, Place};
+use crate::end_tables::{CallState, Place};
 use std::alloc::{AllocError, Global};
 use std::collections::{VecDeque, vec_deque};
 

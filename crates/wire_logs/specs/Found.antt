@@ -14,9 +14,9 @@ use Rattle.wire_cut.specs.Frames.{AreFrames, StopsAt}
 use Rattle.wire_cut.specs.declared.end.End.TheVariants.{A, B}
 use Rattle.wire_steps.specs.Parts.{connection, HasParts, HasAll}
 use Rattle.wire_logs.specs.Lines.{IsLine}
-use Rattle.wire_logs.specs.declared.answer.WireAnswer.{WireAnswer}
-use Rattle.wire_logs.specs.declared.line.WireLine.{WireLine}
-use Rattle.wire_logs.specs.declared.line.WireLine.TheVariants as line
+use Rattle.wire_logs.specs.declared.wire_answer.WireAnswer.{WireAnswer}
+use Rattle.wire_logs.specs.declared.wire_line.WireLine.{WireLine}
+use Rattle.wire_logs.specs.declared.wire_line.WireLine.TheVariants as line
 
 -- the link between vat 1 and vat 2
 abbrev pub link : Link

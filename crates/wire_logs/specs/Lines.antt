@@ -9,8 +9,8 @@ use Rattle.wire_cut.specs.declared.end.End.{End}
 use Rattle.wire_cut.specs.declared.end.End.TheVariants.{A, B}
 use Rattle.wire_cut.specs.Ends.{other_end}
 use Rattle.wire_steps.specs.Parts.{connection, HasAll}
-use Rattle.wire_logs.specs.declared.line.WireLine.{WireLine}
-use Rattle.wire_logs.specs.declared.line.WireLine.TheVariants as line
+use Rattle.wire_logs.specs.declared.wire_line.WireLine.{WireLine}
+use Rattle.wire_logs.specs.declared.wire_line.WireLine.TheVariants as line
 
 -- how many frames the records before this number send, and how many they receive
 abbrev pub sent_before : Log → ℕ → ℕ

@@ -6,9 +6,9 @@ ghost use Rattle.case_book.specs.Case.{HoldsJust};
 ghost use Rattle.wire_logs.specs.Found.{IsAnswer, link};
 ghost use Rattle.wire_logs.specs.Glue.{IsAudited, IsCutOr, IsFoundIn};
 
-use crate::answer::{WireAnswer, WireLogs};
-use crate::line::WireLine;
 use crate::line_of::line_of;
+use crate::wire_answer::{WireAnswer, WireLogs};
+use crate::wire_line::WireLine;
 use audit_core::{Gate, Report, audit};
 use bytes::Bytes;
 use case_book::{Case, Link};

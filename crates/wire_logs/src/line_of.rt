@@ -7,7 +7,7 @@ ghost use Rattle.link_check.specs.Prefix.{frame_sent, frame_received};
 ghost use Rattle.wire_ends.specs.Made.{AreLogs};
 ghost use Rattle.wire_logs.specs.Lines.{IsLine, IsUnexplained, message_named, named_in, received_before, sent_before};
 
-use crate::line::WireLine;
+use crate::wire_line::WireLine;
 use audit_core::Report;
 use bytes::Bytes;
 use vat_log::{Body, VatLog};

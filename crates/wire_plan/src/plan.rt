@@ -1,14 +1,14 @@
 //! The plans of both files.
 
+use crate::frame_ties::Ties;
 use crate::groups::Groups;
-use crate::leading::{Leading, lead_of};
+use crate::led_back::Passing;
 use crate::message::{Aim, Entry, Kind, Planned, Results};
-use crate::naming::NamedPaths;
-use crate::openings::Openings;
-use crate::passing::Passing;
+use crate::named_paths::NamedPaths;
 use crate::paths::Paths;
+use crate::promise_ends::{Leading, lead_of};
+use crate::question_ties::Openings;
 use crate::reading::read_planned;
-use crate::ties::Ties;
 use bytes::Bytes;
 use rising_table::RisingTable;
 use std::alloc::{AllocError, Global};

@@ -1,7 +1,7 @@
 //! When a message may be sent: what it lacks, a function for each row.
 
+use crate::end_tables::{Held, Known, Place, Question};
 use crate::lack::Lack;
-use crate::tables::{Held, Known, Place, Question};
 use crate::vat::Vat;
 use crate::vat::views::{Turn, View};
 use std::alloc::AllocError;

@@ -1,6 +1,6 @@
 //! Numbers that are introduced and given back.
 
-use crate::tables::{Held, Life};
+use crate::end_tables::{Held, Life};
 use crate::vat::Vat;
 use crate::vat::views::{Turn, View};
 use rising_table::RisingTable;

@@ -2,17 +2,17 @@
 
 mod blocked;
 pub(crate) mod counting;
-mod naming;
+mod deliveries;
 mod passing;
 mod receiving;
+mod reference_names;
 mod sending;
-mod settling;
 mod telling;
 pub(crate) mod views;
 pub(crate) mod walking;
 
+use crate::end_tables::{CallState, Embargo, Held, Life, Place, Promise, Question};
 use crate::queue::Queue;
-use crate::tables::{CallState, Embargo, Held, Life, Place, Promise, Question};
 use crate::vat::views::{View, ViewKey};
 use rising_table::RisingTable;
 use std::alloc::{AllocError, Global};

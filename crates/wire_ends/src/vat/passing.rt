@@ -1,6 +1,6 @@
 //! Calls that are passed on: a received one goes out under the number under which it came.
 
-use crate::tables::Place;
+use crate::end_tables::Place;
 use crate::vat::Vat;
 use crate::vat::views::View;
 use wire_plan::{Kind, Results};

@@ -1,7 +1,7 @@
 //! What is put into the log where a message is received: a function for each kind.
 
+use crate::end_tables::{CallState, Embargo, Held, Known, Place, Question};
 use crate::queue::Queue;
-use crate::tables::{CallState, Embargo, Held, Known, Place, Question};
 use crate::vat::Vat;
 use crate::vat::counting::{give_back, give_back_all};
 use crate::vat::views::{Turn, View};

@@ -1,6 +1,6 @@
 //! What is put into the log where a message is sent: a function for each kind.
 
-use crate::tables::{CallState, Embargo, Held, Known, Place, Question};
+use crate::end_tables::{CallState, Embargo, Held, Known, Place, Question};
 use crate::vat::Vat;
 use crate::vat::counting::{give_back, give_back_all};
 use crate::vat::views::View;

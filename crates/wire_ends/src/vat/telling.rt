@@ -1,6 +1,6 @@
 //! What may be told early: what promises become, and results.
 
-use crate::tables::{Becomes, Known, Place};
+use crate::end_tables::{Becomes, Known, Place};
 use crate::vat::Vat;
 use crate::vat::views::{Turn, View};
 use crate::vat::walking::{Circle, MAX_TURNS};

@@ -1,6 +1,6 @@
 //! Where views lead.
 
-use crate::tables::{Becomes, Known, Place};
+use crate::end_tables::{Becomes, Known, Place};
 use crate::vat::Vat;
 use crate::vat::views::{Turn, View};
 use wire_plan::{Entry, Kind, Planned, Results};

@@ -4,8 +4,8 @@ use Rattle.std.proofs.lemmas.Bool.{MatchBool-at_false}
 use Rattle.log_ends.specs.Ends.{IsEnd}
 use Rattle.log_ends.specs.Joining.{IsLeftOver}
 use Rattle.log_ends.specs.Glue.{end_at, HasPaired}
-use Rattle.log_ends.specs.declared.end.End.{End}
-use Rattle.log_ends.specs.declared.end.EndPair.{EndPair}
+use Rattle.log_ends.specs.declared.log_end.End.{End}
+use Rattle.log_ends.specs.declared.log_end.EndPair.{EndPair}
 use Rattle.log_ends.proofs.Pairing.{none_paired, joined}
 use Rattle.log_ends.proofs.Places.{just_at}
 use Rattle.log_ends.proofs.joining.paired.Goals as goal

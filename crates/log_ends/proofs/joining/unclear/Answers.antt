@@ -3,7 +3,7 @@ use Rattle.std.specs.Prelude.{vec_len}
 use Rattle.log_ends.specs.Ends.{IsEnd}
 use Rattle.log_ends.specs.Joining.{IsAlone, IsAmbiguous, IsClear, IsFirstUnclear}
 use Rattle.log_ends.specs.Glue.{end_at}
-use Rattle.log_ends.specs.declared.end.End.{End}
+use Rattle.log_ends.specs.declared.log_end.End.{End}
 use Rattle.log_ends.proofs.Places.{first_unclear, all_clear, just_at}
 use Rattle.log_ends.proofs.joining.unclear.Goals as goal
 

@@ -10,7 +10,7 @@ use Rattle.log_ends.specs.Ends.{IsEnd, IsBefore, Fits, AreAlike, sent_at, receiv
 use Rattle.log_ends.specs.Joining.{IsAlone, IsAmbiguous, IsClear, IsPaired, ArePairs}
 use Rattle.log_ends.specs.declared.log_end.End.{End}
 use Rattle.log_ends.specs.declared.log_end.EndPair.{EndPair}
-use Rattle.log_ends.specs.declared.passages.Passed.{Passed}
+use Rattle.log_ends.specs.declared.passages.PassedFrame.{PassedFrame}
 use Rattle.log_ends.specs.declared.passages.Row.{Row}
 use Rattle.log_ends.specs.declared.passages.Rows.{Rows}
 use Rattle.log_ends.specs.declared.sequences.Sequences.{Sequences}
@@ -59,13 +59,13 @@ pub record Traces (numbers : List (List ℕ) → Option ℕ) (trace : List ℕ) 
 -- ---- what passed
 
 -- what passed at an end are these frames
-pub record IsPassed (numbers : List (List ℕ) → Option ℕ) (passed : Passed) (sent received : List (List ℕ)) : Type 0 where
+pub record IsPassed (numbers : List (List ℕ) → Option ℕ) (passed : PassedFrame) (sent received : List (List ℕ)) : Type 0 where
   pub out : Traces numbers passed.sent.numbers.items sent
   pub into : Traces numbers passed.received.numbers.items received
 
 -- a table has what passed on each connection
-pub record HasPassed (numbers : List (List ℕ) → Option ℕ) (table : BTreeMap ℕ Passed) (sent received : ℕ → List (List ℕ)) : Type 0 where
-  pub there : (connection : ℕ) (passed : Passed) → get nat_cmp table connection ≡ Some passed → IsPassed numbers passed (sent connection) (received connection) × (0 < length (sent connection) + length (received connection))
+pub record HasPassed (numbers : List (List ℕ) → Option ℕ) (table : BTreeMap ℕ PassedFrame) (sent received : ℕ → List (List ℕ)) : Type 0 where
+  pub there : (connection : ℕ) (passed : PassedFrame) → get nat_cmp table connection ≡ Some passed → IsPassed numbers passed (sent connection) (received connection) × (0 < length (sent connection) + length (received connection))
   pub absent : (connection : ℕ) → get nat_cmp table connection ≡ None → (sent connection ≡ []) × (received connection ≡ [])
 
 -- one more frame on a connection
@@ -73,7 +73,7 @@ abbrev pub one_more : (ℕ → List (List ℕ)) → ℕ → List ℕ → ℕ →
 one_more frames connection frame other = if connection == other then frames other ++ (frame ∷ []) else frames other
 
 -- the end of a connection in the log at this place, with what passed there
-abbrev pub row_of : ℕ → ℕ × Passed → Row
+abbrev pub row_of : ℕ → ℕ × PassedFrame → Row
 row_of place entry = record { end = record { log = place; connection = entry.0 }; passed = entry.1 }
 
 -- all ends in the logs before a place, in order

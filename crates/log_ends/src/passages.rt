@@ -18,7 +18,7 @@ use vat_log::{Body, VatLog};
 
 /// What passed at one end, in both directions.
 #[derive(Drop)]
-pub(crate) struct Passed {
+pub(crate) struct PassedFrame {
     pub(crate) sent: Trace,
     pub(crate) received: Trace,
 }
@@ -27,7 +27,7 @@ pub(crate) struct Passed {
 #[derive(Drop)]
 pub(crate) struct Row {
     pub(crate) end: End,
-    pub(crate) passed: Passed,
+    pub(crate) passed: PassedFrame,
 }
 
 /// Logs, and all ends in them.
@@ -38,7 +38,7 @@ pub(crate) struct Rows<'a> {
 }
 
 /// What passed on a connection so far; it leaves the table.
-fn taken(alloc: Global, table: &mut BTreeMap<u32, Passed>, connection: u32) -> Passed
+fn taken(alloc: Global, table: &mut BTreeMap<u32, PassedFrame>, connection: u32) -> PassedFrame
     ensures passed { (numbers : List (List ℕ) → Option ℕ) (sent received : ℕ → List (List ℕ))
         → HasPassed numbers table.old sent received
         → IsPassed numbers result (sent connection) (received connection) }
@@ -47,7 +47,7 @@ fn taken(alloc: Global, table: &mut BTreeMap<u32, Passed>, connection: u32) -> P
 {
     match table.remove(&connection) {
         Some(passed) => passed,
-        None => Passed {
+        None => PassedFrame {
             sent: Trace::new(alloc),
             received: Trace::new(alloc),
         },
@@ -57,7 +57,7 @@ fn taken(alloc: Global, table: &mut BTreeMap<u32, Passed>, connection: u32) -> P
 /// One more frame was sent on a connection.
 fn push_sent(
     alloc: Global,
-    table: &mut BTreeMap<u32, Passed>,
+    table: &mut BTreeMap<u32, PassedFrame>,
     sequences: &mut Sequences,
     connection: u32,
     frame: &Bytes,
@@ -78,7 +78,7 @@ fn push_sent(
 /// One more frame was received on a connection.
 fn push_received(
     alloc: Global,
-    table: &mut BTreeMap<u32, Passed>,
+    table: &mut BTreeMap<u32, PassedFrame>,
     sequences: &mut Sequences,
     connection: u32,
     frame: &Bytes,
@@ -99,7 +99,7 @@ fn push_received(
 /// One more record.
 fn push_body(
     alloc: Global,
-    table: &mut BTreeMap<u32, Passed>,
+    table: &mut BTreeMap<u32, PassedFrame>,
     sequences: &mut Sequences,
     body: &Body,
 ) -> Result<(), AllocError>
@@ -131,7 +131,7 @@ fn push_body(
 /// The record of this number, after those before it.
 fn push_record(
     alloc: Global,
-    table: &mut BTreeMap<u32, Passed>,
+    table: &mut BTreeMap<u32, PassedFrame>,
     sequences: &mut Sequences,
     log: &VatLog,
     index: usize,
@@ -158,7 +158,7 @@ fn table_of(
     alloc: Global,
     sequences: &mut Sequences,
     log: &VatLog,
-) -> Result<BTreeMap<u32, Passed>, AllocError>
+) -> Result<BTreeMap<u32, PassedFrame>, AllocError>
     requires { IsSound sequences.old }
     ensures sound { IsSound sequences.new }
     ensures keeps { Keeps sequences.old sequences.new }
@@ -176,7 +176,7 @@ fn table_of(
 fn push_table(
     rows: &mut Vec<Row>,
     place: usize,
-    table: BTreeMap<u32, Passed>,
+    table: BTreeMap<u32, PassedFrame>,
 ) -> Result<(), AllocError>
     ensures ok { OnOk result (rows.new.items ≡ rows.old.items ++ map (row_of place) table.entries) }
     ensures ordered { IsOrdered nat_cmp table }

@@ -8,16 +8,16 @@ use std::collections::BTreeMap;
 
 /// How often each connection came up.
 #[derive(Debug, Drop)]
-pub struct Counts {
+pub struct ConnectionCounts {
     counts: BTreeMap<u32, u64>,
 }
 
-impl Counts {
+impl ConnectionCounts {
     /// Before any came up.
-    pub fn new(alloc: Global) -> Counts
+    pub fn new(alloc: Global) -> ConnectionCounts
         ensures { IsEmpty result }
     {
-        Counts {
+        ConnectionCounts {
             counts: BTreeMap::new(alloc),
         }
     }

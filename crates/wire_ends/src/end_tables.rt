@@ -1,6 +1,6 @@
 //! What is kept of questions, numbers, promises and calls at one end.
 
-use crate::vat::views::{Turn, View};
+use crate::vat::views::{EndView, NextView};
 use wire_plan::Entry;
 
 /// A question: one of this end's, or one that this end answers.
@@ -58,7 +58,7 @@ pub(crate) struct Held {
     /// Its life has had a Resolve.
     pub is_resolved: bool,
     /// What it stands for since its life began.
-    pub view: View,
+    pub view: EndView,
 }
 
 /// A life of an import.
@@ -67,7 +67,7 @@ pub(crate) struct Life {
     /// The reference with which it began.
     pub reference: u64,
     /// Where it turned.
-    pub turn: Turn,
+    pub turn: NextView,
 }
 
 /// What a promise of this end becomes.
@@ -87,14 +87,14 @@ pub(crate) struct Promise {
     /// Its reference.
     pub reference: u64,
     /// Where it turned.
-    pub turn: Turn,
+    pub turn: NextView,
     /// What it becomes.
     pub becomes: Becomes,
 }
 
 /// Where a call is.
 #[derive(Clone, Copy, Debug, PartialEq, Eq)]
-pub(crate) enum Place {
+pub(crate) enum CallPlace {
     /// It waits at this end.
     Here,
     /// It was given to an object of this end, or is a received Bootstrap's.
@@ -118,11 +118,11 @@ pub(crate) enum Known {
 
 /// A call.
 #[derive(Clone, Copy, Debug)]
-pub(crate) struct CallState {
+pub(crate) struct MadeCall {
     /// What it is meant for, if that stands for anything.
-    pub goal: Option<View>,
+    pub goal: Option<EndView>,
     /// Where it is.
-    pub place: Place,
+    pub place: CallPlace,
     /// This end asked a question for it.
     pub is_asked: bool,
     /// Of a received call the frame of the peer's file that brought it.
@@ -133,9 +133,9 @@ pub(crate) struct CallState {
 
 /// A senderLoopback that came in and waits for its echo.
 #[derive(Clone, Copy, Debug)]
-pub(crate) struct Embargo {
+pub(crate) struct AwaitedEcho {
     /// What its target stood for.
-    pub view: Option<View>,
+    pub view: Option<EndView>,
     /// How many calls there were before it.
     pub calls: usize,
 }

@@ -13,7 +13,7 @@ use std::sync::Arc;
 use vat_log::VatLog;
 use wire_cut::End;
 use wire_plan::{WirePlan, plan_wire};
-use wire_steps::{LogFault, Step, TooLongAt, log_of};
+use wire_steps::{EndStep, LogFault, TooLongAt, log_of};
 
 /// The vat that sent the first file.
 const VAT_OF_A: u32 = 1;
@@ -69,8 +69,8 @@ fn waiting(vat: &Vat<'_>, lack: Option<Lack>) -> Option<Waiting> {
 /// What is made up of both ends.
 #[derive(Drop)]
 struct MadeUp {
-    steps_of_a: Vec<Step>,
-    steps_of_b: Vec<Step>,
+    steps_of_a: Vec<EndStep>,
+    steps_of_b: Vec<EndStep>,
     blame: Option<Blame>,
     waiting: [Option<Waiting>; 2],
 }

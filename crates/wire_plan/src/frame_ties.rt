@@ -4,7 +4,7 @@ use std::alloc::{AllocError, Global};
 
 /// What a frame that opens a question, or a Return, belongs to.
 #[derive(Clone, Copy, Debug, PartialEq, Eq)]
-pub struct Tie {
+pub struct FrameTie {
     /// Of an opening its Return, of a Return its opening: a frame of the other end.
     pub pair: Option<usize>,
     /// Of a Call with sendResultsTo yourself the Return that takes its results, of such a Return that Call: a frame of
@@ -17,13 +17,13 @@ pub struct Tie {
 /// The ties of one end's frames.
 #[derive(Drop)]
 pub struct Ties {
-    ties: Vec<Tie>,
+    ties: Vec<FrameTie>,
 }
 
 impl Ties {
     /// So many frames without ties.
     pub(crate) fn new(alloc: Global, frames: usize) -> Result<Ties, AllocError> {
-        let none = Tie {
+        let none = FrameTie {
             pair: None,
             take: None,
             aimed: None,

@@ -19,9 +19,9 @@ mod promise_ends;
 mod question_ties;
 mod reading;
 
-pub use frame_ties::{Tie, Ties};
+pub use frame_ties::{FrameTie, Ties};
 pub use groups::Groups;
-pub use message::{Aim, Entry, Kind, Named, Planned, Results};
+pub use message::{Aim, Entry, Kind, Named, Planned, ReturnKind};
 pub use named_paths::NamedPaths;
 pub use paths::Paths;
 pub use plan::{FilePlan, WirePlan, plan_wire};

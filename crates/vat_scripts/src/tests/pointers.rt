@@ -33,7 +33,7 @@ enum Step {
 }
 
 use Step::{Bit, Element, Fields, List, Struct, Text, U16, U32, U64};
-use worked_cases::{Refused, ask_again};
+use worked_cases::{NoAnswer, ask_again};
 
 /// A Release of the export 3, two times.
 const RELEASE: &str = "400000000 1000100000000 6 100000000 200000003";
@@ -347,16 +347,16 @@ struct Walk {
 
 impl Walk {
     /// Tells to what a visit came, and the words that it left.
-    fn tell(&mut self, came: &str) -> Result<(), Refused> {
+    fn tell(&mut self, came: &str) -> Result<(), NoAnswer> {
         let left = self.limits.words;
         write!(self.text, "; {came}, {left} left")?;
         Ok(())
     }
 
     /// Tells why a visit was refused. Running out of memory is a failure, and no answer.
-    fn tell_fault(&mut self, fault: ReadError) -> Result<(), Refused> {
+    fn tell_fault(&mut self, fault: ReadError) -> Result<(), NoAnswer> {
         if fault == ReadError::OutOfMemory {
-            return Err(Refused::OutOfMemory);
+            return Err(NoAnswer::OutOfMemory);
         }
         let left = self.limits.words;
         write!(self.text, "; {fault:?}, {left} left")?;
@@ -364,18 +364,18 @@ impl Walk {
     }
 
     /// Tells a number.
-    fn tell_number(&mut self, number: u64) -> Result<(), Refused> {
+    fn tell_number(&mut self, number: u64) -> Result<(), NoAnswer> {
         write!(self.text, "; {number:x}")?;
         Ok(())
     }
 
-    fn tell_bit(&mut self, bit: u16) -> Result<(), Refused> {
+    fn tell_bit(&mut self, bit: u16) -> Result<(), NoAnswer> {
         let is_set = bit_at(&self.frame, &self.place, u32::from(bit));
         write!(self.text, "; {is_set}")?;
         Ok(())
     }
 
-    fn to_struct(&mut self, n: u16) -> Result<(), Refused> {
+    fn to_struct(&mut self, n: u16) -> Result<(), NoAnswer> {
         match struct_field(&self.frame, &self.place, n, &mut self.limits) {
             Ok(Some(place)) => {
                 self.place = place;
@@ -386,7 +386,7 @@ impl Walk {
         }
     }
 
-    fn to_list(&mut self, n: u16) -> Result<(), Refused> {
+    fn to_list(&mut self, n: u16) -> Result<(), NoAnswer> {
         match list_field(&self.frame, &self.place, n, &mut self.limits) {
             Ok(Some(list)) => {
                 self.list = Some(list);
@@ -401,10 +401,10 @@ impl Walk {
         }
     }
 
-    fn to_element(&mut self, i: u32) -> Result<(), Refused> {
+    fn to_element(&mut self, i: u32) -> Result<(), NoAnswer> {
         let list = self.list.ok_or("a list")?;
         if i >= list.len() {
-            return Err(Refused::Otherwise);
+            return Err(NoAnswer::Otherwise);
         }
         match list.element(i, &mut self.limits) {
             Ok(place) => {
@@ -415,7 +415,7 @@ impl Walk {
         }
     }
 
-    fn tell_fields(&mut self, alloc: Global, n: u16) -> Result<(), Refused> {
+    fn tell_fields(&mut self, alloc: Global, n: u16) -> Result<(), NoAnswer> {
         match fields(alloc, &self.frame, &self.place, n, &mut self.limits) {
             Ok(found) => {
                 for (path, index) in found.as_slice() {
@@ -428,7 +428,7 @@ impl Walk {
     }
 
     /// Tells the bytes of a text.
-    fn tell_bytes(&mut self, text: TextAt) -> Result<(), Refused> {
+    fn tell_bytes(&mut self, text: TextAt) -> Result<(), NoAnswer> {
         for i in 0..text.len() {
             let byte = text.byte(&self.frame, i);
             self.tell_number(u64::from(byte))?;
@@ -436,7 +436,7 @@ impl Walk {
         Ok(())
     }
 
-    fn to_text(&mut self, n: u16) -> Result<(), Refused> {
+    fn to_text(&mut self, n: u16) -> Result<(), NoAnswer> {
         match text_field(&self.frame, &self.place, n, &mut self.limits) {
             Ok(Some(text)) => {
                 let len = text.len();
@@ -450,7 +450,7 @@ impl Walk {
         }
     }
 
-    fn take(&mut self, alloc: Global, step: Step) -> Result<(), Refused> {
+    fn take(&mut self, alloc: Global, step: Step) -> Result<(), NoAnswer> {
         match step {
             U16(n) => {
                 let number = u16_at(&self.frame, &self.place, 2 * u32::from(n));
@@ -474,7 +474,7 @@ impl Walk {
     }
 
     /// Takes these steps, one after another.
-    fn take_each(&mut self, alloc: Global, steps: &[Step]) -> Result<(), Refused> {
+    fn take_each(&mut self, alloc: Global, steps: &[Step]) -> Result<(), NoAnswer> {
         for step in steps {
             self.take(alloc, *step)?;
         }
@@ -483,7 +483,7 @@ impl Walk {
 }
 
 /// The walk that begins at this root.
-fn begun(alloc: Global, frame: Frame, place: StructAt, limits: Limits) -> Result<Walk, Refused> {
+fn begun(alloc: Global, frame: Frame, place: StructAt, limits: Limits) -> Result<Walk, NoAnswer> {
     let left = limits.words;
     let text = format!(in alloc; "root, {left} left")?;
     Ok(Walk {
@@ -496,19 +496,19 @@ fn begun(alloc: Global, frame: Frame, place: StructAt, limits: Limits) -> Result
 }
 
 /// What is told of a walk once it has taken these steps.
-fn text_behind(alloc: Global, walk: Walk, steps: &[Step]) -> Result<String, Refused> {
+fn text_behind(alloc: Global, walk: Walk, steps: &[Step]) -> Result<String, NoAnswer> {
     let mut walk = walk;
     walk.take_each(alloc, steps)?;
     Ok(walk.text)
 }
 
 /// What is told where no root is reached.
-fn fault_text(alloc: Global, fault: ReadError, left: u64) -> Result<String, Refused> {
+fn fault_text(alloc: Global, fault: ReadError, left: u64) -> Result<String, NoAnswer> {
     Ok(format!(in alloc; "{fault:?}, {left} left")?)
 }
 
 /// What is told of a walk through the frame of these words.
-fn walked(alloc: Global, words: &str, limits: Limits, steps: &[Step]) -> Result<String, Refused> {
+fn walked(alloc: Global, words: &str, limits: Limits, steps: &[Step]) -> Result<String, NoAnswer> {
     let frame = frame(alloc, words)?;
     let mut limits = limits;
     match root(&frame, &mut limits) {
@@ -547,7 +547,7 @@ fn default_limits(rt: HostRuntime) {
 
 /// What is told of a frame of 512 segments, of which the first has a far pointer, the last its pad and a word behind it,
 /// and the others nothing.
-fn many_segments(alloc: Global) -> Result<String, Refused> {
+fn many_segments(alloc: Global) -> Result<String, NoAnswer> {
     let mut words = String::from_str(alloc, "1000001ff ")?;
     for _ in 0..255 {
         words.push_str("0 ")?;

@@ -1,11 +1,11 @@
 //! When a message may be sent: what it lacks, a function for each row.
 
-use crate::end_tables::{Held, Known, Place, Question};
+use crate::end_tables::{CallPlace, Held, Known, Question};
 use crate::lack::Lack;
 use crate::vat::Vat;
-use crate::vat::views::{Turn, View};
+use crate::vat::views::{EndView, NextView};
 use std::alloc::AllocError;
-use wire_plan::{Aim, Entry, Kind, Planned, Results};
+use wire_plan::{Aim, Entry, Kind, Planned, ReturnKind};
 
 impl Vat<'_> {
     /// What the next message of the own file lacks, if anything.
@@ -184,8 +184,8 @@ impl Vat<'_> {
     /// Whether a call will have results: its Return has them, or they are elsewhere.
     fn has_results(&self, call: usize) -> bool {
         match self.results_of(call) {
-            Some(Results::There | Results::Elsewhere | Results::TakenFrom(_)) => true,
-            Some(Results::Exception | Results::Canceled) | None => false,
+            Some(ReturnKind::There | ReturnKind::Elsewhere | ReturnKind::TakenFrom(_)) => true,
+            Some(ReturnKind::Exception | ReturnKind::Canceled) | None => false,
         }
     }
 
@@ -243,14 +243,14 @@ impl Vat<'_> {
             return Ok(Some(lack));
         }
         match results {
-            Results::There if !question.is_released => {
+            ReturnKind::There if !question.is_released => {
                 self.lack_of_results(number, question, message)
             }
-            Results::TakenFrom(taken) => Ok(self.lack_of_taking(number, question, taken)),
-            Results::Elsewhere if !question.is_released && !question.is_tail => {
+            ReturnKind::TakenFrom(taken) => Ok(self.lack_of_taking(number, question, taken)),
+            ReturnKind::Elsewhere if !question.is_released && !question.is_tail => {
                 Ok(Some(Lack::AskedYourself(number)))
             }
-            Results::Canceled if !question.is_finished => Ok(Some(Lack::FinishReceived(number))),
+            ReturnKind::Canceled if !question.is_finished => Ok(Some(Lack::FinishReceived(number))),
             _ => Ok(None),
         }
     }
@@ -267,7 +267,7 @@ impl Vat<'_> {
         let state = self.call(question.call)?;
         let is_answered = match state.known {
             Known::By(by) => by == other.call,
-            Known::NotYet => state.place == Place::Served || other.call == question.call,
+            Known::NotYet => state.place == CallPlace::Served || other.call == question.call,
             Known::Listed | Known::Nothing => other.call == question.call,
         };
         if is_answered {
@@ -291,7 +291,7 @@ impl Vat<'_> {
             return Ok(Some(Lack::CallAnswered(number)));
         };
         match state.known {
-            Known::NotYet if state.place == Place::Served => return Ok(None),
+            Known::NotYet if state.place == CallPlace::Served => return Ok(None),
             Known::NotYet | Known::Nothing => return Ok(Some(Lack::CallAnswered(number))),
             Known::Listed | Known::By(_) => {}
         }
@@ -315,7 +315,7 @@ impl Vat<'_> {
         let Some(target) = self.view_of_entry(entry) else {
             return Ok(false);
         };
-        let Turn::To(view) = self.turn_of(View::Field(call, path)) else {
+        let NextView::To(view) = self.turn_of(EndView::Field(call, path)) else {
             return Ok(false);
         };
         if !self.leads_ahead(view, target) {

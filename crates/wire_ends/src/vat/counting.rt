@@ -2,7 +2,7 @@
 
 use crate::end_tables::{Held, Life};
 use crate::vat::Vat;
-use crate::vat::views::{Turn, View};
+use crate::vat::views::{EndView, NextView};
 use rising_table::RisingTable;
 use std::alloc::AllocError;
 use wire_plan::Entry;
@@ -51,7 +51,7 @@ fn begin(
     table: &mut RisingTable<Held>,
     number: u32,
     is_promise: bool,
-    view: View,
+    view: EndView,
 ) -> Result<(), AllocError> {
     table.put(
         u64::from(number),
@@ -73,7 +73,7 @@ impl Vat<'_> {
                 Entry::Hosted(number) | Entry::Promised(number, _)
                     if hold(&mut self.exports, *number) => {}
                 Entry::Hosted(number) => {
-                    let view = View::Object(u64::from(*number));
+                    let view = EndView::Object(u64::from(*number));
                     begin(&mut self.exports, *number, false, view)?;
                 }
                 Entry::Promised(number, group) => {
@@ -91,10 +91,10 @@ impl Vat<'_> {
         if hold(&mut self.imports, number) {
             return Ok(());
         }
-        let view = View::Import(self.lives.len());
+        let view = EndView::Import(self.lives.len());
         self.lives.push(Life {
             reference,
-            turn: Turn::Stays,
+            turn: NextView::Stays,
         })?;
         begin(&mut self.imports, number, is_promise, view)
     }

@@ -1,27 +1,27 @@
 //! Calls that wait: which of them are delivered.
 
-use crate::end_tables::Place;
+use crate::end_tables::CallPlace;
 use crate::vat::Vat;
-use crate::vat::views::{Turn, View};
-use crate::vat::walking::{Circle, MAX_TURNS};
+use crate::vat::views::{EndView, NextView};
+use crate::vat::walking::{MAX_TURNS, ViewWalk};
 use std::alloc::AllocError;
 use std::mem;
 
 impl Vat<'_> {
     /// The end of a view's walk where all that may be told early is told; None where it can lead nowhere.
-    pub(crate) fn end_of(&mut self, from: View) -> Result<Option<View>, AllocError> {
+    pub(crate) fn end_of(&mut self, from: EndView) -> Result<Option<EndView>, AllocError> {
         let mut view = from;
-        let mut circle = Circle::new(from);
+        let mut circle = ViewWalk::new(from);
         for _ in 0..MAX_TURNS {
             match self.turn_of(view) {
-                Turn::Stops => return Ok(None),
-                Turn::To(next) => {
+                NextView::Stops => return Ok(None),
+                NextView::To(next) => {
                     if circle.closes(next) {
                         return Ok(None);
                     }
                     view = next;
                 }
-                Turn::Stays => {
+                NextView::Stays => {
                     if !self.tell(view, false)? {
                         return Ok(Some(view));
                     }
@@ -35,8 +35,8 @@ impl Vat<'_> {
     fn deliver(&mut self, call: usize, object: u64) -> Result<(), AllocError> {
         let number = self.number_of(call);
         self.log.deliver(number, object)?;
-        self.move_call(call, Place::Served);
-        self.wake(View::Field(call, 0))
+        self.move_call(call, CallPlace::Served);
+        self.wake(EndView::Field(call, 0))
     }
 
     /// Delivers a call that waits, if it leads to an object; else it hangs on what stops it.
@@ -48,7 +48,7 @@ impl Vat<'_> {
             return Ok(());
         };
         match self.end_of(goal)? {
-            Some(View::Object(object)) => self.deliver(call, object),
+            Some(EndView::Object(object)) => self.deliver(call, object),
             Some(view) => Vat::list(&mut self.hanging, self.alloc, view.turning_key(), call),
             None => Ok(()),
         }

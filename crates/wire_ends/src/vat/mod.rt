@@ -11,15 +11,15 @@ mod telling;
 pub(crate) mod views;
 pub(crate) mod walking;
 
-use crate::end_tables::{CallState, Embargo, Held, Life, Place, Promise, Question};
+use crate::end_tables::{AwaitedEcho, CallPlace, Held, Life, MadeCall, Promise, Question};
 use crate::queue::Queue;
-use crate::vat::views::{View, ViewKey};
+use crate::vat::views::{EndView, ViewKey};
 use rising_table::RisingTable;
 use std::alloc::{AllocError, Global};
 use std::collections::BTreeMap;
 use wire_cut::End;
 use wire_plan::{Aim, FilePlan, Kind, Planned, WirePlan};
-use wire_steps::{Step, Steps};
+use wire_steps::{EndStep, Steps};
 
 /// One end, as it was made up so far.
 #[derive(Drop)]
@@ -48,17 +48,17 @@ pub(crate) struct Vat<'a> {
     pub promises: Vec<Promise>,
     /// The promises of the file's groups.
     pub group_promises: RisingTable<usize>,
-    pub calls: Vec<CallState>,
+    pub calls: Vec<MadeCall>,
     /// The calls that the peer's frames brought, by their places.
     pub received_calls: RisingTable<usize>,
     /// The references of results.
     pub fields: BTreeMap<(u64, u32), u64>,
     /// What stands at the paths of results that are listed.
-    pub results: BTreeMap<(u64, u32), View>,
+    pub results: BTreeMap<(u64, u32), EndView>,
     /// Whether an own senderLoopback of a number waits for its echo.
     pub outstanding: RisingTable<bool>,
     /// The peer's senderLoopbacks that wait for their echo.
-    pub pending: RisingTable<Option<Embargo>>,
+    pub pending: RisingTable<Option<AwaitedEcho>>,
     /// Calls that wait, by what stops them.
     pub hanging: BTreeMap<ViewKey, Vec<usize>>,
     /// Calls that wait or waited, by their goal.
@@ -109,7 +109,7 @@ impl<'a> Vat<'a> {
     }
 
     /// Its steps.
-    pub(crate) fn into_steps(self) -> Vec<Step> {
+    pub(crate) fn into_steps(self) -> Vec<EndStep> {
         let Vat { log, .. } = self;
         log.into_steps()
     }
@@ -151,7 +151,7 @@ impl<'a> Vat<'a> {
     }
 
     /// The state of a call.
-    pub(crate) fn call(&self, call: usize) -> Option<CallState> {
+    pub(crate) fn call(&self, call: usize) -> Option<MadeCall> {
         self.calls.get(call).copied()
     }
 
@@ -161,14 +161,14 @@ impl<'a> Vat<'a> {
     }
 
     /// A new call.
-    pub(crate) fn new_call(&mut self, state: CallState) -> Result<usize, AllocError> {
+    pub(crate) fn new_call(&mut self, state: MadeCall) -> Result<usize, AllocError> {
         let call = self.calls.len();
         self.calls.push(state)?;
         Ok(call)
     }
 
     /// A call is elsewhere from now on.
-    pub(crate) fn move_call(&mut self, call: usize, place: Place) {
+    pub(crate) fn move_call(&mut self, call: usize, place: CallPlace) {
         if let Some(state) = self.calls.get_mut(call) {
             state.place = place;
         }
@@ -177,7 +177,7 @@ impl<'a> Vat<'a> {
     /// Whether a call waits at this end.
     pub(crate) fn is_here(&self, call: usize) -> bool {
         match self.calls.get(call) {
-            Some(state) => state.place == Place::Here,
+            Some(state) => state.place == CallPlace::Here,
             None => false,
         }
     }
@@ -222,18 +222,21 @@ impl<'a> Vat<'a> {
     }
 
     /// What the target of an own message stands for.
-    pub(crate) fn view_of_own(&self, aim: Aim) -> Option<View> {
+    pub(crate) fn view_of_own(&self, aim: Aim) -> Option<EndView> {
         match aim {
             Aim::Import(number) => Some(self.import(number)?.view),
-            Aim::Answer(question, path) => Some(View::Field(self.question(question)?.call, path)),
+            Aim::Answer(question, path) => Some(EndView::Field(
+                self.question(question)?.call,
+                path,
+            )),
         }
     }
 
     /// What the target of a received message stands for.
-    pub(crate) fn view_of_peers(&self, aim: Aim) -> Option<View> {
+    pub(crate) fn view_of_peers(&self, aim: Aim) -> Option<EndView> {
         match aim {
             Aim::Import(number) => Some(self.held_export(number)?.view),
-            Aim::Answer(question, path) => Some(View::Field(self.answer(question)?.call, path)),
+            Aim::Answer(question, path) => Some(EndView::Field(self.answer(question)?.call, path)),
         }
     }
 

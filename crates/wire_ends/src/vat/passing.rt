@@ -1,9 +1,9 @@
 //! Calls that are passed on: a received one goes out under the number under which it came.
 
-use crate::end_tables::Place;
+use crate::end_tables::CallPlace;
 use crate::vat::Vat;
-use crate::vat::views::View;
-use wire_plan::{Kind, Results};
+use crate::vat::views::EndView;
+use wire_plan::{Kind, ReturnKind};
 
 impl Vat<'_> {
     /// The digest of the peer's Call that brought a call.
@@ -16,14 +16,14 @@ impl Vat<'_> {
     }
 
     /// Whether a call waits here and leads to where the own Call with this digest goes.
-    fn may_pass(&self, call: usize, digest: u64, target: View) -> bool {
+    fn may_pass(&self, call: usize, digest: u64, target: EndView) -> bool {
         let Some(state) = self.call(call) else {
             return false;
         };
         let Some(goal) = state.goal else {
             return false;
         };
-        state.place == Place::Here
+        state.place == CallPlace::Here
             && self.digest_of(call) == Some(digest)
             && self.leads_ahead(goal, target)
     }
@@ -38,13 +38,13 @@ impl Vat<'_> {
     /// Whether no Return takes another question's results for this call.
     fn is_returned_itself(&self, call: usize) -> bool {
         match self.results_of(call) {
-            Some(Results::TakenFrom(_)) => false,
+            Some(ReturnKind::TakenFrom(_)) => false,
             _ => true,
         }
     }
 
     /// The first call that waits with this digest and leads to this target.
-    fn first_alike(&self, digest: u64, target: View) -> Option<usize> {
+    fn first_alike(&self, digest: u64, target: EndView) -> Option<usize> {
         let calls = self.digests.get(&digest)?;
         calls.iter().copied().find(|call| self.is_returned_itself(*call)
             && self.may_pass(*call, digest, target))

@@ -1,12 +1,12 @@
 //! What is put into the log where a message is received: a function for each kind.
 
-use crate::end_tables::{CallState, Embargo, Held, Known, Place, Question};
+use crate::end_tables::{AwaitedEcho, CallPlace, Held, Known, MadeCall, Question};
 use crate::queue::Queue;
 use crate::vat::Vat;
 use crate::vat::counting::{give_back, give_back_all};
-use crate::vat::views::{Turn, View};
+use crate::vat::views::{EndView, NextView};
 use std::alloc::AllocError;
-use wire_plan::{Aim, Kind, Planned, Results};
+use wire_plan::{Aim, Kind, Planned, ReturnKind};
 
 /// The call that is noted where none is.
 const NO_CALL: u64 = 0;
@@ -47,9 +47,9 @@ impl Vat<'_> {
 
     /// Bootstrap: the call is bound, and is served here.
     fn receive_bootstrap(&mut self, place: usize, question: u32) -> Result<(), AllocError> {
-        let call = self.new_call(CallState {
+        let call = self.new_call(MadeCall {
             goal: None,
-            place: Place::Served,
+            place: CallPlace::Served,
             is_asked: false,
             opening: Some(place),
             known: Known::NotYet,
@@ -64,7 +64,7 @@ impl Vat<'_> {
     }
 
     /// A call waits: it is found by its goal and by its digest.
-    fn wait(&mut self, call: usize, goal: Option<View>, digest: u64) -> Result<(), AllocError> {
+    fn wait(&mut self, call: usize, goal: Option<EndView>, digest: u64) -> Result<(), AllocError> {
         if !self.is_here(call) {
             return Ok(());
         }
@@ -93,9 +93,9 @@ impl Vat<'_> {
             return Ok(());
         };
         let goal = self.view_of_peers(aim);
-        let call = self.new_call(CallState {
+        let call = self.new_call(MadeCall {
             goal,
-            place: Place::Here,
+            place: CallPlace::Here,
             is_asked: false,
             opening: Some(place),
             known: Known::NotYet,
@@ -113,11 +113,11 @@ impl Vat<'_> {
     fn learn(
         &mut self,
         call: usize,
-        results: Results,
+        results: ReturnKind,
         message: &Planned,
     ) -> Result<(), AllocError> {
         match results {
-            Results::There => {
+            ReturnKind::There => {
                 for field in &message.fields {
                     let view = message
                         .entry(field.index)
@@ -128,12 +128,12 @@ impl Vat<'_> {
                 }
                 self.know(call, Known::Listed)
             }
-            Results::TakenFrom(number) => match self.answer(number) {
+            ReturnKind::TakenFrom(number) => match self.answer(number) {
                 Some(other) => self.know(call, Known::By(other.call)),
                 None => self.know(call, Known::Nothing),
             },
-            Results::Exception | Results::Canceled => self.know(call, Known::Nothing),
-            Results::Elsewhere => Ok(()),
+            ReturnKind::Exception | ReturnKind::Canceled => self.know(call, Known::Nothing),
+            ReturnKind::Elsewhere => Ok(()),
         }
     }
 
@@ -212,10 +212,10 @@ impl Vat<'_> {
             .entry(0)
             .and_then(|entry| self.view_of_received(entry));
         let turn = match view {
-            Some(view) => Turn::To(view),
-            None => Turn::Stops,
+            Some(view) => NextView::To(view),
+            None => NextView::Stops,
         };
-        if let View::Import(life) = held.view {
+        if let EndView::Import(life) = held.view {
             if let Some(life) = self.lives.get_mut(life) {
                 life.turn = turn;
             }
@@ -235,7 +235,7 @@ impl Vat<'_> {
             let _ = self.end_of(view)?;
         }
         self.receive_bare()?;
-        let embargo = Embargo {
+        let embargo = AwaitedEcho {
             view,
             calls: self.calls.len(),
         };

@@ -2,7 +2,7 @@
 
 use crate::end_tables::{Becomes, Promise};
 use crate::vat::Vat;
-use crate::vat::views::{Turn, View};
+use crate::vat::views::{EndView, NextView};
 use std::alloc::AllocError;
 use wire_plan::{Entry, Kind};
 
@@ -29,25 +29,25 @@ impl Vat<'_> {
     }
 
     /// A new object that goes out nowhere: its reference and what that stands for.
-    pub(crate) fn new_object(&mut self) -> Result<(u64, View), AllocError> {
+    pub(crate) fn new_object(&mut self) -> Result<(u64, EndView), AllocError> {
         let reference = self.new_reference();
         let object = FIRST_MADE.saturating_add(self.objects_made);
         self.objects_made = self.objects_made.saturating_add(1);
         self.log.host(reference, object)?;
-        Ok((reference, View::Object(object)))
+        Ok((reference, EndView::Object(object)))
     }
 
     /// A new promise: its reference and what that stands for.
-    pub(crate) fn new_promise(&mut self, becomes: Becomes) -> Result<(u64, View), AllocError> {
+    pub(crate) fn new_promise(&mut self, becomes: Becomes) -> Result<(u64, EndView), AllocError> {
         let reference = self.new_reference();
         self.log.vow(reference)?;
         let place = self.promises.len();
         self.promises.push(Promise {
             reference,
-            turn: Turn::Stays,
+            turn: NextView::Stays,
             becomes,
         })?;
-        Ok((reference, View::Vow(place)))
+        Ok((reference, EndView::Vow(place)))
     }
 
     /// What the promise of a group becomes by its Resolve.
@@ -65,16 +65,16 @@ impl Vat<'_> {
     }
 
     /// The promise of a group.
-    pub(crate) fn promised(&mut self, group: usize) -> Result<(u64, View), AllocError> {
+    pub(crate) fn promised(&mut self, group: usize) -> Result<(u64, EndView), AllocError> {
         if let Some(place) = self.group_promises.get(group as u64) {
             let place = *place;
             if let Some(promise) = self.promises.get(place) {
-                return Ok((promise.reference, View::Vow(place)));
+                return Ok((promise.reference, EndView::Vow(place)));
             }
         }
         let becomes = self.group_becomes(group);
         let made = self.new_promise(becomes)?;
-        if let View::Vow(place) = made.1 {
+        if let EndView::Vow(place) = made.1 {
             self.group_promises.put(group as u64, place)?;
         }
         Ok(made)
@@ -95,9 +95,9 @@ impl Vat<'_> {
     }
 
     /// The import of a number, in its last life: the reference with which that began. An object where there was none.
-    fn imported(&mut self, number: u32) -> Result<(u64, View), AllocError> {
+    fn imported(&mut self, number: u32) -> Result<(u64, EndView), AllocError> {
         if let Some(held) = self.import(number) {
-            if let View::Import(life) = held.view {
+            if let EndView::Import(life) = held.view {
                 if let Some(life) = self.lives.get(life) {
                     return Ok((life.reference, held.view));
                 }
@@ -107,21 +107,23 @@ impl Vat<'_> {
     }
 
     /// What stands at a path of an own question's results. An object where there was no such question.
-    fn asked(&mut self, question: u32, path: u32) -> Result<(u64, View), AllocError> {
+    fn asked(&mut self, question: u32, path: u32) -> Result<(u64, EndView), AllocError> {
         match self.question(question) {
             Some(question) => Ok((
                 self.field(question.call, path)?,
-                View::Field(question.call, path),
+                EndView::Field(question.call, path),
             )),
             None => self.new_object(),
         }
     }
 
     /// What an entry of an own table stands for, and its reference. An object where the entry has no capability.
-    pub(crate) fn named(&mut self, entry: Entry) -> Result<(u64, View), AllocError> {
+    pub(crate) fn named(&mut self, entry: Entry) -> Result<(u64, EndView), AllocError> {
         match entry {
             Entry::NoCap => self.new_object(),
-            Entry::Hosted(number) => { Ok((self.hosted(number)?, View::Object(u64::from(number)))) }
+            Entry::Hosted(number) => {
+                Ok((self.hosted(number)?, EndView::Object(u64::from(number))))
+            }
             Entry::Promised(_, group) => self.promised(group),
             Entry::ReceiverHosted(number) => self.imported(number),
             Entry::ReceiverAnswer(question, path) => self.asked(question, path),
@@ -152,16 +154,16 @@ impl Vat<'_> {
     }
 
     /// What an entry of an own table stands for where it goes out, if that is there.
-    pub(crate) fn view_of_entry(&self, entry: Entry) -> Option<View> {
+    pub(crate) fn view_of_entry(&self, entry: Entry) -> Option<EndView> {
         match entry {
             Entry::NoCap => None,
             Entry::Hosted(number) => match self.held_export(number) {
                 Some(held) => Some(held.view),
-                None => Some(View::Object(u64::from(number))),
+                None => Some(EndView::Object(u64::from(number))),
             },
             Entry::Promised(number, group) => match self.held_export(number) {
                 Some(held) => Some(held.view),
-                None => Some(View::Vow(*self.group_promises.get(group as u64)?)),
+                None => Some(EndView::Vow(*self.group_promises.get(group as u64)?)),
             },
             Entry::ReceiverHosted(number) => {
                 let held = self.import(number)?;
@@ -172,19 +174,19 @@ impl Vat<'_> {
                 }
             }
             Entry::ReceiverAnswer(question, path) => {
-                Some(View::Field(self.unfinished_question(question)?.call, path))
+                Some(EndView::Field(self.unfinished_question(question)?.call, path))
             }
         }
     }
 
     /// What an entry of a received table stands for.
-    pub(crate) fn view_of_received(&self, entry: Entry) -> Option<View> {
+    pub(crate) fn view_of_received(&self, entry: Entry) -> Option<EndView> {
         match entry {
             Entry::NoCap => None,
             Entry::Hosted(number) | Entry::Promised(number, _) => Some(self.import(number)?.view),
             Entry::ReceiverHosted(number) => Some(self.held_export(number)?.view),
             Entry::ReceiverAnswer(question, path) => {
-                Some(View::Field(self.answer(question)?.call, path))
+                Some(EndView::Field(self.answer(question)?.call, path))
             }
         }
     }

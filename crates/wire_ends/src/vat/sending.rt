@@ -1,11 +1,11 @@
 //! What is put into the log where a message is sent: a function for each kind.
 
-use crate::end_tables::{CallState, Embargo, Held, Known, Place, Question};
+use crate::end_tables::{AwaitedEcho, CallPlace, Held, Known, MadeCall, Question};
 use crate::vat::Vat;
 use crate::vat::counting::{give_back, give_back_all};
-use crate::vat::views::View;
+use crate::vat::views::EndView;
 use std::alloc::AllocError;
-use wire_plan::{Aim, Entry, Kind, Planned, Results};
+use wire_plan::{Aim, Entry, Kind, Planned, ReturnKind};
 
 /// The call that is noted where none is.
 const NO_CALL: u64 = 0;
@@ -50,9 +50,9 @@ impl Vat<'_> {
 
     /// Bootstrap: the call is bound.
     fn send_bootstrap(&mut self, place: usize, question: u32) -> Result<(), AllocError> {
-        let call = self.new_call(CallState {
+        let call = self.new_call(MadeCall {
             goal: None,
-            place: Place::Gone,
+            place: CallPlace::Gone,
             is_asked: true,
             opening: None,
             known: Known::NotYet,
@@ -68,9 +68,9 @@ impl Vat<'_> {
     /// MAKE, through the reference of the target.
     fn make(&mut self, kind: Kind, interface: u64, method: u16) -> Result<usize, AllocError> {
         let reference = self.aimed(kind)?;
-        let call = self.new_call(CallState {
+        let call = self.new_call(MadeCall {
             goal: None,
-            place: Place::Gone,
+            place: CallPlace::Gone,
             is_asked: true,
             opening: None,
             known: Known::NotYet,
@@ -88,7 +88,7 @@ impl Vat<'_> {
             self.tell_along(goal, target)?;
         }
         if let Some(state) = self.calls.get_mut(call) {
-            state.place = Place::Gone;
+            state.place = CallPlace::Gone;
             state.is_asked = true;
         }
         if let Some(queue) = self.digests.get_mut(&digest) {
@@ -126,13 +126,13 @@ impl Vat<'_> {
     }
 
     /// What has to be told before a Return that isn't late.
-    fn tell_return(&mut self, call: usize, results: Results) -> Result<(), AllocError> {
+    fn tell_return(&mut self, call: usize, results: ReturnKind) -> Result<(), AllocError> {
         match results {
-            Results::There | Results::TakenFrom(_) => {
+            ReturnKind::There | ReturnKind::TakenFrom(_) => {
                 let _ = self.tell_results(call, true)?;
                 self.settle_woken()
             }
-            Results::Exception | Results::Canceled | Results::Elsewhere => Ok(()),
+            ReturnKind::Exception | ReturnKind::Canceled | ReturnKind::Elsewhere => Ok(()),
         }
     }
 
@@ -160,7 +160,7 @@ impl Vat<'_> {
         if !is_late {
             self.introduce(&message.table)?;
         }
-        if let Results::TakenFrom(taken) = results {
+        if let ReturnKind::TakenFrom(taken) = results {
             self.take(taken);
         }
         match question {
@@ -196,9 +196,9 @@ impl Vat<'_> {
                 give_back_all(&mut self.imports, &opening.table);
             }
         }
-        if let Results::Exception | Results::Canceled = results {
+        if let ReturnKind::Exception | ReturnKind::Canceled = results {
             if self.is_here(question.call) {
-                self.move_call(question.call, Place::Gone);
+                self.move_call(question.call, CallPlace::Gone);
             }
         }
         let answered = Question {
@@ -239,7 +239,7 @@ impl Vat<'_> {
         message: &Planned,
     ) -> Result<(), AllocError> {
         if let Some(group) = group {
-            if let (_, View::Vow(place)) = self.promised(group)? {
+            if let (_, EndView::Vow(place)) = self.promised(group)? {
                 match message.entry(0) {
                     None | Some(Entry::NoCap) => self.break_promise(place)?,
                     Some(_) => {
@@ -261,7 +261,7 @@ impl Vat<'_> {
     }
 
     /// The calls that wait with this goal and came before a senderLoopback.
-    pub(crate) fn held_up(&self, embargo: &Embargo) -> Result<Vec<usize>, AllocError> {
+    pub(crate) fn held_up(&self, embargo: &AwaitedEcho) -> Result<Vec<usize>, AllocError> {
         let mut calls = Vec::new(self.alloc);
         let Some(view) = embargo.view else {
             return Ok(calls);
@@ -284,7 +284,7 @@ impl Vat<'_> {
             for call in &calls {
                 let number = self.number_of(*call);
                 self.log.fail(number)?;
-                self.move_call(*call, Place::Gone);
+                self.move_call(*call, CallPlace::Gone);
                 self.know(*call, Known::Nothing)?;
             }
         }

@@ -1,16 +1,16 @@
 //! What may be told early: what promises become, and results.
 
-use crate::end_tables::{Becomes, Known, Place};
+use crate::end_tables::{Becomes, CallPlace, Known};
 use crate::vat::Vat;
-use crate::vat::views::{Turn, View};
-use crate::vat::walking::{Circle, MAX_TURNS};
+use crate::vat::views::{EndView, NextView};
+use crate::vat::walking::{MAX_TURNS, ViewWalk};
 use cap_frame::Path;
 use std::alloc::AllocError;
-use wire_plan::{Entry, Planned, Results};
+use wire_plan::{Entry, Planned, ReturnKind};
 
 impl Vat<'_> {
     /// Calls that hang on a view are to be looked at again, since it turned.
-    pub(crate) fn wake(&mut self, view: View) -> Result<(), AllocError> {
+    pub(crate) fn wake(&mut self, view: EndView) -> Result<(), AllocError> {
         if let Some(calls) = self.hanging.remove(&view.turning_key()) {
             for call in &calls {
                 self.woken.push(*call)?;
@@ -20,19 +20,19 @@ impl Vat<'_> {
     }
 
     /// FULFIL: a promise turns to a view, which has this reference.
-    fn fulfil(&mut self, place: usize, named: (u64, View)) -> Result<(), AllocError> {
+    fn fulfil(&mut self, place: usize, named: (u64, EndView)) -> Result<(), AllocError> {
         if let Some(promise) = self.promises.get_mut(place) {
-            promise.turn = Turn::To(named.1);
+            promise.turn = NextView::To(named.1);
             self.log.fulfil(promise.reference, named.0)?;
         }
-        self.wake(View::Vow(place))
+        self.wake(EndView::Vow(place))
     }
 
     /// BREAK, where the promise hasn't turned.
     pub(crate) fn break_promise(&mut self, place: usize) -> Result<(), AllocError> {
         if let Some(promise) = self.promises.get_mut(place) {
-            if promise.turn == Turn::Stays {
-                promise.turn = Turn::Stops;
+            if promise.turn == NextView::Stays {
+                promise.turn = NextView::Stops;
                 self.log.break_vow(promise.reference)?;
             }
         }
@@ -44,7 +44,7 @@ impl Vat<'_> {
         let Some(promise) = self.promises.get(place).copied() else {
             return Ok(false);
         };
-        if promise.turn != Turn::Stays {
+        if promise.turn != NextView::Stays {
             return Ok(false);
         }
         match promise.becomes {
@@ -66,7 +66,7 @@ impl Vat<'_> {
 
     /// What an entry of a Return stands for in the ANSWER before it. What is the peer's has a promise of its own, unless it
     /// goes out now.
-    fn result(&mut self, entry: Entry, is_now: bool) -> Result<(u64, View), AllocError> {
+    fn result(&mut self, entry: Entry, is_now: bool) -> Result<(u64, EndView), AllocError> {
         if Vat::is_peers(entry) && (!is_now || self.view_of_entry(entry).is_none()) {
             return self.new_promise(Becomes::Entry(entry));
         }
@@ -78,7 +78,7 @@ impl Vat<'_> {
         &mut self,
         call: usize,
         path: u32,
-        named: (u64, View),
+        named: (u64, EndView),
         listed: &mut Vec<(u64, Path)>,
     ) -> Result<(), AllocError> {
         listed.push((named.0, self.plan.paths.path(self.alloc, path)?))?;
@@ -152,22 +152,22 @@ impl Vat<'_> {
         if let Some(state) = self.calls.get_mut(call) {
             state.known = known;
         }
-        self.wake(View::Field(call, 0))
+        self.wake(EndView::Field(call, 0))
     }
 
     /// Tells the results of a call that is served here and isn't answered. Whether they were told.
     pub(crate) fn tell_results(&mut self, call: usize, is_now: bool) -> Result<bool, AllocError> {
         match self.call(call) {
-            Some(state) if state.place == Place::Served && state.known == Known::NotYet => {}
+            Some(state) if state.place == CallPlace::Served && state.known == Known::NotYet => {}
             _ => return Ok(false),
         }
         match self.results_of(call) {
-            Some(Results::There) => {
+            Some(ReturnKind::There) => {
                 if let Some(answer) = self.return_of(call) {
                     self.tell_listed(call, answer, is_now)?;
                 }
             }
-            Some(Results::TakenFrom(_)) => match self.taken_by(call) {
+            Some(ReturnKind::TakenFrom(_)) => match self.taken_by(call) {
                 Some(other) if is_now => {
                     let number = self.number_of(call);
                     let by = self.number_of(other);
@@ -176,7 +176,7 @@ impl Vat<'_> {
                 }
                 _ => return Ok(false),
             },
-            Some(Results::Exception | Results::Canceled | Results::Elsewhere) | None => {
+            Some(ReturnKind::Exception | ReturnKind::Canceled | ReturnKind::Elsewhere) | None => {
                 self.tell_objects(call)?;
             }
         }
@@ -184,26 +184,26 @@ impl Vat<'_> {
     }
 
     /// Tells where a view turns. Whether it was told.
-    pub(crate) fn tell(&mut self, view: View, is_now: bool) -> Result<bool, AllocError> {
+    pub(crate) fn tell(&mut self, view: EndView, is_now: bool) -> Result<bool, AllocError> {
         match view {
-            View::Object(_) | View::Import(_) => Ok(false),
-            View::Vow(place) => self.tell_promise(place, is_now),
-            View::Field(call, _) => self.tell_results(call, is_now),
+            EndView::Object(_) | EndView::Import(_) => Ok(false),
+            EndView::Vow(place) => self.tell_promise(place, is_now),
+            EndView::Field(call, _) => self.tell_results(call, is_now),
         }
     }
 
     /// Tells all turns of a view up to another one, or as far as they are told.
-    pub(crate) fn tell_along(&mut self, from: View, to: View) -> Result<(), AllocError> {
+    pub(crate) fn tell_along(&mut self, from: EndView, to: EndView) -> Result<(), AllocError> {
         let mut view = from;
-        let mut circle = Circle::new(from);
+        let mut circle = ViewWalk::new(from);
         for _ in 0..MAX_TURNS {
             if view == to {
                 break;
             }
-            if self.turn_of(view) == Turn::Stays && !self.tell(view, true)? {
+            if self.turn_of(view) == NextView::Stays && !self.tell(view, true)? {
                 break;
             }
-            let Turn::To(next) = self.turn_of(view) else {
+            let NextView::To(next) = self.turn_of(view) else {
                 break;
             };
             if circle.closes(next) {

@@ -2,7 +2,7 @@
 
 /// What a reference, a number or a target stands for. Calls, promises and lives of imports are counted from 0.
 #[derive(Clone, Copy, Debug, PartialEq, Eq)]
-pub(crate) enum View {
+pub(crate) enum EndView {
     /// An own object, by its number.
     Object(u64),
     /// An own promise.
@@ -15,11 +15,11 @@ pub(crate) enum View {
 
 /// Where a view goes next.
 #[derive(Clone, Copy, Debug, PartialEq, Eq)]
-pub(crate) enum Turn {
+pub(crate) enum NextView {
     /// It stays what it is.
     Stays,
     /// It turned to another one.
-    To(View),
+    To(EndView),
     /// It can lead nowhere.
     Stops,
 }
@@ -28,21 +28,21 @@ pub(crate) enum Turn {
 #[derive(Clone, Copy, Debug, PartialEq, Eq, PartialOrd, Ord)]
 pub(crate) struct ViewKey(u8, u64, u32);
 
-impl View {
+impl EndView {
     /// The view's own key.
     pub(crate) fn key(self) -> ViewKey {
         match self {
-            View::Object(object) => ViewKey(0, object, 0),
-            View::Vow(vow) => ViewKey(1, vow as u64, 0),
-            View::Field(call, path) => ViewKey(2, call as u64, path),
-            View::Import(life) => ViewKey(3, life as u64, 0),
+            EndView::Object(object) => ViewKey(0, object, 0),
+            EndView::Vow(vow) => ViewKey(1, vow as u64, 0),
+            EndView::Field(call, path) => ViewKey(2, call as u64, path),
+            EndView::Import(life) => ViewKey(3, life as u64, 0),
         }
     }
 
     /// The key of what turns together: all fields of a call do.
     pub(crate) fn turning_key(self) -> ViewKey {
         match self {
-            View::Field(call, _) => ViewKey(2, call as u64, 0),
+            EndView::Field(call, _) => ViewKey(2, call as u64, 0),
             _ => self.key(),
         }
     }

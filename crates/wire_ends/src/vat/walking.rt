@@ -1,14 +1,14 @@
 //! Where views lead.
 
-use crate::end_tables::{Becomes, Known, Place};
+use crate::end_tables::{Becomes, CallPlace, Known};
 use crate::vat::Vat;
-use crate::vat::views::{Turn, View};
-use wire_plan::{Entry, Kind, Planned, Results};
+use crate::vat::views::{EndView, NextView};
+use wire_plan::{Entry, Kind, Planned, ReturnKind};
 
 /// A walk along turns, which finds out where it goes in a circle.
 #[derive(Drop)]
-pub(crate) struct Circle {
-    mark: View,
+pub(crate) struct ViewWalk {
+    mark: EndView,
     steps: u64,
     limit: u64,
 }
@@ -16,10 +16,10 @@ pub(crate) struct Circle {
 /// How many turns a walk takes at most.
 pub(crate) const MAX_TURNS: u64 = 1 << 24;
 
-impl Circle {
+impl ViewWalk {
     /// A walk that begins here.
-    pub(crate) fn new(view: View) -> Circle {
-        Circle {
+    pub(crate) fn new(view: EndView) -> ViewWalk {
+        ViewWalk {
             mark: view,
             steps: 0,
             limit: 1,
@@ -27,7 +27,7 @@ impl Circle {
     }
 
     /// Whether the walk has been at this view, to which it turns. It is found out before it goes round three times.
-    pub(crate) fn closes(&mut self, view: View) -> bool {
+    pub(crate) fn closes(&mut self, view: EndView) -> bool {
         if view == self.mark {
             return true;
         }
@@ -49,7 +49,7 @@ impl<'a> Vat<'a> {
     }
 
     /// What the own Return says that answers a received call.
-    pub(crate) fn results_of(&self, call: usize) -> Option<Results> {
+    pub(crate) fn results_of(&self, call: usize) -> Option<ReturnKind> {
         match self.return_of(call)?.kind {
             Kind::Return { results, .. } => Some(results),
             _ => None,
@@ -57,40 +57,40 @@ impl<'a> Vat<'a> {
     }
 
     /// Where a field of a call's results turned.
-    fn field_turn(&self, call: usize, path: u32) -> Turn {
+    fn field_turn(&self, call: usize, path: u32) -> NextView {
         let Some(state) = self.call(call) else {
-            return Turn::Stops;
+            return NextView::Stops;
         };
         match state.known {
-            Known::NotYet => Turn::Stays,
-            Known::Nothing => Turn::Stops,
-            Known::By(other) => Turn::To(View::Field(other, path)),
+            Known::NotYet => NextView::Stays,
+            Known::Nothing => NextView::Stops,
+            Known::By(other) => NextView::To(EndView::Field(other, path)),
             Known::Listed => match self.results.get(&(call as u64, path)) {
-                Some(view) => Turn::To(*view),
-                None => Turn::Stops,
+                Some(view) => NextView::To(*view),
+                None => NextView::Stops,
             },
         }
     }
 
     /// Where a view turned.
-    pub(crate) fn turn_of(&self, view: View) -> Turn {
+    pub(crate) fn turn_of(&self, view: EndView) -> NextView {
         match view {
-            View::Object(_) => Turn::Stays,
-            View::Vow(place) => match self.promises.get(place) {
+            EndView::Object(_) => NextView::Stays,
+            EndView::Vow(place) => match self.promises.get(place) {
                 Some(promise) => promise.turn,
-                None => Turn::Stops,
+                None => NextView::Stops,
             },
-            View::Field(call, path) => self.field_turn(call, path),
-            View::Import(life) => match self.lives.get(life) {
+            EndView::Field(call, path) => self.field_turn(call, path),
+            EndView::Import(life) => match self.lives.get(life) {
                 Some(life) => life.turn,
-                None => Turn::Stops,
+                None => NextView::Stops,
             },
         }
     }
 
     /// The other call whose results the own Return says a received call's are, where its question is open.
     pub(crate) fn taken_by(&self, call: usize) -> Option<usize> {
-        let Some(Results::TakenFrom(number)) = self.results_of(call) else {
+        let Some(ReturnKind::TakenFrom(number)) = self.results_of(call) else {
             return None;
         };
         let question = self.unfinished_question(number)?;
@@ -102,43 +102,43 @@ impl<'a> Vat<'a> {
     }
 
     /// Where a view would turn if what the own file says were told now.
-    pub(crate) fn turn_ahead(&self, view: View) -> Turn {
+    pub(crate) fn turn_ahead(&self, view: EndView) -> NextView {
         let turn = self.turn_of(view);
-        if turn != Turn::Stays {
+        if turn != NextView::Stays {
             return turn;
         }
         let ahead = match view {
-            View::Object(_) | View::Import(_) => None,
-            View::Vow(place) => match self.promises.get(place) {
+            EndView::Object(_) | EndView::Import(_) => None,
+            EndView::Vow(place) => match self.promises.get(place) {
                 Some(promise) => match promise.becomes {
                     Becomes::Entry(entry) => self.view_of_entry(entry),
                     Becomes::Broken | Becomes::Untold => None,
                 },
                 None => None,
             },
-            View::Field(call, path) => match self.call(call) {
-                Some(state) if state.place == Place::Served => match self.taken_by(call) {
-                    Some(other) => Some(View::Field(other, path)),
+            EndView::Field(call, path) => match self.call(call) {
+                Some(state) if state.place == CallPlace::Served => match self.taken_by(call) {
+                    Some(other) => Some(EndView::Field(other, path)),
                     None => None,
                 },
                 _ => None,
             },
         };
         match ahead {
-            Some(view) => Turn::To(view),
-            None => Turn::Stays,
+            Some(view) => NextView::To(view),
+            None => NextView::Stays,
         }
     }
 
     /// Whether a view would lead to another if what the own file says were told now.
-    pub(crate) fn leads_ahead(&self, from: View, to: View) -> bool {
+    pub(crate) fn leads_ahead(&self, from: EndView, to: EndView) -> bool {
         let mut view = from;
-        let mut circle = Circle::new(from);
+        let mut circle = ViewWalk::new(from);
         for _ in 0..MAX_TURNS {
             if view == to {
                 return true;
             }
-            let Turn::To(next) = self.turn_ahead(view) else {
+            let NextView::To(next) = self.turn_ahead(view) else {
                 return false;
             };
             if circle.closes(next) {
@@ -150,11 +150,11 @@ impl<'a> Vat<'a> {
     }
 
     /// Whether a view is reached over the connection.
-    fn is_over(&self, view: View) -> bool {
+    fn is_over(&self, view: EndView) -> bool {
         match view {
-            View::Object(_) | View::Vow(_) => false,
-            View::Import(_) => true,
-            View::Field(call, _) => match self.call(call) {
+            EndView::Object(_) | EndView::Vow(_) => false,
+            EndView::Import(_) => true,
+            EndView::Field(call, _) => match self.call(call) {
                 Some(state) => state.is_asked,
                 None => false,
             },
@@ -162,14 +162,14 @@ impl<'a> Vat<'a> {
     }
 
     /// Whether a view leads to something that isn't reached over the connection.
-    pub(crate) fn leads_elsewhere(&self, from: View) -> bool {
+    pub(crate) fn leads_elsewhere(&self, from: EndView) -> bool {
         let mut view = from;
-        let mut circle = Circle::new(from);
+        let mut circle = ViewWalk::new(from);
         for _ in 0..MAX_TURNS {
             if !self.is_over(view) {
                 return true;
             }
-            let Turn::To(next) = self.turn_of(view) else {
+            let NextView::To(next) = self.turn_of(view) else {
                 return false;
             };
             if circle.closes(next) {

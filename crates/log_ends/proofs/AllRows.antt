@@ -14,7 +14,7 @@ use Rattle.vat_log.specs.Log.{Log}
 use Rattle.link_check.specs.Prefix.{frames_sent, frames_received}
 use Rattle.log_ends.specs.Ends.{IsEnd, IsBefore, log_at, sent_at, received_at}
 use Rattle.log_ends.specs.Glue.{IsPassed, HasPassed, AreRows, row_of}
-use Rattle.log_ends.specs.declared.log_end.End.{End}
+use Rattle.log_ends.specs.declared.log_end.LogEnd.{LogEnd}
 use Rattle.log_ends.specs.declared.passages.PassedFrame.{PassedFrame}
 use Rattle.log_ends.specs.declared.passages.Row.{Row}
 use Rattle.log_ends.proofs.Keys.{same_number}
@@ -63,7 +63,7 @@ rises place table ordered j k one other lt a b =
     let below : get_or (keys_of table.entries) j 0 < get_or (keys_of table.entries) k 0 = below_from_sorted (keys_of table.entries) j k 0 ordered lt within in
     omega (arith, below, connection_of place table j one a, connection_of place table k other b)
 
-end_of : ℕ → ℕ → End
+end_of : ℕ → ℕ → LogEnd
 end_of l c = record { log = l; connection = c }
 
 -- ---- one log further
@@ -95,7 +95,7 @@ rows_more numbers later keeps logs place rows table are has ordered =
           let its = is_row later logs place table has ordered h other b in
           inr (is.of_log ∙ sym its.of_log, rises place table ordered i h one other (omega (arith, lt, same, also)) a b)
 
-      new_at : (end : End) → IsEnd logs end → place ≡ end.log → (o : Option PassedFrame) → get nat_cmp table end.connection ≡ o → (k : ℕ) × (row : Row) × (slice_get (rows ++ map (row_of place) table.entries) k ≡ Some row) × (row.end ≡ end)
+      new_at : (end : LogEnd) → IsEnd logs end → place ≡ end.log → (o : Option PassedFrame) → get nat_cmp table end.connection ≡ o → (k : ℕ) × (row : Row) × (slice_get (rows ++ map (row_of place) table.entries) k ≡ Some row) × (row.end ≡ end)
       new_at end is same None e =
           let none = has.absent end.connection e in
           let sent : sent_at logs end ≡ [] = ap (λ (p : ℕ). frames_sent end.connection (log_at logs p)) (sym same) ∙ none.0 in
@@ -108,6 +108,6 @@ rows_more numbers later keeps logs place rows table are has ordered =
           let at : slice_get (map (row_of place) table.entries) found.0 ≡ Some row = slice_get-map (row_of place) table.entries found.0 ∙ ap (λ (o : Option (ℕ × PassedFrame)). option_map (row_of place) o) found.2 in
           (length rows + found.0, row, append_right rows (map (row_of place) table.entries) found.0 (length rows + found.0) row refl at, ap₂ (λ (l c : ℕ). end_of l c) same (sym key))
 
-      all_at : (end : End) → IsEnd logs end → end.log < place + 1 → (end.log < place) ⊎ (place ≤ end.log) → (k : ℕ) × (row : Row) × (slice_get (rows ++ map (row_of place) table.entries) k ≡ Some row) × (row.end ≡ end)
+      all_at : (end : LogEnd) → IsEnd logs end → end.log < place + 1 → (end.log < place) ⊎ (place ≤ end.log) → (k : ℕ) × (row : Row) × (slice_get (rows ++ map (row_of place) table.entries) k ≡ Some row) × (row.end ≡ end)
       all_at end is lt (inl early) = let found = are.all end is early in (found.0, found.1, append_left rows (map (row_of place) table.entries) found.0 found.1 found.2, found.3)
       all_at end is lt (inr late) = new_at end is (omega (arith, lt, late)) (get nat_cmp table end.connection) refl

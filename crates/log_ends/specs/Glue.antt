@@ -8,7 +8,7 @@ use Rattle.std.specs.Cmp.Lexicographic.{slice_cmp}
 use Rattle.vat_log.specs.Log.{Log}
 use Rattle.log_ends.specs.Ends.{IsEnd, IsBefore, Fits, AreAlike, sent_at, received_at}
 use Rattle.log_ends.specs.Joining.{IsAlone, IsAmbiguous, IsClear, IsPaired, ArePairs}
-use Rattle.log_ends.specs.declared.log_end.End.{End}
+use Rattle.log_ends.specs.declared.log_end.LogEnd.{LogEnd}
 use Rattle.log_ends.specs.declared.log_end.EndPair.{EndPair}
 use Rattle.log_ends.specs.declared.passages.PassedFrame.{PassedFrame}
 use Rattle.log_ends.specs.declared.passages.Row.{Row}
@@ -81,7 +81,7 @@ pub record AreRows (numbers : List (List ℕ) → Option ℕ) (logs : List Log) 
   pub traced : (k : ℕ) (row : Row) → slice_get rows k ≡ Some row → IsPassed numbers row.passed (sent_at logs row.end) (received_at logs row.end)
   pub just : (k : ℕ) (row : Row) → slice_get rows k ≡ Some row → IsEnd logs row.end × (row.end.log < limit)
   pub sorted : (j k : ℕ) (one other : Row) → j < k → slice_get rows j ≡ Some one → slice_get rows k ≡ Some other → IsBefore one.end other.end
-  pub all : (end : End) → IsEnd logs end → end.log < limit → (k : ℕ) × (row : Row) × (slice_get rows k ≡ Some row) × (row.end ≡ end)
+  pub all : (end : LogEnd) → IsEnd logs end → end.log < limit → (k : ℕ) × (row : Row) × (slice_get rows k ≡ Some row) × (row.end ≡ end)
 
 -- all ends in the logs, in order
 pub record IsOfLogs (rows : Rows) : Type 0 where
@@ -91,10 +91,10 @@ pub record IsOfLogs (rows : Rows) : Type 0 where
 
 -- ---- ends by their places
 
-abbrev pub end_at : Rows → ℕ → End
+abbrev pub end_at : Rows → ℕ → LogEnd
 end_at rows place = unwrap_or (option_map (λ row. row.end) (slice_get rows.rows.items place)) (record { log = 0; connection = 0 })
 
-abbrev pub IsStanding : List Log → End → Standing → Type 0
+abbrev pub IsStanding : List Log → LogEnd → Standing → Type 0
 IsStanding logs end Alone = IsAlone logs end
 IsStanding logs end Clear = IsClear logs end
 IsStanding logs end Ambiguous = IsAmbiguous logs end

@@ -2,7 +2,7 @@
 
 /// An end of a connection: a log, and the number that its vat gave the connection.
 #[derive(Clone, Copy, Debug, PartialEq, Eq)]
-pub struct End {
+pub struct LogEnd {
     /// The log's place in the list of logs, counted from 0.
     pub log: usize,
     /// The connection's number in that log.
@@ -13,7 +13,7 @@ pub struct End {
 #[derive(Clone, Copy, Debug, PartialEq, Eq)]
 pub struct EndPair {
     /// The end that comes first: by the order of the logs, and then by the connections' numbers.
-    pub first: End,
+    pub first: LogEnd,
     /// The other end.
-    pub second: End,
+    pub second: LogEnd,
 }

@@ -9,7 +9,7 @@ ghost use Rattle.link_check.specs.Prefix.{frame_sent, frame_received, frames_sen
 ghost use Rattle.log_ends.specs.Ends.{Fits, AreAlike};
 ghost use Rattle.log_ends.specs.Glue.{number_of, IsSound, Keeps, IsPassed, HasPassed, one_more, row_of, IsOfLogs, end_at};
 
-use crate::log_end::End;
+use crate::log_end::LogEnd;
 use crate::sequences::{Sequences, Trace};
 use bytes::Bytes;
 use std::alloc::{AllocError, Global};
@@ -26,7 +26,7 @@ pub(crate) struct PassedFrame {
 /// An end, with what passed there.
 #[derive(Drop)]
 pub(crate) struct Row {
-    pub(crate) end: End,
+    pub(crate) end: LogEnd,
     pub(crate) passed: PassedFrame,
 }
 
@@ -184,7 +184,7 @@ fn push_table(
     rows.reserve(table.len())?;
     let mut table = table;
     while let Some((connection, passed)) = table.pop_first() {
-        let end = End {
+        let end = LogEnd {
             log: place,
             connection,
         };
@@ -215,7 +215,7 @@ impl Rows<'_> {
     }
 
     /// The end at this place.
-    pub(crate) fn end(&self, place: usize) -> End
+    pub(crate) fn end(&self, place: usize) -> LogEnd
         requires { place < vec_len self.now.rows }
         ensures { result ≡ end_at self.now place }
     {

@@ -1,12 +1,12 @@
 use Rattle.std.proofs.Common.{◌≡◌, ap₂, sym, subst, arith}
 use Rattle.log_ends.specs.Joining.{AreFirstAlike}
 use Rattle.log_ends.specs.Glue.{end_at}
-use Rattle.log_ends.specs.declared.log_end.End.{End}
+use Rattle.log_ends.specs.declared.log_end.LogEnd.{LogEnd}
 use Rattle.log_ends.specs.declared.log_end.EndPair.{EndPair}
 use Rattle.log_ends.proofs.Places.{none_alike, first_alike}
 use Rattle.log_ends.proofs.likeness.first_alike.Goals as goal
 
-pair_of : End → End → EndPair
+pair_of : LogEnd → LogEnd → EndPair
 pair_of a b = record { first = a; second = b }
 
 pub returns-in-Some : goal.returns-in-Some

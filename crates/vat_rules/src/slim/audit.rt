@@ -61,7 +61,7 @@ fn count(
     let event = match &read {
         Ok(Ok(event)) => event,
         Ok(Err(why)) => return Ok(Err(Refusal::Outside(*why))),
-        Err(error) => return Err(*error),
+        Err(_) => return Err(AllocError),
     };
     match apply_if_good(alloc, edition, state, event)? {
         Some(rule) => Ok(Err(Refusal::Broken(rule))),

@@ -3,7 +3,7 @@
 use audit_core::AuditError;
 use cap_frame::FrameError;
 use cap_reader::ReadError;
-use case_book::{Book, CaseError, NoAnswer as Unposted};
+use case_book::{Book, CaseError, Refused as Unposted};
 use merge_order::OrderError;
 use rpc_view::ViewError;
 use std::alloc::{AllocError, AllocFailed};

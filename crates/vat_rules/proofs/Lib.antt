@@ -1,6 +1,7 @@
 pub mod Placing
 pub mod Judging
-pub mod Messages
+pub mod Noted
+pub mod Owning
 pub mod Firsts
 pub mod Taken
 pub mod SlimOutcomes
@@ -8,5 +9,5 @@ pub mod Unique
 pub mod Once
 pub mod Entries
 pub mod Editions
-pub mod Asked
+pub mod Sufficing
 pub mod Twice

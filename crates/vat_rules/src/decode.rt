@@ -1,9 +1,9 @@
 //! From stored records to those that are judged.
 
-ghost use Rattle.std.specs.Prelude.{◌≡◌, true, false, Ok, IfOk};
+ghost use Rattle.std.specs.Prelude.{◌≡◌, true, Ok, IfOk};
 ghost use Rattle.vat_rules.specs.Events.{Reader, event_of};
 ghost use Rattle.vat_rules.specs.Audit.{reads_by, why_outside, why_of};
-ghost use Rattle.vat_rules.specs.Glue.Taking.{has_frame, frame_in, noted_beside, is_flat, is_own};
+ghost use Rattle.vat_rules.specs.Glue.Taking.{has_frame, frame_in, noted_beside, is_flat};
 
 use crate::outcome::Why;
 use bytes::Bytes;
@@ -66,9 +66,8 @@ pub(crate) fn why_of(error: ViewError) -> Why
 pub(crate) fn wire(body: &Body, references: References, message: RpcMessage) -> DecodedRecord
     requires frame { has_frame body.now ≡ true }
     requires noted { references ≡ noted_beside body.now }
-    ensures is { (read : Reader) → read (frame_in body.now) ≡ Ok message
+    ensures { (read : Reader) → read (frame_in body.now) ≡ Ok message
         → event_of read body.now ≡ Ok result }
-    ensures message { is_own result ≡ false }
 {
     match body {
         Body::Send {
@@ -100,8 +99,7 @@ pub(crate) fn wire(body: &Body, references: References, message: RpcMessage) -> 
 /// The event of a record that holds numbers alone.
 pub(crate) fn flat_event(body: &Body) -> DecodedRecord
     requires { is_flat body.now ≡ true }
-    ensures is { (read : Reader) → event_of read body.now ≡ Ok result }
-    ensures own { is_own result ≡ true }
+    ensures { (read : Reader) → event_of read body.now ≡ Ok result }
 {
     match *body {
         Body::Host { reference, object } => DecodedRecord::Host { reference, object },

@@ -11,9 +11,8 @@
 //! ([`edition_of`]), and one that is good by it is good by the later edition, and tells the same ([`good_logs_are_good`]).
 #![tactic(auto)]
 
+mod asked;
 mod audit;
-mod bare;
-mod carrying;
 mod decode;
 mod facts;
 mod finding;
@@ -26,7 +25,6 @@ mod of_connections;
 mod of_promises;
 mod of_results;
 mod outcome;
-mod own;
 mod result_paths;
 mod rule;
 mod slim;

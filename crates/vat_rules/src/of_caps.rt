@@ -9,9 +9,9 @@ ghost use Rattle.vat_view.specs.Borrowed.{as_view};
 ghost use Rattle.vat_view.specs.Views.{places, references, placed_references, view_of_reference, views_of_descriptors};
 ghost use Rattle.vat_rules.specs.Ways.{EndsIn};
 ghost use Rattle.vat_rules.specs.OfCaps.{is_sent, is_received, is_light_return, is_cap_at, is_hosted, is_hosted_end, NotesView, Describes, BindsEach};
-ghost use Rattle.vat_rules.specs.Glue.Facts.{view_at, standing_of};
+ghost use Rattle.vat_rules.specs.Glue.Facts.{view_at, sight_before};
 
-use crate::facts::meanings::Meanings;
+use crate::facts::plain::PlainFacts;
 use crate::leads::leads_to;
 use rpc_view::{Descriptor, RpcMessage};
 use std::alloc::{AllocError, Global};
@@ -222,9 +222,9 @@ pub(crate) fn describes(
     alloc: Global,
     state: &VatState,
     event: &DecodedRecord,
-    standing: &Meanings,
+    facts: &PlainFacts,
 ) -> Result<bool, AllocError>
-    requires { standing.now ≡ standing_of state.now event.now }
+    requires { facts.now ≡ sight_before state.now event.now }
     ensures { IfOk result (λ b. Decides b (Describes state.now event.now)) }
 {
     let sent = is_sent(event);
@@ -234,13 +234,13 @@ pub(crate) fn describes(
     if event.descriptors().is_empty() {
         return Ok(true);
     }
-    if standing.is_late() {
+    if facts.is_late() {
         return Ok(true);
     }
     if sent && !is_light_without_caps(event) {
         return Ok(false);
     }
-    if sent && !notes_each_view(alloc, state, event, standing.caps())? {
+    if sent && !notes_each_view(alloc, state, event, facts.caps())? {
         return Ok(false);
     }
     state.keeps_kinds(event)

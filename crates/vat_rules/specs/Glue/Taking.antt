@@ -3,7 +3,7 @@ use Rattle.std.specs.Prelude.{◌≡◌, ◌+◌, ℕ, List, [], ◌∷◌, ◌+
 use Rattle.vat_log.specs.declared.body.Body.{Body}
 use Rattle.vat_log.specs.declared.body.Body.TheVariants as body
 use Rattle.vat_view.specs.Past.{Past}
-use Rattle.vat_rules.specs.Types.{Edition, DecodedRecord, Host, Vow, Make, Field, Wire}
+use Rattle.vat_rules.specs.Types.{Edition, DecodedRecord}
 use Rattle.vat_rules.specs.Rules.{rules}
 use Rattle.vat_rules.specs.Events.{Reader, event_of}
 use Rattle.vat_rules.specs.Judged.{IsGoodBy, BreaksFirst}
@@ -31,19 +31,6 @@ abbrev pub noted_beside : Body → List ℕ
 noted_beside (body.Send connection call references frame) = references
 noted_beside (body.Receive connection call references frame) = references
 noted_beside _ = []
-
--- a record has no message
-abbrev pub is_own : DecodedRecord → Bool
-is_own (Wire sent k call references m) = false
-is_own _ = true
-
--- a record without a message does no more than bind and name references and calls
-abbrev pub binds_alone : DecodedRecord → Bool
-binds_alone (Host r object) = true
-binds_alone (Vow r) = true
-binds_alone (Make call r interface method) = true
-binds_alone (Field r call path) = true
-binds_alone _ = false
 
 -- a stored record holds numbers alone
 abbrev pub is_flat : Body → Bool

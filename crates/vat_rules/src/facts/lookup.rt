@@ -1,19 +1,14 @@
 //! What the numbers of a record stand for.
 
-ghost use Rattle.std.specs.Prelude.{◌≡◌, ◌++◌, [], true, None, map, IfOk};
+ghost use Rattle.std.specs.Prelude.{◌≡◌, ◌++◌, [], map, IfOk};
 ghost use Rattle.vat_view.specs.Bindings.{new_references, named_references};
 ghost use Rattle.vat_view.specs.Views.{field_view, view_of_reference, view_of_target, views_of_descriptors};
 ghost use Rattle.vat_rules.specs.Telling.{seen_question, seen_taken, seen_promise, seen_released};
-ghost use Rattle.vat_rules.specs.Glue.Facts.{standing_of, sight_with};
-ghost use Rattle.vat_rules.specs.Glue.Standing.{view_in_role};
-ghost use Rattle.vat_rules.specs.Glue.Compact.{standing_with};
-ghost use Rattle.vat_rules.specs.Glue.Taking.{is_own};
-ghost use Rattle.vat_rules.specs.Glue.Bare.{IsBare, standing_alone, standing_returned};
-ghost use Rattle.vat_view.specs.Questions.{is_late};
+ghost use Rattle.vat_rules.specs.Glue.Facts.{sight_before};
+ghost use Rattle.vat_rules.specs.Glue.Roles.{view_in_role};
 ghost use Rattle.vat_rules.specs.declared.facts.role.Role.TheVariants.{Question, Promise, Target, Released};
 
-use crate::facts::compact::RecordFacts;
-use crate::facts::meanings::Meanings;
+use crate::facts::plain::PlainFacts;
 use crate::facts::role::Role;
 use crate::facts::view_list::ViewList;
 use cap_frame::Path;
@@ -191,104 +186,20 @@ fn number_in_role(
 }
 
 /// What the numbers of a record stand for that may be applied next, apart from its references.
-pub(crate) fn standing_of(
+pub(crate) fn facts_before(
     alloc: Global,
     state: &VatState,
     event: &DecodedRecord,
-) -> Result<Meanings, AllocError>
-    ensures { IfOk result (λ standing. standing ≡ standing_of state.now event.now) }
+) -> Result<PlainFacts, AllocError>
+    ensures { IfOk result (λ facts. facts ≡ sight_before state.now event.now) }
 {
     let DecodedRecord::Wire { .. } = event else {
-        return Ok(Meanings::nothing(alloc));
+        return Ok(PlainFacts::nothing(alloc));
     };
     let number = number_in_role(alloc, state, event)?;
     let taken = seen_taken(alloc, state, event)?;
     let caps = views_of_descriptors(alloc, state, event)?;
-    Ok(Meanings::new(number, taken, caps, state.is_late(event)))
-}
-
-/// What the numbers of a Return stand for that has no references and no descriptors.
-fn facts_of_return(
-    alloc: Global,
-    state: &VatState,
-    event: &DecodedRecord,
-) -> Result<RecordFacts, AllocError>
-    ensures { IfOk result (λ seen. seen ≡ sight_with [] (standing_returned
-        (seen_question state.now event.now) (seen_taken state.now event.now) (is_late state.now event.now))) }
-{
-    let question = seen_question(alloc, state, event)?;
-    let taken = seen_taken(alloc, state, event)?;
-    RecordFacts::of_return(alloc, question, taken, state.is_late(event))
-}
-
-/// What the question stands for that a record finishes which has no other numbers.
-fn facts_of_finish(
-    alloc: Global,
-    state: &VatState,
-    event: &DecodedRecord,
-) -> Result<RecordFacts, AllocError>
-    ensures { IfOk result (λ seen. seen ≡ sight_with []
-        (standing_alone Question (seen_question state.now event.now))) }
-{
-    let question = seen_question(alloc, state, event)?;
-    Ok(RecordFacts::of_number(Role::Question, question))
-}
-
-/// What the promise stands for that a record resolves which has no other numbers.
-fn facts_of_resolve(
-    alloc: Global,
-    state: &VatState,
-    event: &DecodedRecord,
-) -> Result<RecordFacts, AllocError>
-    ensures { IfOk result (λ seen. seen ≡ sight_with []
-        (standing_alone Promise (seen_promise state.now event.now))) }
-{
-    let promise = seen_promise(alloc, state, event)?;
-    Ok(RecordFacts::of_number(Role::Promise, promise))
-}
-
-/// What the number stands for that a record gives back which has no other numbers.
-fn facts_of_release(
-    alloc: Global,
-    state: &VatState,
-    event: &DecodedRecord,
-) -> Result<RecordFacts, AllocError>
-    ensures { IfOk result (λ seen. seen ≡ sight_with []
-        (standing_alone Released (seen_released state.now event.now))) }
-{
-    let released = seen_released(alloc, state, event)?;
-    Ok(RecordFacts::of_number(Role::Released, released))
-}
-
-/// What the target of a record stands for that has no other numbers.
-fn facts_of_target(state: &VatState, event: &DecodedRecord) -> Result<RecordFacts, AllocError>
-    ensures { IfOk result (λ seen. seen ≡ sight_with []
-        (standing_alone Target (view_of_target state.now event.now))) }
-{
-    let target = state.view_of_target(event)?;
-    Ok(RecordFacts::of_number(Role::Target, target))
-}
-
-/// What the numbers of a record stand for that may be applied next, where its message carries no capability.
-pub(crate) fn facts_of_bare(
-    alloc: Global,
-    state: &VatState,
-    event: &DecodedRecord,
-) -> Result<RecordFacts, AllocError>
-    requires { IsBare event.now }
-    ensures { IfOk result (λ seen. seen ≡ sight_with [] (standing_of state.now event.now)) }
-{
-    let DecodedRecord::Wire { message, .. } = event else {
-        unreachable!()
-    };
-    match message {
-        RpcMessage::Call { .. } | RpcMessage::Disembargo { .. } => facts_of_target(state, event),
-        RpcMessage::Return { .. } => facts_of_return(alloc, state, event),
-        RpcMessage::Finish { .. } => facts_of_finish(alloc, state, event),
-        RpcMessage::Resolve { .. } => facts_of_resolve(alloc, state, event),
-        RpcMessage::Release { .. } => facts_of_release(alloc, state, event),
-        RpcMessage::Bootstrap { .. } | RpcMessage::Abort => Ok(RecordFacts::nothing()),
-    }
+    Ok(PlainFacts::new(number, taken, caps, state.is_late(event)))
 }
 
 /// What references stand for, each of several.
@@ -352,33 +263,5 @@ pub(crate) fn views_of_references(
         }
         DecodedRecord::Wire { references, .. } => views_of(alloc, state, references.as_slice()),
         _ => views_of(alloc, state, event.new_references()),
-    }
-}
-
-/// What the references stand for that a record without a message binds or names, which has no other numbers.
-pub(crate) fn own_facts(
-    alloc: Global,
-    state: &VatState,
-    event: &DecodedRecord,
-) -> Result<RecordFacts, AllocError>
-    requires { is_own event.now ≡ true }
-    ensures { IfOk result (λ seen. seen ≡ sight_with
-        (map (view_of_reference state.now) (new_references event.now ++ named_references event.now))
-        (standing_with None [])) }
-{
-    match event {
-        DecodedRecord::Host { reference, .. }
-        | DecodedRecord::Vow { reference }
-        | DecodedRecord::Break { reference }
-        | DecodedRecord::Make { reference, .. }
-        | DecodedRecord::Field { reference, .. } => {
-            let view = state.view_of_reference(*reference)?;
-            Ok(RecordFacts::of_reference(view))
-        }
-        DecodedRecord::Fulfil { .. } | DecodedRecord::Answer { .. } => {
-            let references = views_of_references(alloc, state, event)?;
-            Ok(RecordFacts::of_references(references))
-        }
-        _ => Ok(RecordFacts::nothing()),
     }
 }

@@ -1,14 +1,14 @@
 use Rattle.vat_rules.proofs.Judging.{good_sound}
-use Rattle.vat_rules.proofs.taking.take_message.Goals as goal
+use Rattle.vat_rules.proofs.taking.take.Goals as goal
 
 pub apply_good-requires : goal.apply_good-requires
 apply_good-requires c = good_sound c.args.edition c.args.state.now c.args.event.now (rw c.in-None.is at c.in_ok-rule_broken.ensures)
 
-pub returns-in_ok-seen_after-in-None : goal.returns-in_ok-seen_after-in-None
-returns-in_ok-seen_after-in-None c = record {
+pub returns-in_ok-facts_of-in-None : goal.returns-in_ok-facts_of-in-None
+returns-in_ok-facts_of-in-None c = record {
   good = rw c.in-None.is at c.in_ok-rule_broken.ensures;
   state = c.in_ok-apply_good-in-None.ensures;
-  seen = c.in_ok-seen_after-in-None.ensures c.args.state.now c.in_ok-apply_good-in-None.ensures c.in_ok-standing.ensures;
+  seen = c.in_ok-facts_of-in-None.ensures c.args.state.now c.in_ok-apply_good-in-None.ensures c.in_ok-facts.ensures;
 }
 
 pub returns-in-Some : goal.returns-in-Some

@@ -1,11 +1,9 @@
 //! What the numbers of a record stand for before it is applied.
 
-ghost use Rattle.std.specs.Prelude.{◌≡◌, [], None, IfOk, IfErr};
+ghost use Rattle.std.specs.Prelude.{◌≡◌, [], false, None, IfOk, IfErr};
 ghost use Rattle.std.specs.Option.{option_copied};
-ghost use Rattle.vat_rules.specs.Glue.Facts.{sight_with};
-ghost use Rattle.vat_rules.specs.Glue.Standing.{standing_by};
-ghost use Rattle.vat_rules.specs.Glue.Compact.{in_role, standing_with};
-ghost use Rattle.vat_rules.specs.Glue.Bare.{standing_returned};
+ghost use Rattle.vat_rules.specs.Glue.Roles.{sight_by};
+ghost use Rattle.vat_rules.specs.Glue.Compact.{in_role};
 
 use crate::facts::role::{Role, view_in_role};
 use crate::facts::view_list::ViewList;
@@ -13,9 +11,10 @@ use std::alloc::Global;
 use std::marker::Model;
 use vat_view::View;
 
-/// What the numbers of a record stand for, apart from its references. A record has one number in a role at most.
+/// What the numbers of a record stand for before it is applied, each in a field of its own; its references aren't looked
+/// up yet. A record has one number in a role at most.
 #[derive(Drop)]
-pub(crate) struct Meanings {
+pub(crate) struct PlainFacts {
     /// The number in a role, if it stands for something.
     number: Option<(Role, View)>,
     /// What the question stands for whose results it takes.
@@ -26,25 +25,26 @@ pub(crate) struct Meanings {
     late: bool,
 }
 
-impl Model for Meanings {
-    ghost use Rattle.vat_rules.specs.Glue.Standing.{Standing, standing_by};
+impl Model for PlainFacts {
+    ghost use Rattle.vat_rules.specs.LogFacts.{Sight};
+    ghost use Rattle.vat_rules.specs.Glue.Roles.{sight_by};
 
-    ghost Value = { Standing };
+    ghost Value = { Sight };
 
-    ghost view = { λ standing. standing_by standing.number standing.taken standing.caps standing.late };
+    ghost view = { λ facts. sight_by facts.number facts.taken facts.caps facts.late };
 }
 
-impl Meanings {
+impl PlainFacts {
     /// Of a record with these numbers.
     pub(crate) fn new(
         number: Option<(Role, View)>,
         taken: Option<View>,
         caps: ViewList,
         late: bool,
-    ) -> Meanings
-        ensures { result ≡ standing_by number taken caps late }
+    ) -> PlainFacts
+        ensures { result ≡ sight_by number taken caps late }
     {
-        Meanings {
+        PlainFacts {
             number,
             taken,
             caps,
@@ -53,10 +53,10 @@ impl Meanings {
     }
 
     /// Of a record that has no numbers apart from its references. It takes no memory.
-    pub(crate) fn nothing(alloc: Global) -> Meanings
-        ensures { result ≡ standing_with None [] }
+    pub(crate) fn nothing(alloc: Global) -> PlainFacts
+        ensures { result ≡ sight_by None None [] false }
     {
-        Meanings {
+        PlainFacts {
             number: None,
             taken: None,
             caps: ViewList::new(Vec::new(alloc)),
@@ -64,30 +64,9 @@ impl Meanings {
         }
     }
 
-    /// Of a Return that has no descriptors. It takes no memory.
-    pub(crate) fn of_return(
-        alloc: Global,
-        question: Option<View>,
-        taken: Option<View>,
-        late: bool,
-    ) -> Meanings
-        ensures { result ≡ standing_returned question taken late }
-    {
-        let number = match question {
-            Some(question) => Some((Role::Question, question)),
-            None => None,
-        };
-        Meanings {
-            number,
-            taken,
-            caps: ViewList::new(Vec::new(alloc)),
-            late,
-        }
-    }
-
     /// What the number in this role stands for.
     pub(crate) fn in_role(&self, wanted: Role) -> Option<&View>
-        ensures { option_copied result ≡ in_role wanted (sight_with [] self.now) }
+        ensures { option_copied result ≡ in_role wanted self.now }
     {
         match &self.number {
             Some((role, view)) => view_in_role(*role, view, wanted),
@@ -132,11 +111,11 @@ impl Meanings {
 
     /// The number in a role and the descriptors; or else all of it, where the record is a Return that is late or takes
     /// results.
-    pub(crate) fn number_and_caps(self) -> Result<(Option<(Role, View)>, ViewList), Meanings>
-        ensures parts { IfOk result (λ parts. self ≡ standing_with parts.0 parts.1) }
+    pub(crate) fn number_and_caps(self) -> Result<(Option<(Role, View)>, ViewList), PlainFacts>
+        ensures parts { IfOk result (λ parts. self ≡ sight_by parts.0 None parts.1 false) }
         ensures all { IfErr result (λ all. all ≡ self) }
     {
-        let Meanings {
+        let PlainFacts {
             number,
             taken,
             caps,
@@ -144,7 +123,7 @@ impl Meanings {
         } = self;
         match (taken, late) {
             (None, false) => Ok((number, caps)),
-            (taken, late) => Err(Meanings {
+            (taken, late) => Err(PlainFacts {
                 number,
                 taken,
                 caps,

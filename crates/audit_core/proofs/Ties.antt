@@ -7,11 +7,11 @@ use Rattle.std.proofs.lemmas.Bool.{cases_lt, eqb-true}
 use Rattle.vat_log.specs.Log.{Log}
 use Rattle.vat_log.specs.declared.body.Body.{Body}
 use Rattle.vat_log.specs.declared.body.Body.TheVariants as body
-use Rattle.merge_order.specs.Fits.{sends_frame, receives_frame}
+use Rattle.vat_log.specs.Passages.{sends_frame, receives_frame, used_by}
 use Rattle.call_trace.specs.Findings.{uses}
 use Rattle.case_book.specs.Case.{Contents, or_else}
 use Rattle.case_book.specs.Least.{least, IsLeast}
-use Rattle.case_book.specs.Ties.{tie_fault_of, used_by, is_linked, is_unlinked, unlinked_in, missing_logs, links_without_log, links_of_one_vat}
+use Rattle.case_book.specs.Ties.{tie_fault_of, is_linked, is_unlinked, unlinked_in, missing_logs, links_without_log, links_of_one_vat}
 use Rattle.case_book.specs.declared.link.Link.{Link}
 use Rattle.case_book.specs.declared.ties.TieFault.{TieFault}
 use Rattle.case_book.specs.declared.ties.TieFault.TheVariants.{MissingLog, SameEnds}

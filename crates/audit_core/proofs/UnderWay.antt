@@ -10,16 +10,16 @@ use Rattle.std.proofs.lemmas.Option.{slice_get_within, get_or_from_slice_get}
 use Rattle.vat_log.specs.Log.{Log}
 use Rattle.vat_log.specs.declared.body.Body.{Body}
 use Rattle.vat_log.specs.declared.body.Body.TheVariants as body
-use Rattle.link_check.specs.Prefix.{Ends, frame_sent, frame_received, frames_sent, frames_received}
+use Rattle.link_check.specs.Prefix.{Ends, frames_sent, frames_received}
+use Rattle.vat_log.specs.Passages.{frame_sent, frame_received, sends_frame, receives_frame, sends, receives}
 use Rattle.link_check.proofs.Faults.{length_prefix}
-use Rattle.merge_order.specs.Fits.{sends_frame, receives_frame}
 use Rattle.case_book.specs.Books.{AllFound, AreAll}
 use Rattle.case_book.specs.Case.{vats_of, connections_of}
 use Rattle.case_book.specs.declared.link.Link.{Link}
 use Rattle.case_book.proofs.Numbers.{bool_cases}
 use Rattle.case_book.proofs.Numbered.{stands_once, under}
 use Rattle.case_book.proofs.Tied.{has_ends}
-use Rattle.audit_core.specs.Report.{sends, receives, count_all, records_in, AreGoodEnds, AreGoodFindings}
+use Rattle.audit_core.specs.Report.{count_all, records_in, AreGoodEnds, AreGoodFindings}
 use Rattle.audit_core.specs.Glue.{case_record_limit, sent_on, received_on, under_way_on}
 use Rattle.audit_core.proofs.Places.{place_of, contained, one_of_number}
 use Rattle.audit_core.proofs.Sums.{same_sums, sum_of_none, sum_of_one, sum_of_two, swapped, taken_away, no_greater, AreApart}

@@ -35,7 +35,8 @@ use Rattle.case_book.specs.declared.ties.TieFault.TheVariants.{MissingLog, SameE
 use Rattle.case_book.specs.Pieces.{IsComparisonOf}
 use Rattle.case_book.specs.declared.link.Link.{Link}
 use Rattle.audit_core.specs.Headline.{Explains, IsBalancedThroughout, records_of, taken_of}
-use Rattle.audit_core.specs.Report.{IsGoodLog, AreGoodEnds, IsFirstBad, IsFirstBroken, IsGoodLink, AreGoodLogs, AreGoodLinks, IsGoodCase, IsOrderFor, IsEarlyAt, IsYes, FailsAt, HasNoOrder, IsReport, delivers, sends, receives}
+use Rattle.audit_core.specs.Report.{IsGoodLog, AreGoodEnds, IsFirstBad, IsFirstBroken, IsGoodLink, AreGoodLogs, AreGoodLinks, IsGoodCase, IsOrderFor, IsEarlyAt, IsYes, FailsAt, HasNoOrder, IsReport, delivers}
+use Rattle.vat_log.specs.Passages.{sends, receives}
 use Rattle.audit_core.specs.Versions.{AreSameButVersions}
 use Rattle.audit_core.specs.declared.report.Breach.TheVariants.{Rule, Order}
 use Rattle.audit_core.specs.declared.report.Report.{Report}

@@ -82,16 +82,6 @@ abbrev pub delivers : Body → Bool
 delivers (body.Deliver call object) = true
 delivers _ = false
 
--- a record sends a frame
-abbrev pub sends : Body → Bool
-sends (body.Send connection call references frame) = true
-sends _ = false
-
--- a record receives a frame
-abbrev pub receives : Body → Bool
-receives (body.Receive connection call references frame) = true
-receives _ = false
-
 -- how many records of all logs pass a test
 abbrev pub count_all : (Body → Bool) → List Log → ℕ
 count_all test logs = sum_by (λ log. count_by test log.records) logs

@@ -14,8 +14,7 @@ use Rattle.cap_reader.specs.declared.limits.Limits.{Limits}
 use Rattle.vat_log.specs.Log.{Log}
 use Rattle.vat_log.specs.declared.body.Body.{Body}
 use Rattle.vat_log.specs.declared.body.Body.TheVariants as body
-use Rattle.link_check.specs.Prefix.{frame_sent, frame_received}
-use Rattle.merge_order.specs.Fits.{sends_frame, receives_frame}
+use Rattle.vat_log.specs.Passages.{frame_sent, frame_received, sends_frame, receives_frame}
 use Rattle.vat_rules.specs.declared.outcome.Why.{Why}
 use Rattle.vat_rules.specs.declared.outcome.Outcome.{Outcome}
 use Rattle.vat_rules.specs.declared.outcome.Outcome.TheVariants as outcome

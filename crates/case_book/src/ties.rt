@@ -6,11 +6,12 @@ ghost use Rattle.std.specs.List.{flat_map};
 ghost use Rattle.std.specs.List.Sorted.{IsStrictlyIncreasing};
 ghost use Rattle.case_book.specs.Least.{lower, least};
 ghost use Rattle.case_book.specs.Case.{connections_of};
-ghost use Rattle.case_book.specs.Ties.{used_by, is_linked, unlinked_in, has_log, missing_logs, links_without_log, links_of_one_vat};
+ghost use Rattle.case_book.specs.Ties.{is_linked, unlinked_in, has_log, missing_logs, links_without_log, links_of_one_vat};
+ghost use Rattle.vat_log.specs.Passages.{used_by};
 
 use crate::link::Link;
 use std::sync::Arc;
-use vat_log::{Body, VatLog};
+use vat_log::VatLog;
 
 /// Why the logs and links of a case don't tie up: the least connection for which a log is missing, or, where there is none,
 /// the least whose two ends are one vat.
@@ -36,9 +37,9 @@ fn lower_of(found: Option<u32>, connection: u32) -> Option<u32>
 fn used_at(log: &VatLog, index: usize) -> Option<u32>
     ensures { result ≡ option_and_then used_by (slice_get log.now.records index) }
 {
-    match log.get(index)?.body() {
-        Body::Send { connection, .. } | Body::Receive { connection, .. } => Some(*connection),
-        _ => None,
+    match log.get(index)?.body().passage() {
+        Some((_, connection)) => Some(connection),
+        None => None,
     }
 }
 

@@ -2,25 +2,19 @@
 
 ghost use Rattle.std.specs.Prelude.{◌≡◌, ◌+◌, ◌≤◌, length, option_and_then, slice_get};
 ghost use Rattle.std.specs.Option.{option_copied, option_map};
-ghost use Rattle.link_check.specs.Prefix.{frame_sent, frame_received, frames_sent, frames_received};
+ghost use Rattle.link_check.specs.Prefix.{frames_sent, frames_received};
+ghost use Rattle.vat_log.specs.Passages.{frame_sent, frame_received};
 ghost use Rattle.link_check.specs.Glue.{IsNext, first_fault};
 
 use bytes::Bytes;
-use vat_log::{Body, VatLog};
+use vat_log::VatLog;
 
 /// The frame that the record of this number sends on the connection.
 fn sent_at(log: &VatLog, connection: u32, index: usize) -> Option<&Bytes>
     ensures { option_copied result
         ≡ option_and_then (frame_sent connection) (slice_get log.now.records index) }
 {
-    match log.get(index)?.body() {
-        Body::Send {
-            connection: on,
-            frame,
-            ..
-        } if *on == connection => Some(frame),
-        _ => None,
-    }
+    log.get(index)?.body().frame_sent(connection)
 }
 
 /// The frame that the record of this number receives on the connection.
@@ -28,14 +22,7 @@ fn received_at(log: &VatLog, connection: u32, index: usize) -> Option<&Bytes>
     ensures { option_copied result
         ≡ option_and_then (frame_received connection) (slice_get log.now.records index) }
 {
-    match log.get(index)?.body() {
-        Body::Receive {
-            connection: on,
-            frame,
-            ..
-        } if *on == connection => Some(frame),
-        _ => None,
-    }
+    log.get(index)?.body().frame_received(connection)
 }
 
 /// How many frames a vat sent on the connection.

@@ -7,7 +7,8 @@ use Rattle.std.proofs.lemmas.Bool.{cases_eq, eq-eqb, ne_eqb}
 use Rattle.vat_log.specs.Log.{Log, written_version}
 use Rattle.vat_log.specs.declared.body.Body.{Body}
 use Rattle.vat_log.specs.declared.body.Body.TheVariants.{Send, Receive}
-use Rattle.link_check.specs.Prefix.{IsPrefix, frame_sent, frame_received, frames_sent, frames_received}
+use Rattle.link_check.specs.Prefix.{IsPrefix, frames_sent, frames_received}
+use Rattle.vat_log.specs.Passages.{frame_sent, frame_received}
 use Rattle.log_ends.specs.Ends.{IsEnd, Fits, log_at, sent_at, received_at}
 use Rattle.log_ends.specs.Joining.{Has, ArePairs, IsJoined}
 use Rattle.log_ends.specs.Renumbering.{renumbered_body, IsRenumbered, AreRenumbered, end_in}

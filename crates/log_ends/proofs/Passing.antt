@@ -11,7 +11,7 @@ use Rattle.std.proofs.lemmas.Option.{none-some, same_Some}
 use Rattle.std.proofs.lemmas.Bool.{cases_eq, eq-eqb, ne_eqb, cond-true, cond-false}
 use Rattle.vat_log.specs.declared.body.Body.{Body}
 use Rattle.vat_log.specs.declared.body.Body.TheVariants.{Send, Receive}
-use Rattle.link_check.specs.Prefix.{frame_sent, frame_received}
+use Rattle.vat_log.specs.Passages.{frame_sent, frame_received}
 use Rattle.log_ends.specs.Glue.{Traces, IsPassed, HasPassed, one_more}
 use Rattle.log_ends.specs.declared.passages.PassedFrame.{PassedFrame}
 use Rattle.log_ends.proofs.Numbering.{traced_later}

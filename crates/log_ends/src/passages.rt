@@ -5,7 +5,8 @@ ghost use Rattle.std.specs.List.{filter_map};
 ghost use Rattle.std.specs.Ordering.{nat_cmp};
 ghost use Rattle.std.specs.BTreeMap.{get, IsOrdered};
 ghost use Rattle.vat_log.specs.declared.body.Body.{Body};
-ghost use Rattle.link_check.specs.Prefix.{frame_sent, frame_received, frames_sent, frames_received};
+ghost use Rattle.link_check.specs.Prefix.{frames_sent, frames_received};
+ghost use Rattle.vat_log.specs.Passages.{frame_sent, frame_received};
 ghost use Rattle.log_ends.specs.Ends.{Fits, AreAlike};
 ghost use Rattle.log_ends.specs.Glue.{number_of, IsSound, Keeps, IsPassed, HasPassed, one_more, row_of, IsOfLogs, end_at};
 

@@ -7,7 +7,8 @@ use Rattle.std.proofs.lemmas.Option.{slice_get-get_or, slice_get_past}
 use Rattle.vat_log.specs.declared.body.Body.{Body}
 use Rattle.vat_log.specs.declared.body.Body.TheVariants.{Send, Receive}
 use Rattle.merge_order.specs.declared.connection_counts.ConnectionCounts.{ConnectionCounts}
-use Rattle.merge_order.specs.Fits.{Part, sends_frame, receives_frame}
+use Rattle.merge_order.specs.Fits.{Part}
+use Rattle.vat_log.specs.Passages.{sends_frame, receives_frame}
 use Rattle.merge_order.specs.Glue.{count_on, IsCounted, IsRaisedByOne, RisesWith}
 use Rattle.merge_order.proofs.Greedy.{bool_cases}
 

@@ -8,7 +8,8 @@ use Rattle.std.proofs.lemmas.List.{length-take}
 use Rattle.std.proofs.lemmas.List.Sums.{sum_by-cons, sum_by-set, count_by-le-length}
 use Rattle.vat_log.specs.Log.{Log}
 use Rattle.merge_order.specs.declared.connection_counts.ConnectionCounts.{ConnectionCounts}
-use Rattle.merge_order.specs.Fits.{Part, sends_frame, sent_so_far, part_of, sent_by_the_others, may_come, after, begin}
+use Rattle.merge_order.specs.Fits.{Part, sent_so_far, part_of, sent_by_the_others, may_come, after, begin}
+use Rattle.vat_log.specs.Passages.{sends_frame}
 use Rattle.merge_order.specs.Glue.{count_on, IsEmpty, RisesWith, one_further, came_by_all, sent_by_all, IsTotalled}
 use Rattle.merge_order.proofs.Greedy.{bool_cases, some_is, eqb_apart, has_left, other_stays, own_moves, others_own, others_more}
 use Rattle.merge_order.proofs.Steps.{rising_tail, none_smaller, all_passed}

@@ -17,7 +17,8 @@ use Rattle.case_book.specs.Case.{Contents}
 use Rattle.audit_core.specs.declared.report.Report.{Report}
 use Rattle.audit_core.specs.declared.report.Report.TheVariants as reports
 use Rattle.report_lines.specs.StepText.{call_of_step}
-use Rattle.picture.specs.Places.{place_of_nth, record_number, step_of, log_of, column_of, passage_of, frame_at, place_in, mate_of, message_of, is_late}
+use Rattle.picture.specs.Places.{place_of_nth, record_number, step_of, log_of, column_of, frame_at, place_in, mate_of, message_of, is_late}
+use Rattle.vat_log.specs.Passages.{passage_of}
 use Rattle.picture.specs.declared.place.Place.{Place}
 use Rattle.picture.specs.declared.calls.Maker.{Maker}
 use Rattle.picture.specs.declared.focus.Focus.{Focus}

@@ -1,40 +1,19 @@
 //! The frames that pass on a connection.
 
 ghost use Rattle.std.specs.Prelude.{◌≡◌, slice_get};
-ghost use Rattle.picture.specs.Places.{frame_at, frames_before, passage_of, passes, passes_in, place_of_nth};
+ghost use Rattle.picture.specs.Places.{frame_at, frames_before, passes_in, place_of_nth};
+ghost use Rattle.vat_log.specs.Passages.{passes};
 
 use crate::logs::body_in;
 use crate::place::Place;
-use vat_log::{Body, VatLog};
+use vat_log::VatLog;
 
-/// Whether a record sends a frame, and on which connection; none of a record without a frame.
-pub fn passage_of(body: &Body) -> Option<(bool, u32)>
-    ensures { result ≡ passage_of body.now }
-{
-    match body {
-        Body::Send { connection, .. } => Some((true, *connection)),
-        Body::Receive { connection, .. } => Some((false, *connection)),
-        _ => None,
-    }
-}
-
-/// Whether a record sends, or receives, a frame on a connection.
-pub fn passes(body: &Body, sent: bool, connection: u32) -> bool
-    ensures { result ≡ passes sent connection body.now }
-{
-    match (sent, body) {
-        (true, Body::Send { connection: on, .. }) => *on == connection,
-        (false, Body::Receive { connection: on, .. }) => *on == connection,
-        _ => false,
-    }
-}
-
-/// The same of the record of this number of a log.
+/// Whether the record of this number of a log sends, or receives, a frame on a connection.
 pub fn is_passage(log: &VatLog, number: usize, sent: bool, connection: u32) -> bool
     ensures { result ≡ passes_in (passes sent connection) (slice_get log.now.records number) }
 {
     match body_in(log, number) {
-        Some(body) => passes(body, sent, connection),
+        Some(body) => body.passes(sent, connection),
         None => false,
     }
 }

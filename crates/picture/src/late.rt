@@ -7,7 +7,6 @@ ghost use Rattle.picture.specs.Places.{is_late, is_released, turn_by, turn_of};
 ghost use Rattle.picture.specs.Rows.{late_at, late_in, late_number};
 ghost use Rattle.picture.specs.Glue.{turn_in};
 
-use crate::frames::{passage_of, passes};
 use crate::logs::{body_in, log_of};
 use crate::messages::message_of;
 use crate::place::Place;
@@ -68,7 +67,7 @@ fn turn_by(
     ensures { IfOk result (λ turn. turn
         ≡ turn_by edition question.asks question.connection question.number body.now) }
 {
-    if !passes(body, question.asks, question.connection) {
+    if !body.passes(question.asks, question.connection) {
         return Ok(None);
     }
     match message_of(alloc, body, edition)? {
@@ -147,7 +146,7 @@ fn late_in(alloc: Global, log: &VatLog, number: usize, body: &Body) -> Result<bo
     ensures { IfOk result (λ late. late ≡ late_in log.now number body.now) }
 {
     let message = message_of(alloc, body, edition_of(log))?;
-    is_late(alloc, log, number, passage_of(body), &message)
+    is_late(alloc, log, number, body.passage(), &message)
 }
 
 /// Whether the record of this number is one, if the log has it.

@@ -4,7 +4,7 @@ ghost use Rattle.std.specs.Prelude.{◌≡◌};
 ghost use Rattle.picture.specs.Places.{mate_from, mate_of, other_end, other_end_of};
 ghost use Rattle.picture.specs.Rows.{mate_at, receipt};
 
-use crate::frames::{frame_at, frames_before, passage_of};
+use crate::frames::{frame_at, frames_before};
 use crate::logs::{body_at, log_of};
 use crate::place::Place;
 use case_book::{Case, Link};
@@ -50,7 +50,7 @@ fn mate_from(case: &Case, own: &VatLog, number: usize, sent: bool, connection: u
 pub fn mate_of(case: &Case, place: Place, body: &Body) -> Option<Place>
     ensures { result ≡ mate_of case.now place body.now }
 {
-    let (sent, connection) = passage_of(body)?;
+    let (sent, connection) = body.passage()?;
     let own = log_of(case.logs(), place.vat)?;
     mate_from(case, own, place.number, sent, connection)
 }

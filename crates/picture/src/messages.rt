@@ -35,8 +35,8 @@ pub fn message_of(
 ) -> Result<Option<RpcMessage>, AllocError>
     ensures { IfOk result (λ said. said ≡ message_of edition body.now) }
 {
-    match body {
-        Body::Send { frame, .. } | Body::Receive { frame, .. } => message_in(alloc, frame, edition),
-        _ => Ok(None),
+    match body.frame() {
+        Some(frame) => message_in(alloc, frame, edition),
+        None => Ok(None),
     }
 }

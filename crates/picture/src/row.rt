@@ -6,7 +6,6 @@ ghost use Rattle.picture.specs.Labels.{label_text};
 ghost use Rattle.picture.specs.Rows.{drawn, drawn_at, drawn_in, is_place, row_at, rows_of, tone_of};
 
 use crate::calls::{are_kin, maker_at};
-use crate::frames::passage_of;
 use crate::label::Label;
 use crate::late::is_late;
 use crate::logs::{body_in, column_of, log_of};
@@ -118,7 +117,7 @@ fn drawn<'a>(
     ensures { IfOk result (λ made. made ≡ drawn scene.now row place log.now body.now) }
 {
     let message = message_of(alloc, body, edition_of(log))?;
-    let late = is_late(alloc, log, place.number, passage_of(body), &message)?;
+    let late = is_late(alloc, log, place.number, body.passage(), &message)?;
     Ok(Row {
         place,
         column: column_of(scene.case.logs(), place.vat),

@@ -10,7 +10,8 @@ use Rattle.std.proofs.Math.Seq.{take-suc}
 use Rattle.vat_log.specs.Log.{Log}
 use Rattle.vat_log.specs.declared.body.Body.{Body}
 use Rattle.vat_log.specs.declared.body.Body.TheVariants.{Send, Receive}
-use Rattle.link_check.specs.Prefix.{frame_sent, frame_received, frames_sent, frames_received, IsPrefix}
+use Rattle.link_check.specs.Prefix.{frames_sent, frames_received, IsPrefix}
+use Rattle.vat_log.specs.Passages.{frame_sent, frame_received}
 use Rattle.wire_steps.specs.Glue.{HasCome}
 use Rattle.wire_steps.specs.Parts.{HasParts, HasAll}
 use Rattle.wire_steps.specs.declared.end_log.Counts.{Counts}

@@ -2,7 +2,7 @@
 
 ghost use Rattle.std.specs.Prelude.{◌≡◌, ◌∷◌, ◌++◌, [], Some, None, true, false, IsTrue, OnOk, IfOk};
 ghost use Rattle.std.specs.Arc.{arc_value};
-ghost use Rattle.link_check.specs.Prefix.{frame_sent, frame_received};
+ghost use Rattle.vat_log.specs.Passages.{frame_sent, frame_received};
 ghost use Rattle.wire_steps.specs.Glue.{HasCome};
 ghost use Rattle.wire_steps.specs.Parts.{HasParts, HasAll};
 

@@ -4,11 +4,10 @@ ghost use Rattle.std.specs.Prelude.{◌≡◌, Some};
 ghost use Rattle.std.specs.Fmt.{WritesOnOk};
 ghost use Rattle.picture.specs.Picture.{arrow_line, arrow_text, band_lines, band_text, column_text, circle_text, line_text, mark_word, row_text, stroke_word, tone_word, words_at, words_text, words_y, y_of};
 ghost use Rattle.picture.specs.Labels.{label_text};
-ghost use Rattle.picture.specs.Places.{passage_of};
+ghost use Rattle.vat_log.specs.Passages.{passage_of};
 
 use crate::arrow::{Arrow, Stroke};
 use crate::columns::Column;
-use crate::frames::passage_of;
 use crate::label::Label;
 use crate::row::{Row, Tone, label_of};
 use crate::svg::points::{Point, point_at, reach_point, x_of, y_of};
@@ -146,7 +145,7 @@ fn words_y(body: &Body, line: u16) -> u64
     ensures { result ≡ words_y (passage_of body.now) (y_of line) }
 {
     let y = y_of(line);
-    match passage_of(body) {
+    match body.passage() {
         None => y + 4,
         Some((true, _)) => y - 5,
         Some((false, _)) => y + 11,

@@ -1,4 +1,4 @@
-use Rattle.link_check.specs.Prefix.{frame_received}
+use Rattle.vat_log.specs.Passages.{frame_received}
 use Rattle.link_check.proofs.Rest.{counted, not_counted}
 use Rattle.link_check.proofs.connection_frames.count_received.Goals as goal
 use Rattle.link_check.proofs.connection_frames.count_received.Goals.{then-is_some, else-is_some}

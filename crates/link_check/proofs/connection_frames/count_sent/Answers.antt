@@ -2,7 +2,7 @@ use Rattle.std.proofs.Common.{◌≡◌, ◌∙◌, ap, length, take, arith}
 use Rattle.std.specs.List.{filter_map}
 use Rattle.std.proofs.lemmas.List.{take_all}
 use Rattle.link_check.proofs.Faults.{within}
-use Rattle.link_check.specs.Prefix.{frame_sent}
+use Rattle.vat_log.specs.Passages.{frame_sent}
 use Rattle.link_check.proofs.Rest.{counted, not_counted}
 use Rattle.link_check.proofs.connection_frames.count_sent.Goals as goal
 use Rattle.link_check.proofs.connection_frames.count_sent.Goals.{then-is_some, else-is_some}

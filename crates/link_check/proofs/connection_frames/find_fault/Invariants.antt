@@ -1,7 +1,8 @@
 use Rattle.std.proofs.Common.{◌≡◌, ◌+◌, ◌-◌, ◌≤◌, drop, length}
 use Rattle.std.specs.List.{filter_map}
 use Rattle.std.specs.Option.{option_map}
-use Rattle.link_check.specs.Prefix.{frame_sent, frame_received, frames_sent, frames_received}
+use Rattle.link_check.specs.Prefix.{frames_sent, frames_received}
+use Rattle.vat_log.specs.Passages.{frame_sent, frame_received}
 use Rattle.link_check.specs.Glue.{first_fault}
 use Rattle.link_check.proofs.connection_frames.find_fault.Given as goal
 

@@ -1,5 +1,5 @@
 use Rattle.std.proofs.Common.{arith}
-use Rattle.link_check.specs.Prefix.{frame_sent}
+use Rattle.vat_log.specs.Passages.{frame_sent}
 use Rattle.link_check.proofs.Rest.{found, passed}
 use Rattle.link_check.proofs.connection_frames.next_sent.Goals as goal
 

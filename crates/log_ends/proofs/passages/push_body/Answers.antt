@@ -1,7 +1,7 @@
 use Rattle.std.proofs.Common.{sym, subst, ◌++◌, ◌∷◌, []}
 use Rattle.std.specs.List.{filter_map}
 use Rattle.vat_log.specs.declared.body.Body.{Body}
-use Rattle.link_check.specs.Prefix.{frame_sent, frame_received}
+use Rattle.vat_log.specs.Passages.{frame_sent, frame_received}
 use Rattle.log_ends.specs.Glue.{number_of, HasPassed}
 use Rattle.log_ends.proofs.Passing.{sends_one, receives_one, says_no_frame, on_ok, not_sent, not_received}
 use Rattle.log_ends.proofs.passages.push_body.Goals as goal

@@ -5,7 +5,7 @@ use Rattle.std.proofs.lemmas.List.{take_more}
 use Rattle.std.proofs.lemmas.Option.{none-some, slice_get_within, slice_get-get_or, get_or_from_slice_get}
 use Rattle.vat_log.specs.declared.body.Body.{Body}
 use Rattle.vat_log.specs.declared.body.Body.TheVariants.{Host}
-use Rattle.link_check.specs.Prefix.{frame_sent, frame_received}
+use Rattle.vat_log.specs.Passages.{frame_sent, frame_received}
 use Rattle.log_ends.specs.Glue.{number_of, HasPassed}
 use Rattle.log_ends.proofs.Passing.{on_ok}
 use Rattle.log_ends.proofs.passages.push_record.Goals as goal

@@ -1,6 +1,6 @@
 use Rattle.std.proofs.Common.{take}
 use Rattle.std.specs.List.{filter_map}
-use Rattle.link_check.specs.Prefix.{frame_sent, frame_received}
+use Rattle.vat_log.specs.Passages.{frame_sent, frame_received}
 use Rattle.log_ends.specs.Glue.{number_of, IsSound, Keeps, HasPassed}
 use Rattle.log_ends.proofs.passages.table_of.Given as goal
 

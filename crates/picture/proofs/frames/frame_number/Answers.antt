@@ -1,5 +1,5 @@
 use Rattle.std.proofs.Common.{sym, arith}
-use Rattle.picture.specs.Places.{passes}
+use Rattle.vat_log.specs.Passages.{passes}
 use Rattle.picture.proofs.Stepping.{found, goes_by, passes_by, found_none}
 use Rattle.picture.proofs.frames.frame_number.Goals as goal
 use Rattle.picture.proofs.frames.frame_number.Goals.{then-is_passage+else-left-eq0, else-is_passage}

@@ -1,6 +1,7 @@
 use Rattle.std.proofs.Common.{◌≡◌, drop}
 use Rattle.std.specs.Prelude.{slice_get}
-use Rattle.picture.specs.Places.{passes, places_from}
+use Rattle.picture.specs.Places.{places_from}
+use Rattle.vat_log.specs.Passages.{passes}
 use Rattle.picture.proofs.frames.frame_number.Given as goal
 
 abbrev pub invariant-loop-at : goal.invariant-loop-at

@@ -1,4 +1,4 @@
-use Rattle.picture.specs.Places.{passes}
+use Rattle.vat_log.specs.Passages.{passes}
 use Rattle.picture.proofs.Stepping.{counts, counts_not}
 use Rattle.picture.proofs.frames.frames_before.Goals as goal
 use Rattle.picture.proofs.frames.frames_before.Goals.{then-is_passage, else-is_passage}

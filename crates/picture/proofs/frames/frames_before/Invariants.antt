@@ -1,6 +1,6 @@
 use Rattle.std.proofs.Common.{◌≡◌, ◌≤◌, take}
 use Rattle.std.specs.Prelude.{count_by}
-use Rattle.picture.specs.Places.{passes}
+use Rattle.vat_log.specs.Passages.{passes}
 use Rattle.picture.proofs.frames.frames_before.Given as goal
 
 abbrev pub invariant-loop-at : goal.invariant-loop-at

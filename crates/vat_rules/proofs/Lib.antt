@@ -4,6 +4,7 @@ pub mod Noted
 pub mod Owning
 pub mod Firsts
 pub mod Taken
+pub mod Unread
 pub mod SlimOutcomes
 pub mod Unique
 pub mod Once

@@ -8,12 +8,12 @@ ghost use Rattle.vat_rules.specs.First.{AllGood};
 ghost use Rattle.vat_rules.specs.Audit.{IsTrueOf, reads_by, edition_of};
 ghost use Rattle.vat_rules.specs.Glue.Taking.{IsGathered, IsRefused, refused_at};
 
-use crate::decode::decoded;
 use crate::facts::gathered::Gathered;
 use crate::facts::story::Story;
 use crate::finding::VatFinding;
 use crate::outcome::Outcome;
 use crate::taking::{Refusal, take};
+use crate::why::unread;
 use rpc_view::{Edition, Limits};
 use std::alloc::{AllocError, Global};
 use std::sync::Arc;
@@ -88,10 +88,9 @@ fn gather(
         (IsGathered edition (reads_by edition limits) state.old body.now state.new gathered.old gathered.new)
         (IsRefused edition (reads_by edition limits) state.old body.now)) }
 {
-    let event = match decoded(alloc, edition, limits, body) {
-        Ok(Ok(event)) => event,
-        Ok(Err(why)) => return Ok(Some(Refusal::Outside(why))),
-        Err(error) => return Err(error),
+    let event = match DecodedRecord::read(alloc, body, limits, edition) {
+        Ok(event) => event,
+        Err(error) => return Ok(Some(unread(error)?)),
     };
     match take(alloc, edition, state, &event)? {
         Ok(seen) => {

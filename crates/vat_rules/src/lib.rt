@@ -13,7 +13,6 @@
 
 mod asked;
 mod audit;
-mod decode;
 mod facts;
 mod finding;
 mod judge;
@@ -29,6 +28,7 @@ mod result_paths;
 mod rule;
 mod slim;
 mod taking;
+mod why;
 
 pub use audit::{audit_vat, edition_of};
 pub use facts::compact::RecordFacts;

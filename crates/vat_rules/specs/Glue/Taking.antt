@@ -1,7 +1,6 @@
 -- For the code's contracts, and no part of the meaning: one record more of a log.
-use Rattle.std.specs.Prelude.{◌≡◌, ◌+◌, ℕ, List, [], ◌∷◌, ◌++◌, Bool, true, false, if◌then◌else◌, Ok, Err}
+use Rattle.std.specs.Prelude.{◌≡◌, ◌+◌, ℕ, List, [], ◌∷◌, ◌++◌, if◌then◌else◌, Ok, Err}
 use Rattle.vat_log.specs.declared.body.Body.{Body}
-use Rattle.vat_log.specs.declared.body.Body.TheVariants as body
 use Rattle.vat_view.specs.Past.{Past}
 use Rattle.vat_rules.specs.Types.{Edition, DecodedRecord}
 use Rattle.vat_rules.specs.Rules.{rules}
@@ -13,32 +12,6 @@ use Rattle.vat_rules.specs.declared.outcome.Outcome.{Outcome}
 use Rattle.vat_rules.specs.declared.outcome.Outcome.TheVariants as outcome
 use Rattle.vat_rules.specs.declared.taking.Refusal.{Refusal}
 use Rattle.vat_rules.specs.declared.taking.Refusal.TheVariants.{Outside, Broken}
-
--- a stored record has a frame
-abbrev pub has_frame : Body → Bool
-has_frame (body.Send connection call references frame) = true
-has_frame (body.Receive connection call references frame) = true
-has_frame _ = false
-
--- its frame; none of a record without one
-abbrev pub frame_in : Body → List ℕ
-frame_in (body.Send connection call references frame) = frame
-frame_in (body.Receive connection call references frame) = frame
-frame_in _ = []
-
--- the references noted beside its frame
-abbrev pub noted_beside : Body → List ℕ
-noted_beside (body.Send connection call references frame) = references
-noted_beside (body.Receive connection call references frame) = references
-noted_beside _ = []
-
--- a stored record holds numbers alone
-abbrev pub is_flat : Body → Bool
-is_flat (body.Send connection call references frame) = false
-is_flat (body.Receive connection call references frame) = false
-is_flat (body.Field r call path) = false
-is_flat (body.Answer call results) = false
-is_flat _ = true
 
 -- a record is good, and was put behind those before it, and this is seen of it
 pub record IsTaken (edition : Edition) (before : Past) (e : DecodedRecord) (after : Past) (facts : Sight) : Type 0 where

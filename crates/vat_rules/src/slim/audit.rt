@@ -10,10 +10,10 @@ ghost use Rattle.vat_rules.specs.Slim.{outcome_in};
 ghost use Rattle.vat_rules.specs.Glue.Taking.{IsCounted, IsRefused, refused_at};
 
 use crate::audit::{edition_of, is_delivery};
-use crate::decode::decoded;
 use crate::slim::finding::{SlimFinding, SlimOutcome};
 use crate::slim::story::SlimStory;
 use crate::taking::{Refusal, apply_if_good};
+use crate::why::unread;
 use rpc_view::{Edition, Limits};
 use std::alloc::{AllocError, Global};
 use std::sync::Arc;
@@ -57,11 +57,10 @@ fn count(
         (IsCounted edition (reads_by edition limits) state.old body.now state.new delivered)
         (IsRefused edition (reads_by edition limits) state.old body.now)) }
 {
-    let read = decoded(alloc, edition, limits, body);
+    let read = DecodedRecord::read(alloc, body, limits, edition);
     let event = match &read {
-        Ok(Ok(event)) => event,
-        Ok(Err(why)) => return Ok(Err(Refusal::Outside(*why))),
-        Err(_) => return Err(AllocError),
+        Ok(event) => event,
+        Err(error) => return Ok(Err(unread(*error)?)),
     };
     match apply_if_good(alloc, edition, state, event)? {
         Some(rule) => Ok(Err(Refusal::Broken(rule))),

@@ -1,12 +1,12 @@
 -- What a log tells whose records are all good.
-use Rattle.std.specs.Prelude.{List, [], ◌∷◌, ◌++◌, map, reverse, length, count_by, Bool, true, false, not, Option, Some, None, option_and_then}
+use Rattle.std.specs.Prelude.{List, [], ◌∷◌, ◌++◌, map, reverse, length, count_by, Bool, true, false, Option, option_and_then}
 use Rattle.std.specs.Option.{option_or}
 use Rattle.vat_log.specs.declared.body.Body.{Body}
-use Rattle.vat_rules.specs.Types.{Release, DecodedRecord, Deliver, Wire, View}
-use Rattle.vat_view.specs.declared.record.table_key.TableKey.{TableKey}
-use Rattle.vat_view.specs.Past.{Past, id}
+use Rattle.vat_rules.specs.Types.{DecodedRecord, Deliver, View}
+use Rattle.vat_view.specs.Past.{Past}
 use Rattle.vat_view.specs.Questions.{question_returned, question_finished, question_taken, is_late}
 use Rattle.vat_view.specs.Lives.{promise_resolved}
+use Rattle.vat_view.specs.Uses.{number_released}
 use Rattle.vat_view.specs.Views.{field_view, view_of_reference, view_of_number, view_of_target, views_of_descriptors}
 use Rattle.vat_view.specs.Bindings.{new_references, named_references}
 use Rattle.vat_rules.specs.LogFacts.{Sight, Entry, Told}
@@ -28,14 +28,9 @@ seen_taken before e = option_and_then (λ q. field_view q [] before) (question_t
 abbrev pub seen_promise : Past → DecodedRecord → Option View
 seen_promise before e = option_and_then (λ i. view_of_number i before) (promise_resolved e)
 
--- the number that a Release gives back: one of the receiver's exports
-abbrev pub released_number : DecodedRecord → Option TableKey
-released_number (Wire sent k call references (Release n count)) = Some (id k (not sent) n)
-released_number _ = None
-
--- what that stands for
+-- what the number that a Release gives back stands for
 abbrev pub seen_released : Past → DecodedRecord → Option View
-seen_released before e = option_and_then (λ i. view_of_number i before) (released_number e)
+seen_released before e = option_and_then (λ i. view_of_number i before) (number_released e)
 
 -- what is seen of a record
 abbrev pub seen_of : Past → DecodedRecord → Sight

@@ -32,6 +32,7 @@ pub use laws::{
     references_keep_views, turns_go_to_references, turns_only_grow,
 };
 pub use record::decoded::DecodedRecord;
+pub use record::effects::descriptors_of;
 pub use record::number::Number;
 pub use record::table_key::TableKey;
 pub use state::VatState;

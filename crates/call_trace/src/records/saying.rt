@@ -6,15 +6,14 @@ ghost use Rattle.std.specs.Option.{option_copied};
 ghost use Rattle.call_trace.specs.Naming.{cap_at};
 ghost use Rattle.call_trace.specs.Said.{caps_at_paths, say_call, say_return, say_taken, say_resolve};
 ghost use Rattle.call_trace.specs.Glue.Ledgers.{names_in, view_in, call_name_in, cap_said, caps_said, call_of_question, seen_at, answered_in, resolve_said, return_said, message_said, sent_said, results_said, named_said};
-ghost use Rattle.vat_view.specs.Lives.{descriptors_of};
 
 use crate::records::vat_ledger::VatLedger;
 use cap_frame::Path;
-use rpc_view::{Descriptor, Outcome, Payload, Resolution, RpcMessage};
+use rpc_view::{Descriptor, Outcome, Payload, RpcMessage};
 use run_model::{Cap, Caps, Message, Name, Plain, Results, Step};
 use std::alloc::{AllocError, Global};
 use vat_rules::RecordFacts;
-use vat_view::View;
+use vat_view::{View, descriptors_of};
 
 /// The view of these at a place, if one is there.
 pub(crate) fn seen_at(views: &[Option<View>], place: usize) -> Option<&View>
@@ -138,24 +137,6 @@ fn say_resolve(promise: Cap, caps: &Caps) -> Result<Message, AllocError>
     match caps.as_slice().first() {
         None | Some(Cap::Nothing) => Ok(Message::Broken(promise)),
         Some(cap) => Ok(Message::Resolve(promise, cap.copy()?)),
-    }
-}
-
-/// The descriptors of a message.
-fn descriptors_of(message: &RpcMessage) -> &[Descriptor]
-    ensures { result.now ≡ descriptors_of message.now }
-{
-    match message {
-        RpcMessage::Call { params, .. } => params.descriptors.as_slice(),
-        RpcMessage::Return {
-            outcome: Outcome::Results(payload),
-            ..
-        } => payload.descriptors.as_slice(),
-        RpcMessage::Resolve {
-            resolution: Resolution::Cap(descriptor),
-            ..
-        } => std::slice::from_ref(descriptor),
-        _ => &[],
     }
 }
 

@@ -1,8 +1,8 @@
 //! What the numbers of a record stand for.
 
-ghost use Rattle.std.specs.Prelude.{◌≡◌, ◌++◌, [], map, IfOk};
+ghost use Rattle.std.specs.Prelude.{◌≡◌, ◌++◌, [], map, option_and_then, IfOk};
 ghost use Rattle.vat_view.specs.Bindings.{new_references, named_references};
-ghost use Rattle.vat_view.specs.Views.{field_view, view_of_reference, view_of_target, views_of_descriptors};
+ghost use Rattle.vat_view.specs.Views.{field_view, view_of_number, view_of_reference, view_of_target, views_of_descriptors};
 ghost use Rattle.vat_rules.specs.Telling.{seen_question, seen_taken, seen_promise, seen_released};
 ghost use Rattle.vat_rules.specs.Glue.Facts.{sight_before};
 ghost use Rattle.vat_rules.specs.Glue.Roles.{view_in_role};
@@ -12,9 +12,9 @@ use crate::facts::plain::PlainFacts;
 use crate::facts::role::Role;
 use crate::facts::view_list::ViewList;
 use cap_frame::Path;
-use rpc_view::{Outcome, RpcMessage};
+use rpc_view::RpcMessage;
 use std::alloc::{AllocError, Global};
-use vat_view::{DecodedRecord, Number, TableKey, VatState, View};
+use vat_view::{DecodedRecord, TableKey, VatState, View};
 
 /// What a question stands for: its call, as the field at the empty path.
 fn view_of_question(
@@ -30,6 +30,32 @@ fn view_of_question(
     }
 }
 
+/// What a question stands for, if a record names one.
+fn view_of_named(
+    alloc: Global,
+    state: &VatState,
+    question: Option<TableKey>,
+) -> Result<Option<View>, AllocError>
+    ensures { IfOk result
+        (λ v. v ≡ option_and_then (λ q. field_view q [] state.now) question) }
+{
+    match question {
+        Some(question) => view_of_question(alloc, state, question),
+        None => Ok(None),
+    }
+}
+
+/// What an export or import number stands for, if a record names one.
+fn view_of_number(state: &VatState, number: Option<TableKey>) -> Result<Option<View>, AllocError>
+    ensures { IfOk result
+        (λ v. v ≡ option_and_then (λ i. view_of_number i state.now) number) }
+{
+    match number {
+        Some(number) => state.view_of_number(number),
+        None => Ok(None),
+    }
+}
+
 /// What the question stands for that a record returns or finishes.
 fn seen_question(
     alloc: Global,
@@ -38,23 +64,8 @@ fn seen_question(
 ) -> Result<Option<View>, AllocError>
     ensures { IfOk result (λ v. v ≡ seen_question state.now event.now) }
 {
-    let DecodedRecord::Wire {
-        sent,
-        connection,
-        message,
-        ..
-    } = event
-    else {
-        return Ok(None);
-    };
-    let number = match message {
-        RpcMessage::Return { answer, .. } if *sent => Number::Answer(*answer),
-        RpcMessage::Return { answer, .. } => Number::Question(*answer),
-        RpcMessage::Finish { question, .. } if *sent => Number::Question(*question),
-        RpcMessage::Finish { question, .. } => Number::Answer(*question),
-        _ => return Ok(None),
-    };
-    view_of_question(alloc, state, number.on(*connection))
+    let question = event.question_returned().or(event.question_finished());
+    view_of_named(alloc, state, question)
 }
 
 /// What the question stands for whose results a record takes.
@@ -65,74 +76,7 @@ fn seen_taken(
 ) -> Result<Option<View>, AllocError>
     ensures { IfOk result (λ v. v ≡ seen_taken state.now event.now) }
 {
-    let DecodedRecord::Wire {
-        sent,
-        connection,
-        message: RpcMessage::Return {
-            outcome: Outcome::TakeFrom(taken),
-            ..
-        },
-        ..
-    } = event
-    else {
-        return Ok(None);
-    };
-    let number = if *sent {
-        Number::Question(*taken)
-    } else {
-        Number::Answer(*taken)
-    };
-    view_of_question(alloc, state, number.on(*connection))
-}
-
-/// What the promise stands for that a record resolves.
-fn seen_promise(
-    alloc: Global,
-    state: &VatState,
-    event: &DecodedRecord,
-) -> Result<Option<View>, AllocError>
-    ensures { IfOk result (λ v. v ≡ seen_promise state.now event.now) }
-{
-    let DecodedRecord::Wire {
-        sent,
-        connection,
-        message: RpcMessage::Resolve { promise, .. },
-        ..
-    } = event
-    else {
-        return Ok(None);
-    };
-    let number = if *sent {
-        Number::Export(*promise)
-    } else {
-        Number::Import(*promise)
-    };
-    state.stands_for(*connection, number, &Path::new(Vec::new(alloc))?)
-}
-
-/// What the number stands for that a Release gives back.
-fn seen_released(
-    alloc: Global,
-    state: &VatState,
-    event: &DecodedRecord,
-) -> Result<Option<View>, AllocError>
-    ensures { IfOk result (λ v. v ≡ seen_released state.now event.now) }
-{
-    let DecodedRecord::Wire {
-        sent,
-        connection,
-        message: RpcMessage::Release { id, .. },
-        ..
-    } = event
-    else {
-        return Ok(None);
-    };
-    let number = if *sent {
-        Number::Import(*id)
-    } else {
-        Number::Export(*id)
-    };
-    state.stands_for(*connection, number, &Path::new(Vec::new(alloc))?)
+    view_of_named(alloc, state, event.question_taken())
 }
 
 /// What the descriptors of a record stand for that may be applied next. Most records have one at most.
@@ -175,8 +119,12 @@ fn number_in_role(
         RpcMessage::Return { .. } | RpcMessage::Finish { .. } => {
             (Role::Question, seen_question(alloc, state, event)?)
         }
-        RpcMessage::Resolve { .. } => (Role::Promise, seen_promise(alloc, state, event)?),
-        RpcMessage::Release { .. } => (Role::Released, seen_released(alloc, state, event)?),
+        RpcMessage::Resolve { .. } => {
+            (Role::Promise, view_of_number(state, event.promise_resolved())?)
+        }
+        RpcMessage::Release { .. } => {
+            (Role::Released, view_of_number(state, event.number_released())?)
+        }
         _ => return Ok(None),
     };
     match view {

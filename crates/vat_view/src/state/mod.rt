@@ -5,7 +5,7 @@ ghost use Rattle.vat_view.specs.declared.view.View.{View};
 ghost use Rattle.vat_view.specs.Numbers.{number_held, number_stands};
 ghost use Rattle.vat_view.specs.Lives.{GivesBackHeld};
 ghost use Rattle.vat_view.specs.Uses.{UsesQuestions, UsesNumbers};
-ghost use Rattle.vat_view.specs.Views.{view_of_reference};
+ghost use Rattle.vat_view.specs.Views.{view_of_reference, view_of_number};
 ghost use Rattle.vat_view.specs.Bindings.{Refers, NotesEach};
 
 mod calls;
@@ -18,6 +18,7 @@ mod shortening;
 use crate::lookups::meaning;
 use crate::record::decoded::DecodedRecord;
 use crate::record::number::Number;
+use crate::record::table_key::TableKey;
 use crate::tables::all_tables::AllTables;
 use crate::view::View;
 use cap_frame::Path;
@@ -90,6 +91,17 @@ impl VatState {
         ensures { IfOk result (λ view. view ≡ view_of_reference self.now reference) }
     {
         meaning::view_of_reference(&self.tables.bound, reference)
+    }
+
+    /// What an export or import number stands for, where it is in life: the view with which its life began.
+    ///
+    /// # Errors
+    ///
+    /// Out of memory.
+    pub fn view_of_number(&self, number: TableKey) -> Result<Option<View>, AllocError>
+        ensures { IfOk result (λ view. view ≡ view_of_number number self.now) }
+    {
+        meaning::view_of_number(&self.tables.bound, &self.tables.lives, number)
     }
 
     /// What a number of a connection stands for: an export or import in life for the view with which its life began, a

@@ -4,7 +4,7 @@ use crate::past::openings::opening_before;
 use crate::past::records_before::Past;
 use crate::past::view_text::ViewText;
 use cap_frame::Path;
-use rpc_view::{Descriptor, Outcome, Payload, Resolution, RpcMessage};
+use rpc_view::{Descriptor, Outcome, Payload, RpcMessage};
 use std::alloc::AllocError;
 use std::fmt::Write;
 use vat_view::{BorrowedView, DecodedRecord, TableKey, View};
@@ -103,14 +103,8 @@ fn turn_by_answer(
 
 /// The question by which this record asks the call of the peer.
 fn question_asked(event: &DecodedRecord, sought: u64) -> Option<TableKey> {
-    match event {
-        DecodedRecord::Wire {
-            sent: true,
-            connection,
-            call,
-            message: RpcMessage::Bootstrap { question } | RpcMessage::Call { question, .. },
-            ..
-        } if *call == sought => Some(TableKey::of_sender(true, *connection, *question)),
+    match event.question_opened() {
+        Some(key) if key.ours && event.noted_call() == sought => Some(key),
         _ => None,
     }
 }
@@ -118,18 +112,8 @@ fn question_asked(event: &DecodedRecord, sought: u64) -> Option<TableKey> {
 /// The Return that was received of a question that this record opened, if one was.
 fn return_behind(past: &Past<'_>, asked: usize, key: TableKey) -> Option<usize> {
     for at in asked..past.at {
-        if let Some(
-            DecodedRecord::Wire {
-                sent: false,
-                connection,
-                message: RpcMessage::Return { answer, .. },
-                ..
-            },
-        ) = past.get(at)
-        {
-            if *connection == key.connection && *answer == key.number {
-                return Some(at);
-            }
+        if past.get(at)?.question_returned() == Some(key) {
+            return Some(at);
         }
     }
     None
@@ -193,18 +177,10 @@ fn turn_of_result(past: &Past<'_>, call: u64, path: &Path) -> Result<Option<Turn
     Ok(None)
 }
 
-/// The number of the peer's under which a capability came, and its connection.
-fn number_brought(past: &Past<'_>, at: usize, place: usize) -> Option<(u32, u32)> {
+/// The number of the peer's under which a capability came.
+fn number_brought(past: &Past<'_>, at: usize, place: usize) -> Option<TableKey> {
     let event = past.get(at)?;
-    let DecodedRecord::Wire { connection, .. } = event else {
-        return None;
-    };
-    match event.descriptors().get(place)? {
-        Descriptor::SenderHosted(number) | Descriptor::SenderPromise(number) => {
-            Some((*connection, *number))
-        }
-        _ => None,
-    }
+    event.number_introduced(event.descriptors().get(place)?)
 }
 
 /// What came in as a promise turns by the Resolve that came of it.
@@ -213,29 +189,18 @@ fn turn_of_import(
     brought: usize,
     place: usize,
 ) -> Result<Option<Turn>, AllocError> {
-    let Some((over, number)) = number_brought(past, brought, place) else {
+    let Some(number) = number_brought(past, brought, place) else {
         return Ok(None);
     };
     for at in brought..past.at {
-        if let Some(
-            DecodedRecord::Wire {
-                sent: false,
-                connection,
-                references,
-                message: RpcMessage::Resolve {
-                    promise,
-                    resolution: Resolution::Cap(_),
-                },
-                ..
-            },
-        ) = past.get(at)
-        {
-            if *connection == over && *promise == number {
-                return match references.as_slice().first() {
-                    Some(reference) => to_reference(past, at, *reference),
-                    None => Ok(None),
-                };
-            }
+        let Some(event) = past.get(at) else {
+            return Ok(None);
+        };
+        if event.promise_resolved() == Some(number) && !event.descriptors().is_empty() {
+            return match event.references().first() {
+                Some(reference) => to_reference(past, at, *reference),
+                None => Ok(None),
+            };
         }
     }
     Ok(None)

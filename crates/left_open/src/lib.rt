@@ -10,7 +10,6 @@ mod begun;
 mod ending;
 mod listing;
 mod open_things;
-mod opened_by;
 mod watching;
 
 pub use ending::open_at_end;

@@ -16,9 +16,9 @@ use Rattle.vat_view.specs.Questions.{call_at, opening}
 use Rattle.vat_view.specs.Lives.{Birth, birth, begins, held, is_in_life}
 use Rattle.vat_view.specs.Views.{view_of_reference}
 use Rattle.vat_view.specs.Calls.{call_taken_from}
-use Rattle.vat_view.specs.Walks.{on_to, next}
+use Rattle.vat_view.specs.Walks.{on_to, next, turned_to}
 use Rattle.vat_view.specs.Glue.Tables.{question_at, count_at, origin_at, origin_of, held_origin, bound_at, AreTabled, IsFit}
-use Rattle.vat_view.specs.Glue.TurnTables.{is_this, field_path, promise_of, import_at, unless_elsewhere, results_by, import_by, settlement_of, settled_by, turn_target, target_in, Settler, Turning, turning_of, goes, goes_to, landing_of, landing_view, settler, settler_at_point, settler_of, last_settler, settled_as, settles, handing, handover_of, handover_at, handover_after, SaysSameTurns, IsNoted, by_handover, AreSettled, call_behind_by, turning_by, goes_by, turned_to}
+use Rattle.vat_view.specs.Glue.TurnTables.{is_this, field_path, promise_of, import_at, unless_elsewhere, results_by, import_by, settlement_of, settled_by, turn_target, target_in, Settler, Turning, turning_of, goes, goes_to, landing_of, landing_view, settler, settler_at_point, settler_of, last_settler, settled_as, settles, handing, handover_of, handover_at, handover_after, SaysSameTurns, IsNoted, by_handover, AreSettled, call_behind_by, turning_by, goes_by}
 use Rattle.vat_view.proofs.Knowing.{known_from}
 use Rattle.vat_view.proofs.Raising.{positive}
 use Rattle.vat_view.proofs.Landed.{going_step, lands_bound}

@@ -75,19 +75,14 @@ fn changed(known: Option<Opening>, change: Change, at: usize) -> Option<Opening>
     Some(opening)
 }
 
-/// The last opening of a question among so many records, and what passed of it in them since.
-pub(crate) fn opening_before(past: &Past<'_>, key: TableKey, end: usize) -> Option<Opening> {
+/// The last opening of a question before the record that is told of, and what passed of it since.
+pub(crate) fn opening_of(past: &Past<'_>, key: TableKey) -> Option<Opening> {
     let mut known = None;
-    for at in 0..end {
+    for at in 0..past.at {
         let event = past.get(at)?;
         if let Some(change) = change_by(key, event) {
             known = changed(known, change, at);
         }
     }
     known
-}
-
-/// The last opening of a question before the record that is told of.
-pub(crate) fn opening_of(past: &Past<'_>, key: TableKey) -> Option<Opening> {
-    opening_before(past, key, past.at)
 }

@@ -32,7 +32,7 @@ use Rattle.vat_view.specs.Questions.{call_at, opening}
 use Rattle.vat_view.specs.Lives.{Birth, birth}
 use Rattle.vat_view.specs.Views.{placed_references, view_of_reference}
 use Rattle.vat_view.specs.Calls.{answerer, call_taken_from}
-use Rattle.vat_view.specs.Walks.{Next, turns, stays, on_to, next}
+use Rattle.vat_view.specs.Walks.{Next, turns, stays, on_to, next, turned_to}
 use Rattle.vat_view.specs.Bindings.{is_bound}
 use Rattle.vat_view.specs.Glue.FieldTargets.{target_among}
 use Rattle.vat_view.specs.Glue.Tables.{bound_at, held_origin}
@@ -437,12 +437,7 @@ onward_by table bound r = option_and_then (reference_by table) (option_and_then 
 
 -- ---- walks
 
--- the view to which a view turns
-abbrev pub turned_to : Next → Option View
-turned_to (turns v) = Some v
-turned_to _ = None
-
--- the same by the table
+-- the view to which a view turns, by the table
 abbrev pub turn_by : Settlements → (ℕ → Option View) → View → Option View
 turn_by table named v = turned_to (goes_by table named v)
 

@@ -1,8 +1,9 @@
 //! What one record opens, binds, names and uses.
 
 ghost use Rattle.std.specs.Prelude.{◌≡◌, option_to_list};
-ghost use Rattle.vat_view.specs.Questions.{question_opened, question_returned, question_finished, question_taken, asks_elsewhere, noted_call};
+ghost use Rattle.vat_view.specs.Questions.{question_opened, question_returned, question_returned_lightly, question_finished, question_taken, asks_elsewhere, noted_call};
 ghost use Rattle.vat_view.specs.Lives.{descriptors, number_introduced, promise_resolved};
+ghost use Rattle.vat_view.specs.Loopbacks.{sender_loopback, receiver_loopback};
 ghost use Rattle.vat_view.specs.Views.{references};
 ghost use Rattle.vat_view.specs.Uses.{question_targeted, question_described, number_targeted, number_described, number_released};
 ghost use Rattle.vat_view.specs.Bindings.{new_references, new_calls};
@@ -10,7 +11,8 @@ ghost use Rattle.vat_view.specs.Bindings.{new_references, new_calls};
 use crate::record::decoded::DecodedRecord;
 use crate::record::table_key::TableKey;
 use crate::record::{bindings, effects};
-use rpc_view::{Descriptor, RpcMessage, Target};
+use crate::tables::waits::loopbacks;
+use rpc_view::{Descriptor, Loopback, RpcMessage, Target};
 
 impl DecodedRecord {
     /// The question that it opens: a Bootstrap's or a Call's.
@@ -27,6 +29,13 @@ impl DecodedRecord {
         effects::question_returned(self)
     }
 
+    /// The question that it returns by a Return that says that no Finish is needed (rpc.capnp, `Return.noFinishNeeded`).
+    pub fn question_returned_lightly(&self) -> Option<TableKey>
+        ensures { result ≡ question_returned_lightly self.now }
+    {
+        effects::question_returned_lightly(self)
+    }
+
     /// The question that it finishes.
     pub fn question_finished(&self) -> Option<TableKey>
         ensures { result ≡ question_finished self.now }
@@ -39,6 +48,32 @@ impl DecodedRecord {
         ensures { result ≡ question_taken self.now }
     {
         effects::question_taken(self)
+    }
+
+    /// The number under which it asks for an echo: one of its sender's.
+    pub fn sender_loopback(&self) -> Option<TableKey>
+        ensures { result ≡ sender_loopback self.now }
+    {
+        match self {
+            DecodedRecord::Wire {
+                sent,
+                connection,
+                message: RpcMessage::Disembargo {
+                    number,
+                    loopback: Loopback::Sender,
+                    ..
+                },
+                ..
+            } => Some(TableKey::of_sender(*sent, *connection, *number)),
+            _ => None,
+        }
+    }
+
+    /// The number that it echoes: one of its receiver's.
+    pub fn receiver_loopback(&self) -> Option<TableKey>
+        ensures { result ≡ receiver_loopback self.now }
+    {
+        loopbacks::receiver_loopback(self)
     }
 
     /// The promise that it resolves: one of its sender's exports.

@@ -1,12 +1,13 @@
 //! The state of a vat's numbers after some records of its log.
 
-ghost use Rattle.std.specs.Prelude.{◌≡◌, [], ◌∷◌, IfOk, OnOk, OnErr};
+ghost use Rattle.std.specs.Prelude.{◌≡◌, [], ◌∷◌, Decides, IfOk, OnOk, OnErr};
 ghost use Rattle.vat_view.specs.declared.view.View.{View};
 ghost use Rattle.vat_view.specs.Numbers.{number_held, number_stands};
 ghost use Rattle.vat_view.specs.Lives.{GivesBackHeld};
 ghost use Rattle.vat_view.specs.Uses.{UsesQuestions, UsesNumbers};
 ghost use Rattle.vat_view.specs.Views.{view_of_reference, view_of_number};
 ghost use Rattle.vat_view.specs.Bindings.{Refers, NotesEach};
+ghost use Rattle.vat_view.specs.Sound.{IsSound};
 
 mod calls;
 mod connections;
@@ -128,6 +129,30 @@ impl VatState {
                 meaning::field_of(&self.tables.questions, id, path)
             }
         }
+    }
+
+    /// Whether [`apply`](VatState::apply) may be called with a record: it names, uses and gives back things as it should
+    /// after those applied, and notes a reference for each capability.
+    ///
+    /// # Errors
+    ///
+    /// Out of memory.
+    pub fn is_sound(&self, event: &DecodedRecord) -> Result<bool, AllocError>
+        ensures { IfOk result (λ sound. Decides sound (IsSound self.now event.now)) }
+    {
+        if !self.refers(event)? {
+            return Ok(false);
+        }
+        if !self.uses_questions(event) {
+            return Ok(false);
+        }
+        if !self.uses_numbers(event) {
+            return Ok(false);
+        }
+        if !self.gives_back_held(event)? {
+            return Ok(false);
+        }
+        Ok(self.notes_each(event))
     }
 
     /// Applies a record, which keeps the rules that are named after those applied.

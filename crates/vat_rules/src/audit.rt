@@ -75,7 +75,7 @@ fn refused_at(at: u64, refusal: Refusal) -> Outcome
 }
 
 /// Reads one record more and judges it by an edition; where it is good, applies it and puts it behind those that were
-/// gathered, with what is seen of it; else why it isn't.
+/// gathered, with its facts; else why it isn't.
 fn gather(
     alloc: Global,
     edition: Edition,
@@ -93,8 +93,8 @@ fn gather(
         Err(error) => return Ok(Some(unread(error)?)),
     };
     match take(alloc, edition, state, &event)? {
-        Ok(seen) => {
-            gathered.push(event, seen)?;
+        Ok(facts) => {
+            gathered.push(event, facts)?;
             Ok(None)
         }
         Err(rule) => Ok(Some(Refusal::Broken(rule))),

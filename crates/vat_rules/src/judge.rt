@@ -3,7 +3,7 @@
 ghost use Rattle.std.specs.Prelude.{◌≡◌, Decides, IfOk, MatchOption};
 ghost use Rattle.vat_rules.specs.Rules.{Meets, rules};
 ghost use Rattle.vat_rules.specs.Judged.{IsGoodBy, BreaksFirst};
-ghost use Rattle.vat_rules.specs.Glue.Facts.{sight_before};
+ghost use Rattle.vat_rules.specs.Glue.Facts.{facts_before};
 
 use crate::asked::asked;
 use crate::facts::plain::PlainFacts;
@@ -26,7 +26,7 @@ fn meets(
     event: &DecodedRecord,
     facts: &PlainFacts,
 ) -> Result<bool, AllocError>
-    requires { facts.now ≡ sight_before state.now event.now }
+    requires { facts.now ≡ facts_before state.now event.now }
     ensures { IfOk result (λ met. Decides met (Meets edition rule state.now event.now)) }
 {
     match rule {
@@ -57,7 +57,7 @@ pub(crate) fn rule_broken(
     event: &DecodedRecord,
     facts: &PlainFacts,
 ) -> Result<Option<Rule>, AllocError>
-    requires { facts.now ≡ sight_before state.now event.now }
+    requires { facts.now ≡ facts_before state.now event.now }
     ensures { IfOk result (λ r.
         MatchOption r (IsGoodBy edition state.now event.now)
         (λ rule. BreaksFirst edition rules state.now event.now rule)) }

@@ -9,7 +9,7 @@ ghost use Rattle.vat_view.specs.Borrowed.{as_view};
 ghost use Rattle.vat_view.specs.Views.{places, references, placed_references, view_of_reference, views_of_descriptors};
 ghost use Rattle.vat_rules.specs.Ways.{EndsIn};
 ghost use Rattle.vat_rules.specs.OfCaps.{is_sent, is_received, is_light_return, is_cap_at, is_hosted, is_hosted_end, NotesView, Describes, BindsEach};
-ghost use Rattle.vat_rules.specs.Glue.Facts.{view_at, sight_before};
+ghost use Rattle.vat_rules.specs.Glue.Facts.{view_at, facts_before};
 
 use crate::facts::plain::PlainFacts;
 use crate::leads::leads_to;
@@ -224,7 +224,7 @@ pub(crate) fn describes(
     event: &DecodedRecord,
     facts: &PlainFacts,
 ) -> Result<bool, AllocError>
-    requires { facts.now ≡ sight_before state.now event.now }
+    requires { facts.now ≡ facts_before state.now event.now }
     ensures { IfOk result (λ b. Decides b (Describes state.now event.now)) }
 {
     let sent = is_sent(event);

@@ -6,7 +6,7 @@ ghost use Rattle.vat_view.specs.Numbers.{id_of};
 ghost use Rattle.vat_view.specs.Lives.{descriptors, is_in_life};
 ghost use Rattle.std.specs.Option.{option_copied};
 ghost use Rattle.vat_view.specs.Views.{view_of_reference, view_of_descriptor, views_of_descriptors};
-ghost use Rattle.vat_rules.specs.Telling.{seen_promise};
+ghost use Rattle.vat_rules.specs.Telling.{promise_view};
 ghost use Rattle.vat_rules.specs.Ways.{LeadsOnTo};
 ghost use Rattle.vat_rules.specs.OfCaps.{is_cap_at};
 ghost use Rattle.vat_rules.specs.OfPromises.{IsUnkept, KeepsVow, is_unresolved, ResolvesPromise};
@@ -81,10 +81,10 @@ fn resolves_to(
 pub(crate) fn resolves_promise(
     state: &VatState,
     event: &DecodedRecord,
-    seen: Option<&View>,
+    view: Option<&View>,
     caps: &[Option<View>],
 ) -> bool
-    requires promise { option_copied seen ≡ seen_promise state.now event.now }
+    requires promise { option_copied view ≡ promise_view state.now event.now }
     requires caps { caps.now ≡ views_of_descriptors state.now event.now }
     ensures { Decides result (ResolvesPromise state.now event.now) }
 {
@@ -99,7 +99,7 @@ pub(crate) fn resolves_promise(
     };
     if *sent {
         is_unresolved(state, *connection, Number::Export(*promise))
-            && resolves_to(state, event, seen, caps)
+            && resolves_to(state, event, view, caps)
     } else {
         is_gone(state, *connection, *promise)
             || is_unresolved(state, *connection, Number::Import(*promise))

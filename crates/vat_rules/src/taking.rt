@@ -5,8 +5,8 @@ ghost use Rattle.vat_view.specs.Past.{Past};
 ghost use Rattle.vat_view.specs.Sound.{IsSound};
 ghost use Rattle.vat_rules.specs.Rules.{rules};
 ghost use Rattle.vat_rules.specs.Judged.{IsGoodBy, BreaksFirst};
-ghost use Rattle.vat_rules.specs.Telling.{seen_of};
-ghost use Rattle.vat_rules.specs.Glue.Facts.{sight_before};
+ghost use Rattle.vat_rules.specs.Telling.{facts_of};
+ghost use Rattle.vat_rules.specs.Glue.Facts.{facts_before};
 ghost use Rattle.vat_rules.specs.Glue.Taking.{IsTaken};
 
 use crate::facts::compact::RecordFacts;
@@ -57,21 +57,21 @@ pub(crate) fn apply_if_good(
     }
 }
 
-/// What is seen of a record, by the state that it was applied to last and what its numbers stood for before.
+/// The facts of a record, by the state that it was applied to last and what its numbers stood for before.
 fn facts_of(
     alloc: Global,
     state: &VatState,
     event: &DecodedRecord,
     facts: PlainFacts,
 ) -> Result<RecordFacts, AllocError>
-    ensures { (before : Past) → state.now ≡ event.now ∷ before → facts ≡ sight_before before event.now
-        → IfOk result (λ seen. seen ≡ seen_of before event.now) }
+    ensures { (before : Past) → state.now ≡ event.now ∷ before → facts ≡ facts_before before event.now
+        → IfOk result (λ facts. facts ≡ facts_of before event.now) }
 {
     let references = views_of_references(alloc, state, event)?;
     RecordFacts::new(alloc, references, facts)
 }
 
-/// Judges a record by an edition, and applies it if it is good, and says what is seen of it; else the first rule that it
+/// Judges a record by an edition, and applies it if it is good, and gives its facts; else the first rule that it
 /// breaks.
 pub(crate) fn take(
     alloc: Global,

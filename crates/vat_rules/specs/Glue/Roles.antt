@@ -1,7 +1,7 @@
 -- For the code's contracts, and no part of the meaning: what a record's numbers stand for, by the roles of the numbers.
 use Rattle.std.specs.Prelude.{List, [], Bool, Option, Some, None}
 use Rattle.vat_rules.specs.Types.{View}
-use Rattle.vat_rules.specs.LogFacts.{Sight}
+use Rattle.vat_rules.specs.LogFacts.{Facts}
 use Rattle.vat_rules.specs.declared.facts.role.Role.{Role}
 use Rattle.vat_rules.specs.declared.facts.role.Role.TheVariants as role
 
@@ -16,8 +16,8 @@ view_in_role (Some _) wanted = None
 
 -- one number in a role or none, the question whose results are taken, descriptors, and whether it is late, of a record
 -- whose references aren't looked up yet
-abbrev pub sight_by : Option (Role × View) → Option View → List (Option View) → Bool → Sight
-sight_by number taken caps late = record {
+abbrev pub facts_by : Option (Role × View) → Option View → List (Option View) → Bool → Facts
+facts_by number taken caps late = record {
   references = [];
   question = view_in_role number role.Question;
   taken = taken;

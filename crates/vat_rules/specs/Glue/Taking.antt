@@ -6,18 +6,18 @@ use Rattle.vat_rules.specs.Types.{Edition, DecodedRecord}
 use Rattle.vat_rules.specs.Rules.{rules}
 use Rattle.vat_rules.specs.Events.{Reader, event_of}
 use Rattle.vat_rules.specs.Judged.{IsGoodBy, BreaksFirst}
-use Rattle.vat_rules.specs.LogFacts.{Sight, Entry}
-use Rattle.vat_rules.specs.Telling.{seen_of, entry_of, is_delivery}
+use Rattle.vat_rules.specs.LogFacts.{Facts, Entry}
+use Rattle.vat_rules.specs.Telling.{facts_of, entry_of, is_delivery}
 use Rattle.vat_rules.specs.declared.outcome.Outcome.{Outcome}
 use Rattle.vat_rules.specs.declared.outcome.Outcome.TheVariants as outcome
 use Rattle.vat_rules.specs.declared.taking.Refusal.{Refusal}
 use Rattle.vat_rules.specs.declared.taking.Refusal.TheVariants.{Outside, Broken}
 
--- a record is good, and was put behind those before it, and this is seen of it
-pub record IsTaken (edition : Edition) (before : Past) (e : DecodedRecord) (after : Past) (facts : Sight) : Type 0 where
+-- a record is good, and was put behind those before it, and these are its facts
+pub record IsTaken (edition : Edition) (before : Past) (e : DecodedRecord) (after : Past) (facts : Facts) : Type 0 where
   pub good : IsGoodBy edition before e
   pub state : after ≡ e ∷ before
-  pub seen : facts ≡ seen_of before e
+  pub known : facts ≡ facts_of before e
 
 -- a stored record is read as this one, which is good and was put behind those before it
 pub record IsPut (edition : Edition) (read : Reader) (before : Past) (b : Body) (after : Past) (e : DecodedRecord) : Type 0 where
@@ -25,7 +25,7 @@ pub record IsPut (edition : Edition) (read : Reader) (before : Past) (b : Body) 
   pub good : IsGoodBy edition before e
   pub state : after ≡ e ∷ before
 
--- and behind those that were gathered, with what is seen of it
+-- and behind those that were gathered, with its facts
 abbrev pub IsGathered : Edition → Reader → Past → Body → Past → List Entry → List Entry → Type 0
 IsGathered edition read before b after gathered longer =
     (e : DecodedRecord) × IsPut edition read before b after e × (longer ≡ gathered ++ entry_of before e ∷ [])

@@ -1,9 +1,9 @@
-//! How what is seen of a record is kept, in little room.
+//! How the facts of a record are kept, in little room.
 
 ghost use Rattle.std.specs.Prelude.{◌≡◌, [], Some, None, IfOk};
 ghost use Rattle.std.specs.Option.{option_copied};
 ghost use Rattle.vat_rules.specs.Glue.Facts.{with_references};
-ghost use Rattle.vat_rules.specs.Glue.Compact.{in_role, lists_of, sight_in, sight_of};
+ghost use Rattle.vat_rules.specs.Glue.Compact.{in_role, lists_of, facts_in, facts_kept};
 
 use crate::facts::alike::are_one;
 use crate::facts::plain::PlainFacts;
@@ -31,14 +31,14 @@ enum Shape {
     Listed(Lists),
 }
 
-/// All that is seen of a record.
+/// All facts of a record.
 #[derive(Drop)]
 struct Parts {
     references: ViewList,
     facts: PlainFacts,
 }
 
-/// What is seen of a record, kept in little room: most records have one number at most, or a reference and a descriptor
+/// The facts of a record, kept in little room: most records have one number at most, or a reference and a descriptor
 /// that stand for the same. Here a number in a role is one that is neither a reference nor a descriptor.
 #[derive(Drop)]
 enum Compact {
@@ -71,12 +71,12 @@ pub struct RecordFacts {
 }
 
 impl Model for RecordFacts {
-    ghost use Rattle.vat_rules.specs.LogFacts.{Sight};
-    ghost use Rattle.vat_rules.specs.Glue.Compact.{sight_of};
+    ghost use Rattle.vat_rules.specs.LogFacts.{Facts};
+    ghost use Rattle.vat_rules.specs.Glue.Compact.{facts_kept};
 
-    ghost Value = { Sight };
+    ghost Value = { Facts };
 
-    ghost view = { λ seen. sight_of seen.kept };
+    ghost view = { λ facts. facts_kept facts.kept };
 }
 
 impl Debug for RecordFacts {
@@ -113,7 +113,7 @@ fn shape_of(lists: Lists) -> Shape
 
 /// What is kept of references alone.
 fn kept_references(references: ViewList) -> Compact
-    ensures { sight_of result ≡ sight_in None references [] }
+    ensures { facts_kept result ≡ facts_in None references [] }
 {
     if references.is_empty() {
         return Compact::Nothing;
@@ -126,7 +126,7 @@ fn kept_references(references: ViewList) -> Compact
 
 /// What is kept of a record without a number in a role.
 fn kept_lists(alloc: Global, lists: Lists) -> Result<Compact, AllocError>
-    ensures { IfOk result (λ kept. sight_of kept ≡ sight_in None lists.references lists.caps) }
+    ensures { IfOk result (λ kept. facts_kept kept ≡ facts_in None lists.references lists.caps) }
 {
     if lists.caps.is_empty() {
         return Ok(kept_references(lists.references));
@@ -140,7 +140,7 @@ fn kept_lists(alloc: Global, lists: Lists) -> Result<Compact, AllocError>
 /// What is kept of a record with one number in a role.
 fn kept_with(alloc: Global, number: (Role, View), lists: Lists) -> Result<Compact, AllocError>
     ensures { IfOk result
-        (λ kept. sight_of kept ≡ sight_in (Some number) lists.references lists.caps) }
+        (λ kept. facts_kept kept ≡ facts_in (Some number) lists.references lists.caps) }
 {
     let (role, view) = number;
     if lists.references.is_empty() && lists.caps.is_empty() {
@@ -159,7 +159,7 @@ fn kept_parts(
     lists: Lists,
 ) -> Result<Compact, AllocError>
     ensures { IfOk result
-        (λ kept. sight_of kept ≡ sight_in number lists.references lists.caps) }
+        (λ kept. facts_kept kept ≡ facts_in number lists.references lists.caps) }
 {
     match number {
         Some(number) => kept_with(alloc, number, lists),
@@ -174,7 +174,7 @@ impl RecordFacts {
         references: ViewList,
         facts: PlainFacts,
     ) -> Result<RecordFacts, AllocError>
-        ensures { IfOk result (λ seen. seen ≡ with_references references facts) }
+        ensures { IfOk result (λ kept. kept ≡ with_references references facts) }
     {
         let kept = match facts.number_and_caps() {
             Ok((number, caps)) => kept_parts(alloc, number, Lists { references, caps })?,

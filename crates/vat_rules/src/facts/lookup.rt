@@ -3,8 +3,8 @@
 ghost use Rattle.std.specs.Prelude.{◌≡◌, ◌++◌, [], map, option_and_then, IfOk};
 ghost use Rattle.vat_view.specs.Bindings.{new_references, named_references};
 ghost use Rattle.vat_view.specs.Views.{field_view, view_of_number, view_of_reference, view_of_target, views_of_descriptors};
-ghost use Rattle.vat_rules.specs.Telling.{seen_question, seen_taken, seen_promise, seen_released};
-ghost use Rattle.vat_rules.specs.Glue.Facts.{sight_before};
+ghost use Rattle.vat_rules.specs.Telling.{question_view, taken_view, promise_view, released_view};
+ghost use Rattle.vat_rules.specs.Glue.Facts.{facts_before};
 ghost use Rattle.vat_rules.specs.Glue.Roles.{view_in_role};
 ghost use Rattle.vat_rules.specs.declared.facts.role.Role.TheVariants.{Question, Promise, Target, Released};
 
@@ -57,24 +57,24 @@ fn view_of_number(state: &VatState, number: Option<TableKey>) -> Result<Option<V
 }
 
 /// What the question stands for that a record returns or finishes.
-fn seen_question(
+fn question_view(
     alloc: Global,
     state: &VatState,
     event: &DecodedRecord,
 ) -> Result<Option<View>, AllocError>
-    ensures { IfOk result (λ v. v ≡ seen_question state.now event.now) }
+    ensures { IfOk result (λ v. v ≡ question_view state.now event.now) }
 {
     let question = event.question_returned().or(event.question_finished());
     view_of_named(alloc, state, question)
 }
 
 /// What the question stands for whose results a record takes.
-fn seen_taken(
+fn taken_view(
     alloc: Global,
     state: &VatState,
     event: &DecodedRecord,
 ) -> Result<Option<View>, AllocError>
-    ensures { IfOk result (λ v. v ≡ seen_taken state.now event.now) }
+    ensures { IfOk result (λ v. v ≡ taken_view state.now event.now) }
 {
     view_of_named(alloc, state, event.question_taken())
 }
@@ -101,13 +101,13 @@ fn number_in_role(
     event: &DecodedRecord,
 ) -> Result<Option<(Role, View)>, AllocError>
     ensures question { IfOk result
-        (λ n. view_in_role n Question ≡ seen_question state.now event.now) }
+        (λ n. view_in_role n Question ≡ question_view state.now event.now) }
     ensures promise { IfOk result
-        (λ n. view_in_role n Promise ≡ seen_promise state.now event.now) }
+        (λ n. view_in_role n Promise ≡ promise_view state.now event.now) }
     ensures target { IfOk result
         (λ n. view_in_role n Target ≡ view_of_target state.now event.now) }
     ensures released { IfOk result
-        (λ n. view_in_role n Released ≡ seen_released state.now event.now) }
+        (λ n. view_in_role n Released ≡ released_view state.now event.now) }
 {
     let DecodedRecord::Wire { message, .. } = event else {
         return Ok(None);
@@ -117,13 +117,19 @@ fn number_in_role(
             (Role::Target, state.view_of_target(event)?)
         }
         RpcMessage::Return { .. } | RpcMessage::Finish { .. } => {
-            (Role::Question, seen_question(alloc, state, event)?)
+            (Role::Question, question_view(alloc, state, event)?)
         }
         RpcMessage::Resolve { .. } => {
-            (Role::Promise, view_of_number(state, event.promise_resolved())?)
+            (
+                Role::Promise,
+                view_of_number(state, event.promise_resolved())?,
+            )
         }
         RpcMessage::Release { .. } => {
-            (Role::Released, view_of_number(state, event.number_released())?)
+            (
+                Role::Released,
+                view_of_number(state, event.number_released())?,
+            )
         }
         _ => return Ok(None),
     };
@@ -139,13 +145,13 @@ pub(crate) fn facts_before(
     state: &VatState,
     event: &DecodedRecord,
 ) -> Result<PlainFacts, AllocError>
-    ensures { IfOk result (λ facts. facts ≡ sight_before state.now event.now) }
+    ensures { IfOk result (λ facts. facts ≡ facts_before state.now event.now) }
 {
     let DecodedRecord::Wire { .. } = event else {
         return Ok(PlainFacts::nothing(alloc));
     };
     let number = number_in_role(alloc, state, event)?;
-    let taken = seen_taken(alloc, state, event)?;
+    let taken = taken_view(alloc, state, event)?;
     let caps = views_of_descriptors(alloc, state, event)?;
     Ok(PlainFacts::new(number, taken, caps, state.is_late(event)))
 }

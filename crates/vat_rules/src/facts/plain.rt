@@ -2,7 +2,7 @@
 
 ghost use Rattle.std.specs.Prelude.{◌≡◌, [], false, None, IfOk, IfErr};
 ghost use Rattle.std.specs.Option.{option_copied};
-ghost use Rattle.vat_rules.specs.Glue.Roles.{sight_by};
+ghost use Rattle.vat_rules.specs.Glue.Roles.{facts_by};
 ghost use Rattle.vat_rules.specs.Glue.Compact.{in_role};
 
 use crate::facts::role::{Role, view_in_role};
@@ -26,12 +26,12 @@ pub(crate) struct PlainFacts {
 }
 
 impl Model for PlainFacts {
-    ghost use Rattle.vat_rules.specs.LogFacts.{Sight};
-    ghost use Rattle.vat_rules.specs.Glue.Roles.{sight_by};
+    ghost use Rattle.vat_rules.specs.LogFacts.{Facts};
+    ghost use Rattle.vat_rules.specs.Glue.Roles.{facts_by};
 
-    ghost Value = { Sight };
+    ghost Value = { Facts };
 
-    ghost view = { λ facts. sight_by facts.number facts.taken facts.caps facts.late };
+    ghost view = { λ facts. facts_by facts.number facts.taken facts.caps facts.late };
 }
 
 impl PlainFacts {
@@ -42,7 +42,7 @@ impl PlainFacts {
         caps: ViewList,
         late: bool,
     ) -> PlainFacts
-        ensures { result ≡ sight_by number taken caps late }
+        ensures { result ≡ facts_by number taken caps late }
     {
         PlainFacts {
             number,
@@ -54,7 +54,7 @@ impl PlainFacts {
 
     /// Of a record that has no numbers apart from its references. It takes no memory.
     pub(crate) fn nothing(alloc: Global) -> PlainFacts
-        ensures { result ≡ sight_by None None [] false }
+        ensures { result ≡ facts_by None None [] false }
     {
         PlainFacts {
             number: None,
@@ -112,7 +112,7 @@ impl PlainFacts {
     /// The number in a role and the descriptors; or else all of it, where the record is a Return that is late or takes
     /// results.
     pub(crate) fn number_and_caps(self) -> Result<(Option<(Role, View)>, ViewList), PlainFacts>
-        ensures parts { IfOk result (λ parts. self ≡ sight_by parts.0 None parts.1 false) }
+        ensures parts { IfOk result (λ parts. self ≡ facts_by parts.0 None parts.1 false) }
         ensures all { IfErr result (λ all. all ≡ self) }
     {
         let PlainFacts {

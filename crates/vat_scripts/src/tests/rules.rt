@@ -38,7 +38,7 @@ fn is_told_at(at: usize, event: &DecodedRecord, seen: &RecordFacts) -> bool {
 
 /// Whether all eight records are told.
 fn are_told(story: &Story) -> bool {
-    for (at, (event, seen)) in story.events().iter().zip(story.seen()).enumerate() {
+    for (at, (event, seen)) in story.events().iter().zip(story.facts()).enumerate() {
         if !is_told_at(at, event, seen) {
             return false;
         }
@@ -68,13 +68,13 @@ const RESOLVED: &str = "S0 c1 boot q0; R0 r1 ret q0 senderPromise 0@[]; \
 /// Whether a story of three records tells what a promise is that is resolved: what the first descriptor of record 1
 /// brought.
 fn is_promise_told(story: &Story) -> bool {
-    for (at, seen) in story.seen().iter().enumerate() {
+    for (at, seen) in story.facts().iter().enumerate() {
         let brought = matches!(seen.promise(), Some(View::Import(1, 0)));
         if (seen.promise().is_some(), brought) != (at == 2, at == 2) {
             return false;
         }
     }
-    story.seen().len() == 3
+    story.facts().len() == 3
 }
 
 /// Whether the audit tells so.

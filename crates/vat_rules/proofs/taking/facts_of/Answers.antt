@@ -11,6 +11,6 @@ if_ok (Err e) so p = tt
 
 pub returns : goal.returns
 returns c = λ before applied known. if_ok c.new.result
-    (λ seen is. is
+    (λ facts is. is
     ∙ ap₂ (λ rs s. with_references rs s)
     (c.in_ok-references.ensures ∙ ap (λ p. map (view_of_reference p) (new_references c.args.event.now ++ named_references c.args.event.now)) applied) known) c.new.ensures

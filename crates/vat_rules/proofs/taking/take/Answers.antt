@@ -8,7 +8,7 @@ pub returns-in_ok-facts_of-in-None : goal.returns-in_ok-facts_of-in-None
 returns-in_ok-facts_of-in-None c = record {
   good = rw c.in-None.is at c.in_ok-rule_broken.ensures;
   state = c.in_ok-apply_good-in-None.ensures;
-  seen = c.in_ok-facts_of-in-None.ensures c.args.state.now c.in_ok-apply_good-in-None.ensures c.in_ok-facts.ensures;
+  known = c.in_ok-facts_of-in-None.ensures c.args.state.now c.in_ok-apply_good-in-None.ensures c.in_ok-facts.ensures;
 }
 
 pub returns-in-Some : goal.returns-in-Some

@@ -1,23 +1,23 @@
--- What a record says by what was seen of it is what it says by the records before it.
+-- What a record says by its facts is what it says by the records before it.
 use Rattle.std.proofs.Common.{◌≡◌, refl, sym, ◌∙◌, ap, ap₂, ℕ, ◌+◌, List, [], ◌∷◌, ◌++◌, length, map, Bool, true, false, Option, Some, None, option_and_then, option_map, append_assoc, length-append}
 use Rattle.vat_view.specs.Past.{Past, id}
 use Rattle.vat_view.specs.Lives.{descriptors}
 use Rattle.vat_view.specs.Questions.{is_late, call_of}
 use Rattle.vat_view.specs.Views.{view_of_reference, descriptor_view}
 use Rattle.vat_rules.specs.OfCaps.{is_received}
-use Rattle.vat_rules.specs.Telling.{seen_of, seen_question, seen_taken}
+use Rattle.vat_rules.specs.Telling.{facts_of, question_view, taken_view}
 use Rattle.call_trace.specs.Types.{Descriptor, NoCap, SenderHosted, SenderPromise, ReceiverHosted, ReceiverAnswer, Outcome, Results, Exception, Canceled, Elsewhere, TakeFrom, RpcMessage, Bootstrap, Call, Return, Finish, Resolve, Release, Disembargo, Abort, DecodedRecord, Host, Vow, Fulfil, Break, Make, Field, Deliver, Answer, AnswerBy, Fault, Wire, View, FieldOf}
 use Rattle.call_trace.specs.Naming.{Naming}
 use Rattle.call_trace.specs.Said.{all_there, descriptor_named, caps_named, call_answered, say_call, say_return, say_taken, say_resolve, message_of_record}
 use Rattle.call_trace.specs.Part.{result_named, step_said}
-use Rattle.call_trace.specs.Glue.Ledgers.{seen_at, cap_said, caps_from, caps_said, call_of_question, answered_in, sent_said, results_from, step_by}
+use Rattle.call_trace.specs.Glue.Ledgers.{view_at, cap_said, caps_from, caps_said, call_of_question, answered_in, sent_said, results_from, step_by}
 use Rattle.run_model.specs.declared.message.Message.TheVariants as message
 use Rattle.run_model.specs.declared.step.Step.TheVariants as step
 
 -- the first behind some
-seen_behind : (before : List (Option View)) (view : Option View) (rest : List (Option View)) → seen_at (before ++ view ∷ rest) (length before) ≡ view
-seen_behind [] view rest = refl
-seen_behind (x ∷ before) view rest = seen_behind before view rest
+view_behind : (before : List (Option View)) (view : Option View) (rest : List (Option View)) → view_at (before ++ view ∷ rest) (length before) ≡ view
+view_behind [] view rest = refl
+view_behind (x ∷ before) view rest = view_behind before view rest
 
 -- ---- descriptors
 
@@ -36,7 +36,7 @@ caps_as names es e before (d ∷ ds) =
     let views = map (descriptor_view (view_of_reference es) es e) ds in
     let one : (before ++ view ∷ []) ++ views ≡ before ++ view ∷ views = append_assoc before (view ∷ []) views in
     let long : length (before ++ view ∷ []) ≡ length before + 1 = length-append before (view ∷ []) in
-    ap₂ (λ c cs. c ∷ cs) (ap (cap_said names d) (seen_behind before view views) ∙ cap_as names es e d)
+    ap₂ (λ c cs. c ∷ cs) (ap (cap_said names d) (view_behind before view views) ∙ cap_as names es e d)
     (ap₂ (λ all place. caps_from names all place ds) (sym one) (sym long) ∙ caps_as names es e (before ++ view ∷ []) ds)
 
 caps_are : (names : Naming) (es : Past) (e : DecodedRecord) → caps_said names (map (descriptor_view (view_of_reference es) es e) (descriptors e)) (descriptors e) ≡ caps_named names es e
@@ -52,7 +52,7 @@ results_as names es before (r ∷ rs) =
     let views = map (view_of_reference es) (map (λ r. r.0) rs) in
     let one : (before ++ view ∷ []) ++ views ≡ before ++ view ∷ views = append_assoc before (view ∷ []) views in
     let long : length (before ++ view ∷ []) ≡ length before + 1 = length-append before (view ∷ []) in
-    ap₂ (λ c cs. c ∷ cs) (ap (λ o. option_map (λ c. (r.1, c)) (option_and_then names.cap o)) (seen_behind before view views))
+    ap₂ (λ c cs. c ∷ cs) (ap (λ o. option_map (λ c. (r.1, c)) (option_and_then names.cap o)) (view_behind before view views))
     (ap₂ (λ all place. results_from names all place rs) (sym one) (sym long) ∙ results_as names es (before ++ view ∷ []) rs)
 
 -- ---- questions
@@ -62,21 +62,21 @@ called_field None = refl
 called_field (Some c) = refl
 
 question_as : (names : Naming) (es : Past) (k c : ℕ) (references : List ℕ) (q : ℕ) (release : Bool) (outcome : Outcome) (light : Bool) →
-    answered_in names.call (seen_question es (Wire true k c references (Return q release outcome light))) ≡ call_answered names es k true q
+    answered_in names.call (question_view es (Wire true k c references (Return q release outcome light))) ≡ call_answered names es k true q
 question_as names es k c references q release outcome light = ap (option_and_then names.call) (called_field (call_of (id k false q) es))
 
 taken_as : (names : Naming) (es : Past) (k c : ℕ) (references : List ℕ) (q : ℕ) (release : Bool) (n : ℕ) (light : Bool) →
-    answered_in names.call (seen_taken es (Wire true k c references (Return q release (TakeFrom n) light))) ≡ option_and_then names.call (call_of (id k true n) es)
+    answered_in names.call (taken_view es (Wire true k c references (Return q release (TakeFrom n) light))) ≡ option_and_then names.call (call_of (id k true n) es)
 taken_as names es k c references q release n light = ap (option_and_then names.call) (called_field (call_of (id k true n) es))
 
 -- ---- messages
 
 sent_as : (names : Naming) (es : Past) (k c : ℕ) (references : List ℕ) (m : RpcMessage) → let e = Wire true k c references m in
-    sent_said names (seen_of es e) c m ≡ message_of_record names es e
+    sent_said names (facts_of es e) c m ≡ message_of_record names es e
 sent_as names es k c references (Bootstrap q) = refl
 sent_as names es k c references (Call q target interface method params yourself) =
     let e = Wire true k c references (Call q target interface method params yourself) in
-    ap (λ caps. say_call interface method caps (names.call c) (option_and_then names.cap (seen_of es e).target)) (caps_are names es e)
+    ap (λ caps. say_call interface method caps (names.call c) (option_and_then names.cap (facts_of es e).target)) (caps_are names es e)
 sent_as names es k c references (Return q release (Results payload) light) =
     let e = Wire true k c references (Return q release (Results payload) light) in
     ap₂ (λ o caps. option_and_then (λ name. say_return (is_late es e) payload.fields name caps) o) (question_as names es k c references q release (Results payload) light) (caps_are names es e)
@@ -88,7 +88,7 @@ sent_as names es k c references (Return q release (TakeFrom n) light) =
     ap₂ (λ by o. option_and_then (λ name. say_taken (is_late es e) name by) o) (taken_as names es k c references q release n light) (question_as names es k c references q release (TakeFrom n) light)
 sent_as names es k c references (Resolve n resolution) =
     let e = Wire true k c references (Resolve n resolution) in
-    ap (λ caps. option_and_then (λ promise. option_map (say_resolve promise) caps) (option_and_then names.cap (seen_of es e).promise)) (caps_are names es e)
+    ap (λ caps. option_and_then (λ promise. option_map (say_resolve promise) caps) (option_and_then names.cap (facts_of es e).promise)) (caps_are names es e)
 sent_as names es k c references (Finish q release) = refl
 sent_as names es k c references (Release n count) = refl
 sent_as names es k c references (Disembargo n loopback target) = refl
@@ -96,7 +96,7 @@ sent_as names es k c references Abort = refl
 
 -- ---- steps
 
-pub step_as : (names : Naming) (es : Past) (e : DecodedRecord) → is_received e ≡ false → step_by names (seen_of es e) e ≡ step_said names es e
+pub step_as : (names : Naming) (es : Past) (e : DecodedRecord) → is_received e ≡ false → step_by names (facts_of es e) e ≡ step_said names es e
 step_as names es (Host r object) own = refl
 step_as names es (Vow r) own = refl
 step_as names es (Fulfil r to) own = refl

@@ -6,7 +6,7 @@ ghost use Rattle.vat_rules.specs.Judged.{IsGoodBy, BreaksFirst};
 ghost use Rattle.vat_rules.specs.Glue.Facts.{facts_before};
 
 use crate::asked::asked;
-use crate::facts::plain::PlainFacts;
+use crate::facts::plain_facts::PlainFacts;
 use crate::of_calls::{goes_to_goal, is_here, may_answer};
 use crate::of_caps::{binds_each, describes};
 use crate::of_connections::{is_open, keeps_embargo};

@@ -11,7 +11,7 @@ ghost use Rattle.vat_rules.specs.Ways.{EndsIn};
 ghost use Rattle.vat_rules.specs.OfCaps.{is_sent, is_received, is_light_return, is_cap_at, is_hosted, is_hosted_end, NotesView, Describes, BindsEach};
 ghost use Rattle.vat_rules.specs.Glue.Facts.{view_at, facts_before};
 
-use crate::facts::plain::PlainFacts;
+use crate::facts::plain_facts::PlainFacts;
 use crate::leads::leads_to;
 use rpc_view::{Descriptor, RpcMessage};
 use std::alloc::{AllocError, Global};

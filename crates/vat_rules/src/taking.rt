@@ -11,7 +11,7 @@ ghost use Rattle.vat_rules.specs.Glue.Taking.{IsTaken};
 
 use crate::facts::compact::RecordFacts;
 use crate::facts::lookup::{facts_before, views_of_references};
-use crate::facts::plain::PlainFacts;
+use crate::facts::plain_facts::PlainFacts;
 use crate::judge::rule_broken;
 use crate::outcome::Why;
 use crate::rule::Rule;

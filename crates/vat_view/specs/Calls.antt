@@ -1,14 +1,14 @@
 -- Calls at the vat, what they ask for, and what is known of their results (rpc.capnp, the comments of Call and
 -- Return).
 use Rattle.std.specs.Prelude.{ℕ, ◌==◌, Bool, true, false, not, ◌&&◌, ◌||◌, Option, Some, None, if◌then◌else◌, option_and_then, unwrap_or, is_some}
-use Rattle.vat_view.specs.Types.{Bootstrap, Call, Return, Finish, Resolve, Release, Disembargo, Abort, Results, Exception, Canceled, Elsewhere, TakeFrom, DecodedRecord, Host, Vow, Fulfil, Break, Make, Field, Deliver, Answer, AnswerBy, Fault, Wire, View, Asked}
+use Rattle.vat_view.specs.Types.{Bootstrap, Call, Return, Finish, Resolve, Release, Disembargo, Abort, Results, Exception, Canceled, Elsewhere, TakeFrom, DecodedRecord, Host, Vow, Fulfil, Break, Make, Field, Deliver, Answer, AnswerBy, Fault, Wire, View, Request}
 use Rattle.vat_view.specs.Past.{Past, id, is, last_answer, last_where}
 use Rattle.vat_view.specs.Questions.{call_at, call_of, opening, is_late}
 use Rattle.vat_view.specs.Views.{view_of_reference, view_of_target}
 
 -- MAKE brings a call to the vat, its goal the view of the reference; so does a received Call, its goal what the
 -- target stands for. A Bootstrap's call is never at a vat
-abbrev pub brings : ℕ → Past → DecodedRecord → Option Asked
+abbrev pub brings : ℕ → Past → DecodedRecord → Option Request
 brings call before (Make c r interface method) =
     if c == call then Some record { goal = view_of_reference before r; interface = interface; method = method } else None
 brings call before (Wire false k c rs (Call q target interface method params yourself)) =
@@ -17,7 +17,7 @@ brings call before (Wire false k c rs (Call q target interface method params you
 brings call before _ = None
 
 -- what a call asked for when it came to the vat
-abbrev pub request_of : ℕ → Past → Option Asked
+abbrev pub request_of : ℕ → Past → Option Request
 request_of call past = last_answer (brings call) past
 
 -- a call's goal

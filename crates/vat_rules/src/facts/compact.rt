@@ -6,7 +6,7 @@ ghost use Rattle.vat_rules.specs.Glue.Facts.{with_references};
 ghost use Rattle.vat_rules.specs.Glue.Compact.{in_role, lists_of, facts_in, facts_kept};
 
 use crate::facts::alike::are_one;
-use crate::facts::plain::PlainFacts;
+use crate::facts::plain_facts::PlainFacts;
 use crate::facts::role::{Role, view_in_role};
 use crate::facts::view_list::ViewList;
 use std::alloc::{AllocError, Global};

@@ -8,7 +8,7 @@ ghost use Rattle.vat_rules.specs.Glue.Facts.{facts_before};
 ghost use Rattle.vat_rules.specs.Glue.Roles.{view_in_role};
 ghost use Rattle.vat_rules.specs.declared.facts.role.Role.TheVariants.{Question, Promise, Target, Released};
 
-use crate::facts::plain::PlainFacts;
+use crate::facts::plain_facts::PlainFacts;
 use crate::facts::role::Role;
 use crate::facts::view_list::ViewList;
 use cap_frame::Path;

@@ -6,12 +6,12 @@ ghost use Rattle.vat_view.specs.Glue.Asking.{opening_call_in, taken_from_by};
 ghost use Rattle.vat_view.specs.Glue.CallTables.{arriving_call, bootstrap_call, begins_call, begun_by, moved, sent_step, received_step, step_by};
 
 use crate::apply::tables::is_late;
-use crate::asked::Asked;
 use crate::lookups::meaning::view_of_reference;
 use crate::lookups::settling::taken_from_by;
 use crate::lookups::table_answers::{opening_call, view_of_target};
 use crate::record::decoded::DecodedRecord;
 use crate::record::table_key::TableKey;
+use crate::request::Request;
 use crate::tables::call_state::{CallChange, CallState};
 use crate::tables::exports_imports::ExportsImports;
 use crate::tables::questions::Questions;
@@ -24,7 +24,7 @@ use std::alloc::AllocError;
 fn arriving_call(goal: Option<View>, interface: u64, method: u16) -> CallState
     ensures { result ≡ arriving_call goal interface method }
 {
-    let asked = Asked {
+    let asked = Request {
         goal,
         interface,
         method,

@@ -3,7 +3,7 @@
 mod blocked;
 pub(crate) mod counting;
 mod deliveries;
-mod passing;
+mod passed_on;
 mod receiving;
 mod reference_names;
 mod sending;

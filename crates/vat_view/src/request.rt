@@ -4,7 +4,7 @@ use crate::view::View;
 
 /// Where a call is to go, and by which method (rpc.capnp, `Call.target`, `Call.interfaceId` and `Call.methodId`).
 #[derive(Debug, Drop)]
-pub struct Asked {
+pub struct Request {
     /// What it goes to: what the reference through which it was made, or the target with which it was received, stood
     /// for then; nothing where that stood for nothing.
     pub goal: Option<View>,

@@ -1,5 +1,5 @@
--- Bytes as they are printed, in printable ASCII alone, whatever they are: each program has its own words, and a terminal
--- takes some bytes as commands.
+-- Bytes as they are printed between quotation marks, in printable ASCII alone, whatever they are: a terminal takes some
+-- bytes as commands.
 use Rattle.std.specs.Prelude.{ℕ, Bool, ◌+◌, ◌/◌, ◌%◌, ◌==◌, ◌≤◌, List, [], ◌∷◌, All, nat_lt, nat_le, ◌&&◌, if◌then◌else◌}
 use Rattle.std.specs.List.{flat_map}
 
@@ -11,12 +11,14 @@ hexadecimal digit = if nat_lt digit 10 then 48 + digit else 87 + digit
 abbrev pub is_printable : ℕ → Bool
 is_printable byte = nat_le 32 byte && nat_le byte 126
 
--- A byte: itself where it is printable; a backslash as two; any other as \x and two hexadecimal digits.
+-- A byte: a quotation mark or a backslash behind a backslash; else itself where it is printable; else \x and two
+-- hexadecimal digits.
 abbrev pub byte_text : ℕ → List ℕ
 byte_text byte =
-    if byte == 92 then 92 ∷ 92 ∷ []
+    if byte == 34 then 92 ∷ 34 ∷ []
+    else (if byte == 92 then 92 ∷ 92 ∷ []
     else (if is_printable byte then byte ∷ []
-    else 92 ∷ 120 ∷ hexadecimal (byte / 16) ∷ hexadecimal (byte % 16) ∷ [])
+    else 92 ∷ 120 ∷ hexadecimal (byte / 16) ∷ hexadecimal (byte % 16) ∷ []))
 
 -- bytes one after another
 abbrev pub printed : List ℕ → List ℕ

@@ -1,6 +1,6 @@
 -- The reason that a message gives, by the layouts of rpc.capnp. An abort is an Exception; a Return and a Resolve have one
 -- where their union says so. What can't be read has no reason.
-use Rattle.std.specs.Prelude.{◌≡◌, ℕ, ◌==◌, List, take, Option, Some, None, Result, Ok, Err, if◌then◌else◌}
+use Rattle.std.specs.Prelude.{ℕ, ◌==◌, List, take, Option, Some, None, Result, Ok, Err, if◌then◌else◌}
 use Rattle.std.specs.Option.{option_map}
 use Rattle.cap_frame.specs.declared.frame_error.FrameError.{FrameError}
 use Rattle.cap_frame.specs.Segments.{segments_of}
@@ -30,14 +30,19 @@ told_in tag tree = do
   body ← root_in tree
   if tag body == 1 then exception_in (body_exception body) else done None
 
--- Message, a union by its tag: 1 abort, 3 return, 5 resolve; no other has an Exception
+-- the body behind Message's tag: 1 abort, 3 return, 5 resolve; no other has an Exception
+unfoldable pub body_reason_in : ℕ → Tree → Reading ReadError (Option (List ℕ))
+body_reason_in tag body =
+    if tag == 1 then exception_in body
+    else (if tag == 3 then told_in return_tag body
+    else (if tag == 5 then told_in resolve_tag body
+    else done None))
+
+-- Message, a union by its tag
 unfoldable pub reason_in : Tree → Reading ReadError (Option (List ℕ))
 reason_in tree = do
   message ← root_in tree
-  if message_tag message == 1 then exception_in (message_body message)
-      else (if message_tag message == 3 then told_in return_tag (message_body message)
-      else (if message_tag message == 5 then told_in resolve_tag (message_body message)
-      else done None))
+  body_reason_in (message_tag message) (message_body message)
 
 -- at most so many bytes of a reason are looked at
 abbrev pub longest : ℕ

@@ -7,8 +7,8 @@ ghost use Rattle.exception_reasons.specs.Printed.{byte_text, hexadecimal, is_pri
 use std::fmt;
 use std::fmt::{Display, Formatter};
 
-/// Bytes as they are printed, in printable ASCII alone: from the space to `~` as they are, a backslash as two, and any
-/// other byte as `\x` and two hexadecimal digits.
+/// Bytes as they are printed between quotation marks, in printable ASCII alone: a quotation mark and a backslash behind a
+/// backslash, others from the space to `~` as they are, and any other byte as `\x` and two hexadecimal digits.
 #[derive(Clone, Copy, Debug)]
 pub struct Printed<'a>(pub &'a [u8]);
 
@@ -35,6 +35,9 @@ fn prints(byte: u8) -> bool
 fn put_byte<W: fmt::Write>(f: &mut Formatter<W>, byte: u8) -> fmt::Result
     ensures { WritesOnOk W.write_str_gives f.old result (byte_text byte) f.new }
 {
+    if byte == b'"' {
+        return f.write_str("\\\"");
+    }
     if byte == b'\\' {
         return f.write_str("\\\\");
     }

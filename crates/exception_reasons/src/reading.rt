@@ -77,7 +77,7 @@ fn told(
 }
 
 /// Where the reason of a frame's message stands.
-#[tactic(auto, using(cap_reader::proofs::Running::run_then), unfolding(crate::specs::Reasons::reason_in, cap_reader::specs::Reading::pay_for, cap_reader::specs::Reading::and_then))]
+#[tactic(auto, using(cap_reader::proofs::Running::run_then), unfolding(crate::specs::Reasons::reason_in, crate::specs::Reasons::body_reason_in, cap_reader::specs::Reading::pay_for, cap_reader::specs::Reading::and_then))]
 fn reason_at(frame: &Frame, limits: &mut Limits) -> Result<Option<TextAt>, ReadError>
     ensures { Runs (λ found. option_map (text_at frame.now) found) result limits.new.words
         (run (reason_in (root_tree limits.old.depth frame.now)) limits.old.words) }

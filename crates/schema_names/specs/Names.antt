@@ -1,6 +1,6 @@
 -- The names of a CodeGeneratorRequest, which a schema compiler writes for its plugins: of each interface its number, its
 -- name and those of its methods. All other nodes are passed over.
-use Rattle.std.specs.Prelude.{◌≡◌, ℕ, ◌==◌, Bool, true, false, ◌&&◌, List, [], ◌∷◌, drop, Option, Some, None, Result, Ok, Err, nat_le, if◌then◌else◌}
+use Rattle.std.specs.Prelude.{ℕ, ◌==◌, Bool, ◌&&◌, List, [], ◌∷◌, length, drop, Option, Some, None, Result, Ok, Err, nat_lt, nat_le, if◌then◌else◌}
 use Rattle.std.specs.List.{list_all}
 use Rattle.cap_frame.specs.declared.frame_error.FrameError.{FrameError}
 use Rattle.cap_frame.specs.Segments.{segments_of}
@@ -19,15 +19,14 @@ use Rattle.schema_names.specs.Layouts.{request_nodes, node_id, node_display_name
 abbrev pub is_letter : ℕ → Bool
 is_letter byte = nat_le 33 byte && nat_le byte 126
 
--- A name has letters, and nothing else.
+-- a name has letters, and nothing else
 abbrev pub is_name : List ℕ → Bool
-is_name [] = false
-is_name (byte ∷ bytes) = list_all is_letter (byte ∷ bytes)
+is_name name = nat_lt 0 (length name) && list_all is_letter name
 
 -- a text without so many bytes at its front; where it is null or no longer than they are, nothing is left
 abbrev pub without_prefix : ℕ → Option (List ℕ) → List ℕ
-without_prefix length None = []
-without_prefix length (Some text) = drop length text
+without_prefix prefix None = []
+without_prefix prefix (Some text) = drop prefix text
 
 -- the name that is left
 unfoldable pub named : List ℕ → Reading SchemaError (List ℕ)

@@ -37,9 +37,10 @@ fn copied(alloc: Global, frame: &Frame, text: &TextAt, prefix: u32) -> Result<Na
     if text.len() <= prefix {
         return Err(SchemaError::BadName);
     }
+    let len = text.len() - prefix;
     let mut name = String::new(alloc);
-    for i in prefix..text.len() {
-        let byte = text.byte(frame, i);
+    for i in 0..len {
+        let byte = text.byte(frame, prefix + i);
         if !is_letter(byte) {
             return Err(SchemaError::BadName);
         }

@@ -1,5 +1,6 @@
 //! The records of a log, with their frames read.
 
+use exception_reasons::read_reason;
 use report_lines::{Answer, Fault, NumberedRecord};
 use rpc_view::{Limits, RpcMessage, ViewError, read_bytes};
 use std::alloc::{AllocError, Global};
@@ -124,7 +125,19 @@ pub(crate) fn decoded(
     }
 }
 
-/// Appends the note of the record of this number: the name of its log, and the record as `records` prints it.
+/// Appends the reason that a record's frame gives, where it gives one.
+fn put_reason(alloc: Global, text: &mut String, body: &Body) -> Result<(), AllocError> {
+    let (Body::Send { frame, .. } | Body::Receive { frame, .. }) = body else {
+        return Ok(());
+    };
+    match read_reason(alloc, frame.clone()?, Limits::default())? {
+        Some(reason) => write!(text, " reason \"{reason}\""),
+        None => Ok(()),
+    }
+}
+
+/// Appends the note of the record of this number: the name of its log, the record as `records` prints it, and the reason of
+/// its exception.
 pub(crate) fn put_record(
     alloc: Global,
     text: &mut String,
@@ -146,5 +159,7 @@ pub(crate) fn put_record(
         message,
     };
     let name = name.escape_debug();
-    write!(text, "note: {name}: record {shown}\n")
+    write!(text, "note: {name}: record {shown}")?;
+    put_reason(alloc, text, stored.body())?;
+    text.push_str("\n")
 }

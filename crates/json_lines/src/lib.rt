@@ -14,6 +14,7 @@ mod json_lines;
 mod line;
 mod lists;
 mod message_object;
+mod names;
 mod record_object;
 mod step_object;
 mod wire_object;

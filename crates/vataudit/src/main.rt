@@ -27,6 +27,7 @@ mod new_file;
 mod new_folder;
 mod progress;
 mod proved_by;
+mod schemas;
 mod watched;
 
 use clap::error::ErrorKind;
@@ -38,10 +39,13 @@ use command_run::{
 use file::{Folder, RememberingFolder};
 use json_lines::OUT_OF_MEMORY;
 use made::Made;
-use manner::take_manner;
+use manner::{Manner, take_manner};
+use named_text::NamingWriter;
 use progress::Progress;
 use proved_by::ProgramVersion;
 use report_lines::Fault;
+use schema_names::Names;
+use schemas::{SchemaFault, names_of, say_bad_schema};
 use std::io::{IsTerminal, Write};
 use std::process::ExitCode;
 use std::rt::Files;
@@ -199,7 +203,8 @@ fn run_with_progress<
 /// Runs a command with lines as JSON objects, the last of which has the notes where none asks for quiet.
 fn run_in_json<R: Threads + Wait + Sync + Files + Input + AllocGlobal, W: Write>(
     rt: &R,
-    is_quiet: bool,
+    manner: &Manner,
+    names: &Names,
     command: &Command<'_>,
     out: &mut W,
     made: &mut Made<'_, R>,
@@ -208,12 +213,98 @@ fn run_in_json<R: Threads + Wait + Sync + Files + Input + AllocGlobal, W: Write>
 {
     let alloc = rt.alloc();
     let mut lines = JsonOutput::new(alloc, out);
-    if is_quiet {
+    if !manner.schemas.is_empty() {
+        lines = lines.with_names(names);
+    }
+    if manner.is_quiet {
         let mut folder = Folder::new(rt);
         return run_as_json(rt, alloc, command, &mut folder, &mut lines, made);
     }
     let mut folder = RememberingFolder::new(rt);
     run_as_json_with_notes(rt, alloc, command, &mut folder, &mut lines, made)
+}
+
+/// Runs a command with lines as text, and with notes where none asks for quiet, in which interfaces and methods have names.
+fn run_with_names<
+    R: Threads + Wait + Sync + Files + Input + AllocGlobal,
+    W: Write + Drop,
+    N: Write + Drop,
+>(
+    rt: &R,
+    manner: &Manner,
+    names: &Names,
+    command: &Command<'_>,
+    out: W,
+    made: &mut Made<'_, R>,
+    notes: N,
+) -> u8
+    requires { HasWorkers command.now }
+{
+    let mut lines = NamingWriter::new(rt.alloc(), names, out);
+    if manner.is_quiet {
+        return run_quietly(rt, command, &mut lines, made);
+    }
+    let notes = NamingWriter::new(rt.alloc(), names, notes);
+    run_plainly(rt, command, &mut lines, made, notes)
+}
+
+/// Runs a command with lines as text, and gives the exit status.
+fn run_in_text<
+    R: Threads + Wait + Clock + Sync + Files + Input + Print + Eprint + AllocGlobal,
+    W: Write,
+    N: Write + IsTerminal + Drop,
+>(
+    rt: &R,
+    manner: &Manner,
+    command: &Command<'_>,
+    out: &mut W,
+    made: &mut Made<'_, R>,
+    notes: N,
+) -> u8
+    requires { HasWorkers command.now }
+{
+    if manner.is_quiet {
+        run_quietly(rt, command, out, made)
+    } else if notes.is_terminal() && may_take_long(command) {
+        run_with_progress(rt, command, out, made, notes)
+    } else {
+        run_plainly(rt, command, out, made, notes)
+    }
+}
+
+/// Prints why a schema isn't read, and gives the exit status.
+fn refuse_schema(rt: &(impl Print + Eprint), manner: &Manner, file: &str, fault: SchemaFault) -> u8 {
+    match fault {
+        SchemaFault::OutOfMemory => out_of_memory(rt, manner.is_json),
+        SchemaFault::Bad(why) => {
+            let _ = say_bad_schema(rt, file, why, manner.is_json, manner.is_quiet);
+            FAILED
+        }
+    }
+}
+
+/// Runs a command in a manner, with the names of the schemas that are asked for, and gives the exit status.
+fn run_in<
+    R: Threads + Wait + Clock + Sync + Files + Input + Print + Eprint + AllocGlobal,
+    W: Write,
+    N: Write + IsTerminal + Drop,
+>(rt: &R, manner: &Manner, command: &Command<'_>, out: &mut W, notes: N) -> u8
+    requires { HasWorkers command.now }
+{
+    let names = match names_of(rt, &manner.schemas) {
+        Ok(names) => names,
+        Err((file, fault)) => return refuse_schema(rt, manner, file, fault),
+    };
+    let Ok(mut made) = Made::of(rt, command) else {
+        return out_of_memory(rt, manner.is_json);
+    };
+    if manner.is_json {
+        run_in_json(rt, manner, &names, command, out, &mut made)
+    } else if manner.schemas.is_empty() {
+        run_in_text(rt, manner, command, out, &mut made, notes)
+    } else {
+        run_with_names(rt, manner, &names, command, out, &mut made, notes)
+    }
 }
 
 /// Does what the words ask, writes its lines to `out` and, where none asks for quiet, notes to `notes`, or both as JSON
@@ -226,22 +317,12 @@ fn start<
     if asks_version(words) {
         return say_version(out);
     }
-    let manner = take_manner(words);
-    let command = match command_of(rt.alloc(), words) {
-        Ok(command) => command,
-        Err(error) => return help_or_refuse(rt, &error, manner.is_json),
+    let Ok(manner) = take_manner(rt.alloc(), words) else {
+        return out_of_memory(rt, false);
     };
-    let Ok(mut made) = Made::of(rt, &command) else {
-        return out_of_memory(rt, manner.is_json);
-    };
-    if manner.is_json {
-        run_in_json(rt, manner.is_quiet, &command, out, &mut made)
-    } else if manner.is_quiet {
-        run_quietly(rt, &command, out, &mut made)
-    } else if notes.is_terminal() && may_take_long(&command) {
-        run_with_progress(rt, &command, out, &mut made, notes)
-    } else {
-        run_plainly(rt, &command, out, &mut made, notes)
+    match command_of(rt.alloc(), words) {
+        Ok(command) => run_in(rt, &manner, &command, out, notes),
+        Err(error) => help_or_refuse(rt, &error, manner.is_json),
     }
 }
 

@@ -1,0 +1,94 @@
+//! The schemas whose names are printed.
+
+use crate::file::Folder;
+use case_files::{Source, SourceError};
+use json_lines::OUT_OF_MEMORY;
+use schema_names::{Limits, Names, SchemaError, read_names};
+use std::alloc::{AllocError, Global};
+use std::io;
+use std::rt::Files;
+
+/// Why a schema isn't read.
+#[derive(Clone, Copy, Debug, PartialEq, Eq)]
+pub enum SchemaFault {
+    /// Its file can't be read, or isn't a schema.
+    Bad(&'static str),
+    /// Memory was refused.
+    OutOfMemory,
+}
+
+impl From<AllocError> for SchemaFault {
+    fn from(_e: AllocError) -> SchemaFault {
+        SchemaFault::OutOfMemory
+    }
+}
+
+impl From<SourceError> for SchemaFault {
+    fn from(error: SourceError) -> SchemaFault {
+        match error {
+            SourceError::OutOfMemory => SchemaFault::OutOfMemory,
+            SourceError::CannotRead => SchemaFault::Bad("the file can't be read"),
+        }
+    }
+}
+
+impl From<SchemaError> for SchemaFault {
+    fn from(error: SchemaError) -> SchemaFault {
+        match error {
+            SchemaError::OutOfMemory => SchemaFault::OutOfMemory,
+            SchemaError::Frame(_) => SchemaFault::Bad(
+                "it isn't one message of Cap'n Proto: `capnp compile -o- x.capnp` writes one",
+            ),
+            SchemaError::Read(_) | SchemaError::NoNodes | SchemaError::BadName => {
+                SchemaFault::Bad("it is a message, and not the one that `capnp compile -o-` writes")
+            }
+        }
+    }
+}
+
+/// The names of a file.
+fn names_in<R: Files + Input + AllocGlobal>(
+    alloc: Global,
+    folder: &mut Folder<'_, R>,
+    name: &str,
+) -> Result<Names, SchemaFault> {
+    let bytes = folder.read(name)?;
+    Ok(read_names(alloc, bytes, Limits::default())?)
+}
+
+/// The names of all these files, or the first one that has none, and why.
+pub fn names_of<'a, R: Files + Input + AllocGlobal>(
+    rt: &R,
+    files: &'a [String],
+) -> Result<Names, (&'a str, SchemaFault)> {
+    let alloc = rt.alloc();
+    let mut folder = Folder::new(rt);
+    let mut names = Names::none(alloc);
+    for file in files {
+        let read = names_in(alloc, &mut folder, file.as_str());
+        let added = read.and_then(|more| Ok(names.append(more)?));
+        if let Err(fault) = added {
+            return Err((file.as_str(), fault));
+        }
+    }
+    Ok(names)
+}
+
+/// Prints that a file is no schema, as a line with a note, or as an object.
+pub fn say_bad_schema(
+    rt: &(impl Print + Eprint),
+    file: &str,
+    why: &str,
+    is_json: bool,
+    is_quiet: bool,
+) -> io::Result<()> {
+    let file = file.escape_debug();
+    if is_json {
+        return println!(rt; "{{\"kind\":\"bad schema\",\"file\":\"{file}\"}}");
+    }
+    println!(rt; "bad schema {file}")?;
+    if is_quiet {
+        return Ok(());
+    }
+    eprintln!(rt; "note: {file}: {why}")
+}

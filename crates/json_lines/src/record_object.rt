@@ -131,7 +131,7 @@ fn body_object(alloc: Global, body: &Body) -> Result<Value, AllocError> {
 }
 
 /// The reason that a record's frame gives.
-fn reason_of(alloc: Global, body: &Body) -> Result<Option<Reason>, AllocError> {
+pub(crate) fn reason_of(alloc: Global, body: &Body) -> Result<Option<Reason>, AllocError> {
     match body {
         Body::Send { frame, .. } | Body::Receive { frame, .. } => {
             read_reason(alloc, frame.clone()?, Limits::default())

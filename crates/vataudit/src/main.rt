@@ -27,20 +27,22 @@ mod new_file;
 mod new_folder;
 mod progress;
 mod proved_by;
+mod quiet;
 mod schemas;
 mod watched;
 
 use clap::error::ErrorKind;
 use command_line::{Command, command_of};
 use command_run::{
-    FAILED, JsonOutput, NotedSource, Unwatched, run_as_json, run_as_json_with_notes, run_on,
-    run_with_notes,
+    FAILED, JsonOutput, NotedSource, ReasonedLines, Unwatched, run_as_json,
+    run_as_json_with_notes, run_on, run_with_notes, run_with_reasons,
 };
 use file::{Folder, RememberingFolder};
 use json_lines::OUT_OF_MEMORY;
 use made::Made;
 use manner::{Manner, take_manner};
 use named_text::NamingWriter;
+use quiet::OptionalNotes;
 use progress::Progress;
 use proved_by::ProgramVersion;
 use report_lines::Fault;
@@ -224,28 +226,60 @@ fn run_in_json<R: Threads + Wait + Sync + Files + Input + AllocGlobal, W: Write>
     run_as_json_with_notes(rt, alloc, command, &mut folder, &mut lines, made)
 }
 
-/// Runs a command with lines as text, and with notes where none asks for quiet, in which interfaces and methods have names.
+/// Runs a command with lines as text, and with notes where none asks for quiet; behind the lines of records come reasons
+/// where these are asked for.
+fn run_in_manner<
+    R: Threads + Wait + Sync + Files + Input + AllocGlobal,
+    W: Write,
+    N: Write + Drop,
+>(
+    rt: &R,
+    manner: &Manner,
+    command: &Command<'_>,
+    out: &mut W,
+    made: &mut Made<'_, R>,
+    notes: N,
+) -> u8
+    requires { HasWorkers command.now }
+{
+    if !manner.has_reasons {
+        return match manner.is_quiet {
+            true => run_quietly(rt, command, out, made),
+            false => run_plainly(rt, command, out, made, notes),
+        };
+    }
+    let mut noted = NotedSource {
+        source: RememberingFolder::new(rt),
+        notes: OptionalNotes {
+            is_quiet: manner.is_quiet,
+            notes,
+        },
+        watch: &Unwatched,
+    };
+    let mut lines = ReasonedLines::new(rt.alloc(), out);
+    run_with_reasons(rt, rt.alloc(), command, &mut noted, &mut lines, made)
+}
+
+/// Runs a command with lines and notes in which interfaces and methods have names.
 fn run_with_names<
     R: Threads + Wait + Sync + Files + Input + AllocGlobal,
-    W: Write + Drop,
+    W: Write,
     N: Write + Drop,
 >(
     rt: &R,
     manner: &Manner,
     names: &Names,
     command: &Command<'_>,
-    out: W,
+    out: &mut W,
     made: &mut Made<'_, R>,
     notes: N,
 ) -> u8
     requires { HasWorkers command.now }
 {
-    let mut lines = NamingWriter::new(rt.alloc(), names, out);
-    if manner.is_quiet {
-        return run_quietly(rt, command, &mut lines, made);
-    }
-    let notes = NamingWriter::new(rt.alloc(), names, notes);
-    run_plainly(rt, command, &mut lines, made, notes)
+    let alloc = rt.alloc();
+    let mut lines = NamingWriter::new(alloc, names, out);
+    let notes = NamingWriter::new(alloc, names, notes);
+    run_in_manner(rt, manner, command, &mut lines, made, notes)
 }
 
 /// Runs a command with lines as text, and gives the exit status.
@@ -263,12 +297,10 @@ fn run_in_text<
 ) -> u8
     requires { HasWorkers command.now }
 {
-    if manner.is_quiet {
-        run_quietly(rt, command, out, made)
-    } else if notes.is_terminal() && may_take_long(command) {
+    if !manner.is_quiet && notes.is_terminal() && may_take_long(command) {
         run_with_progress(rt, command, out, made, notes)
     } else {
-        run_plainly(rt, command, out, made, notes)
+        run_in_manner(rt, manner, command, out, made, notes)
     }
 }
 

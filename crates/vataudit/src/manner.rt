@@ -9,6 +9,8 @@ pub struct Manner {
     pub is_quiet: bool,
     /// Lines as JSON objects: `--json`.
     pub is_json: bool,
+    /// Reasons behind the lines of records: `--reasons`.
+    pub has_reasons: bool,
     /// The files of schemas whose names are printed: `--schema FILE`, which may be given more than once.
     pub schemas: Vec<String>,
 }
@@ -19,6 +21,7 @@ impl Manner {
         Manner {
             is_quiet: false,
             is_json: false,
+            has_reasons: false,
             schemas: Vec::new(alloc),
         }
     }
@@ -28,6 +31,7 @@ impl Manner {
         match word {
             "--quiet" if !self.is_quiet => self.is_quiet = true,
             "--json" if !self.is_json => self.is_json = true,
+            "--reasons" if !self.has_reasons => self.has_reasons = true,
             _ => return false,
         }
         true

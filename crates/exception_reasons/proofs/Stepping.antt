@@ -9,9 +9,6 @@ use Rattle.cap_reader.proofs.Running.{going_on, run_then, root_found, root_refus
 use Rattle.rpc_view.specs.Layouts.{message_tag, message_body}
 use Rattle.exception_reasons.specs.Reasons.{exception_in, told_in, body_reason_in, reason_in}
 
-abbrev Answer : Type 0
-Answer = Result (Option (List ℕ)) ReadError × ℕ
-
 module _ {A : Type 0} (next : Sections → Reading ReadError A) (tree : Tree) (words left : ℕ) where
   root_goes : (s : Sections) → run (root_in tree) words ≡ (Ok s, left) → run (and_then (root_in tree) next) words ≡ run (next s) left
   root_goes s h = run_then TooMuch (root_in tree) next words ∙ ap (λ (ran : Result Sections ReadError × ℕ). going_on TooMuch ran.0 ran.1 next) h
@@ -36,9 +33,9 @@ module _ (tree : Tree) (words left : ℕ) where
   unfolding exception_in pay_for
   exception_null h = goes (λ s. text_in (s.child 0)) tree words left None h
 
-  pub exception_found : (s : Sections) (answer : Answer) → run (structure_in tree) words ≡ (Ok (Some s), left) → run (text_in (s.child 0)) left ≡ answer → run (exception_in tree) words ≡ answer
+  pub exception_found : (s : Sections) → run (structure_in tree) words ≡ (Ok (Some s), left) → run (exception_in tree) words ≡ run (text_in (s.child 0)) left
   unfolding exception_in
-  exception_found s answer h text = goes (λ s. text_in (s.child 0)) tree words left (Some s) h ∙ text
+  exception_found s h = goes (λ s. text_in (s.child 0)) tree words left (Some s) h
 
 -- ---- a body that may have one
 
@@ -63,9 +60,9 @@ module _ (tag : Sections → ℕ) (tree : Tree) (words left : ℕ) where
   unfolding told_in
   told_null h = goes told tree words left None h ∙ either_way (tag (or_default None) == 1) left (exception_in nothing) (no_exception left)
 
-  pub told_found : (s : Sections) (answer : Answer) → run (structure_in tree) words ≡ (Ok (Some s), left) → tag s ≡ 1 → run (exception_in (s.child 0)) left ≡ answer → run (told_in tag tree) words ≡ answer
+  pub told_found : (s : Sections) → run (structure_in tree) words ≡ (Ok (Some s), left) → tag s ≡ 1 → run (told_in tag tree) words ≡ run (exception_in (s.child 0)) left
   unfolding told_in
-  told_found s answer h is exception = goes told tree words left (Some s) h ∙ rw (eq-eqb (tag s) 1 is) exception
+  told_found s h is = goes told tree words left (Some s) h ∙ rw (eq-eqb (tag s) 1 is) refl
 
   pub told_other : (s : Sections) → run (structure_in tree) words ≡ (Ok (Some s), left) → tag s ≢ 1 → run (told_in tag tree) words ≡ (Ok None, left)
   unfolding told_in pay_for

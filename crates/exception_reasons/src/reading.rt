@@ -35,7 +35,7 @@ const EXCEPTION_REASON: u16 = 0;
 const LONGEST: u32 = 1024;
 
 /// The reason of the Exception at a pointer of a struct.
-#[tactic(auto, using(cap_reader::proofs::Running::run_then), unfolding(crate::specs::Reasons::exception_in, cap_reader::specs::Reading::pay_for, cap_reader::specs::Reading::and_then))]
+#[tactic(auto, using(crate::proofs::Stepping::exception_refused, crate::proofs::Stepping::exception_null, crate::proofs::Stepping::exception_found))]
 fn exception(
     frame: &Frame,
     place: &StructAt,
@@ -52,7 +52,7 @@ fn exception(
 }
 
 /// The reason of a message's body, whose union stands at a byte of its data.
-#[tactic(auto, using(cap_reader::proofs::Running::run_then), unfolding(crate::specs::Reasons::told_in, cap_reader::specs::Reading::pay_for, cap_reader::specs::Reading::and_then))]
+#[tactic(auto, using(crate::proofs::Stepping::told_refused, crate::proofs::Stepping::told_null, crate::proofs::Stepping::told_found, crate::proofs::Stepping::told_other))]
 fn told(
     frame: &Frame,
     message: &StructAt,
@@ -77,7 +77,7 @@ fn told(
 }
 
 /// Where the reason of a frame's message stands.
-#[tactic(auto, using(cap_reader::proofs::Running::run_then), unfolding(crate::specs::Reasons::reason_in, crate::specs::Reasons::body_reason_in, cap_reader::specs::Reading::pay_for, cap_reader::specs::Reading::and_then))]
+#[tactic(auto, using(crate::proofs::Stepping::reason_refused, crate::proofs::Stepping::reason_goes), unfolding(crate::specs::Reasons::body_reason_in, cap_reader::specs::Reading::pay_for))]
 fn reason_at(frame: &Frame, limits: &mut Limits) -> Result<Option<TextAt>, ReadError>
     ensures { Runs (λ found. option_map (text_at frame.now) found) result limits.new.words
         (run (reason_in (root_tree limits.old.depth frame.now)) limits.old.words) }

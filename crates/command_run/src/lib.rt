@@ -19,13 +19,13 @@ mod host;
 mod json_output;
 mod json_run;
 mod output;
-mod reasoned_lines;
 mod run;
+mod told_lines;
 mod watch;
 
 pub use json_output::JsonOutput;
 pub use json_run::{run_as_json, run_as_json_with_notes};
 pub use output::{Failed, Output};
-pub use reasoned_lines::{ReasonedLines, run_with_reasons};
 pub use run::{FAILED, NotedSource, answer_command, run_on, run_with_notes};
+pub use told_lines::{LineFault, Telling, ToldLines, run_telling};
 pub use watch::{Unwatched, Watch};

@@ -200,7 +200,7 @@ pub(crate) fn heard_notes<S: RememberingSource>(
 }
 
 /// Writes the notes beside what was heard of a source. Where a write fails, or memory is refused for them, they are left out.
-pub(crate) fn write_notes<S: RememberingSource, N: Write>(
+fn write_notes<S: RememberingSource, N: Write>(
     alloc: Global,
     command: &Command<'_>,
     heard: &Heard,
@@ -213,7 +213,7 @@ pub(crate) fn write_notes<S: RememberingSource, N: Write>(
 }
 
 /// Writes the note of a write that failed, if one did.
-pub(crate) fn write_failure<N: Write>(
+fn write_failure<N: Write>(
     alloc: Global,
     command: &Command<'_>,
     answered: &Result<u8, Failed<io::Error, io::Error>>,

@@ -27,26 +27,22 @@ mod new_file;
 mod new_folder;
 mod progress;
 mod proved_by;
-mod quiet;
 mod schemas;
 mod watched;
 
 use clap::error::ErrorKind;
 use command_line::{Command, command_of};
 use command_run::{
-    FAILED, JsonOutput, NotedSource, ReasonedLines, Unwatched, run_as_json,
-    run_as_json_with_notes, run_on, run_with_notes, run_with_reasons,
+    FAILED, JsonOutput, NotedSource, Telling, ToldLines, Unwatched, run_as_json,
+    run_as_json_with_notes, run_on, run_telling, run_with_notes,
 };
 use file::{Folder, RememberingFolder};
 use json_lines::OUT_OF_MEMORY;
 use made::Made;
 use manner::{Manner, take_manner};
-use named_text::NamingWriter;
-use quiet::OptionalNotes;
 use progress::Progress;
 use proved_by::ProgramVersion;
 use report_lines::Fault;
-use schema_names::Names;
 use schemas::{SchemaFault, names_of, say_bad_schema};
 use std::io::{IsTerminal, Write};
 use std::process::ExitCode;
@@ -205,8 +201,7 @@ fn run_with_progress<
 /// Runs a command with lines as JSON objects, the last of which has the notes where none asks for quiet.
 fn run_in_json<R: Threads + Wait + Sync + Files + Input + AllocGlobal, W: Write>(
     rt: &R,
-    manner: &Manner,
-    names: &Names,
+    telling: Telling<'_>,
     command: &Command<'_>,
     out: &mut W,
     made: &mut Made<'_, R>,
@@ -215,10 +210,10 @@ fn run_in_json<R: Threads + Wait + Sync + Files + Input + AllocGlobal, W: Write>
 {
     let alloc = rt.alloc();
     let mut lines = JsonOutput::new(alloc, out);
-    if !manner.schemas.is_empty() {
+    if let Some(names) = telling.names {
         lines = lines.with_names(names);
     }
-    if manner.is_quiet {
+    if telling.is_quiet {
         let mut folder = Folder::new(rt);
         return run_as_json(rt, alloc, command, &mut folder, &mut lines, made);
     }
@@ -226,15 +221,10 @@ fn run_in_json<R: Threads + Wait + Sync + Files + Input + AllocGlobal, W: Write>
     run_as_json_with_notes(rt, alloc, command, &mut folder, &mut lines, made)
 }
 
-/// Runs a command with lines as text, and with notes where none asks for quiet; behind the lines of records come reasons
-/// where these are asked for.
-fn run_in_manner<
-    R: Threads + Wait + Sync + Files + Input + AllocGlobal,
-    W: Write,
-    N: Write + Drop,
->(
+/// Runs a command with lines and notes as text, with names or reasons.
+fn run_told<R: Threads + Wait + Sync + Files + Input + AllocGlobal, W: Write, N: Write + Drop>(
     rt: &R,
-    manner: &Manner,
+    telling: Telling<'_>,
     command: &Command<'_>,
     out: &mut W,
     made: &mut Made<'_, R>,
@@ -242,44 +232,13 @@ fn run_in_manner<
 ) -> u8
     requires { HasWorkers command.now }
 {
-    if !manner.has_reasons {
-        return match manner.is_quiet {
-            true => run_quietly(rt, command, out, made),
-            false => run_plainly(rt, command, out, made, notes),
-        };
-    }
     let mut noted = NotedSource {
         source: RememberingFolder::new(rt),
-        notes: OptionalNotes {
-            is_quiet: manner.is_quiet,
-            notes,
-        },
+        notes,
         watch: &Unwatched,
     };
-    let mut lines = ReasonedLines::new(rt.alloc(), out);
-    run_with_reasons(rt, rt.alloc(), command, &mut noted, &mut lines, made)
-}
-
-/// Runs a command with lines and notes in which interfaces and methods have names.
-fn run_with_names<
-    R: Threads + Wait + Sync + Files + Input + AllocGlobal,
-    W: Write,
-    N: Write + Drop,
->(
-    rt: &R,
-    manner: &Manner,
-    names: &Names,
-    command: &Command<'_>,
-    out: &mut W,
-    made: &mut Made<'_, R>,
-    notes: N,
-) -> u8
-    requires { HasWorkers command.now }
-{
-    let alloc = rt.alloc();
-    let mut lines = NamingWriter::new(alloc, names, out);
-    let notes = NamingWriter::new(alloc, names, notes);
-    run_in_manner(rt, manner, command, &mut lines, made, notes)
+    let mut lines = ToldLines::new(rt.alloc(), telling, out);
+    run_telling(rt, rt.alloc(), command, &mut noted, &mut lines, made)
 }
 
 /// Runs a command with lines as text, and gives the exit status.
@@ -289,7 +248,7 @@ fn run_in_text<
     N: Write + IsTerminal + Drop,
 >(
     rt: &R,
-    manner: &Manner,
+    telling: Telling<'_>,
     command: &Command<'_>,
     out: &mut W,
     made: &mut Made<'_, R>,
@@ -297,10 +256,14 @@ fn run_in_text<
 ) -> u8
     requires { HasWorkers command.now }
 {
-    if !manner.is_quiet && notes.is_terminal() && may_take_long(command) {
+    if telling.names.is_some() || telling.has_reasons {
+        run_told(rt, telling, command, out, made, notes)
+    } else if telling.is_quiet {
+        run_quietly(rt, command, out, made)
+    } else if notes.is_terminal() && may_take_long(command) {
         run_with_progress(rt, command, out, made, notes)
     } else {
-        run_in_manner(rt, manner, command, out, made, notes)
+        run_plainly(rt, command, out, made, notes)
     }
 }
 
@@ -330,12 +293,19 @@ fn run_in<
     let Ok(mut made) = Made::of(rt, command) else {
         return out_of_memory(rt, manner.is_json);
     };
+    let telling = Telling {
+        names: if manner.schemas.is_empty() {
+            None
+        } else {
+            Some(&names)
+        },
+        has_reasons: manner.has_reasons,
+        is_quiet: manner.is_quiet,
+    };
     if manner.is_json {
-        run_in_json(rt, manner, &names, command, out, &mut made)
-    } else if manner.schemas.is_empty() {
-        run_in_text(rt, manner, command, out, &mut made, notes)
+        run_in_json(rt, telling, command, out, &mut made)
     } else {
-        run_with_names(rt, manner, &names, command, out, &mut made, notes)
+        run_in_text(rt, telling, command, out, &mut made, notes)
     }
 }
 

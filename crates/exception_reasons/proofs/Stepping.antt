@@ -68,6 +68,18 @@ module _ (tag : Sections → ℕ) (tree : Tree) (words left : ℕ) where
   unfolding told_in pay_for
   told_other s h other = goes told tree words left (Some s) h ∙ rw (ne_eqb (tag s) 1 other) refl
 
+  pub told_stops : (e : ReadError) → run (root_in tree) words ≡ (Err e, left) → run (told_in tag tree) words ≡ (Err e, left)
+  unfolding told_in
+  told_stops e h = root_stops told tree words left e h
+
+  pub told_goes : (s : Sections) → run (root_in tree) words ≡ (Ok s, left) → run (told_in tag tree) words ≡ run (told s) left
+  unfolding told_in
+  told_goes s h = root_goes told tree words left s h
+
+  pub told_none : (s : Sections) → run (root_in tree) words ≡ (Ok s, left) → tag s ≢ 1 → run (told_in tag tree) words ≡ (Ok None, left)
+  unfolding pay_for
+  told_none s h other = told_goes s h ∙ rw (ne_eqb (tag s) 1 other) refl
+
 -- ---- a message
 
 module _ (tree : Tree) (words left : ℕ) where

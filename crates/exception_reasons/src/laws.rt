@@ -2,6 +2,7 @@
 
 ghost use Rattle.std.specs.Prelude.{◌<◌, ◌≤◌, ◌^◌, List, ℕ, All, IfSome, length};
 ghost use Rattle.cap_reader.specs.declared.limits.Limits.{Limits};
+ghost use Rattle.exception_reasons.specs.Exceptions.{OnlyExceptions};
 ghost use Rattle.exception_reasons.specs.Printed.{printed, IsPrintable};
 ghost use Rattle.exception_reasons.specs.Reasons.{reason_of_bytes};
 
@@ -14,4 +15,9 @@ pub fn printed_is_printable()
 pub fn reasons_are_short()
     ensures { (bytes : List ℕ) (limits : Limits)
         → IfSome (reason_of_bytes bytes limits) (λ reason. length reason ≤ 1024) }
+{}
+
+/// Only an abort has a reason, and a Return or Resolve with an exception: no other bytes that are a message have one.
+pub fn only_exceptions_have_reasons()
+    ensures { (bytes : List ℕ) → OnlyExceptions bytes }
 {}

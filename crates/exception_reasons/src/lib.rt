@@ -11,7 +11,7 @@ mod printed;
 mod reading;
 mod reason;
 
-pub use laws::{printed_is_printable, reasons_are_short};
+pub use laws::{only_exceptions_have_reasons, printed_is_printable, reasons_are_short};
 pub use printed::Printed;
 pub use reading::read_reason;
 pub use reason::Reason;

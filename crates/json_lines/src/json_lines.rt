@@ -112,10 +112,7 @@ impl<'a, W: Write> JsonLines<'a, W> {
     /// Adds notes to the last object, or to one of their own where there is none.
     fn add_notes(&mut self, notes: &str) -> Result<(), AllocError> {
         let list = match self.names {
-            Some(names) => note_list(
-                self.alloc,
-                named_text(self.alloc, names, notes)?.as_str(),
-            )?,
+            Some(names) => note_list(self.alloc, named_text(self.alloc, names, notes)?.as_str())?,
             None => note_list(self.alloc, notes)?,
         };
         let mut object = match self.held.take() {

@@ -58,12 +58,12 @@ fn put_names(rt: &impl Print, alloc: Global, bytes: &Bytes) -> io::Result<()> {
 }
 
 /// The bytes of a file.
-fn bytes_of<R: Files>(rt: &R, name: &str) -> io::Result<Bytes> {
+fn bytes_of<R: Files + AllocGlobal>(rt: &R, name: &str) -> io::Result<Bytes> {
     Ok(Bytes::from_vec(fs::read(rt, name)?)?)
 }
 
 /// Prints what is read of a file, which is read once more where memory is refused.
-pub fn put_schema<R: Print + Files>(rt: &R, alloc: Global, name: &str) -> io::Result<()> {
+pub fn put_schema<R: Print + Files + AllocGlobal>(rt: &R, alloc: Global, name: &str) -> io::Result<()> {
     println!(rt; "{name}")?;
     let bytes = match bytes_of(rt, name) {
         Ok(bytes) => bytes,

@@ -2,7 +2,6 @@
 
 use crate::file::Folder;
 use case_files::{Source, SourceError};
-use json_lines::OUT_OF_MEMORY;
 use schema_names::{Limits, Names, SchemaError, read_names};
 use std::alloc::{AllocError, Global};
 use std::io;
@@ -46,14 +45,17 @@ impl From<SchemaError> for SchemaFault {
     }
 }
 
-/// The names of a file.
-fn names_in<R: Files + Input + AllocGlobal>(
+/// Puts the names of a file behind those that are there.
+fn add_names<R: Files + Input + AllocGlobal>(
     alloc: Global,
     folder: &mut Folder<'_, R>,
-    name: &str,
-) -> Result<Names, SchemaFault> {
-    let bytes = folder.read(name)?;
-    Ok(read_names(alloc, bytes, Limits::default())?)
+    file: &str,
+    names: &mut Names,
+) -> Result<(), SchemaFault> {
+    let bytes = folder.read(file)?;
+    let more = read_names(alloc, bytes, Limits::default())?;
+    names.append(more)?;
+    Ok(())
 }
 
 /// The names of all these files, or the first one that has none, and why.
@@ -65,9 +67,7 @@ pub fn names_of<'a, R: Files + Input + AllocGlobal>(
     let mut folder = Folder::new(rt);
     let mut names = Names::none(alloc);
     for file in files {
-        let read = names_in(alloc, &mut folder, file.as_str());
-        let added = read.and_then(|more| Ok(names.append(more)?));
-        if let Err(fault) = added {
+        if let Err(fault) = add_names(alloc, &mut folder, file.as_str(), &mut names) {
             return Err((file.as_str(), fault));
         }
     }

@@ -1,8 +1,8 @@
 -- A name that is copied letter by letter.
 use Rattle.std.proofs.Common.{◌≡◌, ◌∙◌, ℕ, ◌+◌, ◌-◌, ◌<◌, ◌≤◌, Bool, true, false, List, [], ◌∷◌, ◌++◌, length, take, drop, get_or, Result, Ok, Err, refl, sym, ap, arith, length-drop}
-use Rattle.std.specs.Prelude.{nat_lt, ◌&&◌}
+use Rattle.std.specs.Prelude.{nat_lt, nat_le, ◌&&◌}
 use Rattle.std.specs.List.{list_all}
-use Rattle.std.proofs.lemmas.Bool.{lt-ltb, le-ltb, and_from, and_left, and_right}
+use Rattle.std.proofs.lemmas.Bool.{lt-ltb, le-ltb, leb-true, and_from, and_left, and_parts, and_right}
 use Rattle.std.proofs.lemmas.List.{take_more, take_all, get_or-drop, drop_all}
 use Rattle.std.proofs.lemmas.List.Folds.{list_all_more, list_all_at}
 use Rattle.cap_reader.specs.Reading.{pay_for}
@@ -42,6 +42,13 @@ not_letter rest i byte lt is other = and_right _ _ (list_all_at is_letter rest i
 -- nothing is left
 pub nothing_left : (text : List ℕ) (prefix : ℕ) → length text ≤ prefix → is_name (drop prefix text) ≡ false
 nothing_left text prefix le = and_left _ _ (le-ltb 0 (length (drop prefix text)) (omega (arith, length-drop prefix text)))
+
+-- a letter is ASCII
+pub letter_is_ascii : (byte : ℕ) → is_letter byte ≡ true → byte < 128
+letter_is_ascii byte holds =
+    let both = and_parts (nat_le 33 byte) (nat_le byte 126) holds in
+    let most : byte ≤ 126 = leb-true byte 126 both.1 in
+    omega (arith, most)
 
 -- ---- what is read then
 

@@ -1,6 +1,6 @@
 //! Interfaces among the nodes of a schema, and their methods.
 
-ghost use Rattle.std.specs.Prelude.{◌≡◌, ◌<◌, ℕ, drop};
+ghost use Rattle.std.specs.Prelude.{◌≡◌, ◌<◌, ℕ, drop, length};
 ghost use Rattle.cap_reader.specs.Places.{elements_at, list_len, sections_at, text_at};
 ghost use Rattle.schema_names.specs.Reading.{run};
 ghost use Rattle.schema_names.specs.Glue.{RunsInMemory, elements_of, optional};
@@ -28,16 +28,24 @@ fn is_letter(byte: u8) -> bool
     b'!' <= byte && byte <= b'~'
 }
 
+/// How many bytes a text of a frame has.
+fn length_of(frame: &Frame, text: &TextAt) -> u32
+    ensures { result ≡ length (text_at frame.now text.now) }
+{
+    text.len()
+}
+
 /// The name that a text has behind so many bytes.
 #[tactic(auto, unfolding(crate::specs::Names::named, cap_reader::specs::Reading::pay_for))]
 fn copied(alloc: Global, frame: &Frame, text: &TextAt, prefix: u32) -> Result<Name, SchemaError>
     ensures { (words : ℕ) → RunsInMemory (λ name. name) result words
         (run (named (drop prefix (text_at frame.now text.now))) words) }
 {
-    if text.len() <= prefix {
+    let whole = length_of(frame, text);
+    if whole <= prefix {
         return Err(SchemaError::BadName);
     }
-    let len = text.len() - prefix;
+    let len = whole - prefix;
     let mut name = String::new(alloc);
     for i in 0..len {
         let byte = text.byte(frame, prefix + i);

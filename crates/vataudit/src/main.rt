@@ -268,7 +268,12 @@ fn run_in_text<
 }
 
 /// Prints why a schema isn't read, and gives the exit status.
-fn refuse_schema(rt: &(impl Print + Eprint), manner: &Manner, file: &str, fault: SchemaFault) -> u8 {
+fn refuse_schema(
+    rt: &(impl Print + Eprint),
+    manner: &Manner,
+    file: &str,
+    fault: SchemaFault,
+) -> u8 {
     match fault {
         SchemaFault::OutOfMemory => out_of_memory(rt, manner.is_json),
         SchemaFault::Bad(why) => {

@@ -3,4 +3,5 @@ pub mod Spans
 pub mod FieldLaws
 pub mod BodyLaws
 pub mod LogLaws
+pub mod Runs
 pub mod Ends

@@ -5,11 +5,11 @@ use Rattle.std.specs.List.{list_any}
 use Rattle.std.specs.Option.{option_map}
 use Rattle.std.proofs.lemmas.Bool.{eqb-true, eq-eqb, lt-ltb, ltb-true, le-ltb}
 use Rattle.undelivered.specs.Glue.{lesser, least, turn_of, call_at, is_behind, behind, is_waiting, made_of, wait_of, IsRising, AreEmpty, IsMade, lowered, IsTaken, IsDelivered, AreExact, AreSameTables}
-use Rattle.undelivered.specs.Order.{PastCalls, AreOnce, makes, delivers, is_made_before, places_of, early}
+use Rattle.undelivered.specs.Order.{PastCalls, AreOnce, makes, delivers, is_made_before, places_of, early, IsFault}
 use Rattle.undelivered.specs.declared.moment.Moment.{Moment}
 use Rattle.undelivered.specs.declared.moment.Moment.TheVariants.{Made, Delivered}
 use Rattle.undelivered.specs.declared.tables.Tables.{Tables}
-use Rattle.undelivered.proofs.Places.{Place, split, option_split, lesser_swap, least_append, places_same, places_none, least_of_more, delivered_here}
+use Rattle.undelivered.proofs.Places.{Place, split, option_split, lesser_swap, least_append, places_same, places_none, least_of_more, none_least, least_means}
 use Rattle.undelivered.proofs.Turns.{same_number, other_than_new, has_turn, turn_below, call_below, call_is_made, call_of_turn, turn_of_call, delivered_is_made, before_is_behind, not_behind, no_turn}
 
 abbrev Noted : Type 0
@@ -261,3 +261,9 @@ delivered_kept c p past old new once exact delivered =
       waiting = taken_waiting c p past r t until old new once.2 exact turn.2 taken;
       fault = taken_fault c p past r t old new once.2 exact turn.2 taken;
     }
+
+-- ---- what is told
+
+pub fault_means : (past : PastCalls) (told : Option Place) → told ≡ least (early past) → IsFault past told
+fault_means past None e = none_least (early past) (sym e)
+fault_means past (Some place) e = least_means (early past) place (sym e)

@@ -1,3 +1,5 @@
 pub mod Places
 pub mod Turns
 pub mod Kept
+pub mod Keys
+pub mod OfRuns

@@ -13,7 +13,7 @@ use Rattle.undelivered.specs.Order.{PastCalls, delivers, AreOnce, places_of, ear
 -- ---- places
 
 -- by vat, then by number
-abbrev pub is_at_most : ℕ × ℕ → ℕ × ℕ → Bool
+unfoldable pub is_at_most : ℕ × ℕ → ℕ × ℕ → Bool
 is_at_most a b = nat_lt a.0 b.0 || ((a.0 == b.0) && nat_le a.1 b.1)
 
 -- there is a place, and it is at most this one

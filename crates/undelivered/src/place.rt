@@ -4,6 +4,7 @@ ghost use Rattle.std.specs.Prelude.{◌≡◌};
 ghost use Rattle.undelivered.specs.Glue.{is_at_most, lesser, has_at_most};
 
 /// Whether a place is at most another, by vat and then by number.
+#[tactic(auto, unfolding(crate::specs::Glue::is_at_most))]
 fn is_at_most(place: (u32, u32), other: (u32, u32)) -> bool
     ensures { result ≡ is_at_most place other }
 {

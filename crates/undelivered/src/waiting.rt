@@ -20,7 +20,8 @@ fn last_before(
 ) -> Option<(u64, Option<(u32, u32)>)>
     ensures { IsLastBefore waiting.now reference turn result }
 {
-    let (key, until) = waiting.range((reference, 0)..(reference, turn)).next_back()?;
+    let mut earlier = waiting.range((reference, 0)..(reference, turn));
+    let (key, until) = earlier.next_back()?;
     Some((key.1, *until))
 }
 

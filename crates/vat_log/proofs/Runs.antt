@@ -13,12 +13,12 @@ use Rattle.vat_log.specs.declared.kind.RecordKind.{RecordKind}
 use Rattle.vat_log.specs.declared.version.LogVersion.{LogVersion}
 use Rattle.vat_log.specs.Fits.{record_limit, Fits, IsListed, IsWide, LogFits}
 use Rattle.vat_log.specs.Log.{Log}
-use Rattle.vat_log.specs.Reader.{IsReadTo}
+use Rattle.vat_log.specs.Reader.{IsReadTo, with_records}
 use Rattle.vat_log.specs.Reading.{◌>>=◌, Fails, number_at, fields_at, kind_at, records_at, version_at, header_of, log_within, log_of}
 use Rattle.vat_log.specs.Runs.{BeginsWith, IsLongestRun, GoesOn, StopsBy, with_record}
 use Rattle.vat_log.specs.Spelling.{log_magic, kind_byte, number_bytes, kind_in, fields_bytes, record_bytes, log_bytes}
 use Rattle.vat_log.proofs.Loop.{record_goes_on, kind_ends, record_ends, limit_ends, records_are_done, Fails-then}
-use Rattle.vat_log.proofs.Spans.{IsBytes, IsBytes-from_all, ok_is, Spans, Spans-nil, Spans-join, Spans-first, Spans-second}
+use Rattle.vat_log.proofs.Spans.{IsBytes, IsBytes-from_all, bind_ok, ok_is, Spans, Spans-nil, Spans-join, Spans-first, Spans-second}
 use Rattle.vat_log.proofs.FieldLaws.{u32_field}
 use Rattle.vat_log.proofs.BodyLaws.{FitsWide, fields_again}
 use Rattle.vat_log.proofs.LogLaws.{kind_again, record_takes, begins, version_was, magic_long, version_again}
@@ -131,8 +131,8 @@ read_begins bytes log at r = record { rest = drop at bytes; parts = r.parts; fit
 
 begins_spans : (bytes : List ℕ) (log : Log) → BeginsWith bytes log → Spans bytes 0 (log_bytes log) (length (log_bytes log))
 begins_spans bytes log b =
-    let rest : drop (length (log_bytes log)) bytes ≡ b.rest = rw b.parts (drop_at (log_bytes log) b.rest (length (log_bytes log)) refl) in
-    record { parts = rw rest b.parts; places = omega arith; within = omega (arith, ap length b.parts, length-append (log_bytes log) b.rest) }
+    let rest : drop (length (log_bytes log)) bytes ≡ b.rest = ap (drop (length (log_bytes log))) b.parts ∙ drop_at (log_bytes log) b.rest (length (log_bytes log)) refl in
+    record { parts = b.parts ∙ ap (λ t. log_bytes log ++ t) (sym rest); places = omega arith; within = omega (arith, ap length b.parts, length-append (log_bytes log) b.rest) }
 
 more_spelled : (log : Log) (x : Body) → log_bytes log ++ record_bytes log.version x ≡ log_bytes (with_record x log)
 more_spelled log x =
@@ -312,3 +312,37 @@ unfolding header_of
 runs_have_headers bytes log b =
     let x = stands record_limit bytes log (length (log_bytes log)) b.fits (begins_spans bytes log b) in
     rw (x.version, x.vat) refl
+
+-- ---- what a header is
+
+abbrev header : LogVersion → ℕ → Log
+header version vat = record { version = version; vat = vat; records = [] }
+
+header_parts : (bytes : List ℕ) (log : Log) → header_of bytes ≡ Ok log → (version : LogVersion) × (vat : ℕ × ℕ) × (version_at bytes ≡ Ok version) × (number_at w32 bytes 8 ≡ Ok vat) × (record { version = version; vat = vat.0; records = [] } ≡ log)
+unfolding header_of
+header_parts bytes log e =
+    let v = bind_ok (version_at bytes) (λ version. number_at w32 bytes 8 >>= λ vat. Ok (header version vat.0)) log e in
+    let n = bind_ok (number_at w32 bytes 8) (λ vat. Ok (header v.0 vat.0)) log v.2 in
+    (v.0, n.0, v.1, n.1, ok_is (header v.0 n.0.0) log n.2)
+
+-- a log that was read from its header on has the records that were read
+pub all_read : (bytes : List ℕ) (start log : Log) (more : List Body) → header_of bytes ≡ Ok start → log ≡ with_records more start → record { version = log.version; vat = log.vat; records = more } ≡ log
+all_read bytes start log more h e =
+    let parts = header_parts bytes start h in
+    let empty : [] ≡ start.records = ap (λ (l : Log). l.records) parts.4 in
+    let records : log.records ≡ more = ap (λ (l : Log). l.records) e ∙ ap (λ (xs : List Body). xs ++ more) (sym empty) in
+    ap (λ (xs : List Body). record { version = log.version; vat = log.vat; records = xs }) (sym records)
+
+-- the header where the version and the vat are read
+pub header_is : (bytes : List ℕ) (version : LogVersion) (vat at : ℕ) → version_at bytes ≡ Ok version → number_at w32 bytes 8 ≡ Ok (vat, at) → header_of bytes ≡ Ok (record { version = version; vat = vat; records = [] })
+unfolding header_of
+header_is bytes version vat at v n = rw (v, n) refl
+
+-- the fault of the version, and of the vat, is that of the header and of the log
+pub version_fails : (bytes : List ℕ) (e : LogError) → version_at bytes ≡ Err e → (header_of bytes ≡ Err e) × (log_of bytes ≡ Err e)
+unfolding header_of log_within
+version_fails bytes e v = (rw v refl, rw v refl)
+
+pub vat_fails : (bytes : List ℕ) (version : LogVersion) (e : LogError) → version_at bytes ≡ Ok version → number_at w32 bytes 8 ≡ Err e → (header_of bytes ≡ Err e) × (log_of bytes ≡ Err e)
+unfolding header_of log_within
+vat_fails bytes version e v n = (rw (v, n) refl, rw (v, n) refl)

@@ -9,8 +9,8 @@ use Rattle.undelivered.specs.Order.{PastCalls, AreOnce, makes, delivers, is_made
 use Rattle.undelivered.specs.declared.moment.Moment.{Moment}
 use Rattle.undelivered.specs.declared.moment.Moment.TheVariants.{Made, Delivered}
 use Rattle.undelivered.specs.declared.tables.Tables.{Tables}
-use Rattle.undelivered.proofs.Places.{Place, split, option_split, lesser_swap, least_append, places_same, places_none, least_of_more, none_least, least_means}
-use Rattle.undelivered.proofs.Turns.{same_number, other_than_new, has_turn, turn_below, call_below, call_is_made, call_of_turn, turn_of_call, delivered_is_made, before_is_behind, not_behind, no_turn}
+use Rattle.undelivered.proofs.Places.{Place, split, and_first, and_second, option_split, lesser_swap, least_append, places_same, places_none, least_of_more, none_least, least_means}
+use Rattle.undelivered.proofs.Turns.{same_number, turn_first, turn_second, other_than_new, has_turn, turn_below, call_below, call_is_made, call_of_turn, turn_of_call, delivered_is_made, before_is_behind, not_behind, no_turn}
 
 abbrev Noted : Type 0
 Noted = Option (Option Place)
@@ -36,14 +36,6 @@ swapped a b =
 
 both_swapped : (a b c d : ℕ) → (eqb a b && eqb c d) ≡ (eqb b a && eqb d c)
 both_swapped a b c d = rw (swapped a b, swapped c d) refl
-
-and_first : (a b : Bool) → (a && b) ≡ true → a ≡ true
-and_first true b h = refl
-and_first false b h = absurd cc
-
-and_second : (a b : Bool) → (a && b) ≡ true → b ≡ true
-and_second true b h = h
-and_second false b h = absurd cc
 
 -- before anything is told
 pub none_kept : (tables : Tables) → AreEmpty tables → AreExact [] tables
@@ -183,8 +175,8 @@ other_call c past r t q s n once turn found h =
           let here : turn_of n past ≡ Some (q, s) = turn_of_call q s past n once found in
           let both : turn_of n past ≡ Some (r, t) = subst (λ (m : ℕ). turn_of m past ≡ Some (r, t)) same turn in
           let pair : turn_is q s ≡ turn_is r t = sym here ∙ both in
-          let first : eqb q r ≡ true = eq-eqb q r (cc pair) in
-          let second : eqb s t ≡ true = eq-eqb s t (cc pair) in
+          let first : eqb q r ≡ true = eq-eqb q r (turn_first q s r t pair) in
+          let second : eqb s t ≡ true = eq-eqb s t (turn_second q s r t pair) in
           let none : true ≡ false = rw (first, second) at h in
           cc)
       | inr k ↦ k

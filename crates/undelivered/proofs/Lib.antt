@@ -2,4 +2,5 @@ pub mod Places
 pub mod Turns
 pub mod Kept
 pub mod Keys
+pub mod Lowering
 pub mod OfRuns

@@ -8,7 +8,9 @@ use Rattle.run_model.specs.Legal.{IsLegal, begins_call, delivers_call}
 use Rattle.run_model.specs.Links.{IsLinked}
 use Rattle.run_model.specs.Right.{request_in_make, makes_through, is_made_before, ReachesObject}
 use Rattle.run_model.specs.Steps.{PastSteps, call, vat_of, is_same_call, OneOf, EachStep, count_steps}
-use Rattle.run_model.specs.Types.{Name, Step, Host, Make, Deliver, Object}
+use Rattle.run_model.specs.declared.name.Name.{Name}
+use Rattle.run_model.specs.declared.step.Step.{Step}
+use Rattle.run_model.specs.declared.step.Step.TheVariants.{Host, Make, Deliver}
 use Rattle.run_model.proofs.Once.{names_same}
 use Rattle.run_model.proofs.Reaching.{each_reaches_object}
 use Rattle.run_model.proofs.Turning.{same_to_itself, clash}

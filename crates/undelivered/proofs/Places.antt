@@ -1,5 +1,6 @@
 -- Places, and the least of some.
 use Rattle.std.proofs.Common.{◌≡◌, ℕ, ◌<◌, ◌≤◌, Bool, true, false, eqb, List, [], ◌∷◌, ◌++◌, Option, Some, None, refl, sym, ap, subst, ◌∙◌, arith, inl, inr, ◌⊎◌}
+use Rattle.std.specs.Prelude.{◌&&◌}
 use Rattle.std.specs.List.{AllByRecursion, list_any}
 use Rattle.std.proofs.lemmas.Bool.{cases_lt, eqb-true, eq-eqb}
 use Rattle.std.proofs.lemmas.Bool.Decides.{nat_tests}
@@ -20,6 +21,14 @@ split false = inr refl
 pub option_split : {A : Type 0} (u : Option A) → (u ≡ None) ⊎ ((x : A) × (u ≡ Some x))
 option_split None = inl refl
 option_split (Some x) = inr (x, refl)
+
+pub and_first : (a b : Bool) → (a && b) ≡ true → a ≡ true
+and_first true b h = refl
+and_first false b h = absurd cc
+
+pub and_second : (a b : Bool) → (a && b) ≡ true → b ≡ true
+and_second true b h = h
+and_second false b h = absurd cc
 
 -- ---- the order of places
 
@@ -47,7 +56,10 @@ second_same : (a b : Place) → is_at_most a b ≡ true → is_at_most b a ≡ t
 unfolding is_at_most
 second_same a b h k = grind (arith, nat_tests)
 
-pair_is : (a b c d : ℕ) → a ≡ c → b ≡ d → (a, b) ≡ (c, d)
+abbrev place : ℕ → ℕ → Place
+place a b = (a, b)
+
+pair_is : (a b c d : ℕ) → a ≡ c → b ≡ d → place a b ≡ place c d
 pair_is a b c d e f = cc
 
 at_most_both : (a b : Place) → is_at_most a b ≡ true → is_at_most b a ≡ true → a ≡ b

@@ -10,8 +10,20 @@ use Rattle.undelivered.specs.declared.moment.Moment.{Moment}
 use Rattle.undelivered.specs.declared.moment.Moment.TheVariants.{Made, Delivered}
 use Rattle.undelivered.proofs.Places.{split}
 
-abbrev some_turn : ℕ → ℕ → Option (ℕ × ℕ)
+abbrev pub some_turn : ℕ → ℕ → Option (ℕ × ℕ)
 some_turn r t = Some (r, t)
+
+abbrev turned : ℕ × ℕ → Option (ℕ × ℕ)
+turned x = Some x
+
+same_turn : (x y : ℕ × ℕ) → turned x ≡ turned y → x ≡ y
+same_turn x y e = cc
+
+pub turn_first : (q s r t : ℕ) → some_turn q s ≡ some_turn r t → q ≡ r
+turn_first q s r t e = ap (λ (p : ℕ × ℕ). p.0) (same_turn (q, s) (r, t) e)
+
+pub turn_second : (q s r t : ℕ) → some_turn q s ≡ some_turn r t → s ≡ t
+turn_second q s r t e = ap (λ (p : ℕ × ℕ). p.1) (same_turn (q, s) (r, t) e)
 
 abbrev some_call : ℕ → Option ℕ
 some_call c = Some c
@@ -62,7 +74,7 @@ pub turn_below : (c : ℕ) (past : PastCalls) (r t : ℕ) → turn_of c past ≡
 turn_below c [] r t e = absurd cc
 turn_below c (Made n q ∷ before) r t e =
     elim (split (eqb n c)) [
-      | inl k ↦ let here : some_turn q (length before) ≡ some_turn r t = rw k at e in let same : length before ≡ t = cc here in omega arith
+      | inl k ↦ let here : some_turn q (length before) ≡ some_turn r t = rw k at e in let same : length before ≡ t = turn_second q (length before) r t here in omega arith
       | inr k ↦ let below = turn_below c before r t (rw k at e) in omega arith
     ]
 turn_below c (Delivered n p ∷ before) r t e = let below = turn_below c before r t e in omega arith
@@ -121,7 +133,7 @@ call_of_turn c (Made n q ∷ before) r t e =
     elim (split (eqb n c)) [
       | inl k ↦
           let here : some_turn q (length before) ≡ some_turn r t = rw k at e in
-          let l = here_is q r (length before) t (cc here) (cc here) in
+          let l = here_is q r (length before) t (turn_first q (length before) r t here) (turn_second q (length before) r t here) in
           rw l (ap some_call (eqb-true n c k))
       | inr k ↦
           let old : turn_of c before ≡ Some (r, t) = rw k at e in
@@ -203,7 +215,7 @@ made_through c (Made n s ∷ before) r t q once e =
     elim (split (eqb n c)) [
       | inl k ↦
           let here : some_turn s (length before) ≡ some_turn r t = rw k at e in
-          let same : s ≡ r = cc here in
+          let same : s ≡ r = turn_first s (length before) r t here in
           let gone = nothing_before c c before (subst (λ (m : ℕ). list_any (makes m) before ≡ false) (eqb-true n c k) once.0) q in
           elim (split (eqb q r)) [
             | inl l ↦ let m : eqb s q ≡ true = eq-eqb s q (same ∙ sym (eqb-true q r l)) in rw (l, m, k) refl
@@ -246,7 +258,7 @@ before_is_behind d c (Made n q ∷ before) r t once e =
                 let gone_too : list_any (makes d) before ≡ false = subst (λ (m : ℕ). list_any (makes m) before ≡ false) (sym same) gone in
                 let through = nothing_before d d before gone_too q in
                 let none = never_made d c before gone in
-                let late : ltb t (length before) ≡ false = le-ltb _ _ (let at : length before ≡ t = cc here in omega arith) in
+                let late : ltb t (length before) ≡ false = le-ltb _ _ (let at : length before ≡ t = turn_second q (length before) r t here in omega arith) in
                 elim (split (eqb q r)) [
                   | inl m ↦ rw (k, through, none, m, late) refl
                   | inr m ↦ rw (k, through, none, m) refl
@@ -266,7 +278,7 @@ before_is_behind d c (Made n q ∷ before) r t once e =
             let here : some_turn q (length before) ≡ some_turn r t = rw l at e in
             let gone : list_any (makes d) before ≡ false = subst (λ (m : ℕ). list_any (makes m) before ≡ false) (eqb-true n d l) once.0 in
             let none = none_before d c before gone in
-            let late : is_behind r t (turn_of c before) ≡ false = not_behind r t c before (let at : length before ≡ t = cc here in omega arith) in
+            let late : is_behind r t (turn_of c before) ≡ false = not_behind r t c before (let at : length before ≡ t = turn_second q (length before) r t here in omega arith) in
             rw (k, none, late) refl
         | inr l ↦ rw k (before_is_behind d c before r t once.1 (rw l at e))
       ]

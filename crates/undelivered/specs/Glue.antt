@@ -129,5 +129,5 @@ pub record AreExact (past : PastCalls) (tables : Tables) : Type 0 where
 
 -- they are tables of this past, where each call is made and delivered once
 pub record AreTables (past : PastCalls) (count : ℕ) (tables : Tables) : Type 0 where
-  pub count : length past ≡ count
+  pub counted : length past ≡ count
   pub exact : AreOnce past → AreExact past tables

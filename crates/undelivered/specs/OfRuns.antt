@@ -1,7 +1,8 @@
 -- What a run tells of the calls of one vat.
 use Rattle.std.specs.Prelude.{ℕ, List, [], ◌∷◌, ◌==◌, if◌then◌else◌}
 use Rattle.run_model.specs.Steps.{PastSteps, vat_of, count_steps}
-use Rattle.run_model.specs.Types.{Step, Make, Deliver}
+use Rattle.run_model.specs.declared.step.Step.{Step}
+use Rattle.run_model.specs.declared.step.Step.TheVariants.{Make, Deliver}
 use Rattle.undelivered.specs.Order.{PastCalls}
 use Rattle.undelivered.specs.declared.moment.Moment.TheVariants.{Made, Delivered}
 

@@ -5,7 +5,7 @@ ghost use Rattle.run_model.specs.Early.{early as early_in_run};
 ghost use Rattle.run_model.specs.Legal.{IsLegalRun};
 ghost use Rattle.run_model.specs.Links.{IsLinkedRun};
 ghost use Rattle.run_model.specs.Steps.{OneOf};
-ghost use Rattle.run_model.specs.Types.{Step};
+ghost use Rattle.run_model.specs.declared.step.Step.{Step};
 ghost use Rattle.undelivered.specs.OfRuns.{moments_of};
 ghost use Rattle.undelivered.specs.Order.{AreOnce, early};
 

@@ -1,6 +1,6 @@
 //! Calls that wait for their delivery, by reference and turn of making.
 
-ghost use Rattle.std.specs.Prelude.{◌≡◌, ◌==◌, ◌&&◌, ℕ, Some, nat_lt, if◌then◌else◌};
+ghost use Rattle.std.specs.Prelude.{◌≡◌, ◌==◌, ◌&&◌, ℕ, Option, Some, nat_lt, if◌then◌else◌};
 ghost use Rattle.std.specs.BTreeMap.{get};
 ghost use Rattle.std.specs.Option.{option_map};
 ghost use Rattle.undelivered.specs.Glue.{key_cmp, lesser, IsLastBefore, IsRising};
@@ -25,6 +25,16 @@ fn last_before(
     Some((key.1, *until))
 }
 
+/// Notes this place for a call that waits. It takes no memory.
+fn note(waiting: &mut Waiting, reference: u64, turn: u64, place: (u32, u32))
+    ensures { (known : Option (ℕ × ℕ)) → get key_cmp waiting.old (reference, turn) ≡ Some known
+        → (r t : ℕ) → get key_cmp waiting.new (r, t)
+        ≡ (if (r == reference) && (t == turn) then Some (Some place)
+            else get key_cmp waiting.old (r, t)) }
+{
+    let _ = waiting.insert((reference, turn), Some(place));
+}
+
 /// Notes a delivery at this place for the calls through this reference before this turn, which waits no more. It ends at the
 /// first for which a lesser place is noted, since those before it have none above.
 pub(crate) fn lower_before(waiting: &mut Waiting, reference: u64, turn: u64, place: (u32, u32))
@@ -38,9 +48,7 @@ pub(crate) fn lower_before(waiting: &mut Waiting, reference: u64, turn: u64, pla
         if has_at_most(until, place) {
             return;
         }
-        if let Some(until) = waiting.get_mut(&(reference, earlier)) {
-            *until = Some(place);
-        }
+        note(waiting, reference, earlier, place);
         below = earlier;
     }
 }

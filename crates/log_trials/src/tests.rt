@@ -3,12 +3,11 @@
 use bytes::Bytes;
 use std::alloc::Global;
 use std::test::Fail;
-use vat_log::{
-    Body, LogError, LogReader, Record, Salvaged, VatLog, parse_log, salvage_log,
-};
+use vat_log::{Body, LogError, LogReader, Record, Salvaged, VatLog, parse_log, salvage_log};
 
 /// The log of vat 4 in version 2 with VOW of 1, VOW of 2 and VOW of 3: 12 bytes, and three times 9.
-const THREE: &[u8; 39] = b"VATLOG02\x04\x00\x00\x00\x02\x01\x00\x00\x00\x00\x00\x00\x00\x02\x02\x00\x00\x00\x00\x00\x00\x00\x02\x03\x00\x00\x00\x00\x00\x00\x00";
+const THREE: &[u8; 39] =
+    b"VATLOG02\x04\x00\x00\x00\x02\x01\x00\x00\x00\x00\x00\x00\x00\x02\x02\x00\x00\x00\x00\x00\x00\x00\x02\x03\x00\x00\x00\x00\x00\x00\x00";
 
 /// Where its header ends, and each of its records.
 const ENDS: [usize; 4] = [12, 21, 30, 39];
@@ -102,7 +101,11 @@ fn a_header_that_is_bad_or_cut_has_no_reader(rt: HostRuntime) -> Result<(), Fail
         let read = LogReader::new(cut(alloc, count)?).err();
         assert_eq!(rt; read, Some(wanted), "of {count} bytes");
         let kept = THREE.get(..count).ok_or("so many bytes")?;
-        assert_eq!(rt; salvaged_of(alloc, kept)?.err(), Some(wanted), "of {count} bytes");
+        assert_eq!(rt;
+            salvaged_of(alloc, kept)?.err(),
+            Some(wanted),
+            "of {count} bytes"
+        );
     }
     Ok(())
 }
@@ -111,7 +114,11 @@ fn a_header_that_is_bad_or_cut_has_no_reader(rt: HostRuntime) -> Result<(), Fail
 fn whole_records_in_front_of_a_cut_are_salvaged(rt: HostRuntime) -> Result<(), Fail> {
     let alloc = rt.alloc();
     for count in 12..=39usize {
-        let records = ENDS.iter().filter(|end| **end <= count).count().saturating_sub(1);
+        let records = ENDS
+            .iter()
+            .filter(|end| **end <= count)
+            .count()
+            .saturating_sub(1);
         let end = *ENDS.get(records).ok_or("an end")?;
         let cut_off = THREE.get(..count).ok_or("so many bytes")?;
         let salvaged = salvaged_of(alloc, cut_off)?.ok().ok_or("a log")?;
@@ -136,7 +143,10 @@ fn a_fault_in_the_middle_ends_the_run(rt: HostRuntime) -> Result<(), Fail> {
         (21usize, 99u8, LogError::BadKind(21)),
         (22, 0, LogError::ZeroNumber(22)),
     ] {
-        assert_eq!(rt; vows_read(alloc, with_byte(alloc, place, byte)?)?, (1, Some(fault)));
+        assert_eq!(rt;
+            vows_read(alloc, with_byte(alloc, place, byte)?)?,
+            (1, Some(fault))
+        );
         let mut changed = *THREE;
         *changed.get_mut(place).ok_or("a place")? = byte;
         let salvaged = salvaged_of(alloc, changed.as_slice())?.ok().ok_or("a log")?;
@@ -154,7 +164,10 @@ fn a_reader_stays_at_a_fault_and_at_the_end(rt: HostRuntime) -> Result<(), Fail>
     let mut cut_short = LogReader::new(cut(alloc, 29)?).ok().ok_or("a header")?;
     assert!(rt; matches!(next_of(alloc, &mut cut_short), Ok(Some(_))));
     for _ in 0..2 {
-        assert_eq!(rt; next_of(alloc, &mut cut_short).err(), Some(LogError::Short(22)));
+        assert_eq!(rt;
+            next_of(alloc, &mut cut_short).err(),
+            Some(LogError::Short(22))
+        );
         assert_eq!(rt; cut_short.given(), 1);
     }
     let mut whole = LogReader::new(cut(alloc, 12)?).ok().ok_or("a header")?;

@@ -61,10 +61,10 @@ last_before m r t k u within found greatest =
       range_turn r t k within.0 within.1,
       here,
       λ q above below. none_or_some (get key_cmp m (r, q)) (λ there.
-      let first : is_lt (key_cmp (k.0, k.1) (r, q)) ≡ false = greatest (r, q) (in_range r q t below) there in
-      let same : is_lt (key_cmp (r, k.1) (r, q)) ≡ false = subst (λ (n : ℕ). is_lt (key_cmp (n, k.1) (r, q)) ≡ false) reference first in
-      let le : q ≤ k.1 = not_above r k.1 q same in
-      omega arith),
+          let first : is_lt (key_cmp (k.0, k.1) (r, q)) ≡ false = greatest (r, q) (in_range r q t below) there in
+          let same : is_lt (key_cmp (r, k.1) (r, q)) ≡ false = subst (λ (n : ℕ). is_lt (key_cmp (n, k.1) (r, q)) ≡ false) reference first in
+          let le : q ≤ k.1 = not_above r k.1 q same in
+          omega arith),
     )
 
 -- ---- what a table has after a change

@@ -244,7 +244,6 @@ not_behind r t c past le =
       | inr h ↦ let none = no_turn c past h in rw none refl
     ]
 
-
 pub before_is_behind : (d c : ℕ) (past : PastCalls) (r t : ℕ) → AreOnce past → turn_of d past ≡ Some (r, t) → is_made_before d c past ≡ is_behind r t (turn_of c past)
 before_is_behind d c [] r t once e = absurd cc
 before_is_behind d c (Made n q ∷ before) r t once e =
@@ -284,4 +283,3 @@ before_is_behind d c (Made n q ∷ before) r t once e =
       ]
     ]
 before_is_behind d c (Delivered n p ∷ before) r t once e = before_is_behind d c before r t once.2 e
-

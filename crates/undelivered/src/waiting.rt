@@ -13,11 +13,7 @@ use std::collections::BTreeMap;
 pub(crate) type Waiting = BTreeMap<(u64, u64), Option<(u32, u32)>>;
 
 /// The last of the calls through this reference before this turn, by its turn, and what is noted of it.
-fn last_before(
-    waiting: &Waiting,
-    reference: u64,
-    turn: u64,
-) -> Option<(u64, Option<(u32, u32)>)>
+fn last_before(waiting: &Waiting, reference: u64, turn: u64) -> Option<(u64, Option<(u32, u32)>)>
     ensures { IsLastBefore waiting.now reference turn result }
 {
     let mut earlier = waiting.range((reference, 0)..(reference, turn));
@@ -30,7 +26,7 @@ fn note(waiting: &mut Waiting, reference: u64, turn: u64, place: (u32, u32))
     ensures { (known : Option (ℕ × ℕ)) → get key_cmp waiting.old (reference, turn) ≡ Some known
         → (r t : ℕ) → get key_cmp waiting.new (r, t)
         ≡ (if (r == reference) && (t == turn) then Some (Some place)
-            else get key_cmp waiting.old (r, t)) }
+        else get key_cmp waiting.old (r, t)) }
 {
     let _ = waiting.insert((reference, turn), Some(place));
 }
@@ -40,8 +36,8 @@ fn note(waiting: &mut Waiting, reference: u64, turn: u64, place: (u32, u32))
 pub(crate) fn lower_before(waiting: &mut Waiting, reference: u64, turn: u64, place: (u32, u32))
     ensures { IsRising waiting.old → (r t : ℕ) → get key_cmp waiting.new (r, t)
         ≡ (if (r == reference) && nat_lt t turn
-            then option_map (λ until. lesser until (Some place)) (get key_cmp waiting.old (r, t))
-            else get key_cmp waiting.old (r, t)) }
+        then option_map (λ until. lesser until (Some place)) (get key_cmp waiting.old (r, t))
+        else get key_cmp waiting.old (r, t)) }
 {
     let mut below = turn;
     while let Some((earlier, until)) = last_before(waiting, reference, below) {

@@ -22,7 +22,7 @@ loop-earlier-preserved c =
     record {
       within = omega (arith, c.in-Some.ensures.0, c.loop-earlier.invariant.within);
       lowered = one_more c.args.waiting.now c.loop-earlier.waiting c.note.new.waiting c.args.reference c.loop-earlier.below c.args.turn c.in-Some.earlier c.args.place c.in-Some.until c.loop-earlier.invariant.within c.loop-earlier.invariant.lowered c.in-Some.ensures above
-      (c.note.ensures c.in-Some.until c.in-Some.ensures.1);
+          (c.note.ensures c.in-Some.until c.in-Some.ensures.1);
     }
 
 pub returns : goal.returns

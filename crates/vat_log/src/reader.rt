@@ -41,13 +41,13 @@ impl Model for LogReader {
     ghost Value = { Read };
 
     ghost view = { λ reader. record {
-        bytes = reader.bytes;
-        log = record { version = reader.version; vat = reader.vat; records = reverse reader.given.items };
+      bytes = reader.bytes;
+      log = record { version = reader.version; vat = reader.vat; records = reverse reader.given.items };
     } };
 
     ghost invariant = { λ reader. (length reader.given.items ≡ reader.count)
         × IsReadTo record_limit reader.bytes
-            (record { version = reader.version; vat = reader.vat; records = reverse reader.given.items }) reader.at };
+        (record { version = reader.version; vat = reader.vat; records = reverse reader.given.items }) reader.at };
 }
 
 impl Debug for LogReader {
@@ -117,7 +117,7 @@ impl LogReader {
         // A record is the next one; at the end all were given, and no more stand there whole.
         ensures given { IfOk result (λ next. MatchOption next
             ((self.new ≡ self.old) × (log_of self.old.bytes ≡ Ok self.old.log)
-                × IsLongestRun self.old.bytes self.old.log)
+            × IsLongestRun self.old.bytes self.old.log)
             (λ entry. self.new.log ≡ with_record entry self.old.log)) }
         // Why there is no next one.
         ensures err { IfErr result (λ e. (self.new ≡ self.old) × StopsBy e self.old) }

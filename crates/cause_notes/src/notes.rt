@@ -108,33 +108,24 @@ fn put_told(
     }
 }
 
-/// The notes beside an answer that isn't good, a line each.
-fn bad_notes<S: SearchingSource>(
+/// Appends the notes beside an answer that isn't good and no fault, a line each.
+fn put_bad<S: SearchingSource>(
     alloc: Global,
+    text: &mut String,
     heard: &Heard,
     source: &S,
-    hex: Option<&str>,
-) -> Result<String, AllocError> {
-    let mut text = String::new(alloc);
-    if let Told::Fault(fault) = heard.told {
-        put_fault(alloc, &mut text, source, hex, fault)?;
-        return Ok(text);
-    }
-    put_limit(&mut text, heard.limit)?;
+) -> Result<(), AllocError> {
     if let (Told::Wire, Some(found)) = (heard.told, &heard.wire) {
-        put_wire(alloc, &mut text, source.kept(), found)?;
-        return Ok(text);
+        return put_wire(alloc, text, source.kept(), found);
     }
     if let (Told::Join, Some(note)) = (heard.told, heard.join) {
-        put_join(&mut text, source.kept(), note)?;
-        return Ok(text);
+        return put_join(text, source.kept(), note);
     }
     let logs = Logs {
         files: source.kept(),
         findings: heard.findings.as_ref(),
     };
-    put_told(alloc, &mut text, &logs, heard.told)?;
-    Ok(text)
+    put_told(alloc, text, &logs, heard.told)
 }
 
 /// What people are told beside an answer.
@@ -155,9 +146,13 @@ impl Notes {
         }
     }
 
-    /// What is open at the end of a case whose report is yes, or of a log that is good.
-    fn of_case(alloc: Global, case: &OpenCase<'_>, form: Form) -> Result<Notes, AllocError> {
-        let mut text = String::new(alloc);
+    /// These notes, and what is open at the end of a case whose report is yes, or of a log that is good.
+    fn of_case(
+        alloc: Global,
+        mut text: String,
+        case: &OpenCase<'_>,
+        form: Form,
+    ) -> Result<Notes, AllocError> {
         put_good(alloc, &mut text, case)?;
         let left_open = match form {
             Form::Text => None,
@@ -166,15 +161,16 @@ impl Notes {
         Ok(Notes { text, left_open })
     }
 
-    /// Of a case that may not be put together any more: then there is nothing to tell.
+    /// Of a case that may not be put together any more: then there are these notes alone.
     fn of_found(
         alloc: Global,
+        text: String,
         found: Option<OpenCase<'_>>,
         form: Form,
     ) -> Result<Notes, AllocError> {
         match found {
-            Some(case) => Notes::of_case(alloc, &case, form),
-            None => Ok(Notes::of_text(String::new(alloc))),
+            Some(case) => Notes::of_case(alloc, text, &case, form),
+            None => Ok(Notes::of_text(text)),
         }
     }
 }
@@ -188,18 +184,19 @@ pub enum Form {
     Json,
 }
 
-/// What people are told of a log that is good. Its frames are read once more: its audit kept no record.
+/// What people are told of a log that is good, behind these notes. Its frames are read once more: its audit kept no record.
 fn notes_of_log(
     alloc: Global,
+    text: String,
     files: &[(String, Bytes)],
     log: &VatLog,
     form: Form,
 ) -> Result<Notes, AllocError> {
     let Some(events) = events_of(alloc, log)? else {
-        return Ok(Notes::of_text(String::new(alloc)));
+        return Ok(Notes::of_text(text));
     };
     let found = OpenCase::of_log(alloc, log, events.as_slice(), files)?;
-    Notes::of_found(alloc, found, form)
+    Notes::of_found(alloc, text, found, form)
 }
 
 /// What people are told beside an answer. `hex` is the frame of the command line, where it has one.
@@ -214,12 +211,19 @@ pub fn notes_of<S: SearchingSource>(
     hex: Option<&str>,
     form: Form,
 ) -> Result<Notes, AllocError> {
+    let mut text = String::new(alloc);
+    if let Told::Fault(fault) = heard.told {
+        put_fault(alloc, &mut text, source, hex, fault)?;
+        return Ok(Notes::of_text(text));
+    }
+    put_limit(&mut text, heard.limit)?;
     if let (Told::Yes, Some(findings)) = (heard.told, &heard.findings) {
         let found = OpenCase::of_findings(alloc, findings, source.kept())?;
-        return Notes::of_found(alloc, found, form);
+        return Notes::of_found(alloc, text, found, form);
     }
     if let (Told::GoodLog, Some(log)) = (heard.told, &heard.log) {
-        return notes_of_log(alloc, source.kept(), log, form);
+        return notes_of_log(alloc, text, source.kept(), log, form);
     }
-    Ok(Notes::of_text(bad_notes(alloc, heard, source, hex)?))
+    put_bad(alloc, &mut text, heard, source)?;
+    Ok(Notes::of_text(text))
 }

@@ -1,8 +1,8 @@
 //! Finding edges, step by step.
 
-ghost use Rattle.std.specs.Prelude.{◌≡◌, ◌+◌, ◌<◌, ◌==◌, IfOk, length, reverse, take, slice_get, Some, ℕ};
+ghost use Rattle.std.specs.Prelude.{◌≡◌, ◌+◌, ◌<◌, IfOk, length};
 ghost use Rattle.run_model.specs.Edges.{AreEdges};
-ghost use Rattle.run_model.specs.Steps.{count_steps, vat_of};
+ghost use Rattle.run_model.specs.Steps.{vat_of};
 ghost use Rattle.authority.specs.Glue.EdgeTables.{foreign, IsFoundBefore, IsStepNumber};
 
 use crate::edges::Graph;

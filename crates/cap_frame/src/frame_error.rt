@@ -1,7 +1,5 @@
 //! Why bytes aren't a frame.
 
-ghost use Rattle.std.specs.Prelude.{◌≡◌};
-
 /// Why bytes aren't a frame of the stream framing (encoding specification, "Serialization Over a Stream"): the first
 /// fault that is met.
 #[derive(Clone, Copy, Debug, PartialEq, Eq)]

@@ -64,7 +64,7 @@ composite_refused made segments segment start element_size count seven e h path 
     ap (fields_in path) (composite_is made segments segment start element_size count seven) ∙ (of_list 0 made segments segment count (extent segments segment start 1) path).1 e h
 
 plain_is : (made : ℕ → ℕ → ℕ → Tree) (segments : List (List ℕ)) (segment : ℕ) (start : Option ℕ) (element_size count : ℕ) → (element_size ≡ 7 → ⊥)
-    → list_there made segments segment start element_size count ≡ plain_there (extent segments segment start (plain_words element_size count))
+    → list_there made segments segment start element_size count ≡ plain_there segments segment element_size count (extent segments segment start (plain_words element_size count))
 unfolding list_there
 plain_is made segments segment start element_size count e = rw (ne_eqb element_size 7 e) refl
 
@@ -72,13 +72,13 @@ pub plain_judged : (made : ℕ → ℕ → ℕ → Tree) (segments : List (List 
     → extent segments segment start (plain_words element_size count) ≡ Some at → (path : List ℕ) → fields_in path (list_there made segments segment start element_size count) ≡ done []
 unfolding fields_in
 plain_judged made segments segment start element_size count other at h path =
-    ap (fields_in path) (plain_is made segments segment start element_size count other ∙ ap plain_there h)
+    ap (fields_in path) (plain_is made segments segment start element_size count other ∙ ap (plain_there segments segment element_size count) h)
 
 pub plain_refused : (made : ℕ → ℕ → ℕ → Tree) (segments : List (List ℕ)) (segment : ℕ) (start : Option ℕ) (element_size count : ℕ) → (element_size ≡ 7 → ⊥)
     → extent segments segment start (plain_words element_size count) ≡ None → (path : List ℕ) → fields_in path (list_there made segments segment start element_size count) ≡ fault errors.OutOfSegment
 unfolding fields_in
 plain_refused made segments segment start element_size count other h path =
-    ap (fields_in path) (plain_is made segments segment start element_size count other ∙ ap plain_there h)
+    ap (fields_in path) (plain_is made segments segment start element_size count other ∙ ap (plain_there segments segment element_size count) h)
 
 -- ---- what the pointer at a place adds
 
@@ -95,6 +95,7 @@ refuses_so errors.OutOfSegment left ran h = h
 refuses_so errors.NoSegment left ran h = h
 refuses_so errors.BadPad left ran h = h
 refuses_so errors.WrongKind left ran h = h
+refuses_so errors.NoZero left ran h = h
 refuses_so errors.Reserved left ran h = h
 refuses_so errors.TooDeep left ran h = h
 refuses_so errors.TooMuch left ran h = h

@@ -8,9 +8,9 @@ use Rattle.cap_reader.specs.declared.pointee.Pointee.{Pointee}
 use Rattle.cap_reader.specs.declared.pointee.Pointee.TheVariants as leads
 use Rattle.cap_reader.specs.declared.read_error.ReadError.{ReadError}
 use Rattle.cap_reader.specs.declared.read_error.ReadError.TheVariants.{OutOfSegment, WrongKind}
-use Rattle.cap_reader.specs.Pointers.{offset_bits, data_bits, pointer_bits, words_of, has_words, extent, pointee_at}
-use Rattle.cap_reader.specs.Tree.{Tree, nothing, structure, composite, bad_composite, capability, unfollowed, structure_there, elements_behind, composite_there, plain_words, plain_there, list_there, tree_behind, structure_at, tree_at}
-use Rattle.cap_reader.specs.Cuts.{Pairs, SameContent, SameElements, SameExtents, SameLists, SamePointees, Correspond}
+use Rattle.cap_reader.specs.Pointers.{offset_bits, data_bits, pointer_bits, words_of, words_at, has_words, extent, pointee_at}
+use Rattle.cap_reader.specs.Tree.{Tree, nothing, structure, composite, bad_composite, plain, capability, unfollowed, structure_there, elements_behind, composite_there, plain_words, plain_there, list_there, tree_behind, structure_at, tree_at}
+use Rattle.cap_reader.specs.Cuts.{Pairs, SameWords, SameContent, SameElements, SameExtents, SameLists, SamePointees, Correspond}
 
 -- below a bound as there, and the same beyond it
 guarded : {A : Type 0} (k n : ℕ) (x y z : A) → (k < n → x ≡ y) → cond (nat_lt k n) x z ≡ cond (nat_lt k n) y z
@@ -19,6 +19,9 @@ guarded k n x y z e =
       | inl lt ↦ rw (lt-ltb k n lt) (e lt)
       | inr ge ↦ rw (le-ltb k n ge) refl
     ]
+
+same_words : (one other : List (List ℕ)) (s t x y size : ℕ) → SameWords one other s t x y size → ◌≡◌ {A = ℕ → ℕ} (words_at one s x size) (words_at other t y size)
+same_words one other s t x y size h = fun_ext (λ i. guarded i size _ _ 0 (h i))
 
 -- ---- what pointers lead to, where structs with the same content are the same
 
@@ -57,22 +60,23 @@ module _ (pairs : Pairs) (one other : List (List ℕ)) (first second : ℕ → �
   composites s t size (Some i) None h = absurd h
   composites s t size (Some i) (Some j) h = elements s t size i j h
 
-  plains : (x y : Option ℕ) → SameExtents (λ here there. Unit {0}) x y → plain_there x ≡ plain_there y
-  plains None None h = refl
-  plains None (Some j) h = absurd h
-  plains (Some i) None h = absurd h
-  plains (Some i) (Some j) h = refl
+  plains : (s t size count : ℕ) (x y : Option ℕ) → SameExtents (λ here there. SameWords one other s t here there (plain_words size count)) x y
+      → plain_there one s size count x ≡ plain_there other t size count y
+  plains s t size count None None h = refl
+  plains s t size count None (Some j) h = absurd h
+  plains s t size count (Some i) None h = absurd h
+  plains s t size count (Some i) (Some j) h = ap (plain size count) (same_words one other s t i j (plain_words size count) h)
 
   lists : (s t : ℕ) (x y : Option ℕ) (size count : ℕ) → SameLists pairs one other s t x y size count → list_there (first s) one s x size count ≡ list_there (second t) other t y size count
   unfolding list_there
   lists s t x y size count h =
       by (size == 7) h
     where
-      by : (b : Bool) → MatchBool b (SameExtents (SameElements pairs one other s t count) (extent one s x 1) (extent other t y 1)) (SameExtents (λ here there. Unit {0}) (extent one s x (plain_words size count)) (extent other t y (plain_words size count)))
-          → cond b (composite_there (first s) one s count (extent one s x 1)) (plain_there (extent one s x (plain_words size count)))
-          ≡ cond b (composite_there (second t) other t count (extent other t y 1)) (plain_there (extent other t y (plain_words size count)))
+      by : (b : Bool) → MatchBool b (SameExtents (SameElements pairs one other s t count) (extent one s x 1) (extent other t y 1)) (SameExtents (λ here there. SameWords one other s t here there (plain_words size count)) (extent one s x (plain_words size count)) (extent other t y (plain_words size count)))
+          → cond b (composite_there (first s) one s count (extent one s x 1)) (plain_there one s size count (extent one s x (plain_words size count)))
+          ≡ cond b (composite_there (second t) other t count (extent other t y 1)) (plain_there other t size count (extent other t y (plain_words size count)))
       by true g = composites s t count (extent one s x 1) (extent other t y 1) g
-      by false g = plains (extent one s x (plain_words size count)) (extent other t y (plain_words size count)) g
+      by false g = plains s t size count (extent one s x (plain_words size count)) (extent other t y (plain_words size count)) g
 
   leads_alike : (p q : Result Pointee ReadError) → SamePointees pairs one other p q → tree_behind first one p ≡ tree_behind second other q
   unfolding tree_behind
@@ -96,10 +100,9 @@ module _ (pairs : Pairs) (one other : List (List ℕ)) (alike : Correspond pairs
   unfolding structure_at
   at_depth zero s t x y d p h = refl
   at_depth (suc depth) s t x y d p h =
-      let words : ◌≡◌ {A = ℕ → ℕ} (λ i. if nat_lt i d then slice_index (words_of one s) (x + i) else 0) (λ i. if nat_lt i d then slice_index (words_of other t) (y + i) else 0) = fun_ext (λ i. guarded i d _ _ 0 (h.0 i)) in
       let children : ◌≡◌ {A = ℕ → Tree} (λ n. if nat_lt n p then tree_behind (structure_at depth one) one (pointee_at one s (x + d + n)) else nothing) (λ n. if nat_lt n p then tree_behind (structure_at depth other) other (pointee_at other t (y + d + n)) else nothing) =
       fun_ext (λ n. guarded n p _ _ nothing (λ lt. leads_alike pairs one other (structure_at depth one) (structure_at depth other) (at_depth depth) _ _ (alike s (x + d + n) t (y + d + n) (h.1 n lt)))) in
-      structure_is d p _ _ _ _ words children
+      structure_is d p _ _ _ _ (same_words one other s t x y d h.0) children
 
   pub trees_alike : (depth s x t y : ℕ) → pairs s x t y ≡ true → tree_at depth one s x ≡ tree_at depth other t y
   trees_alike depth s x t y h =

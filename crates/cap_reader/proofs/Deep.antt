@@ -16,7 +16,7 @@ IsShort depth tree = (path : List ℕ) (index : ℕ) → capability_at tree path
 list_has_none : (made : ℕ → ℕ → ℕ → Tree) (segments : List (List ℕ)) (segment : ℕ) (start : Option ℕ) (element_size count : ℕ) (path : List ℕ) → capability_at (list_there made segments segment start element_size count) path ≡ None
 unfolding capability_at
 list_has_none made segments segment start element_size count path =
-    list_is (λ tree. capability_at tree path) None (λ n g. refl) (λ e. refl) refl (λ e. refl) made segments segment start element_size count
+    list_is (λ tree. capability_at tree path) None (λ n g. refl) (λ e. refl) (λ size n word. refl) (λ size e. refl) made segments segment start element_size count
 
 module _ (depth : ℕ) (made : ℕ → ℕ → ℕ → ℕ → Tree) (short : (segment start data_words pointer_count : ℕ) → IsShort depth (made segment start data_words pointer_count)) where
   there_short : (segment data_words pointer_count : ℕ) (start : Option ℕ) → IsShort depth (structure_there (λ at. made segment at data_words pointer_count) start)

@@ -15,3 +15,4 @@ pub mod Deep
 pub mod Instance
 pub mod Memory
 pub mod Near
+pub mod Texts

@@ -56,6 +56,7 @@ module _ {A : Type 0} (f : ℕ → Reading ReadError (List A)) where
   failed front i n left l errors.NoSegment (Ok xs) p = absurd (not_ok errors.NoSegment (front ++ xs) (sym (ap (λ (r : Result (List A) ReadError × ℕ). r.0) p)))
   failed front i n left l errors.BadPad (Ok xs) p = absurd (not_ok errors.BadPad (front ++ xs) (sym (ap (λ (r : Result (List A) ReadError × ℕ). r.0) p)))
   failed front i n left l errors.WrongKind (Ok xs) p = absurd (not_ok errors.WrongKind (front ++ xs) (sym (ap (λ (r : Result (List A) ReadError × ℕ). r.0) p)))
+  failed front i n left l errors.NoZero (Ok xs) p = absurd (not_ok errors.NoZero (front ++ xs) (sym (ap (λ (r : Result (List A) ReadError × ℕ). r.0) p)))
   failed front i n left l errors.Reserved (Ok xs) p = absurd (not_ok errors.Reserved (front ++ xs) (sym (ap (λ (r : Result (List A) ReadError × ℕ). r.0) p)))
   failed front i n left l errors.TooDeep (Ok xs) p = absurd (not_ok errors.TooDeep (front ++ xs) (sym (ap (λ (r : Result (List A) ReadError × ℕ). r.0) p)))
   failed front i n left l errors.TooMuch (Ok xs) p = absurd (not_ok errors.TooMuch (front ++ xs) (sym (ap (λ (r : Result (List A) ReadError × ℕ). r.0) p)))

@@ -1,7 +1,7 @@
 -- No fault of pointers is out of memory.
 use Rattle.std.proofs.Common.{◌≡◌, ℕ, zero, suc, ◌+◌, ◌-◌, inl, inr, Bool, true, false, cond, List, [], ◌∷◌, ◌++◌, Option, Some, None, Result, Ok, Err, subst}
 use Rattle.std.specs.Prelude.{nat_lt}
-use Rattle.std.proofs.lemmas.Bool.{cases_lt, lt-ltb, le-ltb}
+use Rattle.std.proofs.lemmas.Bool.{cases_lt, cases_eq, lt-ltb, le-ltb, eq-eqb, ne_eqb}
 use Rattle.cap_reader.specs.declared.pointee.Pointee.{Pointee}
 use Rattle.cap_reader.specs.declared.pointee.Pointee.TheVariants as leads
 use Rattle.cap_reader.specs.declared.pointer.Pointer.{Pointer}
@@ -11,8 +11,9 @@ use Rattle.cap_reader.specs.declared.read_error.ReadError.TheVariants as errors
 use Rattle.cap_frame.specs.Segments.{word_at}
 use Rattle.cap_reader.specs.Pointers.{extent, pointer_of, word_there, pad_word, pointee_of, content_in, pointee_by_tag, pointee_behind, pointee_at, ◌>>=◌}
 use Rattle.cap_reader.specs.Tree.{Tree, nothing, composite, bad_composite, structure_there, list_there, composite_there, plain_there, plain_words, elements_behind, tree_behind, structure_at, tree_at}
-use Rattle.cap_reader.specs.Reading.{Reading, done, fault, visit, and_then, pay_for, run, each, structure_in, elements_in}
+use Rattle.cap_reader.specs.Reading.{Reading, done, fault, visit, and_then, pay_for, run, each, structure_in, elements_in, text_in, text_of, byte_in}
 use Rattle.cap_reader.specs.Fields.{fields_in}
+use Rattle.cap_reader.proofs.Texts.{structure_is_no_text, list_is_no_text}
 
 -- any error but out of memory
 abbrev IsFault : ReadError → Type 0
@@ -21,6 +22,7 @@ IsFault errors.OutOfSegment = Unit {0}
 IsFault errors.NoSegment = Unit {0}
 IsFault errors.BadPad = Unit {0}
 IsFault errors.WrongKind = Unit {0}
+IsFault errors.NoZero = Unit {0}
 IsFault errors.Reserved = Unit {0}
 IsFault errors.TooDeep = Unit {0}
 IsFault errors.TooMuch = Unit {0}
@@ -105,9 +107,6 @@ unfolding Free each
 free_each f p zero from = tt
 free_each f p (suc n) from = free_then (f from) _ (p from) (λ first. free_then (each f (from + 1) n) _ (free_each f p n (from + 1)) (λ others. tt))
 
-no_want : {A : Type 0} (e : ReadError) → IsFault e → ◌≡◌ {A = Result A ReadError} (Err e) (Err errors.OutOfMemory) → ⊥
-no_want {A} e p h = let P : Result A ReadError → Type 0 = λ r. Fine r in subst P h p
-
 ran_fine : {A : Type 0} (reading : Reading ReadError A) (words : ℕ) → Free reading → Fine (run reading words).0
 unfolding Free pay_for
 ran_fine (done value) words p = tt
@@ -144,15 +143,15 @@ free_composite_there made segments segment size None = free_bad_composite errors
 free_composite_there made segments segment size (Some tag_at) =
     free_choice _ _ _ (free_choice _ _ _ (free_composite _ _) (free_bad_composite errors.OutOfSegment tt)) (free_bad_composite errors.WrongKind tt)
 
-free_plain_there : (place : Option ℕ) → IsFree (plain_there place)
+free_plain_there : (segments : List (List ℕ)) (segment element_size count : ℕ) (place : Option ℕ) → IsFree (plain_there segments segment element_size count place)
 unfolding Free fields_in
-free_plain_there None = (tt, tt, λ path. tt)
-free_plain_there (Some start) = (tt, tt, λ path. tt)
+free_plain_there segments segment element_size count None = (tt, tt, λ path. tt)
+free_plain_there segments segment element_size count (Some start) = (tt, tt, λ path. tt)
 
 free_list : (made : ℕ → ℕ → ℕ → Tree) (segments : List (List ℕ)) (segment : ℕ) (start : Option ℕ) (element_size count : ℕ) → IsFree (list_there made segments segment start element_size count)
 unfolding list_there
 free_list made segments segment start element_size count =
-    free_choice _ _ _ (free_composite_there made segments segment count (extent segments segment start 1)) (free_plain_there (extent segments segment start (plain_words element_size count)))
+    free_choice _ _ _ (free_composite_there made segments segment count (extent segments segment start 1)) (free_plain_there segments segment element_size count (extent segments segment start (plain_words element_size count)))
 
 free_nothing : IsFree nothing
 unfolding Free fields_in
@@ -200,6 +199,39 @@ lists_want_none depth segments segment at words = wants_none _ words (free_tree 
 
 pub elements_want_none : (depth : ℕ) (segments : List (List ℕ)) (segment start data_words pointer_count words : ℕ) → (run (structure_in (structure_at depth segments segment start data_words pointer_count)) words).0 ≡ Err errors.OutOfMemory → ⊥
 elements_want_none depth segments segment start data_words pointer_count words = wants_none _ words (free_structure depth segments segment start data_words pointer_count).0
+
+-- ---- texts
+
+free_text_of : (count : ℕ) (word : ℕ → ℕ) → Free (text_of count word)
+unfolding Free text_of
+free_text_of zero word = tt
+free_text_of (suc len) word =
+    elim (cases_eq (byte_in len word) 0) [
+      | inl ends ↦ rw (eq-eqb _ 0 ends) tt
+      | inr other ↦ rw (ne_eqb _ 0 other) tt
+    ]
+
+free_text_there : (segments : List (List ℕ)) (segment count : ℕ) (place : Option ℕ) → Free (text_in (plain_there segments segment 2 count place))
+unfolding Free
+free_text_there segments segment count None = tt
+free_text_there segments segment count (Some start) = free_text_of count _
+
+free_text : (depth : ℕ) (segments : List (List ℕ)) (lead : Result Pointee ReadError) → Fine lead → Free (text_in (tree_behind (structure_at depth segments) segments lead))
+unfolding Free tree_behind list_there
+free_text depth segments (Err e) p = p
+free_text depth segments (Ok leads.Null) p = tt
+free_text depth segments (Ok (leads.Struct segment start data_words pointer_count)) p =
+    rw (structure_is_no_text depth segments segment start data_words pointer_count) tt
+free_text depth segments (Ok (leads.List segment start element_size count)) p =
+    elim (cases_eq element_size 2) [
+      | inl bytes ↦ rw bytes (free_text_there segments segment count (extent segments segment start (plain_words 2 count)))
+      | inr other ↦ rw (list_is_no_text (structure_at depth segments segment) segments segment start element_size count other) tt
+    ]
+free_text depth segments (Ok (leads.Capability index)) p = tt
+free_text depth segments (Ok leads.Reserved) p = tt
+
+pub texts_want_none : (depth : ℕ) (segments : List (List ℕ)) (segment at words : ℕ) → (run (text_in (tree_at depth segments segment at)) words).0 ≡ Err errors.OutOfMemory → ⊥
+texts_want_none depth segments segment at words = wants_none _ words (free_text depth segments (pointee_at segments segment at) (fine_followed segments segment at))
 
 pub fields_want_none : (depth : ℕ) (segments : List (List ℕ)) (segment at words : ℕ) (path : List ℕ) → (run (fields_in path (tree_at depth segments segment at)) words).0 ≡ Err errors.OutOfMemory → ⊥
 fields_want_none depth segments segment at words path = wants_none _ words ((free_tree depth segments segment at).2 path)

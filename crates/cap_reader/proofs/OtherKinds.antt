@@ -22,18 +22,22 @@ module _ {A : Type 0} (f : Tree → A) (z : A) (is_composite : (n : ℕ) (g : �
   there_is made segments segment size None = is_bad OutOfSegment
   there_is made segments segment size (Some tag_at) = behind_is made segments segment size tag_at
 
-  plain_is : f plain ≡ z → ((e : ReadError) → f (bad_plain e) ≡ z) → (place : Option ℕ) → f (plain_there place) ≡ z
-  plain_is p q None = q OutOfSegment
-  plain_is p q (Some start) = p
+  plain_is : ((size n : ℕ) (word : ℕ → ℕ) → f (plain size n word) ≡ z) → ((size : ℕ) (e : ReadError) → f (bad_plain size e) ≡ z) → (segments : List (List ℕ)) (segment size n : ℕ) (place : Option ℕ) → f (plain_there segments segment size n place) ≡ z
+  plain_is p q segments segment size n None = q size OutOfSegment
+  plain_is p q segments segment size n (Some start) = p size n _
 
-  pub list_is : f plain ≡ z → ((e : ReadError) → f (bad_plain e) ≡ z) → (made : ℕ → ℕ → ℕ → Tree) (segments : List (List ℕ)) (segment : ℕ) (start : Option ℕ) (element_size count : ℕ) → f (list_there made segments segment start element_size count) ≡ z
+  pub list_by : (made : ℕ → ℕ → ℕ → Tree) (segments : List (List ℕ)) (segment : ℕ) (start : Option ℕ) (element_size count : ℕ) → ((place : Option ℕ) → f (plain_there segments segment element_size count place) ≡ z) → f (list_there made segments segment start element_size count) ≡ z
   unfolding list_there
+  list_by made segments segment start element_size count p =
+      chosen f z _ _ _ (there_is made segments segment count (extent segments segment start 1)) (p (extent segments segment start (plain_words element_size count)))
+
+  pub list_is : ((size n : ℕ) (word : ℕ → ℕ) → f (plain size n word) ≡ z) → ((size : ℕ) (e : ReadError) → f (bad_plain size e) ≡ z) → (made : ℕ → ℕ → ℕ → Tree) (segments : List (List ℕ)) (segment : ℕ) (start : Option ℕ) (element_size count : ℕ) → f (list_there made segments segment start element_size count) ≡ z
   list_is p q made segments segment start element_size count =
-      chosen f z _ _ _ (there_is made segments segment count (extent segments segment start 1)) (plain_is p q (extent segments segment start (plain_words element_size count)))
+      list_by made segments segment start element_size count (plain_is p q segments segment element_size count)
 
 pub list_is_no_structure : (made : ℕ → ℕ → ℕ → Tree) (segments : List (List ℕ)) (segment : ℕ) (start : Option ℕ) (element_size count : ℕ) → structure_in (list_there made segments segment start element_size count) ≡ fault WrongKind
 list_is_no_structure made segments segment start element_size count =
-    list_is structure_in (fault WrongKind) (λ n g. refl) (λ e. refl) refl (λ e. refl) made segments segment start element_size count
+    list_is structure_in (fault WrongKind) (λ n g. refl) (λ e. refl) (λ size n word. refl) (λ size e. refl) made segments segment start element_size count
 
 at_depth : (depth : ℕ) (segments : List (List ℕ)) (segment data_words pointer_count : ℕ) (place : Option ℕ) → elements_in (structure_there (λ at. structure_at depth segments segment at data_words pointer_count) place) ≡ fault WrongKind
 unfolding structure_at
@@ -45,8 +49,3 @@ pub structure_is_no_list : (depth : ℕ) (segments : List (List ℕ)) (segment :
 unfolding tree_behind
 structure_is_no_list depth segments segment start data_words pointer_count =
     at_depth depth segments segment data_words pointer_count (extent segments segment start (data_words + pointer_count))
-
--- a list that isn't composite is no list of structs
-pub plain_is_no_list : (place : Option ℕ) → elements_in (plain_there place) ≡ fault WrongKind
-plain_is_no_list None = refl
-plain_is_no_list (Some start) = refl

@@ -80,8 +80,8 @@ sound (structure data_words word pointer_count child) front found e x c =
 sound (bad_structure d) front found e x c = absurd (no_ok d found e)
 sound (composite n g) front found e x c = absurd (no_entry found x e c)
 sound (bad_composite d) front found e x c = absurd (no_ok d found e)
-sound plain front found e x c = absurd (no_entry found x e c)
-sound (bad_plain d) front found e x c = absurd (no_ok d found e)
+sound (plain element_size count word) front found e x c = absurd (no_entry found x e c)
+sound (bad_plain element_size d) front found e x c = absurd (no_ok d found e)
 sound (capability index) front found e x c =
     let Q : List Entry → Type 0 = λ l. Contains l x in
     let same : ◌≡◌ {A = Entry} (front, index) x = one_entry (front, index) x (subst Q (sym (ok_is ((front, index) ∷ []) found e)) c) in
@@ -111,8 +111,8 @@ complete (structure data_words word pointer_count child) front found e (n ∷ pa
 complete (bad_structure d) front found e path j h = absurd (not_some j h)
 complete (composite n g) front found e path j h = absurd (not_some j h)
 complete (bad_composite d) front found e path j h = absurd (not_some j h)
-complete plain front found e path j h = absurd (not_some j h)
-complete (bad_plain d) front found e path j h = absurd (not_some j h)
+complete (plain element_size count word) front found e path j h = absurd (not_some j h)
+complete (bad_plain element_size d) front found e path j h = absurd (not_some j h)
 complete (capability index) front found e [] j h =
     let Q : List Entry → Type 0 = λ l. Contains l (front ++ [], j) in
     let same : ◌≡◌ {A = Entry} (front, index) (front ++ [], j) = rw (append-nil front, some_is index j h) refl in

@@ -60,6 +60,7 @@ module _ {X : Type 0} (left : ℕ) (ran : Result X ReadError × ℕ) (e : ran.0 
   only_too_much (Err errors.NoSegment) h = let d = is_it errors.NoSegment h in absurd cc
   only_too_much (Err errors.BadPad) h = let d = is_it errors.BadPad h in absurd cc
   only_too_much (Err errors.WrongKind) h = let d = is_it errors.WrongKind h in absurd cc
+  only_too_much (Err errors.NoZero) h = let d = is_it errors.NoZero h in absurd cc
   only_too_much (Err errors.Reserved) h = let d = is_it errors.Reserved h in absurd cc
   only_too_much (Err errors.TooDeep) h = let d = is_it errors.TooDeep h in absurd cc
 

@@ -12,10 +12,15 @@ use Rattle.cap_reader.specs.Tree.{plain_words}
 abbrev pub Pairs : Type 0
 Pairs = ℕ → ℕ → ℕ → ℕ → Bool
 
+-- the same words, so many from two places on
+abbrev pub SameWords : List (List ℕ) → List (List ℕ) → (segment other_segment start other_start size : ℕ) → Type 0
+SameWords one other segment other_segment start other_start size =
+    (i : ℕ) → i < size → slice_index (words_of one segment) (start + i) ≡ slice_index (words_of other other_segment) (other_start + i)
+
 -- two structs of the same sizes: the same data, and pointers that correspond
 abbrev pub SameContent : Pairs → List (List ℕ) → List (List ℕ) → (segment other_segment start other_start data_words pointer_count : ℕ) → Type 0
 SameContent pairs one other segment other_segment start other_start data_words pointer_count =
-    ((i : ℕ) → i < data_words → slice_index (words_of one segment) (start + i) ≡ slice_index (words_of other other_segment) (other_start + i))
+    SameWords one other segment other_segment start other_start data_words
     × ((n : ℕ) → n < pointer_count → pairs segment (start + data_words + n) other_segment (other_start + data_words + n) ≡ true)
 
 -- two composite lists, from their tags on: the same tag, and elements that are the same
@@ -38,7 +43,7 @@ abbrev pub SameLists : Pairs → List (List ℕ) → List (List ℕ) → (segmen
 SameLists pairs one other segment other_segment start other_start element_size count =
     MatchBool (element_size == 7)
     (SameExtents (SameElements pairs one other segment other_segment count) (extent one segment start 1) (extent other other_segment other_start 1))
-    (SameExtents (λ here there. Unit {0}) (extent one segment start (plain_words element_size count)) (extent other other_segment other_start (plain_words element_size count)))
+    (SameExtents (λ here there. SameWords one other segment other_segment here there (plain_words element_size count)) (extent one segment start (plain_words element_size count)) (extent other other_segment other_start (plain_words element_size count)))
 
 -- what two pointers lead to, their pads followed
 abbrev pub SamePointees : Pairs → List (List ℕ) → List (List ℕ) → Result Pointee ReadError → Result Pointee ReadError → Type 0

@@ -1,10 +1,11 @@
 -- What stands at the places that a reader carries about, in the frame with these segments.
-use Rattle.std.specs.Prelude.{ℕ, ◌+◌, ◌*◌, ◌/◌, ◌%◌, ◌^◌, ◌==◌, Bool, List, nat_lt, if◌then◌else◌, slice_index}
+use Rattle.std.specs.Prelude.{ℕ, ◌+◌, ◌*◌, ◌/◌, ◌%◌, ◌^◌, ◌==◌, Bool, List, nat_lt, if◌then◌else◌}
 use Rattle.cap_reader.specs.declared.place.StructAt.{StructAt}
 use Rattle.cap_reader.specs.declared.place.ListAt.{ListAt}
-use Rattle.cap_reader.specs.Pointers.{words_of}
-use Rattle.cap_reader.specs.Tree.{Tree, nothing, tree_at, structure_at}
-use Rattle.cap_reader.specs.Reading.{Sections, Elements}
+use Rattle.cap_reader.specs.declared.text.TextAt.{TextAt}
+use Rattle.cap_reader.specs.Pointers.{words_at}
+use Rattle.cap_reader.specs.Tree.{Tree, nothing, tree_at, structure_at, plain_words}
+use Rattle.cap_reader.specs.Reading.{Sections, Elements, bytes_in}
 
 -- the tree at a pointer of a struct; what a shorter struct lacks is null
 abbrev pub child_at : List (List ℕ) → StructAt → ℕ → Tree
@@ -12,7 +13,7 @@ child_at segments place n = if nat_lt n place.pointer_count then tree_at place.b
 
 -- a word of a struct's data section; what a shorter struct lacks is 0
 abbrev pub data_at : List (List ℕ) → StructAt → ℕ → ℕ
-data_at segments place i = if nat_lt i place.data_words then slice_index (words_of segments place.segment) (place.start + i) else 0
+data_at segments place i = words_at segments place.segment place.start place.data_words i
 
 -- the sections of a struct
 abbrev pub sections_at : List (List ℕ) → StructAt → Sections
@@ -37,6 +38,10 @@ element_at segments list i =
 -- the elements of a list
 abbrev pub elements_at : List (List ℕ) → ListAt → Elements
 elements_at segments list = record { count = list_len list; element = element_at segments list }
+
+-- the bytes of a text without the zero behind them
+abbrev pub text_at : List (List ℕ) → TextAt → List ℕ
+text_at segments text = bytes_in text.len (words_at segments text.segment text.start (plain_words 2 (text.len + 1)))
 
 -- ---- numbers of a data section, given its words, at a byte that is a multiple of their length; a Bool at a bit. A field
 -- with another default than 0 is stored as the exclusive or with it ("Default Values").

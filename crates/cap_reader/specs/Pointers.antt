@@ -45,6 +45,10 @@ pointer_of word =
 abbrev pub words_of : List (List ℕ) → ℕ → List ℕ
 words_of segments segment = slice_index_or segments segment []
 
+-- Of a part of a segment, which begins at a word and has so many, the word at a place; what isn't of the part is 0.
+abbrev pub words_at : List (List ℕ) → (segment start size : ℕ) → ℕ → ℕ
+words_at segments segment start size i = if nat_lt i size then slice_index (words_of segments segment) (start + i) else 0
+
 -- "Offset, in words, from the end of the pointer to the start": signed, so from 2^29 on it is 2^30 less. None stands
 -- for a start before the segment.
 unfoldable pub start_from : ℕ → ℕ → Option ℕ

@@ -1,8 +1,9 @@
 -- A reading of a tree: the costs of its visits in order, and how it ends.
-use Rattle.std.specs.Prelude.{◌≡◌, ℕ, zero, suc, ◌+◌, ◌-◌, List, [], ◌++◌, Option, Some, None, Result, Ok, Err, nat_lt, max, if◌then◌else◌}
+use Rattle.std.specs.Prelude.{◌≡◌, ℕ, zero, suc, ◌+◌, ◌-◌, ◌*◌, ◌/◌, ◌%◌, ◌^◌, ◌==◌, List, [], ◌++◌, map, Option, Some, None, Result, Ok, Err, nat_lt, max, if◌then◌else◌}
+use Rattle.std.specs.List.{range_with_len}
 use Rattle.cap_reader.specs.declared.read_error.ReadError.{ReadError}
-use Rattle.cap_reader.specs.declared.read_error.ReadError.TheVariants.{WrongKind, Reserved, TooMuch, OutOfMemory}
-use Rattle.cap_reader.specs.Tree.{Tree, nothing, structure, bad_structure, composite, bad_composite, plain, bad_plain, capability, reserved, unfollowed}
+use Rattle.cap_reader.specs.declared.read_error.ReadError.TheVariants.{WrongKind, NoZero, Reserved, TooMuch, OutOfMemory}
+use Rattle.cap_reader.specs.Tree.{Tree, nothing, structure, bad_structure, composite, bad_composite, plain, bad_plain, capability, reserved, unfollowed, plain_words}
 
 -- the visits in order, and behind them a value, or the first fault
 pub data Reading (E A : Type 0) : Type 0 where
@@ -85,8 +86,8 @@ structure_in (structure data_words word pointer_count child) = visit (cost_of (d
 structure_in (bad_structure e) = fault e
 structure_in (composite count element) = fault WrongKind
 structure_in (bad_composite e) = fault WrongKind
-structure_in plain = fault WrongKind
-structure_in (bad_plain e) = fault WrongKind
+structure_in (plain element_size count word) = fault WrongKind
+structure_in (bad_plain element_size e) = fault WrongKind
 structure_in (capability index) = fault WrongKind
 structure_in reserved = fault Reserved
 structure_in (unfollowed e) = fault e
@@ -103,11 +104,40 @@ elements_in (structure data_words word pointer_count child) = fault WrongKind
 elements_in (bad_structure e) = fault WrongKind
 elements_in (composite count element) = done (Some (record { count = count; element = element }))
 elements_in (bad_composite e) = fault e
-elements_in plain = fault WrongKind
-elements_in (bad_plain e) = fault WrongKind
+elements_in (plain element_size count word) = fault WrongKind
+elements_in (bad_plain element_size e) = fault WrongKind
 elements_in (capability index) = fault WrongKind
 elements_in reserved = fault Reserved
 elements_in (unfollowed e) = fault e
+
+-- the byte at a place of words, the lowest of each word first
+abbrev pub byte_in : ℕ → (ℕ → ℕ) → ℕ
+byte_in i word = (word (i / 8) / 2 ^ (8 * (i % 8))) % 2 ^ 8
+
+-- so many bytes from the start of words on
+abbrev pub bytes_in : ℕ → (ℕ → ℕ) → List ℕ
+bytes_in count word = map (λ i. byte_in i word) (range_with_len 0 count)
+
+-- "Text: Like Data, but the content must be valid UTF-8, and the last byte of the content must be zero." The zero "is
+-- included in the size sent on the wire, but the runtime library should not count it in any size reported to the
+-- application". Whether it is UTF-8 isn't judged. A visit costs the words of the list.
+unfoldable pub text_of : ℕ → (ℕ → ℕ) → Reading ReadError (Option (List ℕ))
+text_of zero word = fault NoZero
+text_of (suc len) word =
+    if byte_in len word == 0 then visit (cost_of (plain_words 2 (len + 1))) (done (Some (bytes_in len word))) else fault NoZero
+
+-- the text at a pointer, None where the pointer is null: a list of element size 2, a byte
+abbrev pub text_in : Tree → Reading ReadError (Option (List ℕ))
+text_in nothing = done None
+text_in (structure data_words word pointer_count child) = fault WrongKind
+text_in (bad_structure e) = fault WrongKind
+text_in (composite count element) = fault WrongKind
+text_in (bad_composite e) = fault WrongKind
+text_in (plain element_size count word) = if element_size == 2 then text_of count word else fault WrongKind
+text_in (bad_plain element_size e) = if element_size == 2 then fault e else fault WrongKind
+text_in (capability index) = fault WrongKind
+text_in reserved = fault Reserved
+text_in (unfollowed e) = fault e
 
 -- a null root is the empty struct, in which every field has its default
 abbrev pub or_default : Option Sections → Sections

@@ -4,10 +4,11 @@ use Rattle.cap_reader.specs.declared.pointee.Pointee.{Pointee}
 use Rattle.cap_reader.specs.declared.pointee.Pointee.TheVariants as leads
 use Rattle.cap_reader.specs.declared.read_error.ReadError.{ReadError}
 use Rattle.cap_reader.specs.declared.read_error.ReadError.TheVariants.{OutOfSegment, WrongKind, TooDeep}
-use Rattle.cap_reader.specs.Pointers.{offset_bits, data_bits, pointer_bits, words_of, has_words, extent, pointee_at}
+use Rattle.cap_reader.specs.Pointers.{offset_bits, data_bits, pointer_bits, words_of, words_at, has_words, extent, pointee_at}
 
 -- What stands at a pointer. A struct: the size and words of its data section, then the size and subtrees of its pointer
--- section. A list of structs: how many elements it has, and the tree of each. Of any other list only its extent is judged.
+-- section. A list of structs: how many elements it has, and the tree of each. Any other list: its element size, how many
+-- elements it has, and the words in which they lie.
 -- What is bad is bad in one way; an unfollowed pointer is one whose pads can't be followed.
 pub data Tree : Type 0 where
   nothing : Tree
@@ -15,8 +16,8 @@ pub data Tree : Type 0 where
   bad_structure : ReadError → Tree
   composite : ℕ → (ℕ → Tree) → Tree
   bad_composite : ReadError → Tree
-  plain : Tree
-  bad_plain : ReadError → Tree
+  plain : ℕ → ℕ → (ℕ → ℕ) → Tree
+  bad_plain : ℕ → ReadError → Tree
   capability : ℕ → Tree
   reserved : Tree
   unfollowed : ReadError → Tree
@@ -60,15 +61,15 @@ abbrev pub plain_words : ℕ → ℕ → ℕ
 plain_words element_size count = (count * element_bits element_size + 63) / 64
 
 -- a list that isn't composite, whose extent was looked for
-abbrev pub plain_there : Option ℕ → Tree
-plain_there None = bad_plain OutOfSegment
-plain_there (Some start) = plain
+abbrev pub plain_there : List (List ℕ) → (segment element_size count : ℕ) → Option ℕ → Tree
+plain_there segments segment element_size count None = bad_plain element_size OutOfSegment
+plain_there segments segment element_size count (Some start) = plain element_size count (words_at segments segment start (plain_words element_size count))
 
 -- the list to which a list pointer leads, given the struct at a place with its two sizes; element size 7 is composite
 unfoldable pub list_there : (ℕ → ℕ → ℕ → Tree) → List (List ℕ) → ℕ → Option ℕ → ℕ → ℕ → Tree
 list_there structure_of segments segment start element_size count =
     if element_size == 7 then composite_there structure_of segments segment count (extent segments segment start 1)
-    else plain_there (extent segments segment start (plain_words element_size count))
+    else plain_there segments segment element_size count (extent segments segment start (plain_words element_size count))
 
 -- what a pointer leads to, given the struct at a place of a segment with its two sizes
 unfoldable pub tree_behind : (ℕ → ℕ → ℕ → ℕ → Tree) → List (List ℕ) → Result Pointee ReadError → Tree
@@ -85,7 +86,7 @@ tree_behind structure_of segments (Ok leads.Reserved) = reserved
 unfoldable pub structure_at : ℕ → List (List ℕ) → ℕ → ℕ → ℕ → ℕ → Tree
 structure_at zero segments segment start data_words pointer_count = bad_structure TooDeep
 structure_at (suc depth) segments segment start data_words pointer_count =
-    structure data_words (λ i. if nat_lt i data_words then slice_index (words_of segments segment) (start + i) else 0) pointer_count
+    structure data_words (words_at segments segment start data_words) pointer_count
     (λ n. if nat_lt n pointer_count
     then tree_behind (structure_at depth segments) segments (pointee_at segments segment (start + data_words + n))
     else nothing)

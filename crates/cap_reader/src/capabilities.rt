@@ -5,7 +5,7 @@ ghost use Rattle.std.specs.Ordering.{nat_cmp};
 ghost use Rattle.std.specs.Cmp.Lexicographic.{slice_cmp};
 ghost use Rattle.std.specs.List.{Contains};
 ghost use Rattle.std.specs.List.Sorted.{IsStrictlySortedBy};
-ghost use Rattle.cap_reader.specs.Tree.{structure_at, tree_at, list_there, element_bits, plain_words};
+ghost use Rattle.cap_reader.specs.Tree.{structure_at, tree_at, list_there};
 ghost use Rattle.cap_reader.specs.Reading.{RunsInMemory, run, price, ending, IsTooMuch};
 ghost use Rattle.cap_reader.specs.Glue.{Gives, with_front};
 ghost use Rattle.cap_reader.specs.Fields.{fields_in, capability_at};
@@ -17,33 +17,12 @@ use crate::field_list::Fields;
 use crate::following::follow_near;
 use crate::limits::Limits;
 use crate::place::StructAt;
+use crate::plain_size::plain_size;
 use crate::pointee::Pointee;
 use crate::read_error::ReadError;
 use crate::visiting::{COMPOSITE, composite, enter};
 use cap_frame::{Frame, Path};
 use std::alloc::{AllocError, Global};
-
-/// How many bits an element of a list has.
-fn bits_of(element_size: u8) -> u64
-    ensures value { result ≡ element_bits element_size }
-    ensures bound { result ≤ 64 }
-{
-    match element_size {
-        0 => 0,
-        1 => 1,
-        2 => 8,
-        3 => 16,
-        4 => 32,
-        _ => 64,
-    }
-}
-
-/// The words of a list that isn't composite.
-fn plain_size(element_size: u8, count: u32) -> u64
-    ensures { result ≡ plain_words element_size count }
-{
-    (u64::from(count) * bits_of(element_size)).div_ceil(64)
-}
 
 /// Judges a list, whose elements are unread.
 fn judge_list(
@@ -183,9 +162,9 @@ fn list_capabilities(
 ///
 /// # Errors
 ///
-/// The fault of the first pointer that has one, in the order of the visits: each of [`ReadError`], of which `WrongKind`
-/// comes only from a composite list whose tag isn't a struct's. `OutOfMemory` where a growth of the list or of a path
-/// is refused.
+/// The fault of the first pointer that has one, in the order of the visits: each of [`ReadError`] but `NoZero`, of which
+/// `WrongKind` comes only from a composite list whose tag isn't a struct's. `OutOfMemory` where a growth of the list or
+/// of a path is refused.
 pub fn fields(
     alloc: Global,
     frame: &Frame,

@@ -1,6 +1,6 @@
 //! Laws of readings, which hold of every frame and not of one call.
 
-ghost use Rattle.std.specs.Prelude.{◌≡◌, ◌≢◌, ◌≤◌, ◌+◌, ℕ, List, [], length, Some, None, Ok, Err, true};
+ghost use Rattle.std.specs.Prelude.{◌≡◌, ◌≢◌, ◌≤◌, ◌+◌, ◌++◌, ◌∷◌, ◌↔◌, ℕ, List, [], length, Some, None, Ok, Err, true};
 ghost use Rattle.std.specs.Ordering.{nat_cmp};
 ghost use Rattle.std.specs.Cmp.Lexicographic.{slice_cmp};
 ghost use Rattle.std.specs.List.Sorted.{IsStrictlySortedBy};
@@ -8,8 +8,8 @@ ghost use Rattle.cap_reader.specs.declared.pointer.Pointer.{Pointer};
 ghost use Rattle.cap_reader.specs.declared.read_error.ReadError.{ReadError};
 ghost use Rattle.cap_reader.specs.declared.read_error.ReadError.TheVariants.{OutOfMemory};
 ghost use Rattle.cap_reader.specs.Pointers.{start_from};
-ghost use Rattle.cap_reader.specs.Tree.{Tree, tree_at, structure_at, root_tree};
-ghost use Rattle.cap_reader.specs.Reading.{run, cost_of, structure_in, elements_in, Sections};
+ghost use Rattle.cap_reader.specs.Tree.{Tree, tree_at, structure_at, root_tree, plain_words};
+ghost use Rattle.cap_reader.specs.Reading.{run, ending, cost_of, structure_in, elements_in, text_in, text_of, bytes_in, Sections};
 ghost use Rattle.cap_reader.specs.Fields.{fields_in, capability_at};
 ghost use Rattle.cap_reader.specs.Laws.{paths_of, over_structs, struct_words, PadOfOne, PadOfTwo, tagged_tree, LooksLike, pointer_at};
 ghost use Rattle.cap_reader.specs.Cuts.{Pairs, Correspond, release_whole, release_cut};
@@ -60,8 +60,15 @@ pub fn cuts_keep_values()
     ensures release { (depth : ℕ) → root_tree depth release_whole ≡ root_tree depth release_cut }
 {}
 
+/// A text is what stands before the zero at the end of a list of bytes, whatever it costs: such a list is read so, and
+/// no other.
+pub fn texts_end_in_a_zero()
+    ensures { (count : ℕ) (word : ℕ → ℕ) (text : List ℕ)
+        → (ending (text_of count word) ≡ Ok (Some text)) ↔ (bytes_in count word ≡ text ++ 0 ∷ []) }
+{}
+
 /// A call that visits one struct pays its words, and at least 1. One that finds null, or refuses, pays nothing, and so
-/// does one that finds a list.
+/// does one that finds a list. One that visits a text pays the words of its bytes and its zero.
 pub fn one_visit_is_paid()
     ensures read { (tree : Tree) (words left : ℕ) (sections : Sections)
         → run (structure_in tree) words ≡ (Ok (Some sections), left)
@@ -70,6 +77,13 @@ pub fn one_visit_is_paid()
         → run (structure_in tree) words ≡ (Ok None, left) → left ≡ words }
     ensures refused { (tree : Tree) (words left : ℕ) (e : ReadError)
         → run (structure_in tree) words ≡ (Err e, left) → left ≡ words }
+    ensures text { (tree : Tree) (words left : ℕ) (text : List ℕ)
+        → run (text_in tree) words ≡ (Ok (Some text), left)
+        → left + plain_words 2 (length text + 1) ≡ words }
+    ensures no_text { (tree : Tree) (words left : ℕ)
+        → run (text_in tree) words ≡ (Ok None, left) → left ≡ words }
+    ensures text_refused { (tree : Tree) (words left : ℕ) (e : ReadError)
+        → run (text_in tree) words ≡ (Err e, left) → left ≡ words }
     ensures list { (tree : Tree) (words : ℕ) → (run (elements_in tree) words).1 ≡ words }
 {}
 
@@ -84,6 +98,8 @@ pub fn pointers_want_no_memory()
         (segment start data_words pointer_count words : ℕ) → (run
         (structure_in (structure_at depth segments segment start data_words pointer_count)) words).0
         ≢ Err OutOfMemory }
+    ensures texts { (depth : ℕ) (segments : List (List ℕ)) (segment at words : ℕ)
+        → (run (text_in (tree_at depth segments segment at)) words).0 ≢ Err OutOfMemory }
     ensures fields { (depth : ℕ) (segments : List (List ℕ)) (segment at words : ℕ) (path : List ℕ)
         → (run (fields_in path (tree_at depth segments segment at)) words).0 ≢ Err OutOfMemory }
 {}

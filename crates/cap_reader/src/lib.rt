@@ -1,4 +1,4 @@
-//! Reading the structs, lists and capabilities of a frame where they lie, by their pointers, within limits.
+//! Reading the structs, lists, texts and capabilities of a frame where they lie, by their pointers, within limits.
 //!
 //! It stands on `cap_frame`. What stands at a pointer is the whole tree of `specs/Tree.antt`; reading it is a list of
 //! visits with costs and an ending, as `specs/Reading.antt` says, and `specs/Fields.antt` says which paths end in a
@@ -16,9 +16,11 @@ mod following;
 mod laws;
 mod limits;
 mod place;
+mod plain_size;
 mod pointee;
 mod pointer;
 mod read_error;
+mod text;
 mod visiting;
 
 pub use capabilities::fields;
@@ -26,9 +28,10 @@ pub use data::{bit_at, u16_at, u32_at, u64_at};
 pub use field_list::Fields;
 pub use laws::{
     cuts_keep_values, one_visit_is_paid, pads_lead_on, paths_end, paths_rise,
-    pointers_want_no_memory, structs_are_paid,
+    pointers_want_no_memory, structs_are_paid, texts_end_in_a_zero,
 };
 pub use limits::Limits;
 pub use place::{ListAt, StructAt};
 pub use read_error::ReadError;
+pub use text::{TextAt, text_field};
 pub use visiting::{list_field, root, struct_field};

@@ -4,8 +4,8 @@ ghost use Rattle.std.specs.Prelude.{◌≡◌};
 ghost use Rattle.cap_reader.specs.Defaults.{default_limits};
 
 /// How much of a frame may be read: the words that visits may cost together, and how many structs may stand within one
-/// another, the root being the first. A visit of a struct costs its words, and at least 1 (encoding specification,
-/// "Security Considerations").
+/// another, the root being the first. A visit of a struct costs its words, and at least 1; one of a text the words of its
+/// bytes and its zero (encoding specification, "Security Considerations").
 #[derive(Clone, Copy, Debug, PartialEq, Eq)]
 pub struct Limits {
     /// Words of 8 bytes that are left to be paid for visits.

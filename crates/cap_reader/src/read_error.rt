@@ -7,7 +7,7 @@ use std::alloc::{AllocError, AllocFailed};
 
 /// Why the pointers of a frame can't be followed: the first fault that reading one pointer meets. Its pads are followed
 /// first (`NoSegment`, `OutOfSegment`, `BadPad`); then come `Reserved`, `WrongKind`, `OutOfSegment` of what it leads
-/// to, `TooDeep` and `TooMuch` (encoding specification, "Structs", "Lists", "Inter-Segment Pointers", "Security
+/// to, `NoZero`, `TooDeep` and `TooMuch` (encoding specification, "Structs", "Lists", "Inter-Segment Pointers", "Security
 /// Considerations").
 #[derive(Clone, Copy, Debug, PartialEq, Eq)]
 pub enum ReadError {
@@ -19,6 +19,9 @@ pub enum ReadError {
     BadPad,
     /// Not the kind of pointer that is asked for.
     WrongKind,
+    /// A list of bytes is asked for as a text, and has no zero at its end. [`text_field`](crate::text_field) alone
+    /// answers this.
+    NoZero,
     /// Neither a struct, a list, a far nor a capability pointer: bits that are kept for later.
     Reserved,
     /// A struct is deeper than the limit.

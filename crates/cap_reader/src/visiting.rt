@@ -249,7 +249,8 @@ fn list_at(frame: &Frame, segment: u32, at: u64, depth: u32) -> Result<Option<Li
 ///
 /// # Errors
 ///
-/// Each of [`ReadError`] but `OutOfMemory`, in the order that is told there. The words left are as they were.
+/// Each of [`ReadError`] but `NoZero` and `OutOfMemory`, in the order that is told there. The words left are as they
+/// were.
 pub fn root(frame: &Frame, limits: &mut Limits) -> Result<StructAt, ReadError>
     ensures value { Runs (sections_at frame.now) result limits.new.words
         (run (root_in (root_tree limits.old.depth frame.now)) limits.old.words) }
@@ -273,7 +274,8 @@ pub fn root(frame: &Frame, limits: &mut Limits) -> Result<StructAt, ReadError>
 ///
 /// # Errors
 ///
-/// Each of [`ReadError`] but `OutOfMemory`, in the order that is told there. The words left are as they were.
+/// Each of [`ReadError`] but `NoZero` and `OutOfMemory`, in the order that is told there. The words left are as they
+/// were.
 #[tactic(auto, unfolding(crate::specs::Reading::pay_for))]
 #[inline(always)]
 pub fn struct_field(

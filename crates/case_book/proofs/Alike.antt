@@ -17,19 +17,19 @@ make logs links = record { logs = logs; links = links }
 -- ---- links are compared number by number
 
 abbrev link : ℕ → ℕ → ℕ → Link
-link conn a b = record { conn = conn; a = a; b = b }
+link connection a b = record { connection = connection; a = a; b = b }
 
 abbrev pub link_eq : Link → Link → Bool
-link_eq x y = (x.conn == y.conn) && ((x.a == y.a) && (x.b == y.b))
+link_eq x y = (x.connection == y.connection) && ((x.a == y.a) && (x.b == y.b))
 
 all_same : (x y : Link) → link_eq x y ≡ true → x ≡ y
 all_same x y e =
-    let one = and_parts (x.conn == y.conn) ((x.a == y.a) && (x.b == y.b)) e in
+    let one = and_parts (x.connection == y.connection) ((x.a == y.a) && (x.b == y.b)) e in
     let two = and_parts (x.a == y.a) (x.b == y.b) one.1 in
-    ap (λ n. link n x.a x.b) (eqb-true x.conn y.conn one.0) ∙ ap (λ n. link y.conn n x.b) (eqb-true x.a y.a two.0) ∙ ap (link y.conn y.a) (eqb-true x.b y.b two.1)
+    ap (λ n. link n x.a x.b) (eqb-true x.connection y.connection one.0) ∙ ap (λ n. link y.connection n x.b) (eqb-true x.a y.a two.0) ∙ ap (link y.connection y.a) (eqb-true x.b y.b two.1)
 
 own : (x : Link) → link_eq x x ≡ true
-own x = rw (eq-eqb x.conn x.conn refl, eq-eqb x.a x.a refl, eq-eqb x.b x.b refl) refl
+own x = rw (eq-eqb x.connection x.connection refl, eq-eqb x.a x.a refl, eq-eqb x.b x.b refl) refl
 
 link_decides : (x y : Link) → Decides (link_eq x y) (x ≡ y)
 link_decides x y = (all_same x y, λ same. subst (λ z. link_eq x z ≡ true) same (own x))

@@ -14,8 +14,8 @@ use Rattle.link_check.specs.Prefix.{Ends}
 use Rattle.case_book.specs.Glue.{ArePlaced}
 use Rattle.case_book.specs.Pieces.{pieces_of, IsAuditOf, IsFoundBy, IsForPiece}
 use Rattle.case_book.specs.Books.{Kept, IsBook, new_book, with_finding, IsMissing, IsClaimed, AreAll}
-use Rattle.case_book.specs.declared.finding.Finding.{Finding}
-use Rattle.case_book.specs.declared.finding.Finding.TheVariants as finding
+use Rattle.case_book.specs.declared.piece_finding.Finding.{Finding}
+use Rattle.case_book.specs.declared.piece_finding.Finding.TheVariants as finding
 use Rattle.case_book.proofs.Numbered.{pieces_len, taken, audits, compares}
 
 none_posted : (n k : ℕ) (found : Finding) → slice_get (replicate n None) k ≡ Some (Some found) → ⊥

@@ -13,8 +13,8 @@ use Rattle.link_check.specs.Prefix.{Ends}
 use Rattle.case_book.specs.Case.{Contents, IsCase, vats_of, connections_of}
 use Rattle.case_book.specs.Pieces.{Audit, Compare, pieces_of, IsAuditOf, IsComparisonOf, IsFoundBy, IsForPiece}
 use Rattle.case_book.specs.declared.link.Link.{Link}
-use Rattle.case_book.specs.declared.finding.Finding.{Finding}
-use Rattle.case_book.specs.declared.finding.Finding.TheVariants as finding
+use Rattle.case_book.specs.declared.piece_finding.Finding.{Finding}
+use Rattle.case_book.specs.declared.piece_finding.Finding.TheVariants as finding
 
 pub pieces_len : (held : Contents) → length (pieces_of held) ≡ length held.logs + length held.links
 pieces_len held =
@@ -111,8 +111,8 @@ for_one held case (finding.Link compared) i j here there =
     let at_one = taken (slice_get held.links one.0) (λ link. IsComparisonOf held.logs link compared) one.2 in
     let at_other = taken (slice_get held.links other.0) (λ link. IsComparisonOf held.logs link compared) other.2 in
     let same : one.0 ≡ other.0 = stands_once (connections_of held.links) case.rising_links one.0 other.0 compared.connection
-    (under (λ (link : Link). link.conn) held.links one.0 at_one.0 compared.connection at_one.1 (sym at_one.2.connection))
-    (under (λ (link : Link). link.conn) held.links other.0 at_other.0 compared.connection at_other.1 (sym at_other.2.connection)) in
+    (under (λ (link : Link). link.connection) held.links one.0 at_one.0 compared.connection at_one.1 (sym at_one.2.connection))
+    (under (λ (link : Link). link.connection) held.links other.0 at_other.0 compared.connection at_other.1 (sym at_other.2.connection)) in
     let e = one.1 in
     let f = other.1 in
     omega arith

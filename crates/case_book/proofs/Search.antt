@@ -29,17 +29,17 @@ settled p xs i d lt others =
 
 -- the connection of the link at a place
 abbrev pub at_place : List Link → ℕ → Link → ℕ
-at_place links i d = let link = get_or links i d in link.conn
+at_place links i d = let link = get_or links i d in link.connection
 
 -- a link has this connection and this vat as an end
 abbrev joins : ℕ → ℕ → Link → Bool
-joins vat connection link = (link.conn == connection) && ((link.a == vat) || (link.b == vat))
+joins vat connection link = (link.connection == connection) && ((link.a == vat) || (link.b == vat))
 
-another_connection : (vat connection : ℕ) (link : Link) → (link.conn == connection) ≡ false → joins vat connection link ≡ false
+another_connection : (vat connection : ℕ) (link : Link) → (link.connection == connection) ≡ false → joins vat connection link ≡ false
 another_connection vat connection link other = ap (λ (b : Bool). b && ((link.a == vat) || (link.b == vat))) other
 
-this_connection : (vat connection : ℕ) (link : Link) → link.conn ≡ connection → joins vat connection link ≡ ((link.a == vat) || (link.b == vat))
-this_connection vat connection link same = ap (λ (b : Bool). b && ((link.a == vat) || (link.b == vat))) (eq-eqb link.conn connection same)
+this_connection : (vat connection : ℕ) (link : Link) → link.connection ≡ connection → joins vat connection link ≡ ((link.a == vat) || (link.b == vat))
+this_connection vat connection link same = ap (λ (b : Bool). b && ((link.a == vat) || (link.b == vat))) (eq-eqb link.connection connection same)
 
 unequal : (m n : ℕ) → m ≢ n → (m == n) ≡ false
 unequal m n other = grind (arith, nat_tests)
@@ -47,12 +47,12 @@ unequal m n other = grind (arith, nat_tests)
 module _ (links : List Link) (rising : IsStrictlyIncreasing (connections_of links)) where
   rises_to : (i j : ℕ) (d : Link) → i < j → j < length links → at_place links i d < at_place links j d
   rises_to i j d lt within =
-      let low = get_or-map (λ (link : Link). link.conn) links i d 0 (omega arith) in
-      let high = get_or-map (λ (link : Link). link.conn) links j d 0 within in
-      omega (arith, low, high, AllPairs-from_increasing (connections_of links) rising i j 0 lt (omega (arith, length-map links (λ (link : Link). link.conn))))
+      let low = get_or-map (λ (link : Link). link.connection) links i d 0 (omega arith) in
+      let high = get_or-map (λ (link : Link). link.connection) links j d 0 within in
+      omega (arith, low, high, AllPairs-from_increasing (connections_of links) rising i j 0 lt (omega (arith, length-map links (λ (link : Link). link.connection))))
 
   -- the comparisons with a connection don't fall along the links
-  pub comparisons_rise : (connection : ℕ) → IsNonDecreasingBy (λ (link : Link). ordering_index (nat_cmp link.conn connection)) links
+  pub comparisons_rise : (connection : ℕ) → IsNonDecreasingBy (λ (link : Link). ordering_index (nat_cmp link.connection connection)) links
   comparisons_rise connection i j d le within =
       elim (cases_eq i j) [
         | inl same ↦ let e = ap (λ k. ordering_index (nat_cmp (at_place links k d) connection)) same in omega (arith, e)
@@ -64,13 +64,13 @@ module _ (links : List Link) (rising : IsStrictlyIncreasing (connections_of link
       → is_linked links vat connection ≡ (((get_or links at d).a == vat) || ((get_or links at d).b == vat))
   found_at vat connection at d within here =
       settled (joins vat connection) links at d within (λ j e below other. another_connection vat connection (get_or links j e) (unequal _ _ (elim (cases_lt j at) [
-        | inl lt ↦ let up = rises_to j at e lt within in let same = ap (λ (link : Link). link.conn) (get_or_default links at e d within) in omega arith
-        | inr ge ↦ let up = rises_to at j e (omega (arith, other)) below in let same = ap (λ (link : Link). link.conn) (get_or_default links at e d within) in omega arith
+        | inl lt ↦ let up = rises_to j at e lt within in let same = ap (λ (link : Link). link.connection) (get_or_default links at e d within) in omega arith
+        | inr ge ↦ let up = rises_to at j e (omega (arith, other)) below in let same = ap (λ (link : Link). link.connection) (get_or_default links at e d within) in omega arith
       ])))
       ∙ this_connection vat connection (get_or links at d) here
 
   -- where the connection would stand between two others, no link has it
-  pub found_nowhere : (vat connection at : ℕ) → IsPartitionPoint (λ (link : Link). nat_cmp link.conn connection ≡ Less) (λ link. nat_cmp link.conn connection ≡ Greater) links at → is_linked links vat connection ≡ false
+  pub found_nowhere : (vat connection at : ℕ) → IsPartitionPoint (λ (link : Link). nat_cmp link.connection connection ≡ Less) (λ link. nat_cmp link.connection connection ≡ Greater) links at → is_linked links vat connection ≡ false
   found_nowhere vat connection at parted =
       list_any_none (joins vat connection) links (λ j e below. another_connection vat connection (get_or links j e) (unequal _ _ (elim (cases_lt j at) [
         | inl lt ↦ let less = ranked _ connection _ (sym (parted.0 j e (omega arith) lt)) in omega arith

@@ -5,10 +5,10 @@ use Rattle.link_check.specs.Prefix.{Ends}
 use Rattle.case_book.specs.Case.{Contents, IsCase}
 use Rattle.case_book.specs.Ties.{tie_fault_of}
 use Rattle.case_book.specs.Pieces.{pieces_of, IsForPiece}
-use Rattle.case_book.specs.declared.finding.Finding.{Finding}
-use Rattle.case_book.specs.declared.finding.Finding.TheVariants as finding
-use Rattle.case_book.specs.declared.refused.Refused.{Refused}
-use Rattle.case_book.specs.declared.refused.Refused.TheVariants.{Stranger, Double, Unclaimed}
+use Rattle.case_book.specs.declared.piece_finding.Finding.{Finding}
+use Rattle.case_book.specs.declared.piece_finding.Finding.TheVariants as finding
+use Rattle.case_book.specs.declared.refused_findings.Refused.{Refused}
+use Rattle.case_book.specs.declared.refused_findings.Refused.TheVariants.{Stranger, Double, Unclaimed}
 
 -- a case and, for each of its pieces, whether it is claimed, and its finding, if one is posted
 pub record Kept : Type 0 where

@@ -27,7 +27,7 @@ vats_of logs = map (λ log. log.vat) logs
 
 -- the connections of links
 abbrev pub connections_of : List Link → List ℕ
-connections_of links = map (λ link. link.conn) links
+connections_of links = map (λ link. link.connection) links
 
 -- the first of two, if there is one, else the second
 abbrev pub or_else : {X : Type 0} → Option X → Option X → Option X

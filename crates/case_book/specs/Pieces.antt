@@ -6,8 +6,8 @@ use Rattle.vat_rules.specs.Audit.{Found}
 use Rattle.link_check.specs.Prefix.{Ends}
 use Rattle.case_book.specs.Case.{Contents}
 use Rattle.case_book.specs.declared.link.Link.{Link}
-use Rattle.case_book.specs.declared.finding.Finding.{Finding}
-use Rattle.case_book.specs.declared.finding.Finding.TheVariants as finding
+use Rattle.case_book.specs.declared.piece_finding.Finding.{Finding}
+use Rattle.case_book.specs.declared.piece_finding.Finding.TheVariants as finding
 
 -- what is done for a piece: a log is audited, or the two ends of a link are compared
 pub data Work : Type 0 where
@@ -25,7 +25,7 @@ pub record IsAuditOf (log : Log) (found : Found) : Type 0 where
 
 -- a finding is of this link: it has the link's connection, and of the logs those of the vats at its two ends
 pub record IsComparisonOf (logs : List Log) (link : Link) (ends : Ends) : Type 0 where
-  pub connection : ends.connection ≡ link.conn
+  pub connection : ends.connection ≡ link.connection
   pub smaller : ends.first.vat ≡ min link.a link.b
   pub greater : ends.second.vat ≡ max link.a link.b
   pub first_held : Contains logs ends.first

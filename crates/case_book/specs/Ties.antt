@@ -1,22 +1,15 @@
 -- Whether the logs and links of a case tie up: each connection that a log uses has a link with that log's vat as an end, each
 -- vat that a link names has a log, and the ends of a link are two vats.
-use Rattle.std.specs.Prelude.{ℕ, ◌==◌, Bool, not, ◌&&◌, ◌||◌, List, ◌++◌, filter, Option, Some, None}
+use Rattle.std.specs.Prelude.{ℕ, ◌==◌, Bool, not, ◌&&◌, ◌||◌, List, ◌++◌, filter, Option}
 use Rattle.std.specs.List.{filter_map, flat_map, list_any}
 use Rattle.std.specs.Option.{option_map}
 use Rattle.vat_log.specs.Log.{Log}
-use Rattle.vat_log.specs.declared.body.Body.{Body}
-use Rattle.vat_log.specs.declared.body.Body.TheVariants.{Send, Receive}
+use Rattle.vat_log.specs.Passages.{used_by}
 use Rattle.case_book.specs.Least.{least}
 use Rattle.case_book.specs.Case.{Contents, connections_of, or_else}
 use Rattle.case_book.specs.declared.link.Link.{Link}
 use Rattle.case_book.specs.declared.ties.TieFault.{TieFault}
 use Rattle.case_book.specs.declared.ties.TieFault.TheVariants.{MissingLog, SameEnds}
-
--- the connection that a record uses
-abbrev pub used_by : Body → Option ℕ
-used_by (Send connection call references frame) = Some connection
-used_by (Receive connection call references frame) = Some connection
-used_by _ = None
 
 -- the connections that a log uses
 abbrev pub used_in : Log → List ℕ
@@ -24,7 +17,7 @@ used_in log = filter_map used_by log.records
 
 -- a connection has a link with this vat as an end
 abbrev pub is_linked : List Link → ℕ → ℕ → Bool
-is_linked links vat connection = list_any (λ link. (link.conn == connection) && ((link.a == vat) || (link.b == vat))) links
+is_linked links vat connection = list_any (λ link. (link.connection == connection) && ((link.a == vat) || (link.b == vat))) links
 
 -- it has none
 abbrev pub is_unlinked : List Link → ℕ → ℕ → Bool

@@ -10,11 +10,11 @@ ghost use Rattle.case_book.specs.Books.{IsBook, IsClaimed, IsMissing, IsPosted, 
 ghost use Rattle.case_book.specs.Pieces.{IsForPiece};
 
 use crate::case::Case;
-use crate::finding::Finding;
 use crate::findings::Findings;
 use crate::piece::Piece;
+use crate::piece_finding::Finding;
 use crate::places::number_of;
-use crate::refused::Refused;
+use crate::refused_findings::Refused;
 use link_check::LinkFinding;
 use std::alloc::{AllocError, Global};
 use std::marker::Model;

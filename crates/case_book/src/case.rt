@@ -8,9 +8,9 @@ ghost use Rattle.case_book.specs.Ties.{tie_fault_of};
 ghost use Rattle.case_book.specs.Pieces.{pieces_of, IsForPiece};
 
 use crate::error::CaseError;
-use crate::finding::Finding;
 use crate::link::Link;
 use crate::piece::Piece;
+use crate::piece_finding::Finding;
 use crate::places::is_same_log;
 use crate::repeats::{repeated_connection, repeated_vat};
 use crate::ties::{TieFault, least_missing, least_same_ended};
@@ -65,7 +65,7 @@ fn rising_links(mut links: Vec<Link>) -> Result<Vec<Link>, CaseError>
     if links.len() > MAX_LINKS {
         return Err(CaseError::TooManyLinks);
     }
-    links.sort_unstable_by_key(|link| link.conn);
+    links.sort_unstable_by_key(|link| link.connection);
     match repeated_connection(&links) {
         Some(connection) => Err(CaseError::SameLink(connection)),
         None => Ok(links),

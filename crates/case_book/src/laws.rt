@@ -4,7 +4,7 @@ ghost use Rattle.std.specs.Prelude.{◌≡◌, ℕ, List, Option};
 ghost use Rattle.case_book.specs.Least.{least, IsLeast};
 ghost use Rattle.case_book.specs.Case.{Contents, IsCase};
 ghost use Rattle.case_book.specs.Pieces.{IsForPiece};
-ghost use Rattle.case_book.specs.declared.finding.Finding.{Finding};
+ghost use Rattle.case_book.specs.declared.piece_finding.Finding.{Finding};
 
 /// The least number of a list, by which the answers of a [`Case`](crate::Case) name a vat or a connection, stands in the
 /// list and none there is smaller; where the list is empty there is none. No other is so.

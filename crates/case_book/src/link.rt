@@ -4,7 +4,7 @@
 #[derive(Clone, Copy, Debug, PartialEq, Eq)]
 pub struct Link {
     /// The connection's number in both logs.
-    pub conn: u32,
+    pub connection: u32,
     /// The vat at one end.
     pub a: u32,
     /// The vat at the other end.

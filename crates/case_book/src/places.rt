@@ -1,12 +1,12 @@
 //! Which piece of a case a finding is for.
 
-ghost use Rattle.std.specs.Prelude.{◌≡◌, ◌≢◌, ℕ, ◌+◌, None, Some, Contains, Decides, MatchOption, map, slice_get, IsSomeAnd};
+ghost use Rattle.std.specs.Prelude.{◌≡◌, ℕ, ◌+◌, None, Some, Contains, Decides, MatchOption, map, slice_get, IsSomeAnd};
 ghost use Rattle.std.specs.Arc.{arc_value};
 ghost use Rattle.case_book.specs.Pieces.{IsAuditOf, IsComparisonOf, IsForPiece};
 
 use crate::case::Case;
-use crate::finding::Finding;
 use crate::link::Link;
+use crate::piece_finding::Finding;
 use link_check::LinkFinding;
 use rpc_view::Limits;
 use std::sync::Arc;
@@ -53,7 +53,7 @@ fn is_comparison(logs: &[Arc<VatLog>], link: &Link, found: &LinkFinding) -> bool
 {
     let first = found.first();
     let second = found.second();
-    found.connection() == link.conn
+    found.connection() == link.connection
         && first.vat() == link.a.min(link.b)
         && second.vat() == link.a.max(link.b)
         && place_of(logs, first).is_some()

@@ -31,8 +31,8 @@ pub fn repeated_connection(links: &[Link]) -> Option<u32>
     let mut previous = None;
     for link in links {
         match previous {
-            Some(last) if last == link.conn => return previous,
-            _ => previous = Some(link.conn),
+            Some(last) if last == link.connection => return previous,
+            _ => previous = Some(link.connection),
         }
     }
     None

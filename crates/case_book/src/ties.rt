@@ -6,11 +6,12 @@ ghost use Rattle.std.specs.List.{flat_map};
 ghost use Rattle.std.specs.List.Sorted.{IsStrictlyIncreasing};
 ghost use Rattle.case_book.specs.Least.{lower, least};
 ghost use Rattle.case_book.specs.Case.{connections_of};
-ghost use Rattle.case_book.specs.Ties.{used_by, is_linked, unlinked_in, has_log, lacks_log, missing_logs, links_without_log, links_of_one_vat};
+ghost use Rattle.case_book.specs.Ties.{is_linked, unlinked_in, has_log, missing_logs, links_without_log, links_of_one_vat};
+ghost use Rattle.vat_log.specs.Passages.{used_by};
 
 use crate::link::Link;
 use std::sync::Arc;
-use vat_log::{Body, VatLog};
+use vat_log::VatLog;
 
 /// Why the logs and links of a case don't tie up: the least connection for which a log is missing, or, where there is none,
 /// the least whose two ends are one vat.
@@ -36,9 +37,9 @@ fn lower_of(found: Option<u32>, connection: u32) -> Option<u32>
 fn used_at(log: &VatLog, index: usize) -> Option<u32>
     ensures { result ≡ option_and_then used_by (slice_get log.now.records index) }
 {
-    match log.get(index)?.body() {
-        Body::Send { connection, .. } | Body::Receive { connection, .. } => Some(*connection),
-        _ => None,
+    match log.get(index)?.body().passage() {
+        Some((_, connection)) => Some(connection),
+        None => None,
     }
 }
 
@@ -47,7 +48,7 @@ fn has_link(links: &[Link], vat: u32, connection: u32) -> bool
     requires { IsStrictlyIncreasing (connections_of links.now) }
     ensures { result ≡ is_linked links.now vat connection }
 {
-    match links.binary_search_by_key(&connection, |link| link.conn) {
+    match links.binary_search_by_key(&connection, |link| link.connection) {
         Ok(at) => links[at].a == vat || links[at].b == vat,
         Err(_) => false,
     }
@@ -100,7 +101,7 @@ fn least_unlogged(found: Option<u32>, logs: &[Arc<VatLog>], links: &[Link]) -> O
     let mut found = found;
     for link in links {
         if !(is_logged(logs, link.a) && is_logged(logs, link.b)) {
-            found = lower_of(found, link.conn);
+            found = lower_of(found, link.connection);
         }
     }
     found
@@ -122,7 +123,7 @@ pub fn least_same_ended(links: &[Link]) -> Option<u32>
     let mut found = None;
     for link in links {
         if link.a == link.b {
-            found = lower_of(found, link.conn);
+            found = lower_of(found, link.connection);
         }
     }
     found

@@ -2,7 +2,6 @@
 
 ghost use Rattle.std.specs.Prelude.{◌≡◌, ◌≢◌, true, false, IfOk, Contains, MatchOption, map};
 ghost use Rattle.std.specs.Arc.{arc_value};
-ghost use Rattle.cap_reader.specs.Defaults.{default_limits};
 ghost use Rattle.case_book.specs.Pieces.{IsAuditOf, IsComparisonOf};
 ghost use Rattle.case_book.specs.Ties.{has_log};
 
@@ -48,5 +47,5 @@ pub fn compare_ends(logs: &[Arc<VatLog>], link: &Link) -> Result<LinkFinding, Al
     let Some(other) = log_of(logs, link.b) else {
         unreachable!()
     };
-    check_link(link.conn, one, other)
+    check_link(link.connection, one, other)
 }

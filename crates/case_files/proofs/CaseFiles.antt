@@ -17,9 +17,6 @@ list_of-items_view (v ∷ vs) = ap (λ ds. view v ∷ ds) (list_of-items_view vs
 pub each_item-list : {B : Type 0} (f : Data → Option B) (d : Data) (vs : List Value) → Some (items_view vs) ≡ as_array d → each_item f d ≡ each f (map view vs)
 each_item-list f d vs e = ap (option_and_then (λ ds. each f (list_of ds))) (sym e) ∙ ap (each f) (list_of-items_view vs)
 
-pub each_item-none : {B : Type 0} (f : Data → Option B) (d : Data) → None ≡ as_array d → each_item f d ≡ None
-each_item-none f d e = ap (option_and_then (λ ds. each f (list_of ds))) (sym e)
-
 -- the item at an index, before those after it
 each_at : {B : Type 0} (f : Data → Option B) (vs : List Value) (i : ℕ) (v : Value) → i < length vs → v ≡ get_or vs i v
     → each f (map view (drop i vs)) ≡ option_and_then (λ y. option_map (λ ys. y ∷ ys) (each f (map view (drop (i + 1) vs)))) (f (view v))
@@ -34,9 +31,6 @@ Goes f vs i done = each f (map view vs) ≡ option_map (λ rest. done ++ rest) (
 same : {B : Type 0} (o : Option (List B)) → o ≡ option_map (λ rest. [] ++ rest) o
 same None = refl
 same (Some xs) = refl
-
-pub goes_begin : {B : Type 0} (f : Data → Option B) (vs : List Value) (done : List B) → done ≡ [] → Goes f vs 0 done
-goes_begin f vs done e = same (each f (map view vs)) ∙ ap (λ ds. option_map (λ rest. ds ++ rest) (each f (map view vs))) (sym e)
 
 joined : {B : Type 0} (done : List B) (y : B) (o : Option (List B))
     → option_map (λ rest. done ++ rest) (option_map (λ ys. y ∷ ys) o) ≡ option_map (λ rest. (done ++ y ∷ []) ++ rest) o

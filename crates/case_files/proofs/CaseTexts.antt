@@ -76,7 +76,7 @@ small_is n h = let yes : nat_lt n (2 ^ 32) ≡ true = grind (arith, h) in rw yes
 abbrev pub three : ℕ → ℕ → ℕ → Data
 three c a b = array (item (number (unsigned c)) (item (number (unsigned a)) (item (number (unsigned b)) no_items)))
 
-pub three_says : (c a b : ℕ) → c < 2 ^ 32 → a < 2 ^ 32 → b < 2 ^ 32 → link_of (three c a b) ≡ Some (record { conn = c; a = a; b = b })
+pub three_says : (c a b : ℕ) → c < 2 ^ 32 → a < 2 ^ 32 → b < 2 ^ 32 → link_of (three c a b) ≡ Some (record { connection = c; a = a; b = b })
 three_says c a b hc ha hb = rw (small_is c hc, small_is a ha, small_is b hb) refl
 
 pub three_shallow : (c a b : ℕ) → IsShallow 1 (three c a b)

@@ -37,7 +37,7 @@ number_of d = option_and_then small (option_and_then as_u64 (as_number d))
 -- a list of three numbers is a link: the connection and the vats at its ends
 abbrev pub link_from : List Data → Option Link
 link_from (c ∷ d ∷ e ∷ []) =
-    option_and_then (λ conn. option_and_then (λ a. option_map (λ b. record { conn = conn; a = a; b = b }) (number_of e)) (number_of d)) (number_of c)
+    option_and_then (λ connection. option_and_then (λ a. option_map (λ b. record { connection = connection; a = a; b = b }) (number_of e)) (number_of d)) (number_of c)
 link_from _ = None
 
 abbrev pub link_of : Data → Option Link
@@ -77,7 +77,7 @@ IsCaseFile bytes listed = IsUtf8 bytes × (listed_of bytes ≡ Some listed)
 -- what is said by the case file of two logs, by their names, whose vats, 1 and 2, are the ends of connection 0
 abbrev pub link_case : List ℕ → List ℕ → Listed
 link_case first second =
-    record { logs = first ∷ second ∷ []; links = record { conn = 0; a = 1; b = 2 } ∷ []; order = None }
+    record { logs = first ∷ second ∷ []; links = record { connection = 0; a = 1; b = 2 } ∷ []; order = None }
 
 -- bytes are no case file
 abbrev pub IsNoCaseFile : List ℕ → Type 0

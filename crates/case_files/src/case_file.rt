@@ -36,11 +36,11 @@ fn number_of(value: &Value) -> Option<u32>
 fn link_of(value: &Value) -> Option<Link>
     ensures { result ≡ link_of (view value.now) }
 {
-    let [conn, a, b] = value.as_array()?.as_slice() else {
+    let [connection, a, b] = value.as_array()?.as_slice() else {
         return None;
     };
     Some(Link {
-        conn: number_of(conn)?,
+        connection: number_of(connection)?,
         a: number_of(a)?,
         b: number_of(b)?,
     })

@@ -31,7 +31,7 @@ fn link_value(alloc: Global, link: Link) -> Result<Value, AllocError>
     ensures shallow { IfOk result (λ value. IsShallow 1 (view value)) }
 {
     let mut list = Vec::new(alloc);
-    list.push(Value::from(link.conn))?;
+    list.push(Value::from(link.connection))?;
     list.push(Value::from(link.a))?;
     list.push(Value::from(link.b))?;
     Ok(Value::Array(list))
@@ -89,7 +89,7 @@ pub fn link_case(alloc: Global, first: &str, second: &str) -> Result<Bytes, Allo
     ensures { IfOk result (λ bytes. IsCaseFile bytes (link_case first.now second.now)) }
 {
     let link = Link {
-        conn: 0,
+        connection: 0,
         a: 1,
         b: 2,
     };

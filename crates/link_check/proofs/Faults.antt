@@ -9,9 +9,10 @@ use Rattle.std.proofs.lemmas.Bool.{false≢true, cases_lt}
 use Rattle.std.proofs.lemmas.Slice.Eq.{bytes_eq-Decides}
 use Rattle.vat_log.specs.declared.body.Body.{Body}
 use Rattle.vat_log.specs.declared.body.Body.TheVariants.{Send, Receive}
-use Rattle.link_check.specs.declared.outcome.LinkOutcome.{LinkOutcome}
-use Rattle.link_check.specs.declared.outcome.LinkOutcome.TheVariants.{Good, Broken}
-use Rattle.link_check.specs.Prefix.{frame_sent, frame_received, frames_sent, frames_received, Ends, IsPrefix, IsLeastFault, IsGood, IsBrokenAtFirst, IsBrokenAtSecond, IsOutcome}
+use Rattle.link_check.specs.declared.link_outcome.LinkOutcome.{LinkOutcome}
+use Rattle.link_check.specs.declared.link_outcome.LinkOutcome.TheVariants.{Good, Broken}
+use Rattle.link_check.specs.Prefix.{frames_sent, frames_received, Ends, IsPrefix, IsLeastFault, IsGood, IsBrokenAtFirst, IsBrokenAtSecond, IsOutcome}
+use Rattle.vat_log.specs.Passages.{frame_sent, frame_received}
 use Rattle.link_check.specs.Glue.{first_fault}
 
 none_same : (b : Bool) (o : Option ℕ) → cond b (option_map suc o) (Some 0) ≡ None → (b ≡ true) × (o ≡ None)

@@ -1,22 +1,11 @@
 -- Frames on a connection, as the logs of its two ends have them. A link is first in, first out: what one vat received is a
 -- prefix, byte for byte, of what the other sent.
-use Rattle.std.specs.Prelude.{◌≡◌, ◌≢◌, ◌⊎◌, ℕ, ◌+◌, ◌<◌, ◌==◌, List, ◌++◌, length, Option, Some, None, if◌then◌else◌, nat_lt, slice_get}
+use Rattle.std.specs.Prelude.{◌≡◌, ◌≢◌, ◌⊎◌, ℕ, ◌+◌, ◌<◌, List, ◌++◌, length, if◌then◌else◌, nat_lt, slice_get}
 use Rattle.std.specs.List.{filter_map}
 use Rattle.vat_log.specs.Log.{Log}
-use Rattle.vat_log.specs.declared.body.Body.{Body}
-use Rattle.vat_log.specs.declared.body.Body.TheVariants.{Send, Receive}
-use Rattle.link_check.specs.declared.outcome.LinkOutcome.{LinkOutcome}
-use Rattle.link_check.specs.declared.outcome.LinkOutcome.TheVariants.{Good, Broken}
-
--- the frame that a record sends on the connection
-abbrev pub frame_sent : ℕ → Body → Option (List ℕ)
-frame_sent connection (Send on call references frame) = if on == connection then Some frame else None
-frame_sent connection _ = None
-
--- the frame that a record receives on the connection
-abbrev pub frame_received : ℕ → Body → Option (List ℕ)
-frame_received connection (Receive on call references frame) = if on == connection then Some frame else None
-frame_received connection _ = None
+use Rattle.vat_log.specs.Passages.{frame_sent, frame_received}
+use Rattle.link_check.specs.declared.link_outcome.LinkOutcome.{LinkOutcome}
+use Rattle.link_check.specs.declared.link_outcome.LinkOutcome.TheVariants.{Good, Broken}
 
 -- the frames that a vat sent on the connection, in order
 abbrev pub frames_sent : ℕ → Log → List (List ℕ)

@@ -6,9 +6,9 @@
 //! refusal is an `Arc` with too many owners to count.
 #![tactic(auto)]
 
-mod finding;
-mod frames;
-mod outcome;
+mod connection_frames;
+mod link_finding;
+mod link_outcome;
 
-pub use finding::{LinkFinding, check_link};
-pub use outcome::LinkOutcome;
+pub use link_finding::{LinkFinding, check_link};
+pub use link_outcome::LinkOutcome;

@@ -14,9 +14,9 @@ use Rattle.vat_log.specs.Log.{Log}
 use Rattle.link_check.specs.Prefix.{frames_sent, frames_received}
 use Rattle.log_ends.specs.Ends.{IsEnd, IsBefore, log_at, sent_at, received_at}
 use Rattle.log_ends.specs.Glue.{IsPassed, HasPassed, AreRows, row_of}
-use Rattle.log_ends.specs.declared.end.End.{End}
-use Rattle.log_ends.specs.declared.rows.Passed.{Passed}
-use Rattle.log_ends.specs.declared.rows.Row.{Row}
+use Rattle.log_ends.specs.declared.log_end.LogEnd.{LogEnd}
+use Rattle.log_ends.specs.declared.passages.PassedFrame.{PassedFrame}
+use Rattle.log_ends.specs.declared.passages.Row.{Row}
 use Rattle.log_ends.proofs.Keys.{same_number}
 use Rattle.log_ends.proofs.Lists.{append_cases, append_left, append_right}
 use Rattle.log_ends.proofs.Passing.{passed_later}
@@ -42,7 +42,7 @@ record IsRow (numbers : List (List ℕ) → Option ℕ) (logs : List Log) (place
   pub just : IsEnd logs row.end
   pub of_log : row.end.log ≡ place
 
-is_row : (later : List (List ℕ) → Option ℕ) (logs : List Log) (place : ℕ) (table : BTreeMap ℕ Passed) → HasPassed later table (λ q. frames_sent q (log_at logs place)) (λ q. frames_received q (log_at logs place)) → IsOrdered nat_cmp table
+is_row : (later : List (List ℕ) → Option ℕ) (logs : List Log) (place : ℕ) (table : BTreeMap ℕ PassedFrame) → HasPassed later table (λ q. frames_sent q (log_at logs place)) (λ q. frames_received q (log_at logs place)) → IsOrdered nat_cmp table
     → (j : ℕ) (row : Row) → slice_get (map (row_of place) table.entries) j ≡ Some row → IsRow later logs place row
 is_row later logs place table has ordered j row at =
     let entry = mapped (row_of place) table.entries j row at in
@@ -51,24 +51,24 @@ is_row later logs place table has ordered j row at =
     let one : IsRow later logs place (row_of place entry.0) = record { traced = is.0; just = is.1; of_log = refl } in
     subst (λ (r : Row). IsRow later logs place r) entry.2 one
 
-connection_of : (place : ℕ) (table : BTreeMap ℕ Passed) (j : ℕ) (row : Row) → slice_get (map (row_of place) table.entries) j ≡ Some row → get_or (keys_of table.entries) j 0 ≡ row.end.connection
+connection_of : (place : ℕ) (table : BTreeMap ℕ PassedFrame) (j : ℕ) (row : Row) → slice_get (map (row_of place) table.entries) j ≡ Some row → get_or (keys_of table.entries) j 0 ≡ row.end.connection
 connection_of place table j row at =
     let entry = mapped (row_of place) table.entries j row at in
-    let key : slice_get (keys_of table.entries) j ≡ Some entry.0.0 = slice_get-map (λ (e : ℕ × Passed). e.0) table.entries j ∙ ap (λ (o : Option (ℕ × Passed)). option_map (λ e. e.0) o) entry.1 in
+    let key : slice_get (keys_of table.entries) j ≡ Some entry.0.0 = slice_get-map (λ (e : ℕ × PassedFrame). e.0) table.entries j ∙ ap (λ (o : Option (ℕ × PassedFrame)). option_map (λ e. e.0) o) entry.1 in
     get_or_from_slice_get (keys_of table.entries) j entry.0.0 0 key ∙ ap (λ (r : Row). r.end.connection) entry.2
 
-rises : (place : ℕ) (table : BTreeMap ℕ Passed) → IsOrdered nat_cmp table → (j k : ℕ) (one other : Row) → j < k → slice_get (map (row_of place) table.entries) j ≡ Some one → slice_get (map (row_of place) table.entries) k ≡ Some other → one.end.connection < other.end.connection
+rises : (place : ℕ) (table : BTreeMap ℕ PassedFrame) → IsOrdered nat_cmp table → (j k : ℕ) (one other : Row) → j < k → slice_get (map (row_of place) table.entries) j ≡ Some one → slice_get (map (row_of place) table.entries) k ≡ Some other → one.end.connection < other.end.connection
 rises place table ordered j k one other lt a b =
-    let within : k < length (keys_of table.entries) = omega (arith, slice_get_within (map (row_of place) table.entries) k other b, length-map table.entries (row_of place), length-map table.entries (λ (e : ℕ × Passed). e.0)) in
+    let within : k < length (keys_of table.entries) = omega (arith, slice_get_within (map (row_of place) table.entries) k other b, length-map table.entries (row_of place), length-map table.entries (λ (e : ℕ × PassedFrame). e.0)) in
     let below : get_or (keys_of table.entries) j 0 < get_or (keys_of table.entries) k 0 = below_from_sorted (keys_of table.entries) j k 0 ordered lt within in
     omega (arith, below, connection_of place table j one a, connection_of place table k other b)
 
-end_of : ℕ → ℕ → End
+end_of : ℕ → ℕ → LogEnd
 end_of l c = record { log = l; connection = c }
 
 -- ---- one log further
 
-pub rows_more : (numbers later : List (List ℕ) → Option ℕ) → ((frames : List (List ℕ)) (n : ℕ) → numbers frames ≡ Some n → later frames ≡ Some n) → (logs : List Log) (place : ℕ) (rows : List Row) (table : BTreeMap ℕ Passed) → AreRows numbers logs place rows
+pub rows_more : (numbers later : List (List ℕ) → Option ℕ) → ((frames : List (List ℕ)) (n : ℕ) → numbers frames ≡ Some n → later frames ≡ Some n) → (logs : List Log) (place : ℕ) (rows : List Row) (table : BTreeMap ℕ PassedFrame) → AreRows numbers logs place rows
     → HasPassed later table (λ q. frames_sent q (log_at logs place)) (λ q. frames_received q (log_at logs place)) → IsOrdered nat_cmp table → AreRows later logs (place + 1) (rows ++ map (row_of place) table.entries)
 unfolding end_of
 rows_more numbers later keeps logs place rows table are has ordered =
@@ -95,7 +95,7 @@ rows_more numbers later keeps logs place rows table are has ordered =
           let its = is_row later logs place table has ordered h other b in
           inr (is.of_log ∙ sym its.of_log, rises place table ordered i h one other (omega (arith, lt, same, also)) a b)
 
-      new_at : (end : End) → IsEnd logs end → place ≡ end.log → (o : Option Passed) → get nat_cmp table end.connection ≡ o → (k : ℕ) × (row : Row) × (slice_get (rows ++ map (row_of place) table.entries) k ≡ Some row) × (row.end ≡ end)
+      new_at : (end : LogEnd) → IsEnd logs end → place ≡ end.log → (o : Option PassedFrame) → get nat_cmp table end.connection ≡ o → (k : ℕ) × (row : Row) × (slice_get (rows ++ map (row_of place) table.entries) k ≡ Some row) × (row.end ≡ end)
       new_at end is same None e =
           let none = has.absent end.connection e in
           let sent : sent_at logs end ≡ [] = ap (λ (p : ℕ). frames_sent end.connection (log_at logs p)) (sym same) ∙ none.0 in
@@ -105,9 +105,9 @@ rows_more numbers later keeps logs place rows table are has ordered =
           let found = place_from_lookup (λ k. is_eq (nat_cmp end.connection k)) table.entries passed e in
           let key : end.connection ≡ found.1 = same_number end.connection found.1 found.3 in
           let row : Row = row_of place (found.1, passed) in
-          let at : slice_get (map (row_of place) table.entries) found.0 ≡ Some row = slice_get-map (row_of place) table.entries found.0 ∙ ap (λ (o : Option (ℕ × Passed)). option_map (row_of place) o) found.2 in
+          let at : slice_get (map (row_of place) table.entries) found.0 ≡ Some row = slice_get-map (row_of place) table.entries found.0 ∙ ap (λ (o : Option (ℕ × PassedFrame)). option_map (row_of place) o) found.2 in
           (length rows + found.0, row, append_right rows (map (row_of place) table.entries) found.0 (length rows + found.0) row refl at, ap₂ (λ (l c : ℕ). end_of l c) same (sym key))
 
-      all_at : (end : End) → IsEnd logs end → end.log < place + 1 → (end.log < place) ⊎ (place ≤ end.log) → (k : ℕ) × (row : Row) × (slice_get (rows ++ map (row_of place) table.entries) k ≡ Some row) × (row.end ≡ end)
+      all_at : (end : LogEnd) → IsEnd logs end → end.log < place + 1 → (end.log < place) ⊎ (place ≤ end.log) → (k : ℕ) × (row : Row) × (slice_get (rows ++ map (row_of place) table.entries) k ≡ Some row) × (row.end ≡ end)
       all_at end is lt (inl early) = let found = are.all end is early in (found.0, found.1, append_left rows (map (row_of place) table.entries) found.0 found.1 found.2, found.3)
       all_at end is lt (inr late) = new_at end is (omega (arith, lt, late)) (get nat_cmp table end.connection) refl

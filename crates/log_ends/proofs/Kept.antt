@@ -7,18 +7,19 @@ use Rattle.std.proofs.lemmas.Bool.{cases_eq, eq-eqb, ne_eqb}
 use Rattle.vat_log.specs.Log.{Log, written_version}
 use Rattle.vat_log.specs.declared.body.Body.{Body}
 use Rattle.vat_log.specs.declared.body.Body.TheVariants.{Send, Receive}
-use Rattle.link_check.specs.Prefix.{IsPrefix, frame_sent, frame_received, frames_sent, frames_received}
+use Rattle.link_check.specs.Prefix.{IsPrefix, frames_sent, frames_received}
+use Rattle.vat_log.specs.Passages.{frame_sent, frame_received}
 use Rattle.log_ends.specs.Ends.{IsEnd, Fits, log_at, sent_at, received_at}
 use Rattle.log_ends.specs.Joining.{Has, ArePairs, IsJoined}
 use Rattle.log_ends.specs.Renumbering.{renumbered_body, IsRenumbered, AreRenumbered, end_in}
-use Rattle.log_ends.specs.declared.end.End.{End}
-use Rattle.log_ends.specs.declared.end.EndPair.{EndPair}
+use Rattle.log_ends.specs.declared.log_end.LogEnd.{LogEnd}
+use Rattle.log_ends.specs.declared.log_end.EndPair.{EndPair}
 use Rattle.log_ends.proofs.Fitting.{same_symmetric, fits_end}
 use Rattle.log_ends.proofs.Places.{of_a_log}
 
 -- ---- two ends of one pair
 
-pub matched : (logs : List Log) (pairs : List EndPair) (number : ℕ) (one other : End) → ArePairs logs pairs → Has pairs number one → Has pairs number other → (one ≡ other → ⊥) → Fits logs one other
+pub matched : (logs : List Log) (pairs : List EndPair) (number : ℕ) (one other : LogEnd) → ArePairs logs pairs → Has pairs number one → Has pairs number other → (one ≡ other → ⊥) → Fits logs one other
 matched logs pairs number one other are a b apart = by same a.ends b.ends where
   same : b.pair ≡ a.pair
   same = same_Some b.pair a.pair (sym b.there ∙ a.there)
@@ -29,14 +30,14 @@ matched logs pairs number one other are a b apart = by same a.ends b.ends where
   by : b.pair ≡ a.pair → (a.pair.first ≡ one) ⊎ (a.pair.second ≡ one) → (b.pair.first ≡ other) ⊎ (b.pair.second ≡ other) → Fits logs one other
   by e (inl p) (inl q) = absurd (apart (sym p ∙ ap (λ (x : EndPair). x.first) (sym e) ∙ q))
   by e (inr p) (inr q) = absurd (apart (sym p ∙ ap (λ (x : EndPair). x.second) (sym e) ∙ q))
-  by e (inl p) (inr q) = subst (λ (x : End). Fits logs x other) p (subst (λ (x : End). Fits logs a.pair.first x) (ap (λ (x : EndPair). x.second) (sym e) ∙ q) fits)
-  by e (inr p) (inl q) = subst (λ (x : End). Fits logs x other) p (subst (λ (x : End). Fits logs a.pair.second x) (ap (λ (x : EndPair). x.first) (sym e) ∙ q) (same_symmetric logs a.pair.first a.pair.second fits))
+  by e (inl p) (inr q) = subst (λ (x : LogEnd). Fits logs x other) p (subst (λ (x : LogEnd). Fits logs a.pair.first x) (ap (λ (x : EndPair). x.second) (sym e) ∙ q) fits)
+  by e (inr p) (inl q) = subst (λ (x : LogEnd). Fits logs x other) p (subst (λ (x : LogEnd). Fits logs a.pair.second x) (ap (λ (x : EndPair). x.first) (sym e) ∙ q) (same_symmetric logs a.pair.first a.pair.second fits))
 
 same_end : (logs : List Log) (pairs : List EndPair) (number place a b : ℕ) → ArePairs logs pairs → Has pairs number (end_in place a) → Has pairs number (end_in place b) → a ≡ b
 same_end logs pairs number place a b are one other = by (cases_eq a b) where
   by : (a ≡ b) ⊎ (a ≡ b → ⊥) → a ≡ b
   by (inl e) = e
-  by (inr apart) = absurd ((matched logs pairs number (end_in place a) (end_in place b) are one other (λ e. apart (ap (λ (x : End). x.connection) e))).apart refl)
+  by (inr apart) = absurd ((matched logs pairs number (end_in place a) (end_in place b) are one other (λ e. apart (ap (λ (x : LogEnd). x.connection) e))).apart refl)
 
 pub injective : (logs : List Log) (pairs : List EndPair) (place : ℕ) (old new : Log) (is : IsRenumbered logs pairs place old new) (a b : ℕ) → ArePairs logs pairs → IsEnd logs (end_in place a) → IsEnd logs (end_in place b) → is.number a ≡ is.number b → a ≡ b
 injective logs pairs place old new is a b are one other e =
@@ -107,11 +108,11 @@ received_kept number c (b ∷ rest) tells =
 -- ---- the links of the logs that are made
 
 -- at an end of the pair of this number the new log has what the old one has
-record IsKept (logs : List Log) (number : ℕ) (end : End) (new : Log) : Type 0 where
+record IsKept (logs : List Log) (number : ℕ) (end : LogEnd) (new : Log) : Type 0 where
   pub sent : frames_sent number new ≡ sent_at logs end
   pub received : frames_received number new ≡ received_at logs end
 
-kept_at : (logs : List Log) (pairs : List EndPair) (made : List Log) (number : ℕ) (end : End) (new : Log) → ArePairs logs pairs → AreRenumbered logs pairs made → Has pairs number end → IsEnd logs end → slice_get made end.log ≡ Some new → IsKept logs number end new
+kept_at : (logs : List Log) (pairs : List EndPair) (made : List Log) (number : ℕ) (end : LogEnd) (new : Log) → ArePairs logs pairs → AreRenumbered logs pairs made → Has pairs number end → IsEnd logs end → slice_get made end.log ≡ Some new → IsKept logs number end new
 unfolding Tells Occurs
 kept_at logs pairs made number end new are renumbered has there at =
     let none : Log = record { version = written_version; vat = 0; records = [] } in

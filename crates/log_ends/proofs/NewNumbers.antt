@@ -1,48 +1,19 @@
 -- New numbers of connections and vats.
-use Rattle.std.proofs.Common.{◌≡◌, ◌⊎◌, inl, inr, ℕ, zero, suc, ◌+◌, ◌<◌, ◌≤◌, ◌==◌, List, [], ◌∷◌, ◌++◌, cond, Option, Some, None, length, refl, sym, ap, subst, ◌∙◌, arith}
+use Rattle.std.proofs.Common.{◌≡◌, ◌⊎◌, inl, inr, ℕ, zero, suc, ◌+◌, ◌<◌, ◌≤◌, List, [], ◌∷◌, ◌++◌, Option, Some, None, length, refl, sym, ap, subst, ◌∙◌, arith}
 use Rattle.std.specs.Prelude.{slice_get, unwrap_or}
 use Rattle.std.specs.BTreeMap.{BTreeMap, get}
-use Rattle.std.specs.Ordering.{nat_cmp, is_eq}
-use Rattle.std.specs.Cmp.{unsigned_tied}
+use Rattle.std.specs.Ordering.{nat_cmp}
 use Rattle.std.proofs.lemmas.List.{length_push}
 use Rattle.std.proofs.lemmas.Option.{none-some, same_Some, slice_get_within}
-use Rattle.std.proofs.lemmas.Bool.{cases_lt, cases_eq, cases_order, eq-eqb, ne_eqb, cond-true, cond-false}
+use Rattle.std.proofs.lemmas.Bool.{cases_lt, cases_order}
 use Rattle.vat_log.specs.Log.{Log}
 use Rattle.log_ends.specs.Joining.{Has, IsPaired}
 use Rattle.log_ends.specs.Renumbering.{AreApart, IsRenumbered, end_in}
-use Rattle.log_ends.specs.Numbers.{number_in, PutsEnd, AreNumbers, HasVatAt, HasNoVat, AreMade, AreApartUpTo}
-use Rattle.log_ends.specs.declared.end.End.{End}
-use Rattle.log_ends.specs.declared.end.EndPair.{EndPair}
+use Rattle.log_ends.specs.Numbers.{number_in, PutsEnd, AreNumbers, HasNoVat, AreMade, AreApartUpTo}
+use Rattle.log_ends.specs.declared.log_end.EndPair.{EndPair}
 use Rattle.log_ends.proofs.Lists.{append_cases}
 
 -- ---- the table of a log
-
-pub puts_end : (place : ℕ) (end : End) (number : ℕ) (old new : BTreeMap ℕ ℕ) → end.log ≡ place → ((q : ℕ) → get nat_cmp new q ≡ cond (is_eq (nat_cmp end.connection q)) (Some number) (get nat_cmp old q)) → PutsEnd place end number old new
-puts_end place end number old new here update =
-    record {
-      just = λ q now at. just_at q now (cases_eq end.connection q) at;
-      there = λ q is none. none-some number (sym none ∙ set q (ap (λ (e : End). e.connection) is));
-      keeps = λ q some none. keeps_at q some none (cases_eq end.connection q);
-    } where
-      test : (q : ℕ) → is_eq (nat_cmp end.connection q) ≡ (end.connection == q)
-      test q = unsigned_tied end.connection q
-
-      set : (q : ℕ) → end.connection ≡ q → get nat_cmp new q ≡ Some number
-      set q same = update q ∙ cond-true (is_eq (nat_cmp end.connection q)) (Some number) (get nat_cmp old q) (test q ∙ eq-eqb end.connection q same)
-
-      kept : (q : ℕ) → (end.connection ≡ q → ⊥) → get nat_cmp new q ≡ get nat_cmp old q
-      kept q apart = update q ∙ cond-false (is_eq (nat_cmp end.connection q)) (Some number) (get nat_cmp old q) (test q ∙ ne_eqb end.connection q apart)
-
-      just_at : (q now : ℕ) → (end.connection ≡ q) ⊎ (end.connection ≡ q → ⊥) → get nat_cmp new q ≡ Some now → (get nat_cmp old q ≡ Some now) ⊎ ((end ≡ end_in place q) × (now ≡ number))
-      just_at q now (inl same) at = inr (ap (λ l. end_in l end.connection) here ∙ ap (end_in place) same, same_Some now number (sym at ∙ set q same))
-      just_at q now (inr apart) at = inl (sym (kept q apart) ∙ at)
-
-      keeps_at : (q : ℕ) → (get nat_cmp old q ≡ None → ⊥) → get nat_cmp new q ≡ None → (end.connection ≡ q) ⊎ (end.connection ≡ q → ⊥) → ⊥
-      keeps_at q some none (inl same) = none-some number (sym none ∙ set q same)
-      keeps_at q some none (inr apart) = some (sym (kept q apart) ∙ none)
-
-pub puts_none : (place : ℕ) (end : End) (number : ℕ) (table : BTreeMap ℕ ℕ) → (end.log ≡ place → ⊥) → PutsEnd place end number table table
-puts_none place end number table apart = record { just = λ q now at. inl at; there = λ q is none. apart (ap (λ (e : End). e.log) is); keeps = λ q some none. some none }
 
 pub no_numbers : (pairs : List EndPair) (place : ℕ) (table : BTreeMap ℕ ℕ) → ((q : ℕ) → get nat_cmp table q ≡ None) → AreNumbers pairs place 0 table
 no_numbers pairs place table empty = record { just = λ q number at. absurd (none-some number (sym (empty q) ∙ at)); all = λ q number lt has none. omega (arith, lt) }
@@ -89,9 +60,6 @@ apart_from logs up i j one other a b same = at (cases_order i j) where
   at (inl e) = e
   at (inr (inl lt)) = absurd (up i (slice_get_within logs i one a) one a j (omega (arith, lt)) (slice_get_within logs j other b) (other, b, sym same))
   at (inr (inr lt)) = absurd (up j (slice_get_within logs j other b) other b i (omega (arith, lt)) (slice_get_within logs i one a) (one, a, same))
-
-pub not_apart : (logs : List Log) (place k : ℕ) (log : Log) → slice_get logs place ≡ Some log → place + 1 ≤ k → HasVatAt logs k log.vat → AreApart logs → ⊥
-not_apart logs place k log at lt (other, there, same) apart = omega (arith, lt, apart place k log other at there (sym same))
 
 pub apart_more : (logs : List Log) (place : ℕ) (log : Log) → slice_get logs place ≡ Some log → AreApartUpTo logs place → HasNoVat logs log.vat (place + 1) (length logs) → AreApartUpTo logs (place + 1)
 apart_more logs place log at up none k lt one there = by (cases_lt k place) where

@@ -109,9 +109,6 @@ given_more next later test key count given is update =
 
 -- ---- traces
 
-pub none_traced : (numbers : List (List ℕ) → Option ℕ) → Traces numbers [] []
-none_traced numbers = record { count = refl; each = λ k lt. absurd (omega (arith, lt)) }
-
 pub traced_later : (numbers later : List (List ℕ) → Option ℕ) → ((frames : List (List ℕ)) (n : ℕ) → numbers frames ≡ Some n → later frames ≡ Some n) → (trace : List ℕ) (frames : List (List ℕ)) → Traces numbers trace frames → Traces later trace frames
 traced_later numbers later keeps trace frames traces = record { count = traces.count; each = λ k lt. keeps (take (k + 1) frames) (slice_index trace k) (traces.each k lt) }
 

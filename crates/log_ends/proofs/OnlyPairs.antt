@@ -6,15 +6,15 @@ use Rattle.std.proofs.lemmas.Bool.{cases_lt, cases_order}
 use Rattle.vat_log.specs.Log.{Log}
 use Rattle.log_ends.specs.Ends.{IsBefore, Fits}
 use Rattle.log_ends.specs.Joining.{Has, IsPaired, ArePairs, IsJoined}
-use Rattle.log_ends.specs.declared.end.End.{End}
-use Rattle.log_ends.specs.declared.end.EndPair.{EndPair}
+use Rattle.log_ends.specs.declared.log_end.LogEnd.{LogEnd}
+use Rattle.log_ends.specs.declared.log_end.EndPair.{EndPair}
 use Rattle.log_ends.proofs.Fitting.{fits_end}
 use Rattle.log_ends.proofs.Places.{not_both, not_itself}
 
-end_of : ℕ → ℕ → End
+end_of : ℕ → ℕ → LogEnd
 end_of l c = record { log = l; connection = c }
 
-both_orders : (a b : End) → (a ≡ b) ⊎ (IsBefore a b ⊎ IsBefore b a)
+both_orders : (a b : LogEnd) → (a ≡ b) ⊎ (IsBefore a b ⊎ IsBefore b a)
 unfolding end_of
 both_orders a b = by (cases_order a.log b.log) (cases_order a.connection b.connection) where
   by : (a.log ≡ b.log) ⊎ ((a.log < b.log) ⊎ (b.log < a.log)) → (a.connection ≡ b.connection) ⊎ ((a.connection < b.connection) ⊎ (b.connection < a.connection)) → (a ≡ b) ⊎ (IsBefore a b ⊎ IsBefore b a)
@@ -24,14 +24,14 @@ both_orders a b = by (cases_order a.log b.log) (cases_order a.connection b.conne
   by (inr (inl lt)) other = inr (inl (inl lt))
   by (inr (inr lt)) other = inr (inr (inl lt))
 
-chained : (a b c : End) → IsBefore a b → IsBefore b c → IsBefore a c
+chained : (a b c : LogEnd) → IsBefore a b → IsBefore b c → IsBefore a c
 chained a b c (inl e) (inl h) = inl (omega (arith, e, h))
 chained a b c (inl e) (inr h) = inl (omega (arith, e, h.0))
 chained a b c (inr e) (inl h) = inl (omega (arith, e.0, h))
 chained a b c (inr e) (inr h) = inr (e.0 ∙ h.0, omega (arith, e.1, h.1))
 
 -- the ends of a pair and of those behind it don't come before its first one
-none_before : (logs : List Log) (pairs : List EndPair) → ArePairs logs pairs → (n m : ℕ) (p : EndPair) (end : End) → slice_get pairs n ≡ Some p → Has pairs m end → n ≤ m → IsBefore end p.first → ⊥
+none_before : (logs : List Log) (pairs : List EndPair) → ArePairs logs pairs → (n m : ℕ) (p : EndPair) (end : LogEnd) → slice_get pairs n ≡ Some p → Has pairs m end → n ≤ m → IsBefore end p.first → ⊥
 none_before logs pairs are n m p end at has le early = by (cases_lt n m) has.ends where
   order : IsBefore has.pair.first has.pair.second
   order = are.in_order m has.pair has.there
@@ -40,10 +40,10 @@ none_before logs pairs are n m p end at has le early = by (cases_lt n m) has.end
   here ge = same_Some has.pair p (sym has.there ∙ ap (slice_get pairs) (omega (arith, le, ge)) ∙ at)
 
   by : (n < m) ⊎ (m ≤ n) → (has.pair.first ≡ end) ⊎ (has.pair.second ≡ end) → ⊥
-  by (inl lt) (inl is) = not_both end p.first early (subst (λ (e : End). IsBefore p.first e) is (are.rising n m p has.pair lt at has.there))
-  by (inl lt) (inr is) = not_both end p.first early (subst (λ (e : End). IsBefore p.first e) is (chained p.first has.pair.first has.pair.second (are.rising n m p has.pair lt at has.there) order))
-  by (inr ge) (inl is) = not_itself end (subst (λ (e : End). IsBefore end e) (ap (λ (x : EndPair). x.first) (sym (here ge)) ∙ is) early)
-  by (inr ge) (inr is) = not_both end p.first early (subst (λ (e : End). IsBefore e end) (ap (λ (x : EndPair). x.first) (here ge)) (subst (λ (e : End). IsBefore has.pair.first e) is order))
+  by (inl lt) (inl is) = not_both end p.first early (subst (λ (e : LogEnd). IsBefore p.first e) is (are.rising n m p has.pair lt at has.there))
+  by (inl lt) (inr is) = not_both end p.first early (subst (λ (e : LogEnd). IsBefore p.first e) is (chained p.first has.pair.first has.pair.second (are.rising n m p has.pair lt at has.there) order))
+  by (inr ge) (inl is) = not_itself end (subst (λ (e : LogEnd). IsBefore end e) (ap (λ (x : EndPair). x.first) (sym (here ge)) ∙ is) early)
+  by (inr ge) (inr is) = not_both end p.first early (subst (λ (e : LogEnd). IsBefore e end) (ap (λ (x : EndPair). x.first) (here ge)) (subst (λ (e : LogEnd). IsBefore has.pair.first e) is order))
 
 -- both lists have the same pairs before a number
 AreSame : List EndPair → List EndPair → ℕ → Type 0
@@ -53,12 +53,12 @@ turned : (one other : List EndPair) (n : ℕ) → AreSame one other n → AreSam
 unfolding AreSame
 turned one other n same k lt = sym (same k lt)
 
-there_too : (one other : List EndPair) (n m : ℕ) (end : End) → AreSame one other n → m < n → Has one m end → Has other m end
+there_too : (one other : List EndPair) (n m : ℕ) (end : LogEnd) → AreSame one other n → m < n → Has one m end → Has other m end
 unfolding AreSame
 there_too one other n m end same lt has = record { pair = has.pair; there = sym (same m lt) ∙ has.there; ends = has.ends }
 
 -- an end of the pair of a number isn't in a pair before it, in either list
-not_earlier : (logs : List Log) (one other : List EndPair) → ArePairs logs one → (n m : ℕ) (end : End) → AreSame one other n → Has one n end → m < n → Has other m end → ⊥
+not_earlier : (logs : List Log) (one other : List EndPair) → ArePairs logs one → (n m : ℕ) (end : LogEnd) → AreSame one other n → Has one n end → m < n → Has other m end → ⊥
 not_earlier logs one other are n m end same has lt early =
     omega (arith, lt, are.once m n end (there_too other one n m end (turned one other n same) lt early) has)
 
@@ -80,10 +80,10 @@ not_first logs one other joined joins n p q same at also early =
 
 not_second : (logs : List Log) (one other : List EndPair) → IsJoined logs one → IsJoined logs other → (n : ℕ) (p q : EndPair) → AreSame one other n → slice_get one n ≡ Some p → slice_get other n ≡ Some q → p.first ≡ q.first → IsBefore p.second q.second → ⊥
 not_second logs one other joined joins n p q same at also first early =
-    let found = joins.are.nearest n q p.second also (subst (λ (e : End). Fits logs e p.second) first (joined.are.fit n p at)) early in
+    let found = joins.are.nearest n q p.second also (subst (λ (e : LogEnd). Fits logs e p.second) first (joined.are.fit n p at)) early in
     not_earlier logs one other joined.are n found.0 p.second same (second_of one n p at) found.1 found.2
 
-pair_of : End → End → EndPair
+pair_of : LogEnd → LogEnd → EndPair
 pair_of a b = record { first = a; second = b }
 
 same_pair : (logs : List Log) (one other : List EndPair) → IsJoined logs one → IsJoined logs other → (n : ℕ) (p q : EndPair) → AreSame one other n → slice_get one n ≡ Some p → slice_get other n ≡ Some q → p ≡ q

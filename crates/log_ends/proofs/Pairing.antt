@@ -8,19 +8,19 @@ use Rattle.vat_log.specs.Log.{Log}
 use Rattle.log_ends.specs.Ends.{IsEnd, IsBefore, Fits}
 use Rattle.log_ends.specs.Joining.{Has, IsPaired, ArePairs, IsJoined, IsLeftOver, IsClear}
 use Rattle.log_ends.specs.Glue.{IsOfLogs, end_at, HasNoneFree, IsPartner, HasPaired}
-use Rattle.log_ends.specs.declared.end.End.{End}
-use Rattle.log_ends.specs.declared.end.EndPair.{EndPair}
-use Rattle.log_ends.specs.declared.rows.Rows.{Rows}
+use Rattle.log_ends.specs.declared.log_end.LogEnd.{LogEnd}
+use Rattle.log_ends.specs.declared.log_end.EndPair.{EndPair}
+use Rattle.log_ends.specs.declared.passages.Rows.{Rows}
 use Rattle.log_ends.proofs.Fitting.{same_symmetric, fits_end}
 use Rattle.log_ends.proofs.Lists.{append_cases, append_left, append_right}
 use Rattle.log_ends.proofs.Places.{sorted_at, all_at, same_place, earlier_at}
 
 -- ---- one more pair
 
-has_within : (pairs : List EndPair) (m : ℕ) (end : End) → Has pairs m end → m < length pairs
+has_within : (pairs : List EndPair) (m : ℕ) (end : LogEnd) → Has pairs m end → m < length pairs
 has_within pairs m end has = slice_get_within pairs m has.pair has.there
 
-has_later : (pairs : List EndPair) (p : EndPair) (m : ℕ) (end : End) → Has pairs m end → Has (pairs ++ (p ∷ [])) m end
+has_later : (pairs : List EndPair) (p : EndPair) (m : ℕ) (end : LogEnd) → Has pairs m end → Has (pairs ++ (p ∷ [])) m end
 has_later pairs p m end has = record { pair = has.pair; there = append_left pairs (p ∷ []) m has.pair has.there; ends = has.ends }
 
 -- the pair at a place is an earlier one, or the new one
@@ -32,7 +32,7 @@ which pairs p m q at = by (append_cases pairs (p ∷ []) m q at) where
   by (inr (suc j, same, late)) = absurd cc
 
 -- so with the ends of it
-which_has : (pairs : List EndPair) (p : EndPair) (m : ℕ) (end : End) → Has (pairs ++ (p ∷ [])) m end → (Has pairs m end) ⊎ ((m ≡ length pairs) × ((p.first ≡ end) ⊎ (p.second ≡ end)))
+which_has : (pairs : List EndPair) (p : EndPair) (m : ℕ) (end : LogEnd) → Has (pairs ++ (p ∷ [])) m end → (Has pairs m end) ⊎ ((m ≡ length pairs) × ((p.first ≡ end) ⊎ (p.second ≡ end)))
 which_has pairs p m end has = by (which pairs p m has.pair has.there) where
   by : (slice_get pairs m ≡ Some has.pair) ⊎ ((m ≡ length pairs) × (p ≡ has.pair)) → (Has pairs m end) ⊎ ((m ≡ length pairs) × ((p.first ≡ end) ⊎ (p.second ≡ end)))
   by (inl early) = inl (record { pair = has.pair; there = early; ends = has.ends })
@@ -49,7 +49,7 @@ no_pairs logs = record {
 
 -- neither end is in a pair, and all ends that fit the first and come before the second are
 pub pairs_more : (logs : List Log) (pairs : List EndPair) (p : EndPair) → ArePairs logs pairs → Fits logs p.first p.second → IsBefore p.first p.second → (IsPaired pairs p.first → ⊥) → (IsPaired pairs p.second → ⊥)
-    → ((number : ℕ) (pair : EndPair) → slice_get pairs number ≡ Some pair → IsBefore pair.first p.first) → ((end : End) → Fits logs p.first end → IsBefore end p.second → IsPaired pairs end) → ArePairs logs (pairs ++ (p ∷ []))
+    → ((number : ℕ) (pair : EndPair) → slice_get pairs number ≡ Some pair → IsBefore pair.first p.first) → ((end : LogEnd) → Fits logs p.first end → IsBefore end p.second → IsPaired pairs end) → ArePairs logs (pairs ++ (p ∷ []))
 pairs_more logs pairs p are fits before first_free second_free begun nearest =
     record {
       fit = λ m q at. fit_at m q (which pairs p m q at);
@@ -66,11 +66,11 @@ pairs_more logs pairs p are fits before first_free second_free begun nearest =
       order_at m q (inl at) = are.in_order m q at
       order_at m q (inr (same, is)) = subst (λ (x : EndPair). IsBefore x.first x.second) is before
 
-      free_of : (end : End) → (p.first ≡ end) ⊎ (p.second ≡ end) → IsPaired pairs end → ⊥
-      free_of end (inl is) paired = first_free (subst (λ (e : End). IsPaired pairs e) (sym is) paired)
-      free_of end (inr is) paired = second_free (subst (λ (e : End). IsPaired pairs e) (sym is) paired)
+      free_of : (end : LogEnd) → (p.first ≡ end) ⊎ (p.second ≡ end) → IsPaired pairs end → ⊥
+      free_of end (inl is) paired = first_free (subst (λ (e : LogEnd). IsPaired pairs e) (sym is) paired)
+      free_of end (inr is) paired = second_free (subst (λ (e : LogEnd). IsPaired pairs e) (sym is) paired)
 
-      once_at : (m n : ℕ) (end : End) → (Has pairs m end) ⊎ ((m ≡ length pairs) × ((p.first ≡ end) ⊎ (p.second ≡ end))) → (Has pairs n end) ⊎ ((n ≡ length pairs) × ((p.first ≡ end) ⊎ (p.second ≡ end))) → m ≡ n
+      once_at : (m n : ℕ) (end : LogEnd) → (Has pairs m end) ⊎ ((m ≡ length pairs) × ((p.first ≡ end) ⊎ (p.second ≡ end))) → (Has pairs n end) ⊎ ((n ≡ length pairs) × ((p.first ≡ end) ⊎ (p.second ≡ end))) → m ≡ n
       once_at m n end (inl one) (inl other) = are.once m n end one other
       once_at m n end (inl one) (inr (same, is)) = absurd (free_of end is (m, one))
       once_at m n end (inr (same, is)) (inl other) = absurd (free_of end is (n, other))
@@ -82,7 +82,7 @@ pairs_more logs pairs p are fits before first_free second_free begun nearest =
       rising_at m n one other lt (inr (same, is)) (inl b) = absurd (omega (arith, lt, same, slice_get_within pairs n other b))
       rising_at m n one other lt (inr (same, is)) (inr (also, its)) = absurd (omega (arith, lt, same, also))
 
-      nearest_at : (m : ℕ) (q : EndPair) (end : End) → Fits logs q.first end → IsBefore end q.second → (slice_get pairs m ≡ Some q) ⊎ ((m ≡ length pairs) × (p ≡ q)) → (earlier : ℕ) × (earlier < m) × Has (pairs ++ (p ∷ [])) earlier end
+      nearest_at : (m : ℕ) (q : EndPair) (end : LogEnd) → Fits logs q.first end → IsBefore end q.second → (slice_get pairs m ≡ Some q) ⊎ ((m ≡ length pairs) × (p ≡ q)) → (earlier : ℕ) × (earlier < m) × Has (pairs ++ (p ∷ [])) earlier end
       nearest_at m q end its early (inl at) = let found = are.nearest m q end at its early in (found.0, found.1, has_later pairs p found.0 end found.2)
       nearest_at m q end its early (inr (same, is)) =
           let found = nearest end (subst (λ (x : EndPair). Fits logs x.first end) (sym is) its) (subst (λ (x : EndPair). IsBefore end x.second) (sym is) early) in
@@ -156,7 +156,7 @@ paired_if rows is place limit taken pairs has none k lt within fits = by (cases_
   by (inr free) (inl early) = has.taken_are k within (has.before k early)
   by (inr free) (inr late) = absurd (none k late lt (record { free = free; fits = fits }))
 
-other_end : (rows : Rows) → IsOfLogs rows → (place : ℕ) (end : End) → Fits rows.logs.now (end_at rows place) end → IsEnd rows.logs.now end
+other_end : (rows : Rows) → IsOfLogs rows → (place : ℕ) (end : LogEnd) → Fits rows.logs.now (end_at rows place) end → IsEnd rows.logs.now end
 other_end rows is place end fits = fits_end rows.logs.now end (end_at rows place) (same_symmetric rows.logs.now (end_at rows place) end fits)
 
 -- the end is paired with its partner
@@ -181,12 +181,12 @@ one_paired rows is place other taken pairs within has free partner =
       after = omega (arith, partner.from, apart)
 
       begun_before : (number : ℕ) (q : EndPair) → slice_get pairs number ≡ Some q → IsBefore q.first (end_at rows place)
-      begun_before number q at = let found = has.begun number q at in subst (λ (e : End). IsBefore e (end_at rows place)) (sym found.2) (sorted_at rows is found.0 place found.1 within)
+      begun_before number q at = let found = has.begun number q at in subst (λ (e : LogEnd). IsBefore e (end_at rows place)) (sym found.2) (sorted_at rows is found.0 place found.1 within)
 
-      nearest : (end : End) → Fits rows.logs.now (end_at rows place) end → IsBefore end (end_at rows other) → IsPaired pairs end
+      nearest : (end : LogEnd) → Fits rows.logs.now (end_at rows place) end → IsBefore end (end_at rows other) → IsPaired pairs end
       nearest end fits early =
           let found = earlier_at rows is other partner.within end (other_end rows is place end fits) early in
-          subst (λ (e : End). IsPaired pairs e) found.2 (paired_if rows is place other taken pairs has partner.first found.0 found.1 (omega (arith, found.1, partner.within)) (subst (λ (e : End). Fits rows.logs.now (end_at rows place) e) (sym found.2) fits))
+          subst (λ (e : LogEnd). IsPaired pairs e) found.2 (paired_if rows is place other taken pairs has partner.first found.0 found.1 (omega (arith, found.1, partner.within)) (subst (λ (e : LogEnd). Fits rows.logs.now (end_at rows place) e) (sym found.2) fits))
 
       before_at : (k : ℕ) → (k < place) ⊎ (k ≡ place) → get_or (set (set taken place true) other true) k true ≡ true
       before_at k (inl early) = stays_true (set taken place true) other k (stays_true taken place k (has.before k early))
@@ -224,22 +224,22 @@ one_paired rows is place other taken pairs within has free partner =
 
 -- ---- the end
 
-pub left_over : (rows : Rows) → IsOfLogs rows → ((end : End) → IsEnd rows.logs.now end → IsClear rows.logs.now end) → (place : ℕ) (taken : List Bool) (pairs : List EndPair) → place < vec_len rows.rows → HasPaired rows place taken pairs → get_or taken place true ≡ false → HasNoneFree rows taken place (vec_len rows.rows) → IsLeftOver rows.logs.now (end_at rows place)
+pub left_over : (rows : Rows) → IsOfLogs rows → ((end : LogEnd) → IsEnd rows.logs.now end → IsClear rows.logs.now end) → (place : ℕ) (taken : List Bool) (pairs : List EndPair) → place < vec_len rows.rows → HasPaired rows place taken pairs → get_or taken place true ≡ false → HasNoneFree rows taken place (vec_len rows.rows) → IsLeftOver rows.logs.now (end_at rows place)
 left_over rows is all_clear place taken pairs within has free none =
     record {
       clear = all_clear;
       pairs = pairs;
       are = has.are;
-      before = λ other it early. let found = earlier_at rows is place within other it early in subst (λ (e : End). IsPaired pairs e) found.2 (has.taken_are found.0 (omega (arith, found.1, within)) (has.before found.0 found.1));
-      begun = λ number q at. let found = has.begun number q at in subst (λ (e : End). IsBefore e (end_at rows place)) (sym found.2) (sorted_at rows is found.0 place found.1 within);
+      before = λ other it early. let found = earlier_at rows is place within other it early in subst (λ (e : LogEnd). IsPaired pairs e) found.2 (has.taken_are found.0 (omega (arith, found.1, within)) (has.before found.0 found.1));
+      begun = λ number q at. let found = has.begun number q at in subst (λ (e : LogEnd). IsBefore e (end_at rows place)) (sym found.2) (sorted_at rows is found.0 place found.1 within);
       free = has.free_are place within free;
-      taken = λ other fits. let found = all_at rows is other (other_end rows is place other fits) in subst (λ (e : End). IsPaired pairs e) found.2 (paired_if rows is place (vec_len rows.rows) taken pairs has none found.0 found.1 found.1 (subst (λ (e : End). Fits rows.logs.now (end_at rows place) e) (sym found.2) fits));
+      taken = λ other fits. let found = all_at rows is other (other_end rows is place other fits) in subst (λ (e : LogEnd). IsPaired pairs e) found.2 (paired_if rows is place (vec_len rows.rows) taken pairs has none found.0 found.1 found.1 (subst (λ (e : LogEnd). Fits rows.logs.now (end_at rows place) e) (sym found.2) fits));
     }
 
-pub joined : (rows : Rows) → IsOfLogs rows → ((end : End) → IsEnd rows.logs.now end → IsClear rows.logs.now end) → (place : ℕ) (taken : List Bool) (pairs : List EndPair) → vec_len rows.rows ≤ place → HasPaired rows place taken pairs → IsJoined rows.logs.now pairs
+pub joined : (rows : Rows) → IsOfLogs rows → ((end : LogEnd) → IsEnd rows.logs.now end → IsClear rows.logs.now end) → (place : ℕ) (taken : List Bool) (pairs : List EndPair) → vec_len rows.rows ≤ place → HasPaired rows place taken pairs → IsJoined rows.logs.now pairs
 joined rows is all_clear place taken pairs done has =
     record {
       clear = all_clear;
       are = has.are;
-      each = λ end it. let found = all_at rows is end it in subst (λ (e : End). IsPaired pairs e) found.2 (has.taken_are found.0 found.1 (has.before found.0 (omega (arith, found.1, done))));
+      each = λ end it. let found = all_at rows is end it in subst (λ (e : LogEnd). IsPaired pairs e) found.2 (has.taken_are found.0 found.1 (has.before found.0 (omega (arith, found.1, done))));
     }

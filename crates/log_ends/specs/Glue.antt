@@ -8,11 +8,11 @@ use Rattle.std.specs.Cmp.Lexicographic.{slice_cmp}
 use Rattle.vat_log.specs.Log.{Log}
 use Rattle.log_ends.specs.Ends.{IsEnd, IsBefore, Fits, AreAlike, sent_at, received_at}
 use Rattle.log_ends.specs.Joining.{IsAlone, IsAmbiguous, IsClear, IsPaired, ArePairs}
-use Rattle.log_ends.specs.declared.end.End.{End}
-use Rattle.log_ends.specs.declared.end.EndPair.{EndPair}
-use Rattle.log_ends.specs.declared.rows.Passed.{Passed}
-use Rattle.log_ends.specs.declared.rows.Row.{Row}
-use Rattle.log_ends.specs.declared.rows.Rows.{Rows}
+use Rattle.log_ends.specs.declared.log_end.LogEnd.{LogEnd}
+use Rattle.log_ends.specs.declared.log_end.EndPair.{EndPair}
+use Rattle.log_ends.specs.declared.passages.PassedFrame.{PassedFrame}
+use Rattle.log_ends.specs.declared.passages.Row.{Row}
+use Rattle.log_ends.specs.declared.passages.Rows.{Rows}
 use Rattle.log_ends.specs.declared.sequences.Sequences.{Sequences}
 use Rattle.log_ends.specs.declared.joining.Standing.{Standing}
 use Rattle.log_ends.specs.declared.joining.Standing.TheVariants.{Alone, Clear, Ambiguous}
@@ -59,13 +59,13 @@ pub record Traces (numbers : List (List ℕ) → Option ℕ) (trace : List ℕ) 
 -- ---- what passed
 
 -- what passed at an end are these frames
-pub record IsPassed (numbers : List (List ℕ) → Option ℕ) (passed : Passed) (sent received : List (List ℕ)) : Type 0 where
+pub record IsPassed (numbers : List (List ℕ) → Option ℕ) (passed : PassedFrame) (sent received : List (List ℕ)) : Type 0 where
   pub out : Traces numbers passed.sent.numbers.items sent
   pub into : Traces numbers passed.received.numbers.items received
 
 -- a table has what passed on each connection
-pub record HasPassed (numbers : List (List ℕ) → Option ℕ) (table : BTreeMap ℕ Passed) (sent received : ℕ → List (List ℕ)) : Type 0 where
-  pub there : (connection : ℕ) (passed : Passed) → get nat_cmp table connection ≡ Some passed → IsPassed numbers passed (sent connection) (received connection) × (0 < length (sent connection) + length (received connection))
+pub record HasPassed (numbers : List (List ℕ) → Option ℕ) (table : BTreeMap ℕ PassedFrame) (sent received : ℕ → List (List ℕ)) : Type 0 where
+  pub there : (connection : ℕ) (passed : PassedFrame) → get nat_cmp table connection ≡ Some passed → IsPassed numbers passed (sent connection) (received connection) × (0 < length (sent connection) + length (received connection))
   pub absent : (connection : ℕ) → get nat_cmp table connection ≡ None → (sent connection ≡ []) × (received connection ≡ [])
 
 -- one more frame on a connection
@@ -73,7 +73,7 @@ abbrev pub one_more : (ℕ → List (List ℕ)) → ℕ → List ℕ → ℕ →
 one_more frames connection frame other = if connection == other then frames other ++ (frame ∷ []) else frames other
 
 -- the end of a connection in the log at this place, with what passed there
-abbrev pub row_of : ℕ → ℕ × Passed → Row
+abbrev pub row_of : ℕ → ℕ × PassedFrame → Row
 row_of place entry = record { end = record { log = place; connection = entry.0 }; passed = entry.1 }
 
 -- all ends in the logs before a place, in order
@@ -81,7 +81,7 @@ pub record AreRows (numbers : List (List ℕ) → Option ℕ) (logs : List Log) 
   pub traced : (k : ℕ) (row : Row) → slice_get rows k ≡ Some row → IsPassed numbers row.passed (sent_at logs row.end) (received_at logs row.end)
   pub just : (k : ℕ) (row : Row) → slice_get rows k ≡ Some row → IsEnd logs row.end × (row.end.log < limit)
   pub sorted : (j k : ℕ) (one other : Row) → j < k → slice_get rows j ≡ Some one → slice_get rows k ≡ Some other → IsBefore one.end other.end
-  pub all : (end : End) → IsEnd logs end → end.log < limit → (k : ℕ) × (row : Row) × (slice_get rows k ≡ Some row) × (row.end ≡ end)
+  pub all : (end : LogEnd) → IsEnd logs end → end.log < limit → (k : ℕ) × (row : Row) × (slice_get rows k ≡ Some row) × (row.end ≡ end)
 
 -- all ends in the logs, in order
 pub record IsOfLogs (rows : Rows) : Type 0 where
@@ -91,10 +91,10 @@ pub record IsOfLogs (rows : Rows) : Type 0 where
 
 -- ---- ends by their places
 
-abbrev pub end_at : Rows → ℕ → End
+abbrev pub end_at : Rows → ℕ → LogEnd
 end_at rows place = unwrap_or (option_map (λ row. row.end) (slice_get rows.rows.items place)) (record { log = 0; connection = 0 })
 
-abbrev pub IsStanding : List Log → End → Standing → Type 0
+abbrev pub IsStanding : List Log → LogEnd → Standing → Type 0
 IsStanding logs end Alone = IsAlone logs end
 IsStanding logs end Clear = IsClear logs end
 IsStanding logs end Ambiguous = IsAmbiguous logs end

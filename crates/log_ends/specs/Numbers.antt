@@ -5,15 +5,15 @@ use Rattle.std.specs.Ordering.{nat_cmp}
 use Rattle.vat_log.specs.Log.{Log}
 use Rattle.log_ends.specs.Joining.{Has}
 use Rattle.log_ends.specs.Renumbering.{IsRenumbered, end_in}
-use Rattle.log_ends.specs.declared.end.End.{End}
-use Rattle.log_ends.specs.declared.end.EndPair.{EndPair}
+use Rattle.log_ends.specs.declared.log_end.LogEnd.{LogEnd}
+use Rattle.log_ends.specs.declared.log_end.EndPair.{EndPair}
 
 -- the new number of a connection
 abbrev pub number_in : BTreeMap ℕ ℕ → ℕ → ℕ
 number_in table connection = unwrap_or (get nat_cmp table connection) 0
 
 -- an end has this number from now on, if it is in the log at this place
-pub record PutsEnd (place : ℕ) (end : End) (number : ℕ) (old new : BTreeMap ℕ ℕ) : Type 0 where
+pub record PutsEnd (place : ℕ) (end : LogEnd) (number : ℕ) (old new : BTreeMap ℕ ℕ) : Type 0 where
   pub just : (connection now : ℕ) → get nat_cmp new connection ≡ Some now → (get nat_cmp old connection ≡ Some now) ⊎ ((end ≡ end_in place connection) × (now ≡ number))
   pub there : (connection : ℕ) → end ≡ end_in place connection → get nat_cmp new connection ≡ None → ⊥
   pub keeps : (connection : ℕ) → (get nat_cmp old connection ≡ None → ⊥) → get nat_cmp new connection ≡ None → ⊥

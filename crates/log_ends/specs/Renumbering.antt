@@ -6,8 +6,8 @@ use Rattle.vat_log.specs.declared.body.Body.{Body}
 use Rattle.vat_log.specs.declared.body.Body.TheVariants.{Send, Receive}
 use Rattle.log_ends.specs.Ends.{IsEnd}
 use Rattle.log_ends.specs.Joining.{Has}
-use Rattle.log_ends.specs.declared.end.End.{End}
-use Rattle.log_ends.specs.declared.end.EndPair.{EndPair}
+use Rattle.log_ends.specs.declared.log_end.LogEnd.{LogEnd}
+use Rattle.log_ends.specs.declared.log_end.EndPair.{EndPair}
 
 -- the same record, with another number of its connection
 abbrev pub renumbered_body : (ℕ → ℕ) → Body → Body
@@ -29,7 +29,7 @@ pub record IsVatAt (logs : List Log) (place vat : ℕ) : Type 0 where
   pub counted : (AreApart logs → ⊥) → vat ≡ suc place
 
 -- the end of a connection in the log at a place
-abbrev pub end_in : ℕ → ℕ → End
+abbrev pub end_in : ℕ → ℕ → LogEnd
 end_in place connection = record { log = place; connection = connection }
 
 -- the log at this place with other numbers: each of its connections has the number of the pair that has this end of it

@@ -4,10 +4,10 @@ ghost use Rattle.std.specs.Prelude.{◌≡◌, ℕ, ◌+◌, ◌<◌, ◌↔◌,
 ghost use Rattle.log_ends.specs.Ends.{IsEnd, Fits};
 ghost use Rattle.log_ends.specs.Joining.{IsClear, IsLeftOver, IsFound};
 ghost use Rattle.log_ends.specs.Glue.{IsOfLogs, end_at, HasNoFit, IsUnlike, IsNotUnlike, HasNoUnlike, IsStanding, IsFree, HasNoneFree, IsPartner, HasPaired};
-ghost use Rattle.log_ends.specs.declared.end.End.{End};
+ghost use Rattle.log_ends.specs.declared.log_end.LogEnd.{LogEnd};
 
-use crate::end::{End, EndPair};
-use crate::rows::{Rows, rows_of};
+use crate::log_end::{EndPair, LogEnd};
+use crate::passages::{Rows, rows_of};
 use std::alloc::{AllocError, Global};
 use vat_log::VatLog;
 
@@ -17,9 +17,9 @@ pub enum Joining {
     /// Each end is in one of these pairs.
     Joined(Vec<EndPair>),
     /// No end fits this one, or each that does is paired with one alike to this one.
-    Unmatched(End),
+    Unmatched(LogEnd),
     /// Ends fit this one that aren't alike.
-    Ambiguous(End),
+    Ambiguous(LogEnd),
 }
 
 /// How many ends fit an end.
@@ -100,7 +100,7 @@ fn standing_of(rows: &Rows<'_>, place: usize) -> Standing
 fn unclear(rows: &Rows<'_>) -> Option<Joining>
     requires { IsOfLogs rows.now }
     ensures { MatchOption result
-        ((end : End) → IsEnd rows.now.logs.now end → IsClear rows.now.logs.now end)
+        ((end : LogEnd) → IsEnd rows.now.logs.now end → IsClear rows.now.logs.now end)
         (IsFound rows.now.logs.now) }
 {
     for place in 0..rows.len() {
@@ -152,7 +152,7 @@ fn pair(
     place: usize,
 ) -> Result<bool, AllocError>
     requires rows { IsOfLogs rows.now }
-    requires clear { (end : End) → IsEnd rows.now.logs.now end → IsClear rows.now.logs.now end }
+    requires clear { (end : LogEnd) → IsEnd rows.now.logs.now end → IsClear rows.now.logs.now end }
     requires place { place < vec_len rows.now.rows }
     requires paired { HasPaired rows.now place taken.old.items pairs.old.items }
     ensures { IfOk result (λ goes_on. MatchBool goes_on
@@ -177,7 +177,7 @@ fn pair(
 /// The pairs, where all ends are clear, or the first end that is left over.
 fn paired(alloc: Global, rows: &Rows<'_>) -> Result<Joining, AllocError>
     requires rows { IsOfLogs rows.now }
-    requires clear { (end : End) → IsEnd rows.now.logs.now end → IsClear rows.now.logs.now end }
+    requires clear { (end : LogEnd) → IsEnd rows.now.logs.now end → IsClear rows.now.logs.now end }
     ensures { IfOk result (IsFound rows.now.logs.now) }
 {
     let mut pairs = Vec::new(alloc);

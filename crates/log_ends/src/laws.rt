@@ -6,13 +6,13 @@ ghost use Rattle.link_check.specs.Prefix.{IsPrefix, frames_sent, frames_received
 ghost use Rattle.log_ends.specs.Ends.{IsEnd, Fits};
 ghost use Rattle.log_ends.specs.Joining.{Has, ArePairs, IsJoined};
 ghost use Rattle.log_ends.specs.Renumbering.{IsRenumbered, AreRenumbered, end_in};
-ghost use Rattle.log_ends.specs.declared.end.End.{End};
-ghost use Rattle.log_ends.specs.declared.end.EndPair.{EndPair};
+ghost use Rattle.log_ends.specs.declared.log_end.LogEnd.{LogEnd};
+ghost use Rattle.log_ends.specs.declared.log_end.EndPair.{EndPair};
 
 /// Two ends have the number of one pair just if they are its ends, and so they fit.
 pub fn a_number_is_of_one_pair()
     // Two ends with one number are those of a pair, which fit.
-    ensures matched { (logs : List Log) (pairs : List EndPair) (number : ℕ) (one other : End)
+    ensures matched { (logs : List Log) (pairs : List EndPair) (number : ℕ) (one other : LogEnd)
         → ArePairs logs pairs → Has pairs number one → Has pairs number other
         → (one ≡ other → ⊥) → Fits logs one other }
     // In one log no two connections get the same number.

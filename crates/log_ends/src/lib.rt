@@ -7,16 +7,16 @@
 //! `specs/Renumbering.antt`.
 #![tactic(auto)]
 
-mod alike;
-mod end;
 mod joining;
 mod laws;
+mod likeness;
+mod log_end;
+mod passages;
 mod renumbering;
-mod rows;
 mod sequences;
 
-pub use alike::alike_ends;
-pub use end::{End, EndPair};
 pub use joining::{Joining, join_ends};
 pub use laws::{a_number_is_of_one_pair, ends_are_joined_in_one_way, joined_logs_have_good_links};
+pub use likeness::alike_ends;
+pub use log_end::{EndPair, LogEnd};
 pub use renumbering::{renumbered_logs, vat_of};

@@ -2,7 +2,6 @@
 
 ghost use Rattle.std.specs.Prelude.{◌≡◌, ℕ, ◌+◌, ◌<◌, ◌≤◌, ◌^◌, ◌++◌, ◌∷◌, [], Some, length, slice_get, MatchBool, OnOk, IfOk};
 ghost use Rattle.std.specs.BTreeMap.{get};
-ghost use Rattle.std.specs.Ordering.{nat_cmp};
 ghost use Rattle.vat_log.specs.Fits.{Fits};
 ghost use Rattle.vat_log.specs.Log.{Log};
 ghost use Rattle.vat_log.specs.Migrated.{migrated_version};
@@ -12,9 +11,9 @@ ghost use Rattle.log_ends.specs.Ends.{IsEnd};
 ghost use Rattle.log_ends.specs.Joining.{IsPaired};
 ghost use Rattle.log_ends.specs.Numbers.{number_in, PutsEnd, AreNumbers, HasVatAt, HasNoVat};
 ghost use Rattle.log_ends.specs.Renumbering.{renumbered_body, renumbered_log, AreApart, IsVatAt, IsRenumbered, AreRenumbered};
-ghost use Rattle.log_ends.specs.declared.end.End.{End};
+ghost use Rattle.log_ends.specs.declared.log_end.LogEnd.{LogEnd};
 
-use crate::end::{End, EndPair};
+use crate::log_end::{EndPair, LogEnd};
 use bytes::Bytes;
 use std::alloc::{AllocError, Global};
 use std::collections::BTreeMap;
@@ -24,7 +23,7 @@ use vat_log::{Body, LogWriter, Record, References, VatLog};
 fn put_end(
     table: &mut BTreeMap<u32, u32>,
     place: usize,
-    end: End,
+    end: LogEnd,
     number: u32,
 ) -> Result<(), AllocError>
     ensures { OnOk result (PutsEnd place end number table.old table.new) }
@@ -242,7 +241,7 @@ fn renumbered_at(
     requires few_logs { length logs.now < 2 ^ 32 }
     requires few_pairs { length pairs.now < 2 ^ 32 }
     requires stays { MatchBool stays (AreApart logs.now) (AreApart logs.now → ⊥) }
-    requires paired { (end : End) → IsEnd logs.now end → IsPaired pairs.now end }
+    requires paired { (end : LogEnd) → IsEnd logs.now end → IsPaired pairs.now end }
     ensures { IfOk result (λ made. (old : Log) → slice_get logs.now place ≡ Some old
         → IsRenumbered logs.now pairs.now place old made) }
 {
@@ -274,7 +273,7 @@ pub fn renumbered_logs(
     logs: &[VatLog],
     pairs: &[EndPair],
 ) -> Result<Vec<VatLog>, AllocError>
-    requires paired { (end : End) → IsEnd logs.now end → IsPaired pairs.now end }
+    requires paired { (end : LogEnd) → IsEnd logs.now end → IsPaired pairs.now end }
     requires few_logs { length logs.now < 2 ^ 32 }
     requires few_pairs { length pairs.now < 2 ^ 32 }
     ensures { IfOk result (λ made. AreRenumbered logs.now pairs.now made.items) }

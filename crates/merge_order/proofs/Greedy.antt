@@ -10,7 +10,8 @@ use Rattle.std.proofs.lemmas.Option.{slice_get_past}
 use Rattle.vat_log.specs.Log.{Log}
 use Rattle.vat_log.specs.declared.body.Body.{Body}
 use Rattle.vat_log.specs.declared.body.Body.TheVariants.{Receive}
-use Rattle.merge_order.specs.Fits.{Part, sends_frame, sent_so_far, received_so_far, part_of, sent_by_the_others, may_follow, may_come_from, may_come, further, after, used_up, FitsFrom}
+use Rattle.merge_order.specs.Fits.{Part, sent_so_far, received_so_far, part_of, sent_by_the_others, may_follow, may_come_from, may_come, further, after, used_up, FitsFrom}
+use Rattle.vat_log.specs.Passages.{sends_frame}
 
 pub bool_cases : (b : Bool) → (b ≡ true) ⊎ (b ≡ false)
 bool_cases true = inl refl

@@ -18,10 +18,6 @@ abbrev pub with_front : List ℕ → Result (List ℕ) OrderError → Result (Li
 with_front front (Ok vats) = Ok (front ++ vats)
 with_front front (Err fault) = Err fault
 
-pub front_none : (read : Result (List ℕ) OrderError) → with_front [] read ≡ read
-front_none (Ok vats) = refl
-front_none (Err fault) = refl
-
 front_more : (front : List ℕ) (vat : ℕ) (read : Result (List ℕ) OrderError) → with_front front (with_step_before vat read) ≡ with_front (front ++ vat ∷ []) read
 front_more front vat (Ok vats) = ap (λ (l : List ℕ). Ok l) (sym (append_assoc front (vat ∷ []) vats))
 front_more front vat (Err fault) = refl

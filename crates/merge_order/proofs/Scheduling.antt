@@ -10,7 +10,8 @@ use Rattle.vat_log.specs.declared.body.Body.{Body}
 use Rattle.vat_log.specs.declared.body.Body.TheVariants.{Send, Receive}
 use Rattle.merge_order.specs.declared.ready_vats.ReadyVats.{ReadyVats}
 use Rattle.merge_order.specs.declared.waiting_vats.WaitingVats.{WaitingVats}
-use Rattle.merge_order.specs.Fits.{Part, sends_frame, sent_so_far, received_so_far, part_of, sent_by_the_others, may_follow, may_come_from, may_come, further, after}
+use Rattle.merge_order.specs.Fits.{Part, sent_so_far, received_so_far, part_of, sent_by_the_others, may_follow, may_come_from, may_come, further, after}
+use Rattle.vat_log.specs.Passages.{sends_frame}
 use Rattle.merge_order.specs.Waits.{is_ready, waits, next_from, next_of, awaited_by, sent_by, IsQueued, IsPutOff, IsWoken, IsScheduled}
 use Rattle.merge_order.proofs.Greedy.{eqb_apart, further_log, other_stays, own_moves, part_stays, others_own, others_more}
 use Rattle.merge_order.proofs.Steps.{rising_tail, rising_after}

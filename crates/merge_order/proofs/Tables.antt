@@ -6,8 +6,9 @@ use Rattle.std.proofs.lemmas.List.Sums.{count_by_more_yes, count_by_more_no}
 use Rattle.std.proofs.lemmas.Option.{slice_get-get_or, slice_get_past}
 use Rattle.vat_log.specs.declared.body.Body.{Body}
 use Rattle.vat_log.specs.declared.body.Body.TheVariants.{Send, Receive}
-use Rattle.merge_order.specs.declared.counts.Counts.{Counts}
-use Rattle.merge_order.specs.Fits.{Part, sends_frame, receives_frame}
+use Rattle.merge_order.specs.declared.connection_counts.ConnectionCounts.{ConnectionCounts}
+use Rattle.merge_order.specs.Fits.{Part}
+use Rattle.vat_log.specs.Passages.{sends_frame, receives_frame}
 use Rattle.merge_order.specs.Glue.{count_on, IsCounted, IsRaisedByOne, RisesWith}
 use Rattle.merge_order.proofs.Greedy.{bool_cases}
 
@@ -38,7 +39,7 @@ count_next p xs i b e =
     ]
 
 -- tables that count a record are those of the log with that record
-counted : (part : Part) (b : Body) (out into later_out later_into : Counts) → IsCounted part out into → slice_get part.log.records part.came ≡ Some b
+counted : (part : Part) (b : Body) (out into later_out later_into : ConnectionCounts) → IsCounted part out into → slice_get part.log.records part.came ≡ Some b
     → ((connection : ℕ) → count_on later_out connection ≡ count_on out connection + cond (sends_frame connection b) 1 0)
     → ((connection : ℕ) → count_on later_into connection ≡ count_on into connection + cond (receives_frame connection b) 1 0)
     → IsCounted (record { log = part.log; came = part.came + 1 }) later_out later_into
@@ -51,12 +52,12 @@ counted part b out into later_out later_into before next went came =
       came = λ connection. came connection ∙ ap (λ (n : ℕ). n + cond (receives_frame connection b) 1 0) (before.came connection) ∙ sym (count_next (receives_frame connection) xs part.came b next);
     }
 
-pub counted_send : (part : Part) (connection call : ℕ) (references frame : List ℕ) (out into later : Counts) → IsCounted part out into → slice_get part.log.records part.came ≡ Some (Send connection call references frame) → IsRaisedByOne connection out later
+pub counted_send : (part : Part) (connection call : ℕ) (references frame : List ℕ) (out into later : ConnectionCounts) → IsCounted part out into → slice_get part.log.records part.came ≡ Some (Send connection call references frame) → IsRaisedByOne connection out later
     → IsCounted (record { log = part.log; came = part.came + 1 }) later into
 counted_send part connection call references frame out into later before next raised =
     counted part (Send connection call references frame) out into later into before next raised (λ other. none_more (count_on into other))
 
-pub counted_receive : (part : Part) (connection call : ℕ) (references frame : List ℕ) (out into later : Counts) → IsCounted part out into → slice_get part.log.records part.came ≡ Some (Receive connection call references frame) → IsRaisedByOne connection into later
+pub counted_receive : (part : Part) (connection call : ℕ) (references frame : List ℕ) (out into later : ConnectionCounts) → IsCounted part out into → slice_get part.log.records part.came ≡ Some (Receive connection call references frame) → IsRaisedByOne connection into later
     → IsCounted (record { log = part.log; came = part.came + 1 }) out later
 counted_receive part connection call references frame out into later before next raised =
     counted part (Receive connection call references frame) out into out later before next (λ other. none_more (count_on out other)) raised
@@ -67,7 +68,7 @@ neither (Send on call references frame) not_send not_receive connection = absurd
 neither (Receive on call references frame) not_send not_receive connection = absurd (not_receive on call references frame refl)
 neither _ not_send not_receive connection = (refl, refl)
 
-pub counted_other : (part : Part) (b : Body) (out into : Counts) → IsCounted part out into → slice_get part.log.records part.came ≡ Some b
+pub counted_other : (part : Part) (b : Body) (out into : ConnectionCounts) → IsCounted part out into → slice_get part.log.records part.came ≡ Some b
     → ((connection call : ℕ) (references frame : List ℕ) → b ≡ Send connection call references frame → ⊥) → ((connection call : ℕ) (references frame : List ℕ) → b ≡ Receive connection call references frame → ⊥)
     → IsCounted (record { log = part.log; came = part.came + 1 }) out into
 counted_other part b out into before next not_send not_receive =
@@ -77,10 +78,10 @@ counted_other part b out into before next not_send not_receive =
 
 -- ---- the totals rise with what a part sends
 
-pub rises_send : (part next : Part) (connection : ℕ) (out into later into_later totals totals_later : Counts) → IsCounted part out into → IsCounted next later into_later → IsRaisedByOne connection out later → IsRaisedByOne connection totals totals_later
+pub rises_send : (part next : Part) (connection : ℕ) (out into later into_later totals totals_later : ConnectionCounts) → IsCounted part out into → IsCounted next later into_later → IsRaisedByOne connection out later → IsRaisedByOne connection totals totals_later
     → RisesWith part next totals totals_later
 rises_send part next connection out into later into_later totals totals_later before now raised totals_raised other =
     omega (arith, before.went other, now.went other, raised other, totals_raised other)
 
-pub rises_not : (part next : Part) (out into into_later totals : Counts) → IsCounted part out into → IsCounted next out into_later → RisesWith part next totals totals
+pub rises_not : (part next : Part) (out into into_later totals : ConnectionCounts) → IsCounted part out into → IsCounted next out into_later → RisesWith part next totals totals
 rises_not part next out into into_later totals before now other = omega (arith, before.went other, now.went other)

@@ -7,8 +7,9 @@ use Rattle.std.proofs.Math.Nat.{min-le_left}
 use Rattle.std.proofs.lemmas.List.{length-take}
 use Rattle.std.proofs.lemmas.List.Sums.{sum_by-cons, sum_by-set, count_by-le-length}
 use Rattle.vat_log.specs.Log.{Log}
-use Rattle.merge_order.specs.declared.counts.Counts.{Counts}
-use Rattle.merge_order.specs.Fits.{Part, sends_frame, sent_so_far, part_of, sent_by_the_others, may_come, after, begin}
+use Rattle.merge_order.specs.declared.connection_counts.ConnectionCounts.{ConnectionCounts}
+use Rattle.merge_order.specs.Fits.{Part, sent_so_far, part_of, sent_by_the_others, may_come, after, begin}
+use Rattle.vat_log.specs.Passages.{sends_frame}
 use Rattle.merge_order.specs.Glue.{count_on, IsEmpty, RisesWith, one_further, came_by_all, sent_by_all, IsTotalled}
 use Rattle.merge_order.proofs.Greedy.{bool_cases, some_is, eqb_apart, has_left, other_stays, own_moves, others_own, others_more}
 use Rattle.merge_order.proofs.Steps.{rising_tail, none_smaller, all_passed}
@@ -132,7 +133,7 @@ own_and_others v connection (p ∷ ps) own rising e =
     ]
 
 -- the table says what the vat sent and what the others sent
-pub totalled : (v connection : ℕ) (ps : List Part) (own : Part) (totals : Counts) → IsTotalled ps totals → part_of v ps ≡ Some own → count_on totals connection ≡ sent_so_far connection own + sent_by_the_others v connection ps
+pub totalled : (v connection : ℕ) (ps : List Part) (own : Part) (totals : ConnectionCounts) → IsTotalled ps totals → part_of v ps ≡ Some own → count_on totals connection ≡ sent_so_far connection own + sent_by_the_others v connection ps
 totalled v connection ps own totals kept part = kept.sum connection ∙ own_and_others v connection ps own kept.rising part
 
 -- ---- at the begin, and after a step
@@ -142,10 +143,10 @@ total_begin [] connection = refl
 total_begin (log ∷ logs) connection =
     omega (arith, sum_by-cons (sent_so_far connection) (record { log = log; came = 0 }) (begin logs), total_begin logs connection)
 
-pub totals_begin : (logs : List Log) (ps : List Part) (totals : Counts) → ps ≡ begin logs → IsEmpty totals → (connection : ℕ) → count_on totals connection ≡ sent_by_all connection ps
+pub totals_begin : (logs : List Log) (ps : List Part) (totals : ConnectionCounts) → ps ≡ begin logs → IsEmpty totals → (connection : ℕ) → count_on totals connection ≡ sent_by_all connection ps
 totals_begin logs ps totals is empty connection = empty connection ∙ sym (ap (sent_by_all connection) is ∙ total_begin logs connection)
 
 -- one part goes on, and the totals rise with what it sends
-pub totals_set : (ps : List Part) (i : ℕ) (new d : Part) (totals later : Counts) → i < length ps → RisesWith (get_or ps i d) new totals later → ((connection : ℕ) → count_on totals connection ≡ sent_by_all connection ps)
+pub totals_set : (ps : List Part) (i : ℕ) (new d : Part) (totals later : ConnectionCounts) → i < length ps → RisesWith (get_or ps i d) new totals later → ((connection : ℕ) → count_on totals connection ≡ sent_by_all connection ps)
     → (connection : ℕ) → count_on later connection ≡ sent_by_all connection (set ps i new)
 totals_set ps i new d totals later lt rises sum connection = omega (arith, sum_by-set (sent_so_far connection) ps i new d lt, rises connection, sum connection)

@@ -6,7 +6,8 @@ use Rattle.std.specs.List.Sorted.{IsStrictlyIncreasing}
 use Rattle.std.specs.Option.{option_map}
 use Rattle.vat_log.specs.Log.{Log}
 use Rattle.vat_log.specs.declared.body.Body.{Body}
-use Rattle.vat_log.specs.declared.body.Body.TheVariants.{Send, Receive}
+use Rattle.vat_log.specs.declared.body.Body.TheVariants.{Receive}
+use Rattle.vat_log.specs.Passages.{sends_frame, receives_frame}
 use Rattle.merge_order.specs.declared.checking.OrderFinding.{OrderFinding}
 use Rattle.merge_order.specs.declared.checking.OrderFinding.TheVariants as findings
 
@@ -14,16 +15,6 @@ use Rattle.merge_order.specs.declared.checking.OrderFinding.TheVariants as findi
 pub record Part : Type 0 where
   pub log : Log
   pub came : ℕ
-
--- a record sends a frame on the connection
-abbrev pub sends_frame : ℕ → Body → Bool
-sends_frame connection (Send on call references frame) = on == connection
-sends_frame connection _ = false
-
--- a record receives a frame on the connection
-abbrev pub receives_frame : ℕ → Body → Bool
-receives_frame connection (Receive on call references frame) = on == connection
-receives_frame connection _ = false
 
 -- the frames that a vat sent on the connection before
 abbrev pub sent_so_far : ℕ → Part → ℕ

@@ -4,7 +4,7 @@ ghost use Rattle.std.specs.Prelude.{◌≡◌, ◌+◌, ◌<◌, ◌^◌, ℕ, l
 ghost use Rattle.std.specs.Arc.{arc_value};
 ghost use Rattle.std.specs.Option.{option_copied};
 
-use crate::counts::Counts;
+use crate::connection_counts::ConnectionCounts;
 use std::alloc::{AllocError, Global};
 use std::marker::Model;
 use std::sync::Arc;
@@ -15,8 +15,8 @@ use vat_log::{Body, Record, VatLog};
 pub struct Cursor {
     log: Arc<VatLog>,
     came: usize,
-    sent_counts: Counts,
-    received_counts: Counts,
+    sent_counts: ConnectionCounts,
+    received_counts: ConnectionCounts,
 }
 
 impl Model for Cursor {
@@ -45,8 +45,8 @@ impl Cursor {
         Ok(Cursor {
             log: Arc::try_clone(log)?,
             came: 0,
-            sent_counts: Counts::new(alloc),
-            received_counts: Counts::new(alloc),
+            sent_counts: ConnectionCounts::new(alloc),
+            received_counts: ConnectionCounts::new(alloc),
         })
     }
 
@@ -87,7 +87,7 @@ impl Cursor {
 
     /// Takes the next record, of which there is one; the totals rise with what it sends. It answers the connection on which
     /// the record sends a frame.
-    pub fn go_on(&mut self, totals: &mut Counts) -> Result<Option<u32>, AllocError>
+    pub fn go_on(&mut self, totals: &mut ConnectionCounts) -> Result<Option<u32>, AllocError>
         requires left { self.old.came < length self.old.log.records }
         // No count is full.
         requires few { self.old.came + 1 < 2 ^ 64 }

@@ -1,6 +1,6 @@
 //! Orders as bytes.
 
-ghost use Rattle.std.specs.Prelude.{◌≡◌, ◌<◌, ◌+◌, ◌^◌, ℕ, List, Ok, false, length, nat_eq, All, IfErr, IfOk, EachIndex, slice_index};
+ghost use Rattle.std.specs.Prelude.{◌≡◌, ◌<◌, ◌+◌, ◌^◌, ℕ, List, Ok, false, length, nat_eq, IfErr, IfOk, EachIndex, slice_index};
 ghost use Rattle.std.specs.List.{starts_with};
 ghost use Rattle.std.specs.Int.{w32, from_le_bytes};
 ghost use Rattle.merge_order.specs.Spelling.{order_magic, spelling, AreVats, steps_at, spelled_order, GivesOrderInMemory};

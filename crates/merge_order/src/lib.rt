@@ -7,7 +7,7 @@
 #![tactic(auto)]
 
 mod checking;
-mod counts;
+mod connection_counts;
 mod cursor;
 mod error;
 mod format;

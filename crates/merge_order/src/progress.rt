@@ -4,7 +4,7 @@ ghost use Rattle.std.specs.Prelude.{◌≡◌, ◌+◌, ◌<◌, ◌^◌, ℕ, t
 ghost use Rattle.std.specs.Arc.{arc_value};
 ghost use Rattle.std.specs.Option.{option_copied};
 
-use crate::counts::Counts;
+use crate::connection_counts::ConnectionCounts;
 use crate::cursor::Cursor;
 use crate::ready_vats::ReadyVats;
 use std::alloc::{AllocError, Global};
@@ -17,7 +17,7 @@ use vat_log::{Body, VatLog};
 #[derive(Debug, Drop)]
 pub struct Progress {
     cursors: Vec<Cursor>,
-    totals: Counts,
+    totals: ConnectionCounts,
     /// The place of the cursor that went on last: mostly the next one that is asked for.
     last: usize,
 }
@@ -50,7 +50,7 @@ impl Progress {
         }
         Ok(Progress {
             cursors,
-            totals: Counts::new(alloc),
+            totals: ConnectionCounts::new(alloc),
             last: 0,
         })
     }

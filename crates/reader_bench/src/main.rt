@@ -11,9 +11,9 @@
 #![tactic(auto)]
 
 mod frame_file;
-mod reading_times;
 #[cfg(test)]
-mod tests;
+mod frame_files;
+mod reading_times;
 mod word_sum;
 
 use bytes::Bytes;

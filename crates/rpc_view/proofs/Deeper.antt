@@ -29,8 +29,8 @@ Cut (structure data_words word pointer_count child) other =
 Cut (bad_structure e) other = Unit {0}
 Cut (composite count element) other = (whole : ℕ → Tree) × (other ≡ composite count whole) × ((i : ℕ) → Cut (element i) (whole i))
 Cut (bad_composite e) other = Unit {0}
-Cut plain other = other ≡ plain
-Cut (bad_plain e) other = Unit {0}
+Cut (plain element_size count word) other = other ≡ plain element_size count word
+Cut (bad_plain element_size e) other = Unit {0}
 Cut (capability index) other = other ≡ capability index
 Cut reserved other = Unit {0}
 Cut (unfollowed e) other = Unit {0}
@@ -51,10 +51,10 @@ cut_nothing : Cut nothing nothing
 unfolding Cut
 cut_nothing = refl
 
-cut_plain_there : (start : Option ℕ) → Cut (plain_there start) (plain_there start)
+cut_plain_there : (segments : List (List ℕ)) (segment element_size count : ℕ) (start : Option ℕ) → Cut (plain_there segments segment element_size count start) (plain_there segments segment element_size count start)
 unfolding Cut
-cut_plain_there None = tt
-cut_plain_there (Some start) = refl
+cut_plain_there segments segment element_size count None = tt
+cut_plain_there segments segment element_size count (Some start) = refl
 
 module _ (made whole : ℕ → ℕ → ℕ → Tree) (cut : (start data_words pointer_count : ℕ) → Cut (made start data_words pointer_count) (whole start data_words pointer_count)) where
   cut_structure_there : (data_words pointer_count : ℕ) (start : Option ℕ) → Cut (structure_there (λ at. made at data_words pointer_count) start) (structure_there (λ at. whole at data_words pointer_count) start)
@@ -71,7 +71,7 @@ module _ (made whole : ℕ → ℕ → ℕ → Tree) (cut : (start data_words po
   cut_list : (segments : List (List ℕ)) (segment : ℕ) (start : Option ℕ) (element_size count : ℕ) → Cut (list_there made segments segment start element_size count) (list_there whole segments segment start element_size count)
   unfolding list_there
   cut_list segments segment start element_size count =
-      cut_choice _ _ _ _ _ (cut_composite_there segments segment count (extent segments segment start 1)) (cut_plain_there (extent segments segment start (plain_words element_size count)))
+      cut_choice _ _ _ _ _ (cut_composite_there segments segment count (extent segments segment start 1)) (cut_plain_there segments segment element_size count (extent segments segment start (plain_words element_size count)))
 
 cut_pointed : (made whole : ℕ → ℕ → ℕ → ℕ → Tree) → ((segment start data_words pointer_count : ℕ) → Cut (made segment start data_words pointer_count) (whole segment start data_words pointer_count)) → (segments : List (List ℕ)) (lead : Result Pointee ReadError) → Cut (tree_behind made segments lead) (tree_behind whole segments lead)
 unfolding Cut tree_behind
@@ -121,8 +121,8 @@ structure_keeps (structure data_words word pointer_count child) other p = rw p.1
 structure_keeps (bad_structure e) other p = tt
 structure_keeps (composite count element) other p = tt
 structure_keeps (bad_composite e) other p = tt
-structure_keeps plain other p = tt
-structure_keeps (bad_plain e) other p = tt
+structure_keeps (plain element_size count word) other p = tt
+structure_keeps (bad_plain element_size e) other p = tt
 structure_keeps (capability index) other p = tt
 structure_keeps reserved other p = tt
 structure_keeps (unfollowed e) other p = tt
@@ -134,8 +134,8 @@ elements_keep (structure data_words word pointer_count child) other p = tt
 elements_keep (bad_structure e) other p = tt
 elements_keep (composite count element) other p = rw p.1 (_, refl, (p.0, refl, p.2))
 elements_keep (bad_composite e) other p = tt
-elements_keep plain other p = tt
-elements_keep (bad_plain e) other p = tt
+elements_keep (plain element_size count word) other p = tt
+elements_keep (bad_plain element_size e) other p = tt
 elements_keep (capability index) other p = tt
 elements_keep reserved other p = tt
 elements_keep (unfollowed e) other p = tt
@@ -169,8 +169,8 @@ fields_keep (structure data_words word pointer_count child) other p path =
 fields_keep (bad_structure e) other p path = tt
 fields_keep (composite count element) other p path = rw p.1 refl
 fields_keep (bad_composite e) other p path = tt
-fields_keep plain other p path = rw p refl
-fields_keep (bad_plain e) other p path = tt
+fields_keep (plain element_size count word) other p path = rw p refl
+fields_keep (bad_plain element_size e) other p path = tt
 fields_keep (capability index) other p path = rw p refl
 fields_keep reserved other p path = tt
 fields_keep (unfollowed e) other p path = tt

@@ -28,6 +28,7 @@ OfPointers reads.OutOfSegment = Unit {0}
 OfPointers reads.NoSegment = Unit {0}
 OfPointers reads.BadPad = Unit {0}
 OfPointers reads.WrongKind = Unit {0}
+OfPointers reads.NoZero = Unit {0}
 OfPointers reads.Reserved = Unit {0}
 OfPointers reads.TooDeep = Unit {0}
 OfPointers reads.TooMuch = Unit {0}
@@ -77,8 +78,8 @@ Sound (structure data_words word pointer_count child) = (n : ℕ) → Sound (chi
 Sound (bad_structure e) = OfPointers e
 Sound (composite count element) = (i : ℕ) → Sound (element i)
 Sound (bad_composite e) = OfPointers e
-Sound plain = Unit {0}
-Sound (bad_plain e) = OfPointers e
+Sound (plain element_size count word) = Unit {0}
+Sound (bad_plain element_size e) = OfPointers e
 Sound (capability index) = Unit {0}
 Sound reserved = Unit {0}
 Sound (unfollowed e) = OfPointers e
@@ -109,6 +110,7 @@ of_pointers reads.OutOfSegment p = tt
 of_pointers reads.NoSegment p = tt
 of_pointers reads.BadPad p = tt
 of_pointers reads.WrongKind p = tt
+of_pointers reads.NoZero p = tt
 of_pointers reads.Reserved p = tt
 of_pointers reads.TooDeep p = tt
 of_pointers reads.TooMuch p = tt
@@ -133,15 +135,15 @@ module _ (made : ℕ → ℕ → ℕ → Tree) (sound : (start data_words pointe
   sound_composite_there segments segment size (Some tag_at) =
       sound_choice _ _ _ (sound_choice _ _ _ (sound_elements _ _ (λ i. sound_choice _ _ _ (sound _ _ _) sound_nothing)) (sound_bad reads.OutOfSegment tt)) (sound_bad reads.WrongKind tt)
 
-  sound_plain_there : (start : Option ℕ) → Sound (plain_there start)
+  sound_plain_there : (segments : List (List ℕ)) (segment element_size count : ℕ) (start : Option ℕ) → Sound (plain_there segments segment element_size count start)
   unfolding Sound
-  sound_plain_there None = tt
-  sound_plain_there (Some start) = tt
+  sound_plain_there segments segment element_size count None = tt
+  sound_plain_there segments segment element_size count (Some start) = tt
 
   sound_list : (segments : List (List ℕ)) (segment : ℕ) (start : Option ℕ) (element_size count : ℕ) → Sound (list_there made segments segment start element_size count)
   unfolding list_there
   sound_list segments segment start element_size count =
-      sound_choice _ _ _ (sound_composite_there segments segment count (extent segments segment start 1)) (sound_plain_there (extent segments segment start (plain_words element_size count)))
+      sound_choice _ _ _ (sound_composite_there segments segment count (extent segments segment start 1)) (sound_plain_there segments segment element_size count (extent segments segment start (plain_words element_size count)))
 
 sound_pointed : (made : ℕ → ℕ → ℕ → ℕ → Tree) → ((segment start data_words pointer_count : ℕ) → Sound (made segment start data_words pointer_count)) → (segments : List (List ℕ)) (lead : Result Pointee ReadError) → Leads lead → Sound (tree_behind made segments lead)
 unfolding Sound tree_behind
@@ -183,8 +185,8 @@ structure_meets (structure data_words word pointer_count child) s = s
 structure_meets (bad_structure e) s = s
 structure_meets (composite count element) s = tt
 structure_meets (bad_composite e) s = tt
-structure_meets plain s = tt
-structure_meets (bad_plain e) s = tt
+structure_meets (plain element_size count word) s = tt
+structure_meets (bad_plain element_size e) s = tt
 structure_meets (capability index) s = tt
 structure_meets reserved s = tt
 structure_meets (unfollowed e) s = s
@@ -196,8 +198,8 @@ elements_meets (structure data_words word pointer_count child) s = tt
 elements_meets (bad_structure e) s = tt
 elements_meets (composite count element) s = s
 elements_meets (bad_composite e) s = s
-elements_meets plain s = tt
-elements_meets (bad_plain e) s = tt
+elements_meets (plain element_size count word) s = tt
+elements_meets (bad_plain element_size e) s = tt
 elements_meets (capability index) s = tt
 elements_meets reserved s = tt
 elements_meets (unfollowed e) s = s
@@ -228,8 +230,8 @@ fields_meet (structure data_words word pointer_count child) s path = each_meets 
 fields_meet (bad_structure e) s path = s
 fields_meet (composite count element) s path = tt
 fields_meet (bad_composite e) s path = s
-fields_meet plain s path = tt
-fields_meet (bad_plain e) s path = s
+fields_meet (plain element_size count word) s path = tt
+fields_meet (bad_plain element_size e) s path = s
 fields_meet (capability index) s path = tt
 fields_meet reserved s path = tt
 fields_meet (unfollowed e) s path = s

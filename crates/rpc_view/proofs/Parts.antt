@@ -47,6 +47,7 @@ module _ {A : Type 0} (reading : Reading ReadError A) (words left : ℕ) where
   part_refuses reads.NoSegment h = refused reads.NoSegment h
   part_refuses reads.BadPad h = refused reads.BadPad h
   part_refuses reads.WrongKind h = refused reads.WrongKind h
+  part_refuses reads.NoZero h = refused reads.NoZero h
   part_refuses reads.Reserved h = refused reads.Reserved h
   part_refuses reads.TooDeep h = refused reads.TooDeep h
   part_refuses reads.TooMuch h = refused reads.TooMuch h
@@ -57,6 +58,7 @@ module _ {A : Type 0} (reading : Reading ReadError A) (words left : ℕ) where
   part_fails reads.NoSegment h = refused reads.NoSegment h
   part_fails reads.BadPad h = refused reads.BadPad h
   part_fails reads.WrongKind h = refused reads.WrongKind h
+  part_fails reads.NoZero h = refused reads.NoZero h
   part_fails reads.Reserved h = refused reads.Reserved h
   part_fails reads.TooDeep h = refused reads.TooDeep h
   part_fails reads.TooMuch h = refused reads.TooMuch h

@@ -1,7 +1,7 @@
 //! Laws of runs, and not of one call. Each speaks of the steps before a point, the newest first, and says what it asks of
 //! them.
 
-ghost use Rattle.std.specs.Prelude.{◌≡◌, ◌≢◌, ◌↔◌, ◌≤◌, ◌++◌, ◌∷◌, [], ◌⊎◌, ◌&&◌, ◌||◌, ℕ, List, Option, Some, None, IsTrue, IsFalse, IsSome, IsSomeAnd};
+ghost use Rattle.std.specs.Prelude.{◌≡◌, ◌≢◌, ◌↔◌, ◌≤◌, ◌++◌, ◌∷◌, [], ◌&&◌, ◌||◌, ℕ, List, Option, Some, None, IsTrue, IsFalse, IsSome, IsSomeAnd};
 ghost use Rattle.std.specs.List.{list_any, AllByRecursion};
 ghost use Rattle.run_model.specs.Types.{Name, Cap, Object, FieldOf, Message, Boot, Call, Return, Taken, Resolve, Step, Send, Receive};
 ghost use Rattle.run_model.specs.Steps.{PastSteps, is_same_call, OneOf, EachStep, last_step_answer, count_steps};

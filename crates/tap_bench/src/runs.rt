@@ -1,7 +1,7 @@
 //! One run: by one lane, by two at once, and of a close.
 
-ghost use Rattle.std.specs.Prelude.{◌≡◌, ◌≤◌, IfOk};
-ghost use Rattle.vat_tap.specs.Tickets.{IsLaneOf, SameLane, SameTap};
+ghost use Rattle.std.specs.Prelude.{◌≤◌, IfOk};
+ghost use Rattle.vat_tap.specs.Tickets.{IsLaneOf, SameTap};
 
 use crate::barrier::Barrier;
 use crate::bench_error::BenchError;

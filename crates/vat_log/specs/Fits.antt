@@ -53,7 +53,14 @@ IsCounted (Send connection call references frame) =
     (length references ≤ count_limit) × (length frame ≤ frame_limit)
 IsCounted (Receive connection call references frame) =
     (length references ≤ count_limit) × (length frame ≤ frame_limit)
-IsCounted _ = Unit {0}
+IsCounted (Host reference object) = Unit {0}
+IsCounted (Vow reference) = Unit {0}
+IsCounted (Fulfil reference to) = Unit {0}
+IsCounted (Break reference) = Unit {0}
+IsCounted (Make call reference interface method) = Unit {0}
+IsCounted (Deliver call object) = Unit {0}
+IsCounted (Fault call) = Unit {0}
+IsCounted (AnswerBy call by) = Unit {0}
 
 -- The count of each list is one that this version can spell.
 abbrev pub IsListed : LogVersion → Body → Type 0
@@ -62,7 +69,14 @@ IsListed version (Answer call results) =
     (length results < count_reach version) × All (λ answered. length answered.1 < count_reach version) results
 IsListed version (Send connection call references frame) = length references < count_reach version
 IsListed version (Receive connection call references frame) = length references < count_reach version
-IsListed version _ = Unit {0}
+IsListed version (Host reference object) = Unit {0}
+IsListed version (Vow reference) = Unit {0}
+IsListed version (Fulfil reference to) = Unit {0}
+IsListed version (Break reference) = Unit {0}
+IsListed version (Make call reference interface method) = Unit {0}
+IsListed version (Deliver call object) = Unit {0}
+IsListed version (Fault call) = Unit {0}
+IsListed version (AnswerBy call by) = Unit {0}
 
 -- Each number is within the width of its field, as the types of the fields keep it.
 abbrev pub IsWide : Body → Type 0

@@ -1,4 +1,5 @@
 pub mod Log
+pub mod Passages
 pub mod Fits
 pub mod Spelling
 pub mod Reading

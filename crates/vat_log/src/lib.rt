@@ -17,6 +17,7 @@ mod laws;
 mod limits;
 mod log;
 mod passage;
+mod passing;
 mod reading;
 mod record;
 mod storing;

@@ -1,7 +1,6 @@
 //! Logs.
 
-ghost use Rattle.std.specs.Prelude.{◌≡◌, ◌<◌, ◌≤◌, ◌^◌, Ok, true, false, nat_eq, length, slice_get, All, Err, IfErr, IfOk};
-ghost use Rattle.std.specs.List.{starts_with};
+ghost use Rattle.std.specs.Prelude.{◌≡◌, ◌<◌, ◌≤◌, ◌^◌, Ok, length, slice_get, All, Err, IfErr, IfOk};
 ghost use Rattle.std.specs.Option.{option_copied};
 ghost use Rattle.std.specs.Int.{w32};
 ghost use Rattle.vat_log.specs.Reading.{GivesInMemory, records_at, version_at, log_within, log_of};
@@ -9,7 +8,7 @@ ghost use Rattle.vat_log.specs.Fits.{record_limit, Fits, IsWide, LogFits};
 ghost use Rattle.vat_log.specs.Ends.{AreEnds};
 ghost use Rattle.vat_log.specs.Log.{Log, version_number, later_version};
 ghost use Rattle.vat_log.specs.Migrated.{migrated, raised};
-ghost use Rattle.vat_log.specs.Spelling.{log_magic, count_width, log_bytes};
+ghost use Rattle.vat_log.specs.Spelling.{count_width, log_bytes};
 
 use crate::error::LogError;
 use crate::fields::u32_at;

@@ -29,9 +29,6 @@ takes_longer before now i after lt goes on = record {
 pub takes_more : (before now : List (List Ticketed)) (i : ℕ) (after : List Ticketed) (count : ℕ) → i < length now → Goes (get_or now i []) after count → TakesOn before now → TakesOn before (set now i after)
 takes_more before now i after count lt goes on = takes_longer before now i after lt (goes.0, sym goes.1) on
 
-pub up_to_none : (rings : List Ring) (now : List (List Ticketed)) → TakesUpTo 0 rings now now
-up_to_none rings now lane ring at = (omega arith, λ le. refl)
-
 pub up_to_more : (rings : List Ring) (before now : List (List Ticketed)) (i : ℕ) (after : List Ticketed) (count : ℕ) (its : Ring) → slice_get rings i ≡ Some its → i < length now
     → Goes (get_or now i []) after count → count ≤ its.room → TakesUpTo i rings before now → TakesUpTo (i + 1) rings before (set now i after)
 up_to_more rings before now i after count its here lt goes few on lane ring at =

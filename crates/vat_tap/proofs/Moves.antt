@@ -1,14 +1,14 @@
 -- Each step on the ticket word keeps the rule, and tells what it is to tell.
-use Rattle.std.proofs.Common.{◌≡◌, ◌≢◌, ℕ, zero, suc, ◌+◌, ◌-◌, ◌%◌, ◌^◌, ◌<◌, ◌≤◌, ◌==◌, Bool, true, false, cond, eqb, ltb, List, [], ◌∷◌, ◌++◌, length, get_or, set, All, refl, sym, ap, ◌∙◌, subst, ⊎_elim, arith, inl, inr, length-append}
+use Rattle.std.proofs.Common.{◌≡◌, ◌≢◌, ℕ, zero, suc, ◌+◌, ◌%◌, ◌^◌, ◌<◌, ◌≤◌, Bool, true, false, cond, eqb, List, [], ◌∷◌, ◌++◌, length, get_or, set, All, refl, sym, ap, ◌∙◌, subst, ⊎_elim, arith, inl, inr, length-append}
 use Rattle.std.specs.Prelude.{slice_index, replicate}
 use Rattle.std.specs.List.{sum_by}
 use Rattle.std.proofs.Math.Nat.{mod-eq_of_lt}
-use Rattle.std.proofs.lemmas.Bool.{cases_lt, cases_eq, lt-ltb, le-ltb}
+use Rattle.std.proofs.lemmas.Bool.{cases_lt, le-ltb}
 use Rattle.std.proofs.lemmas.List.Sums.{sum_by-cons, sum_by-append, sum_by_push, get_or-le-sum_by}
 use mathlib.Core.Option.{some, some-ne-none, some-injective}
 use lib.ListN.{get_elem?}
 use Rattle.atomic_table.specs.Table.{keeps, Allows, Splits, Joins, opening}
-use Rattle.atomic_table.proofs.Lists.{at_set, at_snoc, set_here}
+use Rattle.atomic_table.proofs.Lists.{at_set, at_snoc}
 use Rattle.vat_tap.specs.declared.ticket_word.SeatKnowledge.{SeatKnowledge}
 use Rattle.vat_tap.specs.Tickets.{times, once_below}
 use Rattle.vat_tap.specs.Glue.Rule.{view, apart, Counted, Kept, without_share, a_share, together, spent_seat, Draws, Looks}

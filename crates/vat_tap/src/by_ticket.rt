@@ -1,6 +1,6 @@
 //! What was recorded, in the order of its tickets.
 
-ghost use Rattle.std.specs.Prelude.{◌≡◌, ◌++◌, length, map, slice_set, OnOk, IfOk};
+ghost use Rattle.std.specs.Prelude.{◌≡◌, ◌++◌, map, slice_set, OnOk, IfOk};
 ghost use Rattle.vat_tap.specs.Glue.Taps.{put, in_ticket_order};
 
 use std::alloc::{AllocError, Global};

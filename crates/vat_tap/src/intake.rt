@@ -1,8 +1,8 @@
 //! What a tap takes in from one lane.
 
-ghost use Rattle.std.specs.Prelude.{◌≡◌, ◌+◌, ◌≤◌, ◌++◌, length, slice_get, Some, IfOk, OnOk, OnErr};
+ghost use Rattle.std.specs.Prelude.{◌≡◌, ◌+◌, ◌≤◌, ◌++◌, length, IfOk, OnOk, OnErr};
 ghost use mathlib.Core.List.{IsPrefix};
-ghost use Rattle.rtrb.specs.Ring.{received, known_items, consumer_capacity, SameConsumer};
+ghost use Rattle.rtrb.specs.Ring.{received, known_items, consumer_capacity};
 ghost use Rattle.vat_tap.specs.Glue.Taps.{ring_of, Goes};
 
 use crate::lane::Lane;

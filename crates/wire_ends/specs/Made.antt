@@ -2,9 +2,9 @@
 use Rattle.std.specs.Prelude.{◌≡◌, ℕ, ⊤, List, IsTrue}
 use Rattle.std.specs.Arc.{arc_value}
 use Rattle.wire_steps.specs.Parts.{HasParts, HasAll}
-use Rattle.wire_ends.specs.declared.making.MadeLogs.{MadeLogs}
-use Rattle.wire_ends.specs.declared.making.Making.{Making}
-use Rattle.wire_ends.specs.declared.making.Making.TheVariants.{Made, TooLong}
+use Rattle.wire_ends.specs.declared.made_logs.MadeLogs.{MadeLogs}
+use Rattle.wire_ends.specs.declared.made_logs.Making.{Making}
+use Rattle.wire_ends.specs.declared.made_logs.Making.TheVariants.{Made, TooLong}
 
 -- the log of vat 1 sends the frames of the first file from the first one on, and receives those of the second; that of vat 2
 -- the other way round. Where they are said to be whole, they have all frames

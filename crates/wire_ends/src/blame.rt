@@ -1,7 +1,7 @@
 //! Where the explanation stops: which message is to blame.
 
+use crate::both_ends::Stuck;
 use crate::lack::Lack;
-use crate::schedule::Stuck;
 use crate::vat::Vat;
 use std::alloc::AllocError;
 use wire_cut::End;

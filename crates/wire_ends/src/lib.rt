@@ -7,25 +7,13 @@
 #![tactic(auto)]
 
 mod blame;
-mod blocked;
-mod counting;
+mod both_ends;
+mod end_tables;
 mod lack;
-mod making;
-mod naming;
-mod open_at_end;
-mod passing;
+mod made_logs;
 mod queue;
-mod receiving;
-mod schedule;
-mod sending;
-mod settling;
-mod tables;
-mod telling;
 mod vat;
-mod views;
-mod walking;
 
 pub use blame::Blame;
 pub use lack::{Lack, Waiting};
-pub use making::{MadeLogs, Making, make_logs};
-pub use open_at_end::OpenAtEnd;
+pub use made_logs::{MadeLogs, Making, make_logs};

@@ -1,6 +1,6 @@
 //! Calls that wait, in the order in which they came.
 
-use crate::tables::{CallState, Place};
+use crate::end_tables::{CallPlace, MadeCall};
 use std::alloc::{AllocError, Global};
 use std::collections::{VecDeque, vec_deque};
 
@@ -11,9 +11,9 @@ pub(crate) struct Queue {
 }
 
 /// Whether a call waits.
-fn is_here(calls: &[CallState], call: usize) -> bool {
+fn is_here(calls: &[MadeCall], call: usize) -> bool {
     match calls.get(call) {
-        Some(state) => state.place == Place::Here,
+        Some(state) => state.place == CallPlace::Here,
         None => false,
     }
 }
@@ -27,14 +27,14 @@ impl Queue {
     }
 
     /// A call waits behind the others. Those before it that have gone are left out.
-    pub(crate) fn wait(&mut self, calls: &[CallState], call: usize) -> Result<(), AllocError> {
+    pub(crate) fn wait(&mut self, calls: &[MadeCall], call: usize) -> Result<(), AllocError> {
         self.leave(calls);
         self.calls.push_back(call)?;
         Ok(())
     }
 
     /// Leaves out the first ones that have gone.
-    pub(crate) fn leave(&mut self, calls: &[CallState]) {
+    pub(crate) fn leave(&mut self, calls: &[MadeCall]) {
         for _ in 0..self.calls.len() {
             match self.calls.front() {
                 Some(call) if !is_here(calls, *call) => {}

@@ -1,17 +1,17 @@
 -- What a yes means.
-use Rattle.std.proofs.Common.{◌≡◌, ◌∷◌, [], ℕ, List, Option, Some, None, refl, sym, ap, subst, ◌∙◌, inl, inr}
-use Rattle.std.specs.Prelude.{◌⊎◌, MatchOption, length}
+use Rattle.std.proofs.Common.{◌≡◌, ℕ, List, Option, Some, None, subst, inl, inr}
+use Rattle.std.specs.Prelude.{MatchOption}
 use Rattle.std.specs.Arc.{arc_value}
 use Rattle.vat_log.specs.Log.{Log}
 use Rattle.audit_core.specs.declared.report.Report.{Report}
 use Rattle.audit_core.specs.declared.report.Report.TheVariants as report
 use Rattle.audit_core.specs.Headline.{YesMeansHeadline}
-use Rattle.wire_logs.specs.declared.answer.WireAnswer.{WireAnswer}
-use Rattle.wire_logs.specs.declared.answer.WireLogs.{WireLogs}
-use Rattle.wire_logs.specs.declared.line.WireLine.{WireLine}
-use Rattle.wire_logs.specs.declared.line.WireLine.TheVariants as line
-use Rattle.wire_logs.specs.Lines.{IsLine, IsUnexplained, IsNoOrder, IsYes}
-use Rattle.wire_logs.specs.Found.{IsAnswer, IsFound, IsFoundOf, IsWithoutLogs, HasRun}
+use Rattle.wire_logs.specs.declared.wire_answer.WireAnswer.{WireAnswer}
+use Rattle.wire_logs.specs.declared.wire_answer.WireLogs.{WireLogs}
+use Rattle.wire_logs.specs.declared.wire_line.WireLine.{WireLine}
+use Rattle.wire_logs.specs.declared.wire_line.WireLine.TheVariants as line
+use Rattle.wire_logs.specs.Lines.{IsLine, IsUnexplained, IsNoOrder}
+use Rattle.wire_logs.specs.Found.{IsAnswer, IsFoundOf, IsWithoutLogs, HasRun}
 
 -- a yes isn't a line that says where the explanation stops
 not_unexplained : (told : WireLine) (m n d : ℕ) → told ≡ line.Yes m n d → IsUnexplained told → ⊥
@@ -24,7 +24,7 @@ not_no_order told m n d told_yes waits = subst IsNoOrder told_yes waits
 has_run : (a b : List ℕ) (told : WireLine) (one two : Log) (m n d : ℕ) (of : IsFoundOf a b told one two) → told ≡ line.Yes m n d → (report : Report) → YesMeansHeadline of.found.held.logs report → IsLine of.frames_of_a of.frames_of_b one two report told → HasRun a b m n
 has_run a b told one two m n d of told_yes (report.Vat vat at rule) headline line_is = absurd cc
 has_run a b told one two m n d of told_yes (report.OutsideVat vat at why) headline line_is = absurd cc
-has_run a b told one two m n d of told_yes (report.Link conn end message) headline line_is = absurd (not_unexplained told m n d told_yes line_is)
+has_run a b told one two m n d of told_yes (report.Link connection end message) headline line_is = absurd (not_unexplained told m n d told_yes line_is)
 has_run a b told one two m n d of told_yes (report.OrderStep step) headline line_is = absurd (not_unexplained told m n d told_yes line_is)
 has_run a b told one two m n d of told_yes report.NoOrder headline line_is = absurd (not_no_order told m n d told_yes line_is)
 has_run a b told one two m n d of told_yes (report.Yes vats records delivered under_way run) headline (inr stops) = absurd (not_unexplained told m n d told_yes stops)

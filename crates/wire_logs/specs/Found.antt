@@ -14,13 +14,13 @@ use Rattle.wire_cut.specs.Frames.{AreFrames, StopsAt}
 use Rattle.wire_cut.specs.declared.end.End.TheVariants.{A, B}
 use Rattle.wire_steps.specs.Parts.{connection, HasParts, HasAll}
 use Rattle.wire_logs.specs.Lines.{IsLine}
-use Rattle.wire_logs.specs.declared.answer.WireAnswer.{WireAnswer}
-use Rattle.wire_logs.specs.declared.line.WireLine.{WireLine}
-use Rattle.wire_logs.specs.declared.line.WireLine.TheVariants as line
+use Rattle.wire_logs.specs.declared.wire_answer.WireAnswer.{WireAnswer}
+use Rattle.wire_logs.specs.declared.wire_line.WireLine.{WireLine}
+use Rattle.wire_logs.specs.declared.wire_line.WireLine.TheVariants as line
 
 -- the link between vat 1 and vat 2
 abbrev pub link : Link
-link = record { conn = connection; a = 1; b = 2 }
+link = record { connection = connection; a = 1; b = 2 }
 
 -- What is found of frames: the two logs have these frames from the first ones on, whatever the line is; and the line is that of
 -- the audit's report of a case with just these logs and their link, for which no order is given.

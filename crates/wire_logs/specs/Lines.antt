@@ -2,15 +2,15 @@
 use Rattle.std.specs.Prelude.{◌≡◌, ◌⊎◌, ℕ, ◌-◌, ◌==◌, ⊤, if◌then◌else◌, List, length, take, Option, Some, None, option_and_then, slice_get}
 use Rattle.std.specs.List.{filter_map}
 use Rattle.vat_log.specs.Log.{Log}
-use Rattle.link_check.specs.Prefix.{frame_sent, frame_received}
+use Rattle.vat_log.specs.Passages.{frame_sent, frame_received}
 use Rattle.audit_core.specs.declared.report.Report.{Report}
 use Rattle.audit_core.specs.declared.report.Report.TheVariants as report
 use Rattle.wire_cut.specs.declared.end.End.{End}
 use Rattle.wire_cut.specs.declared.end.End.TheVariants.{A, B}
 use Rattle.wire_cut.specs.Ends.{other_end}
 use Rattle.wire_steps.specs.Parts.{connection, HasAll}
-use Rattle.wire_logs.specs.declared.line.WireLine.{WireLine}
-use Rattle.wire_logs.specs.declared.line.WireLine.TheVariants as line
+use Rattle.wire_logs.specs.declared.wire_line.WireLine.{WireLine}
+use Rattle.wire_logs.specs.declared.wire_line.WireLine.TheVariants as line
 
 -- how many frames the records before this number send, and how many they receive
 abbrev pub sent_before : Log → ℕ → ℕ

@@ -1,18 +1,14 @@
 //! The explanation of two files.
 
-ghost use Rattle.std.specs.Prelude.{◌≡◌, ◌∷◌, [], None, IfOk, MatchOption, MatchResult};
+ghost use Rattle.std.specs.Prelude.{◌≡◌, ◌∷◌, [], None, IfOk};
 ghost use Rattle.std.specs.Arc.{arc_value};
 ghost use Rattle.case_book.specs.Case.{HoldsJust};
-ghost use Rattle.audit_core.specs.Headline.{YesMeansHeadline};
-ghost use Rattle.audit_core.specs.Report.{IsReport};
-ghost use Rattle.wire_cut.specs.Frames.{AreFrames};
-ghost use Rattle.wire_ends.specs.Made.{AreLogs};
-ghost use Rattle.wire_logs.specs.Found.{IsAnswer, IsFound, IsWithoutLogs, link};
+ghost use Rattle.wire_logs.specs.Found.{IsAnswer, link};
 ghost use Rattle.wire_logs.specs.Glue.{IsAudited, IsCutOr, IsFoundIn};
 
-use crate::answer::{WireAnswer, WireLogs};
-use crate::line::WireLine;
 use crate::line_of::line_of;
+use crate::wire_answer::{WireAnswer, WireLogs};
+use crate::wire_line::WireLine;
 use audit_core::{Gate, Report, audit};
 use bytes::Bytes;
 use case_book::{Case, Link};
@@ -24,7 +20,7 @@ use wire_ends::{MadeLogs, Making, make_logs};
 
 /// The link between the two ends.
 const LINK: Link = Link {
-    conn: 0,
+    connection: 0,
     a: 1,
     b: 2,
 };
@@ -72,7 +68,6 @@ fn without_logs(line: WireLine, frames: [u64; 2], left: [u64; 2]) -> WireAnswer
         frames,
         left,
         waiting: [None, None],
-        open: None,
     }
 }
 
@@ -113,7 +108,6 @@ fn explain_frames<R: Threads + Wait + Sync, G: Gate + Sync>(
         is_whole: _,
         blame: _,
         waiting,
-        open,
     } = made;
     Ok(WireAnswer {
         line,
@@ -121,7 +115,6 @@ fn explain_frames<R: Threads + Wait + Sync, G: Gate + Sync>(
         frames,
         left,
         waiting,
-        open,
     })
 }
 

@@ -1,16 +1,16 @@
 //! From the audit's report to the line.
 
-ghost use Rattle.std.specs.Prelude.{◌≡◌, ◌<◌, List, ℕ, option_and_then, slice_get, length, take};
+ghost use Rattle.std.specs.Prelude.{◌≡◌, ◌<◌, option_and_then, slice_get, length, take};
 ghost use Rattle.std.specs.Arc.{arc_value};
 ghost use Rattle.std.specs.Option.{option_copied};
-ghost use Rattle.link_check.specs.Prefix.{frame_sent, frame_received};
+ghost use Rattle.vat_log.specs.Passages.{frame_sent, frame_received};
 ghost use Rattle.wire_ends.specs.Made.{AreLogs};
 ghost use Rattle.wire_logs.specs.Lines.{IsLine, IsUnexplained, message_named, named_in, received_before, sent_before};
 
-use crate::line::WireLine;
+use crate::wire_line::WireLine;
 use audit_core::Report;
 use bytes::Bytes;
-use vat_log::{Body, VatLog};
+use vat_log::VatLog;
 use wire_cut::End;
 use wire_ends::{Blame, MadeLogs};
 
@@ -22,14 +22,7 @@ fn sent_at(log: &VatLog, index: usize) -> Option<&Bytes>
     ensures { option_copied result
         ≡ option_and_then (frame_sent 0) (slice_get log.now.records index) }
 {
-    match log.get(index)?.body() {
-        Body::Send {
-            connection,
-            frame,
-            ..
-        } if *connection == CONNECTION => Some(frame),
-        _ => None,
-    }
+    log.get(index)?.body().frame_sent(CONNECTION)
 }
 
 /// The frame that the record of this number receives.
@@ -37,14 +30,7 @@ fn received_at(log: &VatLog, index: usize) -> Option<&Bytes>
     ensures { option_copied result
         ≡ option_and_then (frame_received 0) (slice_get log.now.records index) }
 {
-    match log.get(index)?.body() {
-        Body::Receive {
-            connection,
-            frame,
-            ..
-        } if *connection == CONNECTION => Some(frame),
-        _ => None,
-    }
+    log.get(index)?.body().frame_received(CONNECTION)
 }
 
 /// How many records there are before this number.

@@ -18,7 +18,7 @@ impl Digest {
 
 /// Where a pointer stands.
 #[derive(Clone, Copy, Debug)]
-struct Spot {
+struct PointerSpot {
     segment: u32,
     at: u64,
 }
@@ -67,7 +67,7 @@ fn pad_of(frame: &Frame, word: u64) -> Option<Pointed> {
 }
 
 /// What the pointer at a place says.
-fn follow(frame: &Frame, spot: Spot) -> Option<Pointed> {
+fn follow(frame: &Frame, spot: PointerSpot) -> Option<Pointed> {
     let word = frame.word(spot.segment, spot.at)?;
     if word % 4 == 2 {
         return pad_of(frame, word);
@@ -100,8 +100,8 @@ impl Sections {
     }
 
     /// Where its pointer of this number stands.
-    fn pointer(&self, number: u64) -> Spot {
-        Spot {
+    fn pointer(&self, number: u64) -> PointerSpot {
+        PointerSpot {
             segment: self.segment,
             at: self
                 .start
@@ -134,7 +134,7 @@ fn trimmed(frame: &Frame, segment: u32, start: u64, count: u64) -> u64 {
 struct Walk<'a> {
     frame: &'a Frame,
     digest: Digest,
-    spots: Vec<Spot>,
+    spots: Vec<PointerSpot>,
     words: u64,
 }
 
@@ -206,7 +206,7 @@ impl Walk<'_> {
             return Ok(());
         }
         for index in 0..count {
-            self.spots.push(Spot {
+            self.spots.push(PointerSpot {
                 segment: pointed.segment,
                 at: pointed.start.wrapping_add(index),
             })?;
@@ -242,7 +242,7 @@ impl Walk<'_> {
     }
 
     /// Takes in what stands at a pointer. A capability counts by where it stands.
-    fn put_pointer(&mut self, spot: Spot) -> Result<(), AllocError> {
+    fn put_pointer(&mut self, spot: PointerSpot) -> Result<(), AllocError> {
         let Some(pointed) = follow(self.frame, spot) else {
             self.digest.put(4);
             return Ok(());
@@ -262,7 +262,7 @@ impl Walk<'_> {
 }
 
 /// The struct at a place.
-fn struct_at(frame: &Frame, spot: Spot) -> Option<Sections> {
+fn struct_at(frame: &Frame, spot: PointerSpot) -> Option<Sections> {
     let pointed = follow(frame, spot)?;
     if pointed.word == 0 || pointed.word % 4 != 0 {
         return None;
@@ -271,8 +271,8 @@ fn struct_at(frame: &Frame, spot: Spot) -> Option<Sections> {
 }
 
 /// Where the content of a Call's parameters stands: `Message.call`, `Call.params`, `Payload.content` of rpc.capnp.
-fn content_of(frame: &Frame) -> Option<Spot> {
-    let message = struct_at(frame, Spot { segment: 0, at: 0 })?;
+fn content_of(frame: &Frame) -> Option<PointerSpot> {
+    let message = struct_at(frame, PointerSpot { segment: 0, at: 0 })?;
     let call = struct_at(frame, message.pointer(0))?;
     if call.pointers < 2 {
         return None;

@@ -8,21 +8,21 @@
 #![tactic(auto)]
 
 mod content;
+mod frame_ties;
 mod groups;
-mod leading;
+mod led_back;
 mod message;
-mod naming;
-mod openings;
-mod passing;
+mod named_paths;
 mod paths;
 mod plan;
+mod promise_ends;
+mod question_ties;
 mod reading;
-mod ties;
 
+pub use frame_ties::{FrameTie, Ties};
 pub use groups::Groups;
-pub use leading::Leading;
-pub use message::{Aim, Entry, Kind, Named, Planned, Results};
-pub use naming::NamedPaths;
+pub use message::{Aim, Entry, Kind, Named, Planned, ReturnKind};
+pub use named_paths::NamedPaths;
 pub use paths::Paths;
 pub use plan::{FilePlan, WirePlan, plan_wire};
-pub use ties::{Tie, Ties};
+pub use promise_ends::Leading;

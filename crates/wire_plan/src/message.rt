@@ -26,7 +26,7 @@ pub enum Entry {
 
 /// What a Return says of its call.
 #[derive(Clone, Copy, Debug, PartialEq, Eq)]
-pub enum Results {
+pub enum ReturnKind {
     /// Here they are.
     There,
     /// There are none: an exception.
@@ -66,7 +66,7 @@ pub enum Kind {
         /// Whether the capabilities of the call's parameters are given back.
         release: bool,
         /// What it says of the results.
-        results: Results,
+        results: ReturnKind,
         /// Whether no Finish is needed.
         light: bool,
     },

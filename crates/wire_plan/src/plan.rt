@@ -1,14 +1,14 @@
 //! The plans of both files.
 
+use crate::frame_ties::Ties;
 use crate::groups::Groups;
-use crate::leading::{Leading, lead_of};
-use crate::message::{Aim, Entry, Kind, Planned, Results};
-use crate::naming::NamedPaths;
-use crate::openings::Openings;
-use crate::passing::Passing;
+use crate::led_back::Passing;
+use crate::message::{Aim, Entry, Kind, Planned, ReturnKind};
+use crate::named_paths::NamedPaths;
 use crate::paths::Paths;
+use crate::promise_ends::{Leading, lead_of};
+use crate::question_ties::Openings;
 use crate::reading::read_planned;
-use crate::ties::Ties;
 use bytes::Bytes;
 use rising_table::RisingTable;
 use std::alloc::{AllocError, Global};
@@ -53,7 +53,7 @@ impl FilePlan {
         let answer = self.messages.get(place)?;
         match answer.kind {
             Kind::Return {
-                results: Results::TakenFrom(question),
+                results: ReturnKind::TakenFrom(question),
                 ..
             } => Some(Aim::Answer(question, path)),
             _ => self.lead_of(answer.entry_at(path)?),
@@ -97,14 +97,14 @@ fn read_file(
 
 /// What is kept while one file is looked through.
 #[derive(Drop)]
-struct Looking {
+struct FileLook {
     /// The frame that opened each question last.
     current: RisingTable<usize>,
     ties: Ties,
     named: NamedPaths,
 }
 
-impl Looking {
+impl FileLook {
     /// The path of an own question is named.
     fn name(&mut self, question: u32, path: u32) -> Result<(), AllocError> {
         match self.current.get(u64::from(question)) {
@@ -143,7 +143,7 @@ impl Looking {
             self.current.put(u64::from(question), place)?;
         }
         if let Kind::Return {
-            results: Results::TakenFrom(question),
+            results: ReturnKind::TakenFrom(question),
             ..
         } = message.kind
         {
@@ -159,7 +159,7 @@ fn plan_file(
     messages: Vec<Planned>,
     groups: Groups,
 ) -> Result<FilePlan, AllocError> {
-    let mut looking = Looking {
+    let mut looking = FileLook {
         current: RisingTable::new(alloc),
         ties: Ties::new(alloc, messages.len())?,
         named: NamedPaths::new(alloc, messages.len())?,
@@ -167,7 +167,7 @@ fn plan_file(
     for (place, message) in messages.iter().enumerate() {
         looking.look(place, message)?;
     }
-    let Looking {
+    let FileLook {
         current: _,
         ties,
         named,

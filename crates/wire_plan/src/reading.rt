@@ -2,7 +2,7 @@
 
 use crate::content::digest_of;
 use crate::groups::Groups;
-use crate::message::{Aim, Entry, Kind, Named, Planned, Results};
+use crate::message::{Aim, Entry, Kind, Named, Planned, ReturnKind};
 use crate::paths::Paths;
 use bytes::Bytes;
 use cap_frame::Frame;
@@ -112,11 +112,11 @@ impl Reading<'_> {
         light: bool,
     ) -> Result<Planned, AllocError> {
         let results = match outcome {
-            Outcome::Results(_) => Results::There,
-            Outcome::Exception => Results::Exception,
-            Outcome::Canceled => Results::Canceled,
-            Outcome::Elsewhere => Results::Elsewhere,
-            Outcome::TakeFrom(question) => Results::TakenFrom(*question),
+            Outcome::Results(_) => ReturnKind::There,
+            Outcome::Exception => ReturnKind::Exception,
+            Outcome::Canceled => ReturnKind::Canceled,
+            Outcome::Elsewhere => ReturnKind::Elsewhere,
+            Outcome::TakeFrom(question) => ReturnKind::TakenFrom(*question),
         };
         let kind = Kind::Return {
             answer,

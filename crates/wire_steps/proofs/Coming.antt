@@ -1,5 +1,5 @@
 -- A log comes further, by one record.
-use Rattle.std.proofs.Common.{◌≡◌, ◌∷◌, ◌++◌, [], ℕ, suc, List, Option, Some, None, length, take, get_or, refl, sym, ap, ◌∙◌, arith, ◌≤◌, ◌<◌, ◌+◌, drop}
+use Rattle.std.proofs.Common.{◌≡◌, ◌∷◌, ◌++◌, [], ℕ, List, Option, Some, None, length, take, get_or, refl, sym, ap, ◌∙◌, arith, ◌<◌, ◌+◌, drop}
 use Rattle.std.specs.Prelude.{slice_get}
 use Rattle.std.specs.List.{filter_map, cons_option}
 use Rattle.std.proofs.lemmas.List.{append-nil, take-append-drop, take_all}
@@ -10,7 +10,8 @@ use Rattle.std.proofs.Math.Seq.{take-suc}
 use Rattle.vat_log.specs.Log.{Log}
 use Rattle.vat_log.specs.declared.body.Body.{Body}
 use Rattle.vat_log.specs.declared.body.Body.TheVariants.{Send, Receive}
-use Rattle.link_check.specs.Prefix.{frame_sent, frame_received, frames_sent, frames_received, IsPrefix}
+use Rattle.link_check.specs.Prefix.{frames_sent, frames_received, IsPrefix}
+use Rattle.vat_log.specs.Passages.{frame_sent, frame_received}
 use Rattle.wire_steps.specs.Glue.{HasCome}
 use Rattle.wire_steps.specs.Parts.{HasParts, HasAll}
 use Rattle.wire_steps.specs.declared.end_log.Counts.{Counts}

@@ -1,12 +1,12 @@
 //! The log of one end, made of its steps and of the frames of both files.
 
-ghost use Rattle.std.specs.Prelude.{◌≡◌, ◌≢◌, ◌↔◌, ◌∷◌, ◌++◌, ◌⊎◌, [], Some, None, true, false, IsTrue, OnOk, IfOk, slice_get};
+ghost use Rattle.std.specs.Prelude.{◌≡◌, ◌∷◌, ◌++◌, [], Some, None, true, false, IsTrue, OnOk, IfOk};
 ghost use Rattle.std.specs.Arc.{arc_value};
-ghost use Rattle.link_check.specs.Prefix.{frame_sent, frame_received};
+ghost use Rattle.vat_log.specs.Passages.{frame_sent, frame_received};
 ghost use Rattle.wire_steps.specs.Glue.{HasCome};
 ghost use Rattle.wire_steps.specs.Parts.{HasParts, HasAll};
 
-use crate::steps::Step;
+use crate::steps::EndStep;
 use bytes::Bytes;
 use std::alloc::{AllocError, AllocFailed, Global};
 use std::sync::Arc;
@@ -151,7 +151,7 @@ fn push_receive(
 /// Puts a step behind the others.
 fn push_step(
     writer: &mut LogWriter,
-    step: Step,
+    step: EndStep,
     own: &[Bytes],
     peer: &[Bytes],
     counts: Counts,
@@ -161,14 +161,14 @@ fn push_step(
     ensures vat { writer.new.vat ≡ writer.old.vat }
 {
     match step {
-        Step::Note(body) => {
+        EndStep::Note(body) => {
             if !is_frame(&body) {
                 push(writer, body, TooLongAt::Own(counts.sent))?;
             }
             Ok(counts)
         }
-        Step::Send(call, references) => push_send(writer, (call, references), own, peer, counts),
-        Step::Receive(call, references) => push_receive(
+        EndStep::Send(call, references) => push_send(writer, (call, references), own, peer, counts),
+        EndStep::Receive(call, references) => push_receive(
             writer,
             (call, references),
             own,
@@ -183,7 +183,7 @@ fn push_step(
 pub fn log_of(
     alloc: Global,
     vat: u32,
-    steps: Vec<Step>,
+    steps: Vec<EndStep>,
     own: &[Bytes],
     peer: &[Bytes],
 ) -> Result<EndLog, LogFault>

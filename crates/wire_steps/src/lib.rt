@@ -10,4 +10,4 @@ mod end_log;
 mod steps;
 
 pub use end_log::{EndLog, LogFault, TooLongAt, log_of};
-pub use steps::{Step, Steps};
+pub use steps::{EndStep, Steps};

@@ -6,7 +6,7 @@ use vat_log::{Body, References, ResultReferences};
 
 /// What one end does.
 #[derive(Drop)]
-pub enum Step {
+pub enum EndStep {
     /// What a record says that is no frame.
     Note(Body),
     /// The next frame of the own file goes out: the call that is noted beside it, and the references.
@@ -18,7 +18,7 @@ pub enum Step {
 /// What one end does, step by step.
 #[derive(Drop)]
 pub struct Steps {
-    steps: Vec<Step>,
+    steps: Vec<EndStep>,
     is_muted: bool,
 }
 
@@ -37,13 +37,13 @@ impl Steps {
     }
 
     /// The steps, in their order.
-    pub fn into_steps(self) -> Vec<Step> {
+    pub fn into_steps(self) -> Vec<EndStep> {
         let Steps { steps, is_muted: _ } = self;
         steps
     }
 
     /// Puts a step behind the others.
-    fn push(&mut self, step: Step) -> Result<(), AllocError> {
+    fn push(&mut self, step: EndStep) -> Result<(), AllocError> {
         if !self.is_muted {
             self.steps.push(step)?;
         }
@@ -52,22 +52,22 @@ impl Steps {
 
     /// HOST.
     pub fn host(&mut self, reference: u64, object: u64) -> Result<(), AllocError> {
-        self.push(Step::Note(Body::Host { reference, object }))
+        self.push(EndStep::Note(Body::Host { reference, object }))
     }
 
     /// VOW.
     pub fn vow(&mut self, reference: u64) -> Result<(), AllocError> {
-        self.push(Step::Note(Body::Vow { reference }))
+        self.push(EndStep::Note(Body::Vow { reference }))
     }
 
     /// FULFIL.
     pub fn fulfil(&mut self, reference: u64, to: u64) -> Result<(), AllocError> {
-        self.push(Step::Note(Body::Fulfil { reference, to }))
+        self.push(EndStep::Note(Body::Fulfil { reference, to }))
     }
 
     /// BREAK.
     pub fn break_vow(&mut self, reference: u64) -> Result<(), AllocError> {
-        self.push(Step::Note(Body::Break { reference }))
+        self.push(EndStep::Note(Body::Break { reference }))
     }
 
     /// MAKE.
@@ -78,7 +78,7 @@ impl Steps {
         interface: u64,
         method: u16,
     ) -> Result<(), AllocError> {
-        self.push(Step::Note(Body::Make {
+        self.push(EndStep::Note(Body::Make {
             call,
             reference,
             interface,
@@ -88,7 +88,7 @@ impl Steps {
 
     /// FIELD.
     pub fn field(&mut self, reference: u64, call: u64, path: Path) -> Result<(), AllocError> {
-        self.push(Step::Note(Body::Field {
+        self.push(EndStep::Note(Body::Field {
             reference,
             call,
             path,
@@ -97,12 +97,12 @@ impl Steps {
 
     /// DELIVER.
     pub fn deliver(&mut self, call: u64, object: u64) -> Result<(), AllocError> {
-        self.push(Step::Note(Body::Deliver { call, object }))
+        self.push(EndStep::Note(Body::Deliver { call, object }))
     }
 
     /// ANSWER.
     pub fn answer(&mut self, call: u64, results: Vec<(u64, Path)>) -> Result<(), AllocError> {
-        self.push(Step::Note(Body::Answer {
+        self.push(EndStep::Note(Body::Answer {
             call,
             results: ResultReferences::new(results),
         }))
@@ -110,21 +110,21 @@ impl Steps {
 
     /// ANSWERBY.
     pub fn answer_by(&mut self, call: u64, by: u64) -> Result<(), AllocError> {
-        self.push(Step::Note(Body::AnswerBy { call, by }))
+        self.push(EndStep::Note(Body::AnswerBy { call, by }))
     }
 
     /// FAULT.
     pub fn fail(&mut self, call: u64) -> Result<(), AllocError> {
-        self.push(Step::Note(Body::Fault { call }))
+        self.push(EndStep::Note(Body::Fault { call }))
     }
 
     /// SEND: the next frame of the own file.
     pub fn send(&mut self, call: u64, references: Vec<u64>) -> Result<(), AllocError> {
-        self.push(Step::Send(call, References::new(references)))
+        self.push(EndStep::Send(call, References::new(references)))
     }
 
     /// RECV: the next frame of the other file.
     pub fn receive(&mut self, call: u64, references: Vec<u64>) -> Result<(), AllocError> {
-        self.push(Step::Receive(call, References::new(references)))
+        self.push(EndStep::Receive(call, References::new(references)))
     }
 }

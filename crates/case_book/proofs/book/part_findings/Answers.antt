@@ -1,7 +1,7 @@
 use Rattle.std.proofs.Common.{◌≡◌, [], ◌∷◌, ◌++◌, Option, Some, append_assoc, ap, sym, ◌∙◌, arith}
 use Rattle.std.specs.Vec.{vec_capacity}
-use Rattle.case_book.specs.declared.finding.Finding.{Finding}
-use Rattle.case_book.specs.declared.finding.Finding.TheVariants as finding
+use Rattle.case_book.specs.declared.piece_finding.Finding.{Finding}
+use Rattle.case_book.specs.declared.piece_finding.Finding.TheVariants as finding
 use Rattle.case_book.proofs.Parting.{vat_next, link_next, link_room, not_empty}
 use Rattle.case_book.proofs.book.part_findings.Goals as goal
 

@@ -1,7 +1,8 @@
 use Rattle.std.proofs.Common.{fold, ap, sym, ◌∙◌}
 use Rattle.std.specs.Prelude.{not}
 use Rattle.case_book.specs.Least.{lower}
-use Rattle.case_book.specs.Ties.{used_by, is_unlinked, unlinked_in}
+use Rattle.case_book.specs.Ties.{is_unlinked, unlinked_in}
+use Rattle.vat_log.specs.Passages.{used_by}
 use Rattle.case_book.proofs.Rest.{nothing, passing, failing}
 use Rattle.case_book.proofs.ties.least_unlinked_in.Goals as goal
 use Rattle.case_book.proofs.ties.least_unlinked_in.Goals.{in-Some+then-not-has_link, in-Some+else-not-has_link, in_default}

@@ -2,7 +2,8 @@ use Rattle.std.proofs.Common.{◌≡◌, fold, drop}
 use Rattle.std.specs.Prelude.{filter}
 use Rattle.std.specs.List.{filter_map}
 use Rattle.case_book.specs.Least.{lower}
-use Rattle.case_book.specs.Ties.{used_by, is_unlinked, unlinked_in}
+use Rattle.case_book.specs.Ties.{is_unlinked, unlinked_in}
+use Rattle.vat_log.specs.Passages.{used_by}
 use Rattle.case_book.proofs.ties.least_unlinked_in.Given as goal
 
 abbrev pub invariant-loop-index : goal.invariant-loop-index

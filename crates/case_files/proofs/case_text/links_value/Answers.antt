@@ -7,7 +7,7 @@ use Rattle.case_files.proofs.case_text.links_value.Goals as goal
 
 pub loop-place-preserved : goal.loop-place-preserved
 loop-place-preserved c =
-    let none : Link = record { conn = 0; a = 0; b = 0 } in
+    let none : Link = record { connection = 0; a = 0; b = 0 } in
     let more = say_more link_of 1 c.loop-place.list.items (take c.loop-place.place c.args.links.now) c.in_ok-link_value.field-0 (get_or c.args.links.now c.loop-place.place none) c.loop-place.invariant
     c.in_ok-link_value.ensures.says c.in_ok-link_value.ensures.shallow in
     rw (c.in_ok-push.ensures.items, take_more c.args.links.now c.loop-place.place none c.loop-place-test.true) more

@@ -2,15 +2,15 @@ use Rattle.std.proofs.Common.{◌≡◌, ◌∙◌, ◌<◌, ◌++◌, ◌∷◌
 use Rattle.std.specs.Prelude.{vec_len}
 use Rattle.std.proofs.lemmas.List.{get_or_read}
 use Rattle.log_ends.specs.Glue.{end_at, HasNoneFree, IsPartner, HasPaired}
-use Rattle.log_ends.specs.declared.end.End.{End}
-use Rattle.log_ends.specs.declared.end.EndPair.{EndPair}
+use Rattle.log_ends.specs.declared.log_end.LogEnd.{LogEnd}
+use Rattle.log_ends.specs.declared.log_end.EndPair.{EndPair}
 use Rattle.log_ends.proofs.Pairing.{goes_on, one_paired, left_over}
 use Rattle.log_ends.proofs.joining.pair.Goals as goal
 
 flag : (taken : List Bool) (place count : ℕ) (now known : Bool) → length taken ≡ count → place < count → now ≡ get_or taken place now → now ≡ known → get_or taken place true ≡ known
 flag taken place count now known size within read is = sym (get_or_read taken place now (omega (arith, size, within)) read true) ∙ is
 
-pair_of : End → End → EndPair
+pair_of : LogEnd → LogEnd → EndPair
 pair_of a b = record { first = a; second = b }
 
 pub returns-then-index : goal.returns-then-index

@@ -4,8 +4,8 @@ use Rattle.std.proofs.lemmas.Bool.{MatchBool-at_false}
 use Rattle.log_ends.specs.Ends.{IsEnd}
 use Rattle.log_ends.specs.Joining.{IsLeftOver}
 use Rattle.log_ends.specs.Glue.{end_at, HasPaired}
-use Rattle.log_ends.specs.declared.end.End.{End}
-use Rattle.log_ends.specs.declared.end.EndPair.{EndPair}
+use Rattle.log_ends.specs.declared.log_end.LogEnd.{LogEnd}
+use Rattle.log_ends.specs.declared.log_end.EndPair.{EndPair}
 use Rattle.log_ends.proofs.Pairing.{none_paired, joined}
 use Rattle.log_ends.proofs.Places.{just_at}
 use Rattle.log_ends.proofs.joining.paired.Goals as goal
@@ -19,8 +19,8 @@ loop-place-init c =
 pub returns-then-not-branch : goal.returns-then-not-branch
 returns-then-not-branch c =
     let left : IsLeftOver c.args.rows.now.logs.now (end_at c.args.rows.now c.loop-place.place) = MatchBool-at_false (HasPaired c.args.rows.now (c.loop-place.place + 1) c.pair.new.taken.items c.pair.new.pairs.items) (IsLeftOver c.args.rows.now.logs.now (end_at c.args.rows.now c.loop-place.place)) c.if-not-branch.true c.in_ok-pair.ensures in (
-      subst (λ (e : End). IsEnd c.args.rows.now.logs.now e) (sym c.end.ensures) (just_at c.args.rows.now c.requires.rows c.loop-place.place (omega (arith, c.loop-place-test.true, c.len-place-end.ensures))),
-      inr (subst (λ (e : End). IsLeftOver c.args.rows.now.logs.now e) (sym c.end.ensures) left),
+      subst (λ (e : LogEnd). IsEnd c.args.rows.now.logs.now e) (sym c.end.ensures) (just_at c.args.rows.now c.requires.rows c.loop-place.place (omega (arith, c.loop-place-test.true, c.len-place-end.ensures))),
+      inr (subst (λ (e : LogEnd). IsLeftOver c.args.rows.now.logs.now e) (sym c.end.ensures) left),
     )
 
 pub returns : goal.returns

@@ -1,6 +1,4 @@
-use Rattle.std.proofs.Common.{◌≡◌, ◌∙◌, ap, length, take, arith}
-use Rattle.std.specs.List.{filter_map}
-use Rattle.link_check.specs.Prefix.{frame_received}
+use Rattle.vat_log.specs.Passages.{frame_received}
 use Rattle.link_check.proofs.Rest.{counted, not_counted}
 use Rattle.wire_logs.proofs.line_of.count_received.Goals as goal
 use Rattle.wire_logs.proofs.line_of.count_received.Goals.{then-is_some, else-is_some}

@@ -1,6 +1,6 @@
 use Rattle.std.proofs.Common.{◌≡◌, ◌≤◌, length, take}
 use Rattle.std.specs.List.{filter_map}
-use Rattle.link_check.specs.Prefix.{frame_sent}
+use Rattle.vat_log.specs.Passages.{frame_sent}
 use Rattle.wire_logs.proofs.line_of.count_sent.Given as goal
 
 abbrev pub invariant-loop-index : goal.invariant-loop-index

@@ -8,7 +8,7 @@ use Rattle.vat_log.specs.declared.log.VatLog.{VatLog}
 use Rattle.case_book.specs.Case.{Contents}
 use Rattle.case_book.specs.Ties.{tie_fault_of, has_log}
 use Rattle.case_book.specs.Pieces.{IsForPiece, IsComparisonOf}
-use Rattle.case_book.specs.declared.finding.Finding.TheVariants as finding
+use Rattle.case_book.specs.declared.piece_finding.Finding.TheVariants as finding
 use Rattle.case_book.proofs.Numbered.{vat_found, link_found}
 use Rattle.case_book.proofs.Tied.{has_ends}
 use Rattle.case_book.proofs.case.Case.find.Goals as goal

@@ -1,7 +1,0 @@
-use Rattle.std.proofs.Common.{◌≡◌, drop}
-use Rattle.std.specs.List.{filter_map}
-use Rattle.link_check.specs.Prefix.{frame_sent}
-use Rattle.link_check.proofs.frames.next_sent.Given as goal
-
-abbrev pub invariant-loop-index : goal.invariant-loop-index
-invariant-loop-index l = filter_map (frame_sent l.connection) (drop l.from l.log.records) ≡ filter_map (frame_sent l.connection) (drop l.index l.log.records)
